@@ -55,49 +55,8 @@ std::string hex(std::uint8_t byte) {
     return hex({&byte, 1});
 }
 
-std::string side(const dgt::Time &time) {
-    return to_string(time) + " " + std::to_string(time.flags);
-}
-
-std::string fault(const dgt::Refused &refused) {
-    std::string at = " " + std::to_string(refused.at);
-    switch (refused.fault) {
-    case dgt::Fault::wrong_size: return "wrongsize";
-    case dgt::Fault::bad_piece: return "badpiece" + at;
-    case dgt::Fault::bad_square: return "badsquare" + at;
-    case dgt::Fault::bad_reading: return "badreading" + at;
-    }
-    return "no fault";
-}
-
-/// The text of an event, as `dgt monitor` writes it.
 std::string text(const dgt::Event &event) {
-    return std::visit(
-        Overloaded{
-            [](const dgt::Dump &it) { return "dump " + it.position.placement(); },
-            [](const dgt::Field &it) {
-                return "field " + it.square.name() + " " + dgt::letter(it.piece);
-            },
-            [](const dgt::Times &it) {
-                return "times " + side(it.first) + " " + side(it.second) + " " + hex(it.status);
-            },
-            [](const dgt::NoClock &it) { return "noclock " + hex(it.raw) + " " + hex(it.status); },
-            [](const dgt::Ack &it) { return "ack " + hex(it.ack, " ") + " " + hex(it.status); },
-            [](const dgt::Serial &it) { return "serial " + hex(it.serial); },
-            [](const dgt::Trademark &it) { return "trademark " + hex(it.body); },
-            [](const dgt::Version &it) {
-                return "version " + std::to_string(it.main_number) + "." +
-                       std::to_string(it.sub_number);
-            },
-            [](const dgt::Battery &it) { return "battery " + hex(it.body); },
-            [](const dgt::LongSerial &it) { return "longserial " + hex(it.body); },
-            [](const dgt::Other &it) { return "other " + hex(it.code) + " " + hex(it.body); },
-            [](const dgt::Refused &it) { return "refused " + hex(it.code) + " " + fault(it); },
-            [](const dgt::Cut &it) { return "cut " + std::to_string(it.have); },
-            [](const dgt::BadLength &) { return std::string("badlength"); },
-            [](const dgt::Stray &it) { return "stray " + hex(it.byte); },
-        },
-        event);
+    return to_string(event);
 }
 
 std::string name(dgt::Ask ask) {
@@ -300,6 +259,7 @@ void encodings() {
     dgt::Event field = dgt::view_message(0x0e, Bytes{52, 0});
     CHECK(text(field) == "field e2 ." && text(dgt::view_message(5, {})) == "other 05 -");
     CHECK(text(dgt::view_message(0x0e, Bytes{52, 16})) == "refused 0e badpiece 1");
+    CHECK(refuses([] { text(dgt::Version{128, 0, false}); }));
     CHECK(refuses([] { dgt::view_message(128, {}); }));
     CHECK(refuses([] { dgt::view_message(5, Bytes{128}); }));
     CHECK(hex(dgt::encode_command(dgt::Asked{dgt::Ask::dump})) == "42");

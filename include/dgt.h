@@ -990,6 +990,15 @@ dgt_encoded dgt_encode_message(const dgt_event *message, const uint8_t *body, si
 bool dgt_view_message(uint8_t code, const uint8_t *body, size_t body_len, dgt_event *event)
     DGT_MUST_USE_ DGT_NONNULL_(4) DGT_READS_(2, 3) DGT_WRITES_(4);
 
+/* Writes the text of an event and a zero, such as "field e4 P": it is what `dgt monitor` prints
+ * after the offset of the event. The event is read as dgt_encode_message reads it, and may be a
+ * fault, too. 80 bytes are room for each event without a body; each byte of a body takes two more.
+ * `bytes` counts the zero. DGT_NOT_ENCODED goes before DGT_TOO_SHORT. It comes for the kind
+ * DGT_EVENT_NONE and for one that isn't listed here, or if a member is out of its range. */
+dgt_encoded dgt_event_text(const dgt_event *event, const uint8_t *body, size_t body_len, char *text,
+                           size_t n)
+    DGT_MUST_USE_ DGT_NONNULL_(1) DGT_READS_(1) DGT_READS_(2, 3) DGT_WRITES_(4, 5);
+
 /* Writes the command that begins with the byte `code`, DGT_SEND_CLOCK_MESSAGE to DGT_SEND_LEDS. It
  * carries `carried_len` bytes: the payload of the clock message with this id, at most
  * DGT_MAX_PAYLOAD; the bytes of an LED frame, at most DGT_MAX_LEDS; and in each other command none.

@@ -509,8 +509,22 @@ struct EventWriter {
         out.code = it.code;
         return carried(DGT_EVENT_OTHER, it.body);
     }
-    template <class Fault> ByteView operator()(const Fault &) {
-        return {}; // it is no message, and its kind stays DGT_EVENT_NONE
+    ByteView operator()(const Refused &it) {
+        out.kind = DGT_EVENT_REFUSED, out.code = it.code;
+        out.fault = static_cast<std::uint8_t>(it.fault), out.at = it.at;
+        return {};
+    }
+    ByteView operator()(const Cut &it) {
+        out.kind = DGT_EVENT_CUT, out.have = it.have;
+        return {};
+    }
+    ByteView operator()(const BadLength &) {
+        out.kind = DGT_EVENT_BAD_LENGTH;
+        return {};
+    }
+    ByteView operator()(const Stray &it) {
+        out.kind = DGT_EVENT_STRAY, out.byte = it.byte;
+        return {};
     }
 
 private:
@@ -525,10 +539,11 @@ inline ByteView write_event(const Event &event, dgt_event &out) {
 }
 
 /// What a call of dgt.h encodes: `encode` is given room and its size, once it said how much.
-template <class Encode> Bytes encoded(Encode &&encode) {
-    dgt_encoded done = encode(static_cast<std::uint8_t *>(nullptr), std::size_t{0});
-    if (done.status == DGT_NOT_ENCODED) throw std::invalid_argument("no message or no command");
-    Bytes out(done.bytes);
+template <class Out = Bytes, class Encode> Out encoded(Encode &&encode) {
+    using Unit = typename Out::value_type;
+    dgt_encoded done = encode(static_cast<Unit *>(nullptr), std::size_t{0});
+    if (done.status == DGT_NOT_ENCODED) throw std::invalid_argument("no such event or command");
+    Out out(done.bytes, Unit{});
     done = encode(out.data(), out.size());
     return out;
 }
@@ -654,6 +669,18 @@ inline Bytes encode_message(const Event &event) {
     return detail::encoded([&](auto *out, auto n) {
         return dgt_encode_message(&written, body.data(), body.size(), out, n);
     });
+}
+
+/// The text of an event, such as "field e4 P": it is what `dgt monitor` prints after the offset of
+/// the event. Throws std::invalid_argument if a part of it is out of its range.
+inline std::string to_string(const Event &event) {
+    dgt_event written{};
+    ByteView body = detail::write_event(event, written);
+    auto text = detail::encoded<std::string>([&](auto *out, auto n) {
+        return dgt_event_text(&written, body.data(), body.size(), out, n);
+    });
+    text.pop_back(); // the zero
+    return text;
 }
 
 /// The message with this code, from 0 to 127, and this body, or a Refused with the fault of the

@@ -794,6 +794,57 @@ static void messages(void) {
     free(longest);
 }
 
+/* Whether an event has this text, which takes exactly the room that it is said to take. */
+static bool has_text(dgt_event said, const uint8_t *carried, size_t carried_len, const char *text) {
+    size_t n = strlen(text) + 1;
+    dgt_event *event = room(sizeof said);
+    uint8_t *out = room(n), *read = copy(carried, carried_len);
+    *event = said;
+    dgt_encoded done = dgt_event_text(event, read, carried_len, (char *)out, n - 1);
+    bool right = done.status == DGT_TOO_SHORT && done.bytes == n && out[0] == 0xa5;
+    done = dgt_event_text(event, read, carried_len, NULL, 0);
+    right = right && done.status == DGT_TOO_SHORT && done.bytes == n;
+    done = dgt_event_text(event, read, carried_len, (char *)out, n);
+    right = right && done.status == DGT_ENCODED && done.bytes == n && !memcmp(out, text, n);
+    free(event), free(read), free(out);
+    return right;
+}
+
+static bool has_no_text(dgt_event said) {
+    char text[100] = "?";
+    dgt_encoded done = dgt_event_text(&said, NO_BODY, text, sizeof text);
+    return done.status == DGT_NOT_ENCODED && done.bytes == 0 && text[0] == '?';
+}
+
+#define EVENT(...) ((dgt_event){__VA_ARGS__})
+
+static void event_texts(void) {
+    CHECK(has_text(EVENT(.kind = DGT_EVENT_FIELD, .square = 36, .piece = 1, .unasked = 1), NO_BODY,
+                   "field e4 P"));
+    dgt_event other = {.kind = DGT_EVENT_OTHER, .code = 5, .body_len = 7};
+    CHECK(has_text(other, NO_BODY, "other 05 -"));
+    CHECK(has_text(EVENT(.kind = DGT_EVENT_TRADEMARK), BYTES('D', 'G'), "trademark 4447"));
+    CHECK(has_text(EVENT(.kind = DGT_EVENT_CUT, .have = 3), NO_BODY, "cut 3"));
+    CHECK(has_text(EVENT(.kind = DGT_EVENT_BAD_LENGTH), NO_BODY, "badlength"));
+    CHECK(has_text(EVENT(.kind = DGT_EVENT_STRAY, .byte = 0x42), NO_BODY, "stray 42"));
+    dgt_event refused = {.kind = DGT_EVENT_REFUSED, .code = 14, .at = 1};
+    refused.fault = DGT_BAD_PIECE;
+    CHECK(has_text(refused, NO_BODY, "refused 0e badpiece 1"));
+    refused.fault = DGT_BAD_SQUARE;
+    CHECK(has_text(refused, NO_BODY, "refused 0e badsquare 1"));
+    refused.fault = DGT_BAD_READING;
+    CHECK(has_text(refused, NO_BODY, "refused 0e badreading 1"));
+    refused.fault = DGT_WRONG_SIZE;
+    CHECK(has_text(refused, NO_BODY, "refused 0e wrongsize"));
+    refused.fault = DGT_NO_FAULT;
+    CHECK(has_no_text(refused));
+    refused = EVENT(.kind = DGT_EVENT_REFUSED, .code = 128, .fault = DGT_WRONG_SIZE);
+    CHECK(has_no_text(refused));
+    CHECK(has_no_text(EVENT(.kind = DGT_EVENT_NONE)));
+    CHECK(has_no_text(EVENT(.kind = DGT_EVENT_STRAY + 1)));
+    CHECK(has_no_text(EVENT(.kind = DGT_EVENT_FIELD, .square = 64)));
+}
+
 /* Whether an event says no message, also if there is no room for one. */
 static bool says_nothing(const dgt_event *said, const uint8_t *carried, size_t carried_len) {
     uint8_t *out = room(10);
@@ -1030,6 +1081,7 @@ int main(void) {
     texts();
     decoders();
     messages();
+    event_texts();
     no_messages();
     commands();
     differing();

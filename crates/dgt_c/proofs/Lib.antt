@@ -11,3 +11,4 @@ pub mod EncodingLemmas
 pub mod HearingLemmas
 pub mod OnceLemmas
 pub mod ReservedLemmas
+pub mod TextLemmas

@@ -69,7 +69,7 @@ SaysMessage said body message = IsMessage message × SaysContent said body messa
 abbrev pub ReadsMessage : DgtEvent → List ℕ → Option Message → Type 0
 ReadsMessage said body result =
     MatchOption result ((message : Content) → ¬ (SaysMessage said body message))
-    (λ read. SaysContent said body (content read))
+    (λ read. SaysMessage said body (content read))
 
 -- The message that C says is encoded; or C says none, and nothing is.
 abbrev pub EncodesMessage : DgtEvent → List ℕ → List ℕ → List ℕ → DgtEncoded → Type 0

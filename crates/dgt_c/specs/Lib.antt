@@ -9,6 +9,7 @@ pub mod Reading
 pub mod Sent
 pub mod ClockSending
 pub mod Encoding
+pub mod Texts
 pub mod Kinds
 pub mod Boards
 pub mod Starting

@@ -1,16 +1,17 @@
 -- What calls of C determine: of one chunk or of one struct two reports are the same. And what a
 -- refusal leaves.
-use Rattle.std.specs.Prelude.{◌≡◌, ◌<◌, ◌≤◌, ℕ, List, [], All, length, replicate, take, Option, None, Bool, true}
+use Rattle.std.specs.Prelude.{◌≡◌, ◌<◌, ◌≤◌, ℕ, List, [], ◌∷◌, ◌++◌, All, length, replicate, take, Option, Some, None, Bool, true}
 use Rattle.dgt_values.specs.Bytes.{AreSevenBit}
 use Rattle.dgt_values.specs.declared.kinds.Kind.{Kind}
 use Rattle.dgt_message.specs.Clock.{Absence, AreTimes, ClockState, IsAbsence, Times}
-use Rattle.dgt_message.specs.Content.{Content}
+use Rattle.dgt_message.specs.Content.{Content, IsMessage}
 use Rattle.dgt_message.specs.Encoding.{encoding}
-use Rattle.dgt_decode.specs.Grammar.{Event, Placed}
+use Rattle.dgt_decode.specs.Grammar.{Event, Message, Placed, Refused}
 use Rattle.dgt_command.specs.Content.{ClockContent, EventContent}
 use Rattle.dgt_command.specs.Display.{HasNoSegments, Shows}
 use Rattle.dgt_board.specs.View.{BoardView}
 use Rattle.dgt_host.specs.Host.{HostView}
+use Rattle.dgt_lines.specs.Lines.{event_text}
 use Rattle.dgt_c.specs.Boards.{Takes, TakesBytes}
 use Rattle.dgt_c.specs.Chunks.{GoesOn, Reports, ReportsEach, UsesUpTo, bodies}
 use Rattle.dgt_c.specs.ClockSending.{SendsClock, SendsDisplay}
@@ -19,9 +20,10 @@ use Rattle.dgt_c.specs.Commands.{CommandReporting, ReportsCommand}
 use Rattle.dgt_c.specs.Encoding.{EncodesBytes, EncodesMessage, ReadsMessage, SaysMessage, view_reported}
 use Rattle.dgt_c.specs.Hearing.{Feeds, HearsReported, Reporting, ReportsEvent}
 use Rattle.dgt_c.specs.Reading.{FeedsWords}
-use Rattle.dgt_c.specs.Reported.{reported_at}
+use Rattle.dgt_c.specs.Reported.{body_said, reported_at}
 use Rattle.dgt_c.specs.Sent.{RefusesCommand}
 use Rattle.dgt_c.specs.Starting.{Starts}
+use Rattle.dgt_c.specs.Texts.{ReadsEvent, SaysEvent, WritesText}
 use Rattle.dgt_c.specs.declared.header.DgtBody.{DgtBody}
 use Rattle.dgt_c.specs.declared.header.DgtClock.{DgtClock}
 use Rattle.dgt_c.specs.declared.header.DgtEncoded.{DgtEncoded}
@@ -174,6 +176,39 @@ abbrev pub MessagesAreRead : Type 0
 MessagesAreRead =
     (said : DgtEvent) (body : List ℕ) (message : Content) → SaysMessage said body message
     → ¬ (ReadsMessage said body None)
+
+-- the values of an event are in their ranges
+abbrev pub IsEvent : Event → Type 0
+IsEvent (Message said) = IsMessage said
+IsEvent (Refused code fault) = code < 128
+IsEvent event = event ≡ event
+
+-- the struct and the body that report an event say it
+abbrev pub ReportsAreSaid : Type 0
+ReportsAreSaid =
+    (place : ℕ) (event : Event) → IsEvent event
+    → SaysEvent (reported_at place (Some event)) (body_said (Some event)) event
+
+-- if C says an event, the text of such an event is written
+abbrev pub EventsHaveTexts : Type 0
+EventsHaveTexts =
+    (said : DgtEvent) (body old new : List ℕ) (reported : DgtEncoded) (event : Event)
+    → SaysEvent said body event → WritesText said body old new reported
+    → (other : Event) × SaysEvent said body other
+    × EncodesBytes (event_text other ++ 0 ∷ []) old new reported
+
+-- and if it says none, nothing is written
+abbrev pub NothingHasNoText : Type 0
+NothingHasNoText =
+    (said : DgtEvent) (body old new : List ℕ) (reported : DgtEncoded)
+    → ((event : Event) → ¬ (SaysEvent said body event))
+    → WritesText said body old new reported → (reported.status ≡ 2) × (new ≡ old)
+
+-- nothing is read only if C says no event
+abbrev pub EventsAreRead : Type 0
+EventsAreRead =
+    (said : DgtEvent) (body : List ℕ) (event : Event) → SaysEvent said body event
+    → ¬ (ReadsEvent said body None)
 
 -- if there is no such command, the host and the slice stay
 abbrev pub RefusedCommandsStay : Type 0

@@ -1,8 +1,9 @@
 //! Messages that C has encoded and viewed without a handle.
 
-ghost use Rattle.std.specs.Prelude.{◌≡◌, false, IsTrue, MatchOption};
+ghost use Rattle.std.specs.Prelude.{◌≡◌, ◌≤◌, false, IsTrue, MatchOption};
 ghost use Rattle.dgt_values.specs.Bytes.{body_bytes};
-ghost use Rattle.dgt_message.specs.Content.{IsCarried};
+ghost use Rattle.dgt_message.specs.Clock.{IsAck};
+ghost use Rattle.dgt_message.specs.Content.{IsCarried, answer_seen};
 ghost use Rattle.dgt_c.specs.Encoding.{EncodesMessage, IsCodeAndBody, ReadsMessage, encoded_reported, view_reported};
 
 use crate::checking::{read_position, read_seven_bits};
@@ -35,8 +36,17 @@ fn read_body(body: &[u8]) -> Option<Body<'_>>
     Body::new(body).ok()
 }
 
-// The message that C says, if it says one.
-fn read_message<'a>(said: &DgtEvent, body: &'a [u8]) -> Option<Message<'a>>
+// The acknowledgement of these bytes, if the last one is a status.
+fn read_ack(ack: [u8; 4], status: u8) -> Option<ClockAck>
+    ensures { MatchOption result (128 ≤ status) (λ read. IsAck (answer_seen read)
+        × ((answer_seen read).ack ≡ ack) × ((answer_seen read).status ≡ status)) }
+{
+    let status = SevenBit::try_from(status).ok()?;
+    Some(ClockAck { ack, status })
+}
+
+/// The message that C says, if it says one.
+pub(crate) fn read_message<'a>(said: &DgtEvent, body: &'a [u8]) -> Option<Message<'a>>
     ensures { ReadsMessage said.now body.now result }
 {
     match said.kind {
@@ -53,10 +63,7 @@ fn read_message<'a>(said: &DgtEvent, body: &'a [u8]) -> Option<Message<'a>>
             Clock::NoClock(absence) => Some(Message::NoClock(absence)),
             Clock::Times(_) => None,
         },
-        EVENT_ACK => Some(Message::Ack(ClockAck {
-            ack: said.ack,
-            status: SevenBit::try_from(said.ack_status).ok()?,
-        })),
+        EVENT_ACK => Some(Message::Ack(read_ack(said.ack, said.ack_status)?)),
         EVENT_SERIAL => Some(Message::Serial(read_seven_bits(&said.serial)?)),
         EVENT_TRADEMARK => Some(Message::Trademark(read_body(body)?)),
         EVENT_VERSION => Some(Message::Version {

@@ -1,11 +1,14 @@
 //! What holds of the numbers and the structs that cross to C, and of what calls report. Nothing
 //! here runs: each function stands for the fact that its contract states.
 
-ghost use Rattle.std.specs.Prelude.{◌≡◌, ◌∷◌, [], ℕ, List, map};
+ghost use Rattle.std.specs.Prelude.{◌≡◌, ◌<◌, ◌∷◌, [], ℕ, List, map};
 ghost use Rattle.dgt_values.specs.declared.pieces.Piece.{Piece as AnyPiece};
 ghost use Rattle.dgt_values.specs.Board.{piece_code};
 ghost use Rattle.dgt_message.specs.Clock.{Absence, Times};
 ghost use Rattle.dgt_message.specs.Content.{Content, IsMessage};
+ghost use Rattle.dgt_message.specs.declared.viewing.BodyFault.{BodyFault};
+ghost use Rattle.dgt_message.specs.declared.viewing.BodyFault.TheVariants.{WrongSize, BadPiece, BadSquare, BadReading};
+ghost use Rattle.dgt_decode.specs.Grammar.{Message, Refused, Cut, BadLength, Stray};
 ghost use Rattle.dgt_values.specs.Equality.{CloneIsSame};
 ghost use Rattle.dgt_command.specs.Content.{ClockContent, CommandContent};
 ghost use Rattle.dgt_command.specs.Ids.{id_number};
@@ -13,12 +16,13 @@ ghost use Rattle.dgt_command.specs.Encoding.{command_code};
 ghost use Rattle.dgt_command.specs.declared.ids.KnownId.{KnownId};
 ghost use Rattle.dgt_c.specs.Clocks.{absence_said, times_said};
 ghost use Rattle.dgt_c.specs.Encoding.{IsMessageKind, SaysContent, SaysMessage};
-ghost use Rattle.dgt_c.specs.Once.{BusyBoardsStay, ClocksAreInRange, CommandsReserveZeros, IdentitiesAreInRange, MessagesAreEncoded, MessagesAreRead, NothingIsEncoded, OneClock, OneEncoding, OneFeed, OneHearing, OneReportEach, OneStart, OneTaking, OneUse, OneWord, RefusedCommandsStay, ReportsReserveZeros, RoomIsLeft, TextsAreShown, ViewsReserveZeros};
+ghost use Rattle.dgt_c.specs.Once.{BusyBoardsStay, ClocksAreInRange, CommandsReserveZeros, EventsAreRead, EventsHaveTexts, IdentitiesAreInRange, MessagesAreEncoded, MessagesAreRead, NothingHasNoText, NothingIsEncoded, OneClock, OneEncoding, OneFeed, OneHearing, OneReportEach, OneStart, OneTaking, OneUse, OneWord, RefusedCommandsStay, ReportsAreSaid, ReportsReserveZeros, RoomIsLeft, TextsAreShown, ViewsReserveZeros};
 ghost use Rattle.dgt_c.specs.Layouts.{◌⊗◌, Ascend, FitsIn, LiesAs, bit_alone};
 ghost use Rattle.dgt_c.specs.contracts.header.{DgtBody.the_row as body_row, DgtClock.the_row as clock_row, DgtCommand.the_row as command_row, DgtEncoded.the_row as encoded_row, DgtEvent.the_row as event_row, DgtIdentity.the_row as identity_row, DgtParsed.the_row as parsed_row, DgtPolled.the_row as polled_row, DgtSent.the_row as sent_row, DgtTaken.the_row as taken_row, DgtTime.the_row as time_row, DgtTold.the_row as told_row};
 ghost use Rattle.dgt_c.specs.contracts.header.{DgtBody.the_type as body_type, DgtClock.the_type as clock_type, DgtCommand.the_type as command_type, DgtEncoded.the_type as encoded_type, DgtEvent.the_type as event_type, DgtIdentity.the_type as identity_type, DgtParsed.the_type as parsed_type, DgtPolled.the_type as polled_type, DgtSent.the_type as sent_type, DgtTaken.the_type as taken_type, DgtTime.the_type as time_type, DgtTold.the_type as told_type};
 ghost use Rattle.dgt_c.specs.contracts.places.{BoardPlace.the_row as board_row, CommandDecoderPlace.the_row as command_decoder_row, DecoderPlace.the_row as decoder_row, FollowerPlace.the_row as follower_row, HostPlace.the_row as host_row};
 ghost use Rattle.dgt_c.specs.declared.header.{DgtBody.DgtBody, DgtClock.DgtClock, DgtCommand.DgtCommand, DgtEncoded.DgtEncoded, DgtEvent.DgtEvent, DgtIdentity.DgtIdentity, DgtParsed.DgtParsed, DgtPolled.DgtPolled, DgtSent.DgtSent, DgtTaken.DgtTaken, DgtTime.DgtTime, DgtTold.DgtTold};
+ghost use Rattle.dgt_c.specs.Texts.{SaysEvent, SaysFault};
 
 use crate::header::*;
 use dgt_board::{MAX_KEPT_BODY, MAX_OWED, MAX_SENT};
@@ -288,6 +292,33 @@ pub fn one_encoding()
     ensures nothing { NothingIsEncoded }
     ensures message { MessagesAreEncoded }
     ensures read { MessagesAreRead }
+{}
+
+/// The kinds and the members with which a struct says an event, and its text. The struct and the
+/// body that report an event say it.
+pub fn event_texts()
+    ensures reported { ReportsAreSaid }
+    ensures text { EventsHaveTexts }
+    ensures nothing { NothingHasNoText }
+    ensures read { EventsAreRead }
+    ensures message { (said : DgtEvent) (body : List ℕ) (message : Content) →
+        SaysEvent said body (Message message) → SaysMessage said body message }
+    ensures refused { (said : DgtEvent) (body : List ℕ) (code : ℕ) (fault : BodyFault) →
+        SaysEvent said body (Refused code fault)
+        → (said.kind ≡ 12) × (said.code ≡ code) × (code < 128) × SaysFault said fault }
+    ensures wrong_size { (said : DgtEvent) → SaysFault said WrongSize → said.fault ≡ 1 }
+    ensures bad_piece { (said : DgtEvent) (at : ℕ) →
+        SaysFault said (BadPiece at) → (said.fault ≡ 2) × (said.at ≡ at) }
+    ensures bad_square { (said : DgtEvent) (at : ℕ) →
+        SaysFault said (BadSquare at) → (said.fault ≡ 3) × (said.at ≡ at) }
+    ensures bad_reading { (said : DgtEvent) (at : ℕ) →
+        SaysFault said (BadReading at) → (said.fault ≡ 4) × (said.at ≡ at) }
+    ensures cut { (said : DgtEvent) (body : List ℕ) (have : ℕ) →
+        SaysEvent said body (Cut have) → (said.kind ≡ 13) × (said.have ≡ have) }
+    ensures bad_length { (said : DgtEvent) (body : List ℕ) →
+        SaysEvent said body BadLength → said.kind ≡ 14 }
+    ensures stray { (said : DgtEvent) (body : List ℕ) (byte : ℕ) →
+        SaysEvent said body (Stray byte) → (said.kind ≡ 15) × (said.byte ≡ byte) }
 {}
 
 /// A command that is refused changes nothing, and a text is refused only for its characters.

@@ -61,6 +61,7 @@ mod plain_follower;
 mod sender;
 mod sending;
 mod starting;
+mod texts;
 mod version;
 
 pub use handles::{DgtBoard, DgtCommandDecoder, DgtDecoder, DgtFollower, DgtHost};
