@@ -1,9 +1,6 @@
 //! A board that is followed over a stream, which goes and comes again.
 #![cfg(feature = "std")]
 
-mod common;
-
-use common::answers;
 use dgt::*;
 use std::cell::RefCell;
 use std::collections::VecDeque;
@@ -16,6 +13,15 @@ struct Plugged {
     waiting: VecDeque<u8>,
     is_there: bool,
     is_deaf: bool,
+}
+
+impl Plugged {
+    fn send(&mut self) {
+        let mut message = [0; MAX_SENT];
+        while let Polled::Wrote(count) = self.board.poll(&mut message) {
+            self.waiting.extend(&message[..count]);
+        }
+    }
 }
 
 #[derive(Clone)]
@@ -35,8 +41,7 @@ impl Line {
     fn change(&self, square: &str, piece: Piece) {
         let mut it = self.0.borrow_mut();
         it.board.change(square.parse().unwrap(), piece);
-        let sent = common::sent(&mut it.board);
-        it.waiting.extend(sent);
+        it.send();
     }
 
     fn unplug(&self) {
@@ -62,8 +67,11 @@ impl Write for Line {
     fn write(&mut self, bytes: &[u8]) -> io::Result<usize> {
         let mut it = self.0.borrow_mut();
         if !it.is_deaf {
-            let replies = answers(&mut it.board, bytes);
-            it.waiting.extend(replies);
+            let mut rest = bytes;
+            while !rest.is_empty() {
+                rest = &rest[it.board.take(rest).expect("all was sent").used..];
+                it.send();
+            }
         }
         Ok(bytes.len())
     }
@@ -156,4 +164,5 @@ fn a_board_that_does_not_answer_is_silent() {
     let silent = views.by_ref().find(|view| view.away.is_some()).unwrap();
     assert_eq!((silent.away, silent.in_doubt), (Some(Away::Silent), true));
     assert_eq!(silent.picture, Some(Position::start()));
+    assert_eq!(Away::Silent.to_string(), "the board doesn't answer");
 }
