@@ -71,7 +71,8 @@ def functions(crate: str) -> list[Function]:
     modules = re.findall(r"(?m)^pub mod (\w+);", page.read_text())
     found = []
     for source in sorted(folder.glob("**/*.rt")):
-        module = [source.stem] if source.stem in modules else []
+        parts = source.relative_to(folder).with_suffix("").parts
+        module = parts if parts[0] in modules else ()
         for one in functions_of(source):
             owner = [one.owner] if one.owner else []
             one.path = "::".join([crate, *module, *owner, one.name])

@@ -6,14 +6,13 @@ from collections.abc import Callable
 from ctypes import byref, c_char, c_uint8
 from typing import Any
 
+from ._c import MAX_ASKING, MAX_WORD, PLACEMENT_ROOM, SENT, TOO_MANY, ClockStruct, SentStruct
 from ._handle import Bytes, Handle, readable, writable
-from ._library import MAX_ASKING, MAX_WORD, PLACEMENT_ROOM, ClockStruct, SentStruct, dgt
+from ._library import dgt
 from .clock_commands import ClockCommands
 from .commands import Ask, ClockId
 from .errors import NoSuchCommand, TooManyAwaited
 from .values import Clock, Position, byte, read_clock
-
-_SENT, _TOO_MANY, _NO_ROOM, _NO_COMMAND = range(4)
 
 
 class Asker(Handle, ClockCommands[bytes]):
@@ -33,9 +32,9 @@ class Asker(Handle, ClockCommands[bytes]):
 
     def _send(self, at: int, send: Callable[..., SentStruct], what: tuple[int, ...]) -> bytes:
         sent = send(at, *what, self._out_at, len(self._out))
-        if sent.status == _TOO_MANY:
+        if sent.status == TOO_MANY:
             raise TooManyAwaited("16 replies are awaited already")
-        if sent.status != _SENT:
+        if sent.status != SENT:
             raise NoSuchCommand("there is no such command")
         return bytes(self._out[:sent.bytes])
 

@@ -5,27 +5,18 @@ from __future__ import annotations
 from collections.abc import Iterator
 from ctypes import byref, c_uint8
 from dataclasses import dataclass
-from enum import IntEnum
 
+from . import _c
+from ._c import (MAX_KEPT, MAX_SENT, MAX_WORD, BodyStruct, ClockStruct, CommandStruct,
+                 IdentityStruct)
 from ._handle import Bytes, Handle, readable, writable
-from ._library import (MAX_KEPT, MAX_SENT, MAX_WORD, BodyStruct, ClockStruct, CommandStruct,
-                       IdentityStruct, dgt)
+from ._library import dgt
 from .commands import Word, read_word
 from .errors import BadValue, Busy
 from .values import (Clock, Position, Times, clock_struct, number, piece_code, plain_bytes,
                      read_clock, square_number)
 
-_STARTED, _START_BAD_PIECES, _START_BAD_CLOCK, _START_BAD_IDENTITY = range(4)
-_WROTE = 1
-
-
-class Mode(IntEnum):
-    """Which changes a board reports unasked."""
-
-    IDLE = 0
-    UPDATE = 1
-    UPDATE_BOARD = 2
-    UPDATE_NICE = 3
+Mode = _c.Mode
 
 
 @dataclass(frozen=True, slots=True)
@@ -101,9 +92,9 @@ class Board(Handle):
         said = identity._struct()
         shown = clock_struct(Times() if clock is None else clock)
         status = self._call(dgt.dgt_board_start, pieces, byref(shown), byref(said))
-        if status != _STARTED:
-            what = {_START_BAD_PIECES: "position", _START_BAD_CLOCK: "clock",
-                    _START_BAD_IDENTITY: "identity"}[status]
+        if status != _c.STARTED:
+            what = {_c.START_BAD_PIECES: "position", _c.START_BAD_CLOCK: "clock",
+                    _c.START_BAD_IDENTITY: "identity"}[status]
             raise BadValue(f"the {what} of a board is out of its range")
 
     def change(self, square: str, piece: str) -> None:
@@ -137,7 +128,7 @@ class Board(Handle):
 
     def _polled(self, at: int) -> bytes | None:
         polled = dgt.dgt_board_poll(at, self._out_at, MAX_SENT)
-        return bytes(self._out[:polled.bytes]) if polled.status == _WROTE else None
+        return bytes(self._out[:polled.bytes]) if polled.status == _c.WROTE else None
 
     def messages(self) -> Iterator[bytes]:
         """Yields each message to send, until there is none."""

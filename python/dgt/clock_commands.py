@@ -4,8 +4,9 @@ from __future__ import annotations
 
 from typing import Generic, TypeVar
 
+from ._c import MAX_PAYLOAD, NO_SUCH
 from ._handle import Bytes, readable
-from ._library import MAX_PAYLOAD, NO_SUCH, dgt
+from ._library import dgt
 from .commands import ClockId
 from .errors import BadValue
 from .values import Time, number

@@ -3,40 +3,14 @@
 from __future__ import annotations
 
 from dataclasses import dataclass
-from enum import IntEnum
 
-from ._library import CommandStruct
+from . import _c
+from ._c import CommandStruct
 from .errors import BadValue
 from .values import square_number
 
-
-class Ask(IntEnum):
-    """The commands of one byte. A later version may have more."""
-
-    RESET = 0x40
-    CLOCK = 0x41
-    DUMP = 0x42
-    UPDATE = 0x43
-    UPDATE_BOARD = 0x44
-    SERIAL = 0x45
-    TRADEMARK = 0x47
-    UPDATE_NICE = 0x4B
-    BATTERY = 0x4C
-    VERSION = 0x4D
-    LONG_SERIAL = 0x55
-
-
-class ClockId(IntEnum):
-    """The ids of clock messages. A later version may have more."""
-
-    DISPLAY = 0x01
-    ICONS = 0x02
-    END = 0x03
-    BUTTON = 0x08
-    VERSION = 0x09
-    SET_AND_RUN = 0x0A
-    BEEP = 0x0B
-    TEXT = 0x0C
+Ask = _c.Ask
+ClockId = _c.ClockId
 
 
 @dataclass(frozen=True, slots=True)
@@ -101,20 +75,18 @@ class StrayByte:
 Command = Asked | ClockMessage | Leds
 Word = Command | BadSize | BadStart | BadEnd | StrayByte
 
-_COMMAND, _BAD_SIZE, _BAD_START, _BAD_END = range(1, 5)
-_SEND_CLOCK_MESSAGE, _SEND_LEDS = 0x2B, 0x60
 _NO_LIGHTS = bytes([0, 64, 64, 0])
 _FAULTS: dict[int, type[BadSize | BadStart | BadEnd]] = {
-    _BAD_SIZE: BadSize, _BAD_START: BadStart, _BAD_END: BadEnd}
+    _c.BAD_SIZE: BadSize, _c.BAD_START: BadStart, _c.BAD_END: BadEnd}
 _ASKED = {ask.value: Asked(ask) for ask in Ask}
 
 
 def read_word(told: CommandStruct, word: bytearray) -> Word:
     """Returns the command or fault that the library has reported. Its kind must not be 0."""
-    if told.kind == _COMMAND:
-        if told.code == _SEND_CLOCK_MESSAGE:
+    if told.kind == _c.COMMAND:
+        if told.code == _c.SEND_CLOCK_MESSAGE:
             return ClockMessage(told.id, bytes(word[4:told.word_len - 1]))
-        if told.code == _SEND_LEDS:
+        if told.code == _c.SEND_LEDS:
             return Leds(bytes(word[2:told.word_len]))
         return _ASKED.get(told.code) or StrayByte(told.code)
     fault = _FAULTS.get(told.kind)

@@ -7,8 +7,9 @@ from collections.abc import Callable, Iterator
 from ctypes import byref
 from typing import Any
 
+from ._c import MAX_BODY, MAX_WORD, CommandStruct, EventStruct
 from ._handle import Bytes, Handle, readable, writable
-from ._library import MAX_BODY, MAX_WORD, CommandStruct, EventStruct, dgt
+from ._library import dgt
 from .commands import Word, read_word
 from .events import Event, read_event, read_events, read_offsets
 

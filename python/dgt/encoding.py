@@ -6,20 +6,16 @@ from collections.abc import Callable
 from ctypes import byref, c_uint8
 from typing import Any, cast
 
+from . import _c
+from ._c import MAX_BODY, MAX_WORD, ClockStruct, CommandStruct, EncodedStruct, EventStruct
 from ._handle import Bytes, readable, writable
-from ._library import (MAX_BODY, MAX_WORD, ClockStruct, CommandStruct, EncodedStruct, EventStruct,
-                       dgt)
+from ._library import dgt
 from .commands import Asked, ClockMessage, Command, Leds, read_word
 from .errors import BadValue
 from .events import (Ack, Battery, Dump, Field, LongSerial, Message, Other, Refused, Serial,
                      Trademark, Version, read_event)
 from .values import (Clock, NoClock, Position, Times, clock_struct, number, piece_code, plain_bytes,
                      square_number)
-
-_ENCODED = 0
-_SEND_CLOCK_MESSAGE, _SEND_LEDS = 0x2B, 0x60
-(_EVENT_DUMP, _EVENT_FIELD, _EVENT_TIMES, _EVENT_NO_CLOCK, _EVENT_ACK, _EVENT_SERIAL,
- _EVENT_TRADEMARK, _EVENT_VERSION, _EVENT_BATTERY, _EVENT_LONG_SERIAL, _EVENT_OTHER) = range(1, 12)
 
 
 def encode_message(message: Message) -> bytes:
@@ -70,9 +66,9 @@ def encode_command(command: Command) -> bytes:
     if isinstance(command, Asked):
         code, id = number(command.ask, 255, "ask"), 0
     elif isinstance(command, ClockMessage):
-        code, id, carried = _SEND_CLOCK_MESSAGE, number(command.id, 255, "id"), command.payload
+        code, id, carried = _c.SEND_CLOCK_MESSAGE, number(command.id, 255, "id"), command.payload
     elif isinstance(command, Leds):
-        code, id, carried = _SEND_LEDS, 0, command.leds
+        code, id, carried = _c.SEND_LEDS, 0, command.leds
     else:
         raise TypeError(f"{command!r} is no command")
     held, address = readable(carried)
@@ -96,7 +92,7 @@ def _encoded(encode: Callable[..., EncodedStruct], room: int, what: object,
              *arguments: object) -> bytes:
     out, out_at = writable(room)
     encoded = encode(*arguments, out_at, room)
-    if encoded.status != _ENCODED:
+    if encoded.status != _c.ENCODED:
         raise BadValue(f"this can't be encoded: {what!r}")
     return bytes(out[:encoded.bytes])
 
@@ -116,43 +112,43 @@ def _array(held: object, count: int, what: str) -> Any:
 def _write_dump(message: Dump, told: EventStruct) -> Bytes:
     if not isinstance(message.position, Position):
         raise BadValue(f"position must be a Position: {message.position!r}")
-    told.kind, told.pieces = _EVENT_DUMP, _array(message.position.codes, 64, "position")
+    told.kind, told.pieces = _c.EVENT_DUMP, _array(message.position.codes, 64, "position")
     return b""
 
 
 def _write_field(message: Field, told: EventStruct) -> Bytes:
-    told.kind = _EVENT_FIELD
+    told.kind = _c.EVENT_FIELD
     told.square, told.piece = square_number(message.square), piece_code(message.piece)
     return b""
 
 
 def _write_clock(message: Clock, told: EventStruct) -> Bytes:
-    told.kind = _EVENT_TIMES if isinstance(message, Times) else _EVENT_NO_CLOCK
+    told.kind = _c.EVENT_TIMES if isinstance(message, Times) else _c.EVENT_NO_CLOCK
     shown: ClockStruct = clock_struct(message)
     told.clock = shown
     return b""
 
 
 def _write_ack(message: Ack, told: EventStruct) -> Bytes:
-    told.kind, told.ack = _EVENT_ACK, _array(message.ack, 4, "ack")
+    told.kind, told.ack = _c.EVENT_ACK, _array(message.ack, 4, "ack")
     told.ack_status = number(message.status, 127, "status")
     return b""
 
 
 def _write_serial(message: Serial, told: EventStruct) -> Bytes:
-    told.kind, told.serial = _EVENT_SERIAL, _array(message.serial, 5, "serial")
+    told.kind, told.serial = _c.EVENT_SERIAL, _array(message.serial, 5, "serial")
     return b""
 
 
 def _write_version(message: Version, told: EventStruct) -> Bytes:
-    told.kind = _EVENT_VERSION
+    told.kind = _c.EVENT_VERSION
     told.main_number = number(message.main, 127, "main")
     told.sub_number = number(message.sub, 127, "sub")
     return b""
 
 
 def _write_other(message: Other, told: EventStruct) -> Bytes:
-    told.kind, told.code = _EVENT_OTHER, number(message.code, 127, "code")
+    told.kind, told.code = _c.EVENT_OTHER, number(message.code, 127, "code")
     return message.body
 
 
@@ -166,6 +162,6 @@ def _carried(kind: int) -> Callable[[Any, EventStruct], Bytes]:
 _WRITERS: dict[type, Callable[[Any, EventStruct], Bytes]] = {
     Dump: _write_dump, Field: _write_field, Times: _write_clock, NoClock: _write_clock,
     Ack: _write_ack, Serial: _write_serial, Version: _write_version, Other: _write_other,
-    Trademark: _carried(_EVENT_TRADEMARK), Battery: _carried(_EVENT_BATTERY),
-    LongSerial: _carried(_EVENT_LONG_SERIAL),
+    Trademark: _carried(_c.EVENT_TRADEMARK), Battery: _carried(_c.EVENT_BATTERY),
+    LongSerial: _carried(_c.EVENT_LONG_SERIAL),
 }

@@ -8,10 +8,12 @@ from __future__ import annotations
 import ctypes
 from collections.abc import Callable
 from dataclasses import dataclass
-from enum import IntEnum
 
-from ._library import EventStruct
+from . import _c
+from ._c import EVENT_FIELD, EventStruct
 from .values import LETTERS, SQUARES, NoClock, Position, Times, read_clock
+
+Fault = _c.Fault
 
 
 def _text(body: bytes) -> str:
@@ -124,15 +126,6 @@ class Other:
         return f"other {self.code:02x} {_text(self.body)}"
 
 
-class Fault(IntEnum):
-    """Why a body was refused."""
-
-    WRONG_SIZE = 1
-    BAD_PIECE = 2
-    BAD_SQUARE = 3
-    BAD_READING = 4
-
-
 @dataclass(frozen=True, slots=True)
 class Refused:
     """A whole message whose body has a fault. `at` is the offset in the body of a byte at fault."""
@@ -231,7 +224,6 @@ def read_offsets(told: bytearray, count: int, before: int) -> list[int]:
     return [before + EventStruct.from_buffer(told, index * size).place for index in range(count)]
 
 
-_EVENT_FIELD = 2
 _OFFSETS = tuple(getattr(EventStruct, name).offset for name in ("kind", "square", "piece"))
 
 
@@ -240,6 +232,6 @@ def read_events(told: bytearray, count: int, body: bytearray) -> list[Event]:
     them may have a body."""
     size = ctypes.sizeof(EventStruct)
     kinds, squares, pieces = (told[at:count * size:size] for at in _OFFSETS)
-    return [_FIELDS[square][piece] if kind == _EVENT_FIELD
+    return [_FIELDS[square][piece] if kind == EVENT_FIELD
             else read_event(EventStruct.from_buffer(told, index * size), body)
             for index, (kind, square, piece) in enumerate(zip(kinds, squares, pieces))]

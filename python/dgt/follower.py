@@ -6,6 +6,7 @@ from collections.abc import Iterator
 from ctypes import byref, c_uint8, c_uint64
 
 from ._asker import Asker
+from ._c import LEAST_PERIOD
 from ._handle import Bytes, readable
 from ._library import dgt
 from .board import Mode
@@ -14,7 +15,7 @@ from .errors import BadValue
 from .events import Event
 from .values import checked, number, seconds
 
-_LEAST = 1.0
+_LEAST = LEAST_PERIOD / 1000
 """The least period, in seconds: an asking and its answer take a third of that on the line."""
 
 

@@ -6,8 +6,9 @@ from collections.abc import Iterator
 from ctypes import c_uint8
 
 from ._asker import Asker
+from ._c import MAX_AWAITED
 from ._handle import Bytes
-from ._library import MAX_AWAITED, dgt
+from ._library import dgt
 from .commands import Ask
 from .decoder import EventReader
 from .events import Event

@@ -8,7 +8,9 @@ from ctypes import byref, c_char, c_uint8, c_uint64
 from dataclasses import dataclass
 from typing import TypeVar
 
-from ._library import NO_SUCH, PLACEMENT_ROOM, ClockStruct, TimeStruct, dgt
+from . import _c
+from ._c import NO_SUCH, PLACEMENT_ROOM, STATUS_ABSENT, ClockStruct, TimeStruct
+from ._library import dgt
 from .errors import BadPlacement, BadValue
 
 LETTERS = ".PRNBKQprnbkqXYZ"
@@ -202,13 +204,10 @@ class Time:
         return f"{self.hours}:{self.minutes:02}:{self.seconds:02}"
 
 
-_STATUS_ABSENT = 0x20
-
-
 def _status(held: object, is_absent: bool) -> int:
     """Returns the status of a clock. `BadValue` if it is none, or its bit 20 says otherwise."""
     plain = number(held, 127, "status")
-    if bool(plain & _STATUS_ABSENT) != is_absent:
+    if bool(plain & STATUS_ABSENT) != is_absent:
         side = "with" if is_absent else "without"
         raise BadValue(f"status must be {side} the bit 20 (no clock is connected): {held!r}")
     return plain
@@ -240,27 +239,27 @@ class Times:
     @property
     def running(self) -> bool:
         """Whether the clock runs."""
-        return bool(self.status & 0x01)
+        return bool(self.status & _c.STATUS_RUNNING)
 
     @property
     def lever(self) -> bool:
         """The position of the lever."""
-        return bool(self.status & 0x02)
+        return bool(self.status & _c.STATUS_LEVER)
 
     @property
     def battery_low(self) -> bool:
         """Whether its battery is low."""
-        return bool(self.status & 0x04)
+        return bool(self.status & _c.STATUS_BATTERY_LOW)
 
     @property
     def black_turn(self) -> bool:
         """Whether it is black's turn."""
-        return bool(self.status & 0x08)
+        return bool(self.status & _c.STATUS_BLACK_TURN)
 
     @property
     def white_turn(self) -> bool:
         """Whether it is white's turn."""
-        return bool(self.status & 0x10)
+        return bool(self.status & _c.STATUS_WHITE_TURN)
 
     def __str__(self) -> str:
         first, second = (f"{side} {side.flags}" for side in (self.first, self.second))
@@ -277,7 +276,7 @@ class NoClock:
     """
 
     raw: bytes = bytes(6)
-    status: int = _STATUS_ABSENT
+    status: int = STATUS_ABSENT
 
     def __post_init__(self) -> None:
         raw = plain_bytes(self.raw)
@@ -295,12 +294,10 @@ class NoClock:
 
 Clock = Times | NoClock
 
-_CLOCK_TIMES, _CLOCK_NONE = 1, 2
-
 
 def read_clock(told: ClockStruct) -> Clock:
     """Returns the clock that the library has reported. Its kind must not be 0."""
-    if told.kind == _CLOCK_NONE:
+    if told.kind == _c.CLOCK_NONE:
         return NoClock(bytes(told.raw), told.status)
     first, second = (Time(each.hours, each.minutes, each.seconds, each.flags)
                      for each in (told.first, told.second))
@@ -319,8 +316,8 @@ def _time_struct(time: Time) -> TimeStruct:
 def clock_struct(clock: Clock) -> ClockStruct:
     """Returns the clock for the library. `TypeError` if it is no clock."""
     if isinstance(clock, Times):
-        return ClockStruct(_CLOCK_TIMES, clock.status, (c_uint8 * 6)(),
+        return ClockStruct(_c.CLOCK_TIMES, clock.status, (c_uint8 * 6)(),
                            _time_struct(clock.first), _time_struct(clock.second))
     if isinstance(clock, NoClock):
-        return ClockStruct(_CLOCK_NONE, clock.status, (c_uint8 * 6)(*clock.raw))
+        return ClockStruct(_c.CLOCK_NONE, clock.status, (c_uint8 * 6)(*clock.raw))
     raise TypeError(f"no clock: {clock!r}")

@@ -6,17 +6,15 @@ from collections.abc import Callable
 from enum import StrEnum
 from typing import Any
 
+from . import _c
+from ._c import MAX_SENT, MAX_WORD
 from ._handle import Bytes, Uncopied, readable, writable
-from ._library import MAX_SENT, MAX_WORD, dgt
+from ._library import dgt
 from .board import Board, Identity
 from .commands import Ask, Asked, ClockMessage, Command, Leds
 from .errors import BadValue, Busy, NoSuchCommand
 from .host import Host
 from .values import Clock, Position, byte, number
-
-_SENT, _TOO_MANY, _NO_ROOM, _NO_COMMAND = range(4)
-_NOTHING, _WROTE, _NEED_ROOM = range(3)
-_RESTART_LENGTH = 257
 
 
 class Outcome(StrEnum):
@@ -29,8 +27,8 @@ class Outcome(StrEnum):
     TOO_MANY = "toomany"
 
 
-_SENDING = {_SENT: Outcome.DONE, _TOO_MANY: Outcome.TOO_MANY, _NO_ROOM: Outcome.NO_ROOM}
-_POLLING = {_NOTHING: Outcome.NOTHING, _WROTE: Outcome.DONE, _NEED_ROOM: Outcome.NO_ROOM}
+_SENDING = {_c.SENT: Outcome.DONE, _c.TOO_MANY: Outcome.TOO_MANY, _c.NO_ROOM: Outcome.NO_ROOM}
+_POLLING = {_c.NOTHING: Outcome.NOTHING, _c.WROTE: Outcome.DONE, _c.NEED_ROOM: Outcome.NO_ROOM}
 
 
 class World(Uncopied):
@@ -120,9 +118,9 @@ class World(Uncopied):
     def _sent(self, send: Callable[..., Any], *what: int) -> Outcome:
         room = min(self._down_room - len(self._down), len(self._out))
         sent = self._host._call(send, *what, self._out_at, room)
-        if sent.status == _NO_COMMAND:
+        if sent.status == _c.NO_COMMAND:
             raise NoSuchCommand("there is no such command")
-        self._down += self._out[:sent.bytes] if sent.status == _SENT else b""
+        self._down += self._out[:sent.bytes] if sent.status == _c.SENT else b""
         return _SENDING[sent.status]
 
     def board_sends(self) -> Outcome:
@@ -130,7 +128,7 @@ class World(Uncopied):
         room for all its bytes."""
         room = min(self._up_room - len(self._up), len(self._out))
         polled = self._board._call(dgt.dgt_board_poll, self._out_at, room)
-        self._up += self._out[:polled.bytes] if polled.status == _WROTE else b""
+        self._up += self._out[:polled.bytes] if polled.status == _c.WROTE else b""
         return _POLLING[polled.status]
 
     # ---- What the lines deliver
@@ -226,7 +224,7 @@ class World(Uncopied):
     def host_restarts(self) -> Outcome:
         """The host gives up the replies that it awaits, and sends what `restart` returns. `NO_ROOM`
         if the line has no room for its 257 bytes."""
-        if self._down_room - len(self._down) < _RESTART_LENGTH:
+        if self._down_room - len(self._down) < _c.RESTART_LENGTH:
             return Outcome.NO_ROOM
         self._host.give_up_awaited()
         self._down += self._host.restart()

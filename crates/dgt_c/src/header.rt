@@ -1,5 +1,5 @@
-//! The numbers and the structs of `dgt.h`, which says of each what it stands for. The laws
-//! `limits`, `layouts` and `members` state their numbers, their layouts and their members.
+//! The numbers and the structs of `dgt.h`, which says of each what it stands for. The laws of
+//! `laws::header`, which tools/c_boundary makes from `dgt.h`, compare them with it.
 
 use dgt_board::MAX_KEPT_BODY;
 

@@ -1,0 +1,202 @@
+//! Laws: the crate has what `dgt.h` declares. Made from it by tools/c_boundary: don't edit it.
+
+ghost use Rattle.std.specs.Prelude.{◌≡◌, ◌∷◌, [], ℕ, List};
+ghost use Rattle.dgt_values.specs.Equality.{CloneIsSame};
+ghost use Rattle.dgt_command.specs.Content.{ClockContent, CommandContent};
+ghost use Rattle.dgt_command.specs.Ids.{id_number};
+ghost use Rattle.dgt_command.specs.Encoding.{command_code};
+ghost use Rattle.dgt_command.specs.declared.ids.KnownId.{KnownId};
+ghost use Rattle.dgt_c.specs.Layouts.{◌⊗◌, Ascend, FitsIn, LiesAs, bit_alone};
+ghost use Rattle.dgt_c.specs.contracts.header.{DgtTime.the_row as time_row, DgtClock.the_row as clock_row, DgtEvent.the_row as event_row, DgtCommand.the_row as command_row, DgtTold.the_row as told_row, DgtSent.the_row as sent_row, DgtBody.the_row as body_row, DgtIdentity.the_row as identity_row, DgtTaken.the_row as taken_row, DgtPolled.the_row as polled_row, DgtEncoded.the_row as encoded_row, DgtParsed.the_row as parsed_row};
+ghost use Rattle.dgt_c.specs.contracts.header.{DgtTime.the_type as time_type, DgtClock.the_type as clock_type, DgtEvent.the_type as event_type, DgtCommand.the_type as command_type, DgtTold.the_type as told_type, DgtSent.the_type as sent_type, DgtBody.the_type as body_type, DgtIdentity.the_type as identity_type, DgtTaken.the_type as taken_type, DgtPolled.the_type as polled_type, DgtEncoded.the_type as encoded_type, DgtParsed.the_type as parsed_type};
+ghost use Rattle.dgt_c.specs.contracts.places.{HostPlace.the_row as host_row, FollowerPlace.the_row as follower_row, DecoderPlace.the_row as decoder_row, CommandDecoderPlace.the_row as command_decoder_row, BoardPlace.the_row as board_row};
+ghost use Rattle.dgt_c.specs.declared.header.{DgtTime.DgtTime, DgtClock.DgtClock, DgtEvent.DgtEvent, DgtCommand.DgtCommand, DgtTold.DgtTold, DgtSent.DgtSent, DgtBody.DgtBody, DgtIdentity.DgtIdentity, DgtTaken.DgtTaken, DgtPolled.DgtPolled, DgtEncoded.DgtEncoded, DgtParsed.DgtParsed};
+
+use crate::header::*;
+use dgt_board::{MAX_KEPT_BODY, MAX_OWED, MAX_SENT};
+use dgt_command::{MAX_LED_BYTES, MAX_PAYLOAD, MAX_WORD};
+use dgt_follow::{LEAST_PERIOD, MAX_ASKING};
+use dgt_host::{MAX_AWAITED, RESTART_LENGTH};
+use dgt_values::MAX_BODY;
+
+/// The numbers of `dgt.h`, by their names in small letters and without `DGT_`. The bits of a status
+/// are those that `Status` of dgt_message reads.
+pub fn limits()
+    ensures max_body { MAX_BODY ≡ 16380 }
+    ensures max_word { MAX_WORD ≡ 257 }
+    ensures max_payload { MAX_PAYLOAD ≡ 252 }
+    ensures max_leds { MAX_LED_BYTES ≡ 255 }
+    ensures max_awaited { MAX_AWAITED ≡ 16 }
+    ensures restart_length { RESTART_LENGTH ≡ 257 }
+    ensures max_asking { MAX_ASKING ≡ 259 }
+    ensures least_period { LEAST_PERIOD ≡ 1000 }
+    ensures max_owed { MAX_OWED ≡ 8 }
+    ensures max_sent { MAX_SENT ≡ 67 }
+    ensures max_kept { MAX_KEPT_BODY ≡ 64 }
+    ensures placement_room { PLACEMENT_ROOM ≡ 72 }
+    ensures host_size { HOST_ROOM ≡ 22528 }
+    ensures follower_size { FOLLOWER_ROOM ≡ 23552 }
+    ensures decoder_size { DECODER_ROOM ≡ 21504 }
+    ensures command_decoder_size { COMMAND_DECODER_ROOM ≡ 512 }
+    ensures board_size { BOARD_ROOM ≡ 1280 }
+    ensures clock_unknown { CLOCK_UNKNOWN ≡ 0 }
+    ensures clock_times { CLOCK_TIMES ≡ 1 }
+    ensures clock_none { CLOCK_NONE ≡ 2 }
+    ensures status_running { bit_alone 0 ≡ 0x01 }
+    ensures status_lever { bit_alone 1 ≡ 0x02 }
+    ensures status_battery_low { bit_alone 2 ≡ 0x04 }
+    ensures status_black_turn { bit_alone 3 ≡ 0x08 }
+    ensures status_white_turn { bit_alone 4 ≡ 0x10 }
+    ensures status_absent { bit_alone 5 ≡ 0x20 }
+    ensures event_none { EVENT_NONE ≡ 0 }
+    ensures event_dump { EVENT_DUMP ≡ 1 }
+    ensures event_field { EVENT_FIELD ≡ 2 }
+    ensures event_times { EVENT_TIMES ≡ 3 }
+    ensures event_no_clock { EVENT_NO_CLOCK ≡ 4 }
+    ensures event_ack { EVENT_ACK ≡ 5 }
+    ensures event_serial { EVENT_SERIAL ≡ 6 }
+    ensures event_trademark { EVENT_TRADEMARK ≡ 7 }
+    ensures event_version { EVENT_VERSION ≡ 8 }
+    ensures event_battery { EVENT_BATTERY ≡ 9 }
+    ensures event_long_serial { EVENT_LONG_SERIAL ≡ 10 }
+    ensures event_other { EVENT_OTHER ≡ 11 }
+    ensures event_refused { EVENT_REFUSED ≡ 12 }
+    ensures event_cut { EVENT_CUT ≡ 13 }
+    ensures event_bad_length { EVENT_BAD_LENGTH ≡ 14 }
+    ensures event_stray { EVENT_STRAY ≡ 15 }
+    ensures no_fault { FAULT_NONE ≡ 0 }
+    ensures wrong_size { FAULT_WRONG_SIZE ≡ 1 }
+    ensures bad_piece { FAULT_BAD_PIECE ≡ 2 }
+    ensures bad_square { FAULT_BAD_SQUARE ≡ 3 }
+    ensures bad_reading { FAULT_BAD_READING ≡ 4 }
+    ensures no_word { COMMAND_NONE ≡ 0 }
+    ensures command { COMMAND_READ ≡ 1 }
+    ensures bad_size { COMMAND_BAD_SIZE ≡ 2 }
+    ensures bad_start { COMMAND_BAD_START ≡ 3 }
+    ensures bad_end { COMMAND_BAD_END ≡ 4 }
+    ensures stray_byte { COMMAND_STRAY ≡ 5 }
+    ensures send_clock_message { (message : ClockContent) → command_code
+        (CommandContent.ClockMessage message) ≡ 0x2b }
+    ensures send_reset { command_code CommandContent.Reset ≡ 0x40 }
+    ensures send_clock { command_code CommandContent.Clock ≡ 0x41 }
+    ensures send_dump { command_code CommandContent.Dump ≡ 0x42 }
+    ensures send_update { command_code CommandContent.Update ≡ 0x43 }
+    ensures send_update_board { command_code CommandContent.UpdateBoard ≡ 0x44 }
+    ensures send_serial { command_code CommandContent.Serial ≡ 0x45 }
+    ensures send_trademark { command_code CommandContent.Trademark ≡ 0x47 }
+    ensures send_update_nice { command_code CommandContent.UpdateNice ≡ 0x4b }
+    ensures send_battery { command_code CommandContent.Battery ≡ 0x4c }
+    ensures send_version { command_code CommandContent.Version ≡ 0x4d }
+    ensures send_long_serial { command_code CommandContent.LongSerial ≡ 0x55 }
+    ensures send_leds { (leds : List ℕ) → command_code (CommandContent.Leds leds) ≡ 0x60 }
+    ensures id_display { id_number KnownId.Display ≡ 0x01 }
+    ensures id_icons { id_number KnownId.Icons ≡ 0x02 }
+    ensures id_end { id_number KnownId.End ≡ 0x03 }
+    ensures id_button { id_number KnownId.Button ≡ 0x08 }
+    ensures id_version { id_number KnownId.Version ≡ 0x09 }
+    ensures id_set_and_run { id_number KnownId.SetAndRun ≡ 0x0a }
+    ensures id_beep { id_number KnownId.Beep ≡ 0x0b }
+    ensures id_text { id_number KnownId.Text ≡ 0x0c }
+    ensures sent { SENT ≡ 0 }
+    ensures too_many { SENT_TOO_MANY ≡ 1 }
+    ensures no_room { SENT_NO_ROOM ≡ 2 }
+    ensures no_command { SENT_NO_COMMAND ≡ 3 }
+    ensures started { STARTED ≡ 0 }
+    ensures start_bad_pieces { START_BAD_PIECES ≡ 1 }
+    ensures start_bad_clock { START_BAD_CLOCK ≡ 2 }
+    ensures start_bad_identity { START_BAD_IDENTITY ≡ 3 }
+    ensures nothing { POLLED_NOTHING ≡ 0 }
+    ensures wrote { POLLED_WROTE ≡ 1 }
+    ensures need_room { POLLED_NEED_ROOM ≡ 2 }
+    ensures mode_idle { MODE_IDLE ≡ 0 }
+    ensures mode_update { MODE_UPDATE ≡ 1 }
+    ensures mode_update_board { MODE_UPDATE_BOARD ≡ 2 }
+    ensures mode_update_nice { MODE_UPDATE_NICE ≡ 3 }
+    ensures encoded { ENCODED ≡ 0 }
+    ensures too_short { TOO_SHORT ≡ 1 }
+    ensures not_encoded { NOT_ENCODED ≡ 2 }
+    ensures no_such { NONE ≡ 255 }
+{}
+
+/// No two cases of one kind have the same number: each has a greater one than the case before it.
+pub fn cases_differ()
+    ensures clocks { Ascend (CLOCK_UNKNOWN ∷ CLOCK_TIMES ∷ CLOCK_NONE ∷ []) }
+    ensures events { Ascend (EVENT_NONE ∷ EVENT_DUMP ∷ EVENT_FIELD ∷ EVENT_TIMES ∷ EVENT_NO_CLOCK
+        ∷ EVENT_ACK ∷ EVENT_SERIAL ∷ EVENT_TRADEMARK ∷ EVENT_VERSION ∷ EVENT_BATTERY
+        ∷ EVENT_LONG_SERIAL ∷ EVENT_OTHER ∷ EVENT_REFUSED ∷ EVENT_CUT ∷ EVENT_BAD_LENGTH
+        ∷ EVENT_STRAY ∷ []) }
+    ensures faults { Ascend (FAULT_NONE ∷ FAULT_WRONG_SIZE ∷ FAULT_BAD_PIECE ∷ FAULT_BAD_SQUARE
+        ∷ FAULT_BAD_READING ∷ []) }
+    ensures words { Ascend (COMMAND_NONE ∷ COMMAND_READ ∷ COMMAND_BAD_SIZE ∷ COMMAND_BAD_START
+        ∷ COMMAND_BAD_END ∷ COMMAND_STRAY ∷ []) }
+    ensures sendings { Ascend (SENT ∷ SENT_TOO_MANY ∷ SENT_NO_ROOM ∷ SENT_NO_COMMAND ∷ []) }
+    ensures starts { Ascend (STARTED ∷ START_BAD_PIECES ∷ START_BAD_CLOCK ∷ START_BAD_IDENTITY
+        ∷ []) }
+    ensures polls { Ascend (POLLED_NOTHING ∷ POLLED_WROTE ∷ POLLED_NEED_ROOM ∷ []) }
+    ensures modes { Ascend (MODE_IDLE ∷ MODE_UPDATE ∷ MODE_UPDATE_BOARD ∷ MODE_UPDATE_NICE ∷ []) }
+    ensures encodings { Ascend (ENCODED ∷ TOO_SHORT ∷ NOT_ENCODED ∷ []) }
+{}
+
+/// How the structs of `dgt.h` lie in memory: how many bytes each takes, the multiple at which it
+/// lies, and where its members begin, in the order of the law [`members`]. A handle takes at most
+/// this many bytes.
+pub fn layouts()
+    ensures host { FitsIn host_row 22528 8 (0 ∷ 8 ∷ []) }
+    ensures follower { FitsIn follower_row 23552 8 (0 ∷ 8 ∷ []) }
+    ensures decoder { FitsIn decoder_row 21504 8 (0 ∷ 8 ∷ []) }
+    ensures command_decoder { FitsIn command_decoder_row 512 8 (0 ∷ 8 ∷ []) }
+    ensures board { FitsIn board_row 1280 8 (0 ∷ 8 ∷ []) }
+    ensures time { LiesAs time_row 4 1 (0 ∷ 1 ∷ 2 ∷ 3 ∷ []) }
+    ensures clock { LiesAs clock_row 16 1 (0 ∷ 1 ∷ 2 ∷ 8 ∷ 12 ∷ []) }
+    ensures event { LiesAs event_row 160 8 (0 ∷ 1 ∷ 2 ∷ 3 ∷ 4 ∷ 5 ∷ 6 ∷ 7 ∷ 8 ∷ 9 ∷ 10 ∷ 14 ∷ 19
+        ∷ 35 ∷ 99 ∷ 128 ∷ 136 ∷ 144 ∷ 152 ∷ []) }
+    ensures command { LiesAs command_row 16 8 (0 ∷ 1 ∷ 2 ∷ 3 ∷ 4 ∷ 8 ∷ []) }
+    ensures told { LiesAs told_row 16 8 (0 ∷ 8 ∷ []) }
+    ensures sent { LiesAs sent_row 16 8 (0 ∷ 8 ∷ []) }
+    ensures body { LiesAs body_row 72 8 (0 ∷ 8 ∷ []) }
+    ensures identity { LiesAs identity_row 256 8 (0 ∷ 5 ∷ 6 ∷ 7 ∷ 8 ∷ 80 ∷ 152 ∷ 224 ∷ []) }
+    ensures taken { LiesAs taken_row 16 8 (0 ∷ 8 ∷ []) }
+    ensures polled { LiesAs polled_row 16 8 (0 ∷ 8 ∷ []) }
+    ensures encoded { LiesAs encoded_row 16 8 (0 ∷ 8 ∷ []) }
+    ensures parsed { LiesAs parsed_row 16 8 (0 ∷ 8 ∷ []) }
+{}
+
+/// The members of the structs of `dgt.h`, in the order of their declaration.
+pub fn members()
+    ensures time { (it : DgtTime) → time_type.as_values it ≡ it.hours ⊗ it.minutes ⊗ it.seconds
+        ⊗ it.flags ⊗ tt }
+    ensures clock { (it : DgtClock) → clock_type.as_values it ≡ it.kind ⊗ it.status ⊗ it.raw
+        ⊗ it.first ⊗ it.second ⊗ tt }
+    ensures event { (it : DgtEvent) → event_type.as_values it ≡ it.kind ⊗ it.unasked ⊗ it.code
+        ⊗ it.square ⊗ it.piece ⊗ it.main_number ⊗ it.sub_number ⊗ it.byte ⊗ it.fault ⊗ it.ack_status
+        ⊗ it.ack ⊗ it.serial ⊗ it.clock ⊗ it.pieces ⊗ it.reserved ⊗ it.have ⊗ it.at ⊗ it.body_len
+        ⊗ it.place ⊗ tt }
+    ensures command { (it : DgtCommand) → command_type.as_values it ≡ it.kind ⊗ it.code ⊗ it.id
+        ⊗ it.byte ⊗ it.reserved ⊗ it.word_len ⊗ tt }
+    ensures told { (it : DgtTold) → told_type.as_values it ≡ it.used ⊗ it.count ⊗ tt }
+    ensures sent { (it : DgtSent) → sent_type.as_values it ≡ it.status ⊗ it.bytes ⊗ tt }
+    ensures body { (it : DgtBody) → body_type.as_values it ≡ it.len ⊗ it.bytes ⊗ tt }
+    ensures identity { (it : DgtIdentity) → identity_type.as_values it ≡ it.serial ⊗ it.main_number
+        ⊗ it.sub_number ⊗ it.clock_version ⊗ it.trademark ⊗ it.battery ⊗ it.long_serial
+        ⊗ it.reserved ⊗ tt }
+    ensures taken { (it : DgtTaken) → taken_type.as_values it ≡ it.busy ⊗ it.used ⊗ tt }
+    ensures polled { (it : DgtPolled) → polled_type.as_values it ≡ it.status ⊗ it.bytes ⊗ tt }
+    ensures encoded { (it : DgtEncoded) → encoded_type.as_values it ≡ it.status ⊗ it.bytes ⊗ tt }
+    ensures parsed { (it : DgtParsed) → parsed_type.as_values it ≡ it.ok ⊗ it.at ⊗ tt }
+{}
+
+/// A clone is the value itself, and cloning never fails.
+pub fn clone_is_same()
+    ensures time { CloneIsSame ⟦<DgtTime as Clone>⟧ }
+    ensures clock { CloneIsSame ⟦<DgtClock as Clone>⟧ }
+    ensures event { CloneIsSame ⟦<DgtEvent as Clone>⟧ }
+    ensures command { CloneIsSame ⟦<DgtCommand as Clone>⟧ }
+    ensures told { CloneIsSame ⟦<DgtTold as Clone>⟧ }
+    ensures sent { CloneIsSame ⟦<DgtSent as Clone>⟧ }
+    ensures body { CloneIsSame ⟦<DgtBody as Clone>⟧ }
+    ensures identity { CloneIsSame ⟦<DgtIdentity as Clone>⟧ }
+    ensures taken { CloneIsSame ⟦<DgtTaken as Clone>⟧ }
+    ensures polled { CloneIsSame ⟦<DgtPolled as Clone>⟧ }
+    ensures encoded { CloneIsSame ⟦<DgtEncoded as Clone>⟧ }
+    ensures parsed { CloneIsSame ⟦<DgtParsed as Clone>⟧ }
+{}

@@ -1,0 +1,328 @@
+"""What dgt.h declares. Made from it by tools/c_boundary: don't edit it."""
+
+from ctypes import (POINTER, Structure, c_bool, c_char, c_size_t, c_uint8, c_uint32, c_uint64,
+                    c_void_p)
+from enum import IntEnum
+from typing import Any
+
+MAX_BODY = 16380
+MAX_WORD = 257
+MAX_PAYLOAD = 252
+MAX_LEDS = 255
+MAX_AWAITED = 16
+RESTART_LENGTH = 257
+MAX_ASKING = 259
+LEAST_PERIOD = 1000
+MAX_OWED = 8
+MAX_SENT = 67
+MAX_KEPT = 64
+PLACEMENT_ROOM = 72
+HOST_SIZE = 22528
+FOLLOWER_SIZE = 23552
+DECODER_SIZE = 21504
+COMMAND_DECODER_SIZE = 512
+BOARD_SIZE = 1280
+CLOCK_UNKNOWN = 0
+CLOCK_TIMES = 1
+CLOCK_NONE = 2
+STATUS_RUNNING = 0x01
+STATUS_LEVER = 0x02
+STATUS_BATTERY_LOW = 0x04
+STATUS_BLACK_TURN = 0x08
+STATUS_WHITE_TURN = 0x10
+STATUS_ABSENT = 0x20
+EVENT_NONE = 0
+EVENT_DUMP = 1
+EVENT_FIELD = 2
+EVENT_TIMES = 3
+EVENT_NO_CLOCK = 4
+EVENT_ACK = 5
+EVENT_SERIAL = 6
+EVENT_TRADEMARK = 7
+EVENT_VERSION = 8
+EVENT_BATTERY = 9
+EVENT_LONG_SERIAL = 10
+EVENT_OTHER = 11
+EVENT_REFUSED = 12
+EVENT_CUT = 13
+EVENT_BAD_LENGTH = 14
+EVENT_STRAY = 15
+NO_FAULT = 0
+WRONG_SIZE = 1
+BAD_PIECE = 2
+BAD_SQUARE = 3
+BAD_READING = 4
+NO_WORD = 0
+COMMAND = 1
+BAD_SIZE = 2
+BAD_START = 3
+BAD_END = 4
+STRAY_BYTE = 5
+SEND_CLOCK_MESSAGE = 0x2b
+SEND_RESET = 0x40
+SEND_CLOCK = 0x41
+SEND_DUMP = 0x42
+SEND_UPDATE = 0x43
+SEND_UPDATE_BOARD = 0x44
+SEND_SERIAL = 0x45
+SEND_TRADEMARK = 0x47
+SEND_UPDATE_NICE = 0x4b
+SEND_BATTERY = 0x4c
+SEND_VERSION = 0x4d
+SEND_LONG_SERIAL = 0x55
+SEND_LEDS = 0x60
+ID_DISPLAY = 0x01
+ID_ICONS = 0x02
+ID_END = 0x03
+ID_BUTTON = 0x08
+ID_VERSION = 0x09
+ID_SET_AND_RUN = 0x0a
+ID_BEEP = 0x0b
+ID_TEXT = 0x0c
+SENT = 0
+TOO_MANY = 1
+NO_ROOM = 2
+NO_COMMAND = 3
+STARTED = 0
+START_BAD_PIECES = 1
+START_BAD_CLOCK = 2
+START_BAD_IDENTITY = 3
+NOTHING = 0
+WROTE = 1
+NEED_ROOM = 2
+MODE_IDLE = 0
+MODE_UPDATE = 1
+MODE_UPDATE_BOARD = 2
+MODE_UPDATE_NICE = 3
+ENCODED = 0
+TOO_SHORT = 1
+NOT_ENCODED = 2
+NO_SUCH = 255
+
+
+class Fault(IntEnum):
+    """Why a body was refused."""
+
+    __module__ = "dgt.events"
+
+    WRONG_SIZE = 1
+    BAD_PIECE = 2
+    BAD_SQUARE = 3
+    BAD_READING = 4
+
+
+class Ask(IntEnum):
+    """The commands of one byte. A later version may have more."""
+
+    __module__ = "dgt.commands"
+
+    RESET = 0x40
+    CLOCK = 0x41
+    DUMP = 0x42
+    UPDATE = 0x43
+    UPDATE_BOARD = 0x44
+    SERIAL = 0x45
+    TRADEMARK = 0x47
+    UPDATE_NICE = 0x4b
+    BATTERY = 0x4c
+    VERSION = 0x4d
+    LONG_SERIAL = 0x55
+
+
+class ClockId(IntEnum):
+    """The ids of clock messages. A later version may have more."""
+
+    __module__ = "dgt.commands"
+
+    DISPLAY = 0x01
+    ICONS = 0x02
+    END = 0x03
+    BUTTON = 0x08
+    VERSION = 0x09
+    SET_AND_RUN = 0x0a
+    BEEP = 0x0b
+    TEXT = 0x0c
+
+
+class Mode(IntEnum):
+    """Which changes a board reports unasked."""
+
+    __module__ = "dgt.board"
+
+    IDLE = 0
+    UPDATE = 1
+    UPDATE_BOARD = 2
+    UPDATE_NICE = 3
+
+
+class TimeStruct(Structure):
+    _fields_ = [("hours", c_uint8), ("minutes", c_uint8), ("seconds", c_uint8), ("flags", c_uint8)]
+
+
+class ClockStruct(Structure):
+    _fields_ = [("kind", c_uint8), ("status", c_uint8), ("raw", c_uint8 * 6), ("first", TimeStruct),
+                ("second", TimeStruct)]
+
+
+class EventStruct(Structure):
+    _fields_ = [("kind", c_uint8), ("unasked", c_uint8), ("code", c_uint8), ("square", c_uint8),
+                ("piece", c_uint8), ("main_number", c_uint8), ("sub_number", c_uint8),
+                ("byte", c_uint8), ("fault", c_uint8), ("ack_status", c_uint8),
+                ("ack", c_uint8 * 4), ("serial", c_uint8 * 5), ("clock", ClockStruct),
+                ("pieces", c_uint8 * 64), ("reserved", c_uint8 * 29), ("have", c_size_t),
+                ("at", c_size_t), ("body_len", c_size_t), ("place", c_size_t)]
+
+
+class CommandStruct(Structure):
+    _fields_ = [("kind", c_uint8), ("code", c_uint8), ("id", c_uint8), ("byte", c_uint8),
+                ("reserved", c_uint8 * 4), ("word_len", c_size_t)]
+
+
+class ToldStruct(Structure):
+    _fields_ = [("used", c_size_t), ("count", c_size_t)]
+
+
+class SentStruct(Structure):
+    _fields_ = [("status", c_uint8), ("bytes", c_size_t)]
+
+
+class BodyStruct(Structure):
+    _fields_ = [("len", c_size_t), ("bytes", c_uint8 * MAX_KEPT)]
+
+
+class IdentityStruct(Structure):
+    _fields_ = [("serial", c_uint8 * 5), ("main_number", c_uint8), ("sub_number", c_uint8),
+                ("clock_version", c_uint8), ("trademark", BodyStruct), ("battery", BodyStruct),
+                ("long_serial", BodyStruct), ("reserved", c_uint8 * 32)]
+
+
+class TakenStruct(Structure):
+    _fields_ = [("busy", c_bool), ("used", c_size_t)]
+
+
+class PolledStruct(Structure):
+    _fields_ = [("status", c_uint8), ("bytes", c_size_t)]
+
+
+class EncodedStruct(Structure):
+    _fields_ = [("status", c_uint8), ("bytes", c_size_t)]
+
+
+class ParsedStruct(Structure):
+    _fields_ = [("ok", c_bool), ("at", c_size_t)]
+
+
+# How many bytes each handle takes.
+SIZES = {"dgt_host": HOST_SIZE, "dgt_follower": FOLLOWER_SIZE, "dgt_decoder": DECODER_SIZE,
+         "dgt_command_decoder": COMMAND_DECODER_SIZE, "dgt_board": BOARD_SIZE}
+
+# What each call returns, and what it takes.
+CALLS: dict[str, tuple[Any, ...]] = {
+    "dgt_version": (c_uint32,),
+    "dgt_host_size": (c_size_t,),
+    "dgt_host_init": (None, c_void_p),
+    "dgt_host_hear": (c_size_t, c_void_p, c_void_p, c_size_t, c_void_p, c_void_p, c_size_t),
+    "dgt_host_hear_all": (ToldStruct, c_void_p, c_void_p, c_size_t, c_void_p, c_size_t, c_void_p,
+                          c_size_t),
+    "dgt_host_follow": (SentStruct, c_void_p, c_void_p, c_size_t),
+    "dgt_host_restart": (SentStruct, c_void_p, c_void_p, c_size_t),
+    "dgt_host_send": (SentStruct, c_void_p, c_uint8, c_void_p, c_size_t),
+    "dgt_host_send_clock": (SentStruct, c_void_p, c_uint8, c_void_p, c_size_t, c_void_p, c_size_t),
+    "dgt_host_send_display": (SentStruct, c_void_p, c_void_p, c_uint8, c_uint8, c_void_p, c_size_t),
+    "dgt_host_send_text": (SentStruct, c_void_p, c_void_p, c_uint8, c_void_p, c_size_t),
+    "dgt_host_send_beep": (SentStruct, c_void_p, c_uint8, c_void_p, c_size_t),
+    "dgt_host_send_set_and_run": (SentStruct, c_void_p, c_void_p, c_void_p, c_uint8, c_void_p,
+                                  c_size_t),
+    "dgt_host_send_icons": (SentStruct, c_void_p, c_void_p, c_size_t, c_void_p, c_size_t),
+    "dgt_host_send_end": (SentStruct, c_void_p, c_void_p, c_size_t),
+    "dgt_host_send_button": (SentStruct, c_void_p, c_void_p, c_size_t),
+    "dgt_host_send_clock_version": (SentStruct, c_void_p, c_void_p, c_size_t),
+    "dgt_host_send_leds": (SentStruct, c_void_p, c_void_p, c_size_t, c_void_p, c_size_t),
+    "dgt_host_picture": (c_bool, c_void_p, c_void_p),
+    "dgt_host_placement": (c_bool, c_void_p, c_void_p),
+    "dgt_host_clock": (None, c_void_p, POINTER(ClockStruct)),
+    "dgt_host_awaited": (c_size_t, c_void_p, c_void_p),
+    "dgt_host_give_up_awaited": (c_size_t, c_void_p),
+    "dgt_host_unread": (c_size_t, c_void_p),
+    "dgt_host_line_lost": (None, c_void_p),
+    "dgt_follower_size": (c_size_t,),
+    "dgt_follower_init": (None, c_void_p),
+    "dgt_follower_start": (None, c_void_p, c_uint64, c_uint32),
+    "dgt_follower_hear": (c_size_t, c_void_p, c_uint64, c_void_p, c_size_t, c_void_p, c_void_p,
+                          c_size_t),
+    "dgt_follower_hear_all": (None, c_void_p, c_uint64, c_void_p, c_size_t),
+    "dgt_follower_ask": (SentStruct, c_void_p, c_uint64, c_void_p, c_size_t),
+    "dgt_follower_due_at": (c_bool, c_void_p, POINTER(c_uint64)),
+    "dgt_follower_mode": (c_uint8, c_void_p),
+    "dgt_follower_set_mode": (c_bool, c_void_p, c_uint8),
+    "dgt_follower_ask_now": (None, c_void_p),
+    "dgt_follower_set_confirm": (None, c_void_p, c_bool),
+    "dgt_follower_set_identify": (None, c_void_p, c_bool),
+    "dgt_follower_send": (SentStruct, c_void_p, c_uint8, c_void_p, c_size_t),
+    "dgt_follower_send_clock": (SentStruct, c_void_p, c_uint8, c_void_p, c_size_t, c_void_p,
+                                c_size_t),
+    "dgt_follower_send_display": (SentStruct, c_void_p, c_void_p, c_uint8, c_uint8, c_void_p,
+                                  c_size_t),
+    "dgt_follower_send_text": (SentStruct, c_void_p, c_void_p, c_uint8, c_void_p, c_size_t),
+    "dgt_follower_send_beep": (SentStruct, c_void_p, c_uint8, c_void_p, c_size_t),
+    "dgt_follower_send_set_and_run": (SentStruct, c_void_p, c_void_p, c_void_p, c_uint8, c_void_p,
+                                      c_size_t),
+    "dgt_follower_send_icons": (SentStruct, c_void_p, c_void_p, c_size_t, c_void_p, c_size_t),
+    "dgt_follower_send_end": (SentStruct, c_void_p, c_void_p, c_size_t),
+    "dgt_follower_send_button": (SentStruct, c_void_p, c_void_p, c_size_t),
+    "dgt_follower_send_clock_version": (SentStruct, c_void_p, c_void_p, c_size_t),
+    "dgt_follower_send_leds": (SentStruct, c_void_p, c_void_p, c_size_t, c_void_p, c_size_t),
+    "dgt_follower_picture": (c_bool, c_void_p, c_void_p),
+    "dgt_follower_placement": (c_bool, c_void_p, c_void_p),
+    "dgt_follower_clock": (None, c_void_p, POINTER(ClockStruct)),
+    "dgt_follower_unread": (c_size_t, c_void_p),
+    "dgt_follower_in_doubt": (c_bool, c_void_p),
+    "dgt_follower_confirmed": (c_bool, c_void_p),
+    "dgt_follower_serial": (c_bool, c_void_p, c_void_p),
+    "dgt_follower_last_heard": (c_bool, c_void_p, POINTER(c_uint64)),
+    "dgt_follower_heartbeats_left": (c_uint32, c_void_p),
+    "dgt_follower_line_lost": (None, c_void_p),
+    "dgt_decoder_size": (c_size_t,),
+    "dgt_decoder_init": (None, c_void_p),
+    "dgt_decoder_feed": (c_size_t, c_void_p, c_void_p, c_size_t, c_void_p, c_void_p, c_size_t),
+    "dgt_decoder_feed_all": (ToldStruct, c_void_p, c_void_p, c_size_t, c_void_p, c_size_t, c_void_p,
+                             c_size_t),
+    "dgt_decoder_rest": (c_size_t, c_void_p),
+    "dgt_decoder_finish": (c_size_t, c_void_p),
+    "dgt_decoder_reset": (None, c_void_p),
+    "dgt_command_decoder_size": (c_size_t,),
+    "dgt_command_decoder_init": (None, c_void_p),
+    "dgt_command_decoder_feed": (c_size_t, c_void_p, c_void_p, c_size_t, POINTER(CommandStruct),
+                                 c_void_p, c_size_t),
+    "dgt_command_decoder_rest": (c_size_t, c_void_p),
+    "dgt_command_decoder_finish": (c_size_t, c_void_p),
+    "dgt_command_decoder_reset": (None, c_void_p),
+    "dgt_board_size": (c_size_t,),
+    "dgt_board_init": (None, c_void_p),
+    "dgt_board_start": (c_uint8, c_void_p, c_void_p, POINTER(ClockStruct), POINTER(IdentityStruct)),
+    "dgt_board_change": (c_bool, c_void_p, c_uint8, c_uint8),
+    "dgt_board_hand_clock": (c_bool, c_void_p, POINTER(ClockStruct)),
+    "dgt_board_line_lost": (None, c_void_p),
+    "dgt_board_take": (TakenStruct, c_void_p, c_void_p, c_size_t, POINTER(CommandStruct), c_void_p,
+                       c_size_t),
+    "dgt_board_poll": (PolledStruct, c_void_p, c_void_p, c_size_t),
+    "dgt_board_owes": (c_bool, c_void_p),
+    "dgt_board_owed_len": (c_size_t, c_void_p),
+    "dgt_board_partial": (c_size_t, c_void_p),
+    "dgt_board_mode": (c_uint8, c_void_p),
+    "dgt_board_position": (None, c_void_p, c_void_p),
+    "dgt_board_clock": (None, c_void_p, POINTER(ClockStruct)),
+    "dgt_encode_message": (EncodedStruct, c_void_p, c_void_p, c_size_t, c_void_p, c_size_t),
+    "dgt_view_message": (c_bool, c_uint8, c_void_p, c_size_t, c_void_p),
+    "dgt_event_text": (EncodedStruct, c_void_p, c_void_p, c_size_t, c_void_p, c_size_t),
+    "dgt_encode_command": (EncodedStruct, c_uint8, c_uint8, c_void_p, c_size_t, c_void_p, c_size_t),
+    "dgt_view_command": (c_bool, c_void_p, c_size_t, POINTER(CommandStruct)),
+    "dgt_piece_letter": (c_char, c_uint8),
+    "dgt_piece_code": (c_uint8, c_uint8),
+    "dgt_square_name": (c_bool, c_uint8, c_void_p),
+    "dgt_square_number": (c_uint8, c_uint8, c_uint8),
+    "dgt_placement": (c_bool, c_void_p, c_void_p),
+    "dgt_differ": (c_bool, c_void_p, c_void_p, POINTER(c_uint64)),
+    "dgt_parse_placement": (ParsedStruct, c_void_p, c_size_t, c_void_p),
+    "dgt_segment": (c_uint8, c_uint8),
+}
