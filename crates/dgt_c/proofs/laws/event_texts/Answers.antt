@@ -1,8 +1,5 @@
-use Rattle.dgt_c.proofs.TextLemmas.{events_are_read, events_have_texts, nothing_has_no_text, reports_are_said}
+use Rattle.dgt_c.proofs.TextLemmas.{events_are_read, events_have_texts, nothing_has_no_text}
 use Rattle.dgt_c.proofs.laws.event_texts.Goals as goal
-
-pub returns-clause-reported : goal.returns-clause-reported
-returns-clause-reported c = reports_are_said
 
 pub returns-clause-text : goal.returns-clause-text
 returns-clause-text c = events_have_texts
