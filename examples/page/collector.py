@@ -8,7 +8,9 @@ import functools
 import hashlib
 import os
 import queue
+import json
 import re
+import sqlite3
 import sys
 import threading
 import time
@@ -23,11 +25,21 @@ import topics
 
 PROGRAM = os.path.basename(sys.argv[0])
 MOST_GAMES = 10000  # the latest ones
-MOST_WAITING = 100000  # of what boards say, before games are made of it
 SHOWN_MOVES = 12
 # New players belong to a game of at most this many half-moves, and later to the next game.
 OPENING = 20
 WAIT, NEVER = 3600.0, float("inf")
+# A game's time follows its board's by as many seconds, so that what comes late is heard in time,
+# and goes on for as many without a word of the board.
+LATE, TRUST = 0.3, 15.0
+TABLES = """
+PRAGMA journal_mode = WAL;
+PRAGMA synchronous = NORMAL;
+CREATE TABLE IF NOT EXISTS heard (id INTEGER PRIMARY KEY, journal TEXT, board TEXT, number INTEGER,
+                                  entry TEXT);
+CREATE TABLE IF NOT EXISTS filed (board TEXT, game INTEGER, text BLOB, before BLOB,
+                                  PRIMARY KEY (board, game)) WITHOUT ROWID;
+"""
 Summary = dict[str, Any]
 
 
@@ -50,6 +62,45 @@ class Said:
         return dgt.BoardView(dgt.Position.of_letters(self.letters), clock_of(self.clock),
                              not self.is_sure, None if self.is_sure else self.state,
                              self.is_sure and self.is_confirmed)
+
+
+@dataclass
+class Now:
+    """It is this time on a board, of which all is known; or it isn't known what time it is."""
+
+    board: str
+    journal: str
+    at: float | None
+
+
+class State:
+    """All that the games are made of, in its order, in a file of SQLite: whoever reads it again
+    makes the same games. The players and tags of rounds are in it, too, as of no board."""
+
+    def __init__(self, path: str | None) -> None:
+        """sqlite3.Error if the file can't be had."""
+        self.kept = sqlite3.connect(path or ":memory:", isolation_level=None,
+                                    check_same_thread=False, timeout=5.0)
+        self.kept.executescript(TABLES)
+        self.read = 0  # up to which row the games have it
+
+    def add(self, journal: str, board: str, number: int, entry: Any) -> None:
+        """sqlite3.Error if it can't be kept."""
+        self.kept.execute("INSERT INTO heard (journal, board, number, entry) VALUES (?, ?, ?, ?)",
+                          [journal, board, number, json.dumps(entry)])
+
+    def marks(self) -> dict[tuple[str, str], int]:
+        """Up to which number each journal is heard of each board."""
+        rows = self.kept.execute("SELECT board, journal, max(number) FROM heard GROUP BY 1, 2")
+        return {(board, journal): number for board, journal, number in rows if journal}
+
+    def news(self) -> list[tuple[str, str, int, Any]]:
+        """What the games don't have yet: a journal, a board, a number, and an entry."""
+        rows = self.kept.execute("SELECT id, journal, board, number, entry FROM heard WHERE id > ? "
+                                 "ORDER BY id LIMIT 1000", [self.read]).fetchall()
+        self.read = rows[-1][0] if rows else self.read
+        return [(journal, board, number, json.loads(entry))
+                for _, journal, board, number, entry in rows]
 
 
 def said_of(board: topics.Board, at: float) -> Said:
@@ -81,26 +132,38 @@ class Kept:
     """A game: its board, and its text, which it has once it stands on the shelf."""
 
     board: str
-    in_file: dgt.KeptGame | None
+    in_file: Any  # a dgt.KeptGame, if there is a file
     text: str = ""
+    number: int = 0
 
 
 class Shelf:
     """All games since the start, and the file of --pgn, which a thread of its own writes. Its
     games change while the disk is waited for."""
 
-    def __init__(self, path: str | None) -> None:
+    def __init__(self, path: str | None, state: State) -> None:
         """OSError if the file can't be made."""
-        self.lock = threading.Lock()
+        self.lock, self.state, self.is_open = threading.Lock(), state, False
         self.games: collections.deque[Kept] = collections.deque(maxlen=MOST_GAMES)
         self.file = None if path is None else dgt.PgnFile(path)
+        self.changed: list[Kept] = []
         self.is_stale, self.written = True, (b"", "")
         self.news, self.saving, self.fault = threading.Event(), threading.Lock(), ""
-        if self.file is not None:
-            threading.Thread(target=self.save_all, daemon=True).start()
 
-    def begin(self, board: str) -> Kept:
-        return Kept(board, None if self.file is None else self.file.begin())
+    def open(self) -> None:
+        """All that was heard before is on the shelf: the file is written from now on."""
+        if not self.is_open and self.file is not None:
+            threading.Thread(target=self.save_all, daemon=True).start()
+        self.is_open = True
+
+    def begin(self, board: str, number: int) -> Kept:
+        kept = Kept(board, None if self.file is None else self.file.begin(), number=number)
+        if self.file is not None and not self.is_open:
+            filed = self.state.kept.execute("SELECT text, before FROM filed WHERE board = ? AND "
+                                            "game = ?", [board, number]).fetchone()
+            content = self.file._read() or b""
+            kept.in_file.written = next((each for each in filed or () if each in content), b"")
+        return kept
 
     def put(self, kept: Kept, text: str) -> None:
         """Sets the text of a game. With its first move it comes onto the shelf: games without moves
@@ -111,9 +174,9 @@ class Shelf:
             if not kept.text:
                 self.games.append(kept)
             kept.text, self.is_stale = text, True
-        if self.file is not None:
-            self.file.put(text, kept.in_file)
-            self.news.set()
+            if self.file is not None:
+                self.changed.append(kept)
+        self.news.set()
 
     def pgn(self) -> tuple[bytes, str]:
         """All games as PGN, and a tag of just this text: the first game of each board, then the
@@ -141,6 +204,7 @@ class Shelf:
             self.news.wait()
             self.news.clear()
             self.save()
+            time.sleep(0.2)  # more moves may come, and the file is long
 
     def save(self) -> bool:
         """Writes the file. Returns whether it has all. A fault is said once; what isn't written is
@@ -149,6 +213,7 @@ class Shelf:
             return True
         with self.saving:
             try:
+                self.foretell(self.file)
                 self.file.save()
             except OSError as refused:
                 fault = refused.strerror or str(refused)
@@ -161,6 +226,23 @@ class Shelf:
                     report(f"{self.file.name} is written again")
                 self.fault = ""
             return not self.fault
+
+    def foretell(self, file: dgt.PgnFile) -> None:
+        """Notes what the file is about to have, by which the next process knows its games. OSError
+        if that fails."""
+        with self.lock:
+            changed, self.changed = self.changed, []
+            new = {(each.board, each.number): each for each in changed}
+            for each in changed:
+                file.put(each.text, each.in_file)
+        try:
+            self.state.kept.executemany(
+                "INSERT OR REPLACE INTO filed VALUES (?, ?, ?, ?)",
+                [(*key, each.in_file.text, each.in_file.written) for key, each in new.items()])
+        except sqlite3.Error as fault:
+            with self.lock:
+                self.changed += changed
+            raise OSError(str(fault)) from None
 
     @property
     def lacks(self) -> bool:
@@ -186,8 +268,8 @@ class Place:
         self.kept: Kept | None = None
 
     def begin(self) -> None:
-        self.kept = self.shelf.begin(self.board)
         self.count += 1
+        self.kept = self.shelf.begin(self.board, self.count)
 
     def put(self, text: str) -> None:
         if self.kept is not None:
@@ -205,7 +287,20 @@ class Table:
     place: Place
     players: tuple[str, str] | None = None
     told: Any = None
-    due: float = NEVER
+    journal: str = ""
+    shift: float = 0.0  # of the journal's times
+    at: float = 0.0  # the board's time, of its last entry
+    base: tuple[float, float] | None = None  # a time of the board, and when it was here
+    due: float = NEVER  # here
+
+    def now(self, here: float) -> float:
+        """The board's time."""
+        return self.base[0] + min(here - self.base[1], TRUST) - LATE if self.base else self.at
+
+    def set_due(self) -> None:
+        due, self.due = self.games.due, NEVER
+        if due is not None and self.base and due <= self.base[0] + TRUST - LATE:
+            self.due = self.base[1] + due - self.base[0] + LATE
 
     def name_players(self, players: tuple[str, str] | None) -> None:
         """The players of the next game, and of this one if it has none or has just begun."""
@@ -245,28 +340,18 @@ class Collector:
     name of a board, the summary of its game, and whether it began on a turned board."""
 
     def __init__(self, shelf: Shelf, tags: dict[str, str], white_clock: str,
-                 tell: Callable[[str, Summary | None, bool], None]) -> None:
+                 tell: Callable[[str, Summary | None, bool], None], state: State) -> None:
         self.shelf, self.tags, self.white_clock, self.tell = shelf, tags, white_clock, tell
-        self.waiting: queue.Queue[Said | str | None] = queue.Queue(MOST_WAITING)
-        self.dropped, self.is_dropping = 0, False
+        self.state = state
+        self.waiting: queue.SimpleQueue[Now | str | None] = queue.SimpleQueue()
         self.tables: dict[str, Table] = {}
-        self.now = 0.0
+        self.shown: dict[str, topics.Board] = {}  # what the games have of each board
         self.thread = threading.Thread(target=self.run, daemon=True)
         self.thread.start()
 
-    def hear(self, said: Said | str) -> None:
-        """What is known of a board from now on, or the name of one that is removed. If the most
-        wait already, it is dropped. One line reports that, until half of those are done."""
-        try:
-            self.waiting.put_nowait(said)
-        except queue.Full:
-            self.dropped += 1
-            if not self.is_dropping:
-                report(f"{self.waiting.maxsize} messages wait until games are made of them; those "
-                       "that come now are dropped, and games may lack moves")
-            self.is_dropping = True
-        else:
-            self.is_dropping &= self.waiting.qsize() > self.waiting.maxsize // 2
+    def hear(self, said: Now | str) -> None:
+        """The time on a board, or the name of one that is removed; what it said is in the state."""
+        self.waiting.put(said)
 
     def close(self) -> None:
         """Puts all on the shelf that was heard so far."""
@@ -277,12 +362,17 @@ class Collector:
 
     def run(self) -> None:
         while True:
+            while news := self.state.news():
+                for journal, name, number, entry in news:
+                    self.take(journal, name, number / 1000, entry)
+            self.shelf.open()
+            now = time.monotonic()
+            for name in [name for name, table in self.tables.items() if table.due <= now]:
+                self.do(name, functools.partial(self.wait, now))
             due = min((table.due for table in self.tables.values()), default=NEVER)
             try:
-                left = min(WAIT, due - time.monotonic())
-                said = self.waiting.get(timeout=left) if left > 0 else self.waiting.get_nowait()
+                said = self.waiting.get(timeout=min(1.0, max(0.0, due - time.monotonic())))
             except queue.Empty:
-                self.wait(time.monotonic())
                 continue
             if said is None:
                 return
@@ -290,19 +380,44 @@ class Collector:
                 if table := self.tables.pop(said, None):
                     table.games.close()
                     self.tell(said, None, False)  # it may be back, and was taken for the same
-            else:
-                self.wait(said.at)
-                self.do(said.board, functools.partial(self.see, said))
+            elif table := self.tables.get(said.board):
+                table.base = None
+                if said.at is not None and said.journal == table.journal:
+                    table.base = said.at + table.shift, time.monotonic()
+                table.set_due()
 
-    def wait(self, now: float) -> None:
-        """What was heard is all that there is until this time."""
-        self.now = max(self.now, now)
-        for name in [name for name, table in self.tables.items() if table.due <= self.now]:
-            self.do(name, lambda table: table.games.wait(self.now))
+    def take(self, journal: str, name: str, at: float, entry: Any) -> None:
+        """A board's entry, or tags of all games that begin from now on."""
+        if not name:
+            self.tags |= entry
+            for table in self.tables.values():
+                game = table.games.game
+                table.games.set_tags(entry, game is not None and not game.moves)
+            return
+        board = self.shown.setdefault(name, topics.Board(name))
+        board.hear_entry(round(1000 * at), entry)
+        if board.is_shown:
+            self.do(name, functools.partial(self.see, journal, said_of(board, at)))
 
-    def see(self, said: Said, table: Table) -> None:
+    def wait(self, now: float, table: Table) -> None:
+        """What was heard of a board is all that there is until this time."""
+        table.at = max(table.at, table.now(now))
+        table.games.wait(table.at)
+
+    def see(self, journal: str, said: Said, table: Table) -> None:
+        """Hears what is known of a board from a time on, once all has happened that was due. The
+        clock of another machine may be behind, and nobody watched before it did."""
+        if journal != table.journal:
+            if table.at:
+                table.games.see(dgt.BoardView(in_doubt=True, away="ended"), table.at)
+            table.journal, table.shift = journal, max(0.0, table.at + 1 - said.at)
+        table.at = max(table.at, said.at + table.shift)
+        while (due := table.games.due) is not None and due <= table.at:
+            table.games.wait(due)
+        table.games.set_tags({"Date": time.strftime("%Y.%m.%d", time.localtime(said.at)),
+                              **self.tags}, False)
         table.name_players(said.players)
-        table.games.see(said.view(), self.now)
+        table.games.see(said.view(), table.at)
 
     def do(self, name: str, what: Callable[[Table], None]) -> None:
         """Does something with a board's games, and says what is new of them."""
@@ -313,8 +428,7 @@ class Collector:
             del self.tables[name]
             report(f"{name!r}: its game is broken off\n{traceback.format_exc()}")
             return
-        due = table.games.due
-        table.due = NEVER if due is None else due
+        table.set_due()
         if (state := table.state()) != table.told:
             table.told = state
             self.tell(name, summary(table.games, self.white_clock), table.games.recogniser.turned)

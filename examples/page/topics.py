@@ -9,11 +9,13 @@ from typing import Any
 
 # The topics of a board, below boards/NAME. Of several that are retained, a server hears them in
 # this order: whether a position is right and confirmed is known before it comes.
-STATE, CONFIRMED, POSITION, CLOCK, PLAYERS, COUNTERS = TOPICS = (
-    "state", "confirmed", "", "clock", "players", "counters")
+LOG, JOURNAL, STATE, CONFIRMED, POSITION, CLOCK, PLAYERS, COUNTERS = TOPICS = (
+    "log", "journal", "state", "confirmed", "", "clock", "players", "counters")
+IN_ENTRY = (STATE, POSITION, CLOCK, PLAYERS)
 # What a board may be. In doubt is one whose line lost bytes, until it has reported all squares.
 STATES = ("following", "doubt", "silent", "gone", "ended", "unknown")
 MOST_BYTES = 500  # of a message
+MOST_LOG = 500 * 110  # of one with entries
 MOST_NAME = MOST_PLAYERS = 200  # bytes
 # A line of `dgt picture`: how many bytes had come, and where the pieces stand.
 LINE = re.compile(r"(\d{8,20}) ([PRNBKQprnbkqXYZ1-8]{1,8}(?:/[PRNBKQprnbkqXYZ1-8]{1,8}){7})")
@@ -113,6 +115,41 @@ def read(topic: str, payload: bytes) -> Any:
     return READERS[topic](text)
 
 
+@dataclass(frozen=True)
+class Log:
+    """A message of a journal: each entry that it has of a board after the number `before`, of which
+    `last` is the number of the last one. A number is a time in milliseconds, as `now` is."""
+
+    journal: str
+    now: int
+    last: int
+    before: int
+    entries: list[list[Any]]
+
+
+def read_log(payload: bytes) -> Log:
+    try:
+        log = Log(*json.loads(payload[:MOST_LOG]))
+        is_right = bool(re.fullmatch(r"\w{1,40}", log.journal)) and all(
+            type(each) is int and 0 <= each < 2**53 for each in (log.now, log.last, log.before))
+        for number, *said in log.entries if is_right else ():
+            is_right &= type(number) is int
+            read_entry(said)
+    except (ValueError, TypeError, AttributeError, RecursionError):
+        raise Refused from None
+    if not is_right:
+        raise Refused
+    return log
+
+
+def read_entry(said: list[Any]) -> dict[str, Any]:
+    """What each topic says. Refused if one of them may not say that."""
+    *texts, is_confirmed = said
+    entry = {topic: read(topic, text.encode())
+             for topic, text in zip(IN_ENTRY, texts, strict=True) if text}
+    return entry | {CONFIRMED: entry.get(POSITION) if is_confirmed else (0, "")}
+
+
 def turned(placement: str) -> str:
     """The placement as it is seen from the other side."""
     return placement[::-1]
@@ -126,6 +163,10 @@ class Board:
     said: dict[str, Any] = field(default_factory=dict)  # of each topic, what it said last
     game: dict[str, Any] | None = None
     is_turned: bool = False  # White's pieces began on the ranks 8 and 7
+    texts: dict[str, str] = field(default_factory=dict)  # of the same
+    journal: str = ""  # that has the board, if one has it
+    clock_number: int = 0  # of the entry with this clock
+    has_ended: bool = False  # the journal's program
     is_fresh: bool = False  # its position was heard since the broker came
     heard_at: float = 0.0
     clock_at: float = 0.0
@@ -147,7 +188,7 @@ class Board:
 
     @property
     def state(self) -> str:
-        return str(self.said.get(STATE, "unknown"))
+        return "ended" if self.has_ended else str(self.said.get(STATE, "unknown"))
 
     @property
     def placement(self) -> str:
@@ -163,7 +204,7 @@ class Board:
         players: tuple[str, str] | None = self.said.get(PLAYERS)
         return players
 
-    def hear(self, topic: str, said: Any, now: float) -> None:
+    def hear(self, topic: str, said: Any, now: float, text: str = "") -> None:
         """Notes what a topic says. A clock's time that was heard before is as old as then: a broker
         that comes back repeats it."""
         self.heard_at = now
@@ -173,10 +214,32 @@ class Board:
             self.said.pop(topic, None)
         else:
             self.said[topic] = said
+        self.texts[topic] = text
         if topic == POSITION:
             self.is_fresh = said is not None
             if said is None:
                 self.game, self.is_turned = None, False
+
+    def hear_entry(self, number: int, said: list[Any]) -> None:
+        """Notes what an entry says."""
+        entry = read_entry(said)
+        if entry.get(CLOCK) != self.clock:
+            self.clock_number = number
+        self.said = {**entry, COUNTERS: self.said.get(COUNTERS, {})}
+        self.is_fresh = True
+
+    def hear_time(self, number: int, now: float) -> None:
+        """Notes what time it is on the board, by which its clock is as old as it is."""
+        clock_at = now - max(0, number - self.clock_number) / 1000
+        if abs(clock_at - self.clock_at) > 0.5:
+            self.clock_at = clock_at
+        self.heard_at, self.has_ended = now, False
+
+    def as_entry(self) -> list[Any]:
+        """The same, of a board that no journal has."""
+        sure = {"following": self.is_sure, "unknown": self.is_sure}.get(self.state, True)
+        state = (None if self.state == "unknown" else self.state) if sure else "doubt"
+        return [state, *(self.texts.get(each) for each in IN_ENTRY[1:]), self.is_confirmed]
 
     def event(self) -> dict[str, Any]:
         """What a page is sent. `at` of the clock is a time here: see `written`."""

@@ -17,6 +17,7 @@ _ADVICE = {
     errno.EWOULDBLOCK: "in use by another program (end that one first)",
     errno.ENOTTY: "not a serial port",
 }
+_LEAST = 64
 _CHUNK = 256
 """How many bytes one call returns at most: the package hears as many in some 8 ms at worst."""
 
@@ -34,7 +35,12 @@ def _take(line: int) -> None:
 
 
 def _open(name: str) -> int:
-    line = os.open(name, os.O_RDWR | os.O_NOCTTY | os.O_NONBLOCK)
+    first = os.open(name, os.O_RDWR | os.O_NOCTTY | os.O_NONBLOCK)
+    try:
+        # The low numbers are left to those who wait for theirs by `select`, as paho does.
+        line = fcntl.fcntl(first, fcntl.F_DUPFD_CLOEXEC, _LEAST)
+    finally:
+        os.close(first)
     try:
         _take(line)
     except BaseException:
@@ -56,7 +62,8 @@ class Port:
         except (OSError, termios.error) as fault:
             number, text = fault.args[:2]
             raise OSError(number, _ADVICE.get(number, text), name) from None
-        self._line, self._file = line, open(line, "r+b", buffering=0)
+        self._line = self.descriptor = line
+        self._file = open(line, "r+b", buffering=0)
         self._poll = select.poll()
         self._poll.register(closing, select.POLLIN)
         self._unsent = b""

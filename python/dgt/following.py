@@ -251,6 +251,19 @@ class Following(Uncopied, ClockCommands[None]):
         `following.write(following.follower.send(Ask.CLOCK))`."""
         return self._steps.follower
 
+    @property
+    def descriptor(self) -> int | None:
+        """What has something to read once the board has said something, for a loop that follows
+        many boards: call `wait(time.monotonic())` then, and at `due_at`. `None` while the port is
+        away, or of a line that was handed over."""
+        return self._line.descriptor if isinstance(self._line, Port) else None
+
+    @property
+    def due_at(self) -> float:
+        """The time at which `wait` has something to do though nothing came."""
+        due = self._look_at if self._line is None else self.follower.due_at
+        return time.monotonic() + _LONGEST if due is None else due
+
     def write(self, chunk: Bytes) -> None:
         """Has a chunk of bytes sent to the board. It is lost if the port is away, or takes nothing
         for a period. `Closed` if this is closed."""
