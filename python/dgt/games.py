@@ -210,13 +210,22 @@ class Games(Uncopied):
 
     def _note_clock(self, clock: Clock | None, now: float) -> None:
         self._clock = clock if isinstance(clock, Times) else None
-        if self.game is None or self._is_over or len(self.game.moves) == self._settled:
+        if self.game is None or len(self.game.moves) == self._settled:
             return
         last = self.game.moves[-1]
+        if self._is_over and (now >= self._final_at or self._runs_for(last)):
+            return
         left = self._left(self._clock, last)
         if left is not None and left != last.clock and self._is_as_told:
             last.clock, self._save_at = left, now + _CLOCK_WAIT
             self._text.change(len(self.game.moves) - 1)
+
+    def _runs_for(self, made: PgnMove) -> bool:
+        """Whether the clock of the player who has made a move still runs. It does if the clock
+        doesn't report whose turn it is."""
+        clock = self._clock
+        return clock is not None and clock.running and not (
+            clock.black_turn if made.before.white else clock.white_turn)
 
     def _left(self, clock: Times | None, made: PgnMove) -> Time | None:
         """Returns the time that is left to the player who has made a move."""
