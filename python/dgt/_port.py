@@ -18,8 +18,18 @@ _ADVICE = {
     errno.ENOTTY: "not a serial port",
 }
 _LEAST = 64
+"""The lowest number of a descriptor of this package."""
 _CHUNK = 256
 """How many bytes one call returns at most: the package hears as many in some 8 ms at worst."""
+
+
+def raised(descriptor: int) -> int:
+    """Moves a descriptor to a higher number. The low ones are left to those who wait for theirs by
+    `select`, which takes no number above 1023: so does the module paho."""
+    try:
+        return fcntl.fcntl(descriptor, fcntl.F_DUPFD_CLOEXEC, _LEAST)
+    finally:
+        os.close(descriptor)
 
 
 def _take(line: int) -> None:
@@ -35,12 +45,7 @@ def _take(line: int) -> None:
 
 
 def _open(name: str) -> int:
-    first = os.open(name, os.O_RDWR | os.O_NOCTTY | os.O_NONBLOCK)
-    try:
-        # The low numbers are left to those who wait for theirs by `select`, as paho does.
-        line = fcntl.fcntl(first, fcntl.F_DUPFD_CLOEXEC, _LEAST)
-    finally:
-        os.close(first)
+    line = raised(os.open(name, os.O_RDWR | os.O_NOCTTY | os.O_NONBLOCK))
     try:
         _take(line)
     except BaseException:

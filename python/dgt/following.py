@@ -12,10 +12,10 @@ import time
 from collections import deque
 from collections.abc import AsyncGenerator, Iterator
 from dataclasses import dataclass, field
-from typing import TYPE_CHECKING, Protocol, Self
+from typing import TYPE_CHECKING, Any, Protocol, Self
 
 from ._handle import Bytes, Uncopied, readable
-from ._port import Port
+from ._port import Port, raised
 from .board import Mode
 from .clock_commands import ClockCommands
 from .commands import ClockId, Leds
@@ -27,6 +27,7 @@ from .values import Clock, Position
 if TYPE_CHECKING:
     from asyncio import StreamReader, StreamWriter, Task
 
+_linux: Any = os  # mypy 1.0 knows no eventfd
 _LOOK = 2.0
 """How many seconds pass between two looks for a port that has gone."""
 _LONGEST = 3600.0
@@ -214,7 +215,7 @@ class Following(Uncopied, ClockCommands[None]):
     """
 
     _line: Port | _Given | None
-    _closing: tuple[int, ...] = ()
+    _closing = -1
 
     def __init__(self, port: str | os.PathLike[str] | SerialLine, period: float = 10.0, *,
                  patience: int = 6, mode: Mode = Mode.UPDATE_BOARD, confirm: bool = False,
@@ -225,7 +226,8 @@ class Following(Uncopied, ClockCommands[None]):
         self._is_given = False
         self._is_closed, self._line, self._name = False, None, ""
         self._lock = threading.RLock()  # of a `wait` under way, which has the port
-        self._closing = os.pipe()  # has something to read once `close` is called
+        # Has something to read once `close` is called.
+        self._closing = raised(_linux.eventfd(0, _linux.EFD_CLOEXEC))
         if isinstance(port, (str, os.PathLike)):
             self._name = os.fspath(port)
             self._look(is_first=True)
@@ -235,10 +237,9 @@ class Following(Uncopied, ClockCommands[None]):
             raise TypeError(f"port must be a port's name, or an open port as of pyserial: {port!r}")
 
     def __del__(self) -> None:
-        if self._closing:
+        if self._closing >= 0:
             Following.close(self)
-            for end in self._closing:
-                os.close(end)
+            os.close(self._closing)
 
     @property
     def view(self) -> BoardView:
@@ -305,7 +306,7 @@ class Following(Uncopied, ClockCommands[None]):
             self._look()
         elif self._line is None:
             end = self._look_at if until is None else min(self._look_at, until)
-            _has_input(wakes, max(0.0, end - now), self._closing[0])
+            _has_input(wakes, max(0.0, end - now), self._closing)
         else:
             self._converse(self._line, now, until, wakes)
 
@@ -330,7 +331,7 @@ class Following(Uncopied, ClockCommands[None]):
         """Opens the port if it is there. At the first time this may be an `OSError`."""
         self._look_at = time.monotonic() + _LOOK
         try:
-            self._line = Port(self._name, self._closing[0])
+            self._line = Port(self._name, self._closing)
         except OSError as fault:
             if is_first and (not self._waits or fault.errno == errno.ENOTTY):
                 raise
@@ -350,7 +351,7 @@ class Following(Uncopied, ClockCommands[None]):
         returns."""
         if not self._is_closed:
             self._is_closed = True
-            os.write(self._closing[1], b"c")
+            _linux.eventfd_write(self._closing, 1)
         if not self._is_given:
             with self._lock:
                 if self._line is not None:
