@@ -16,7 +16,7 @@ import threading
 import time
 import traceback
 from collections.abc import Callable
-from dataclasses import dataclass
+from dataclasses import dataclass, field
 from typing import Any
 
 import dgt
@@ -28,17 +28,28 @@ MOST_GAMES = 10000  # the latest ones
 SHOWN_MOVES = 12
 # New players belong to a game of at most this many half-moves, and later to the next game.
 OPENING = 20
-WAIT, NEVER = 3600.0, float("inf")
+NEVER = float("inf")
+TURNS = {"white": 0x10, "black": 0x08}  # bits of a clock's status
 # A game's time follows its board's by as many seconds, so that what comes late is heard in time,
 # and goes on for as many without a word of the board.
 LATE, TRUST = 0.3, 15.0
+MOST_ROWS = 20000  # of a board that the state keeps, at least: more belong to no game
+MOST_PENDING = 200  # entries that wait until one of them is confirmed
+AWAY = ("silent", "gone", "ended")
+MOST_WRONG = 2  # squares that one message alters
 TABLES = """
 PRAGMA journal_mode = WAL;
 PRAGMA synchronous = NORMAL;
 CREATE TABLE IF NOT EXISTS heard (id INTEGER PRIMARY KEY, journal TEXT, board TEXT, number INTEGER,
                                   entry TEXT);
-CREATE TABLE IF NOT EXISTS filed (board TEXT, game INTEGER, text BLOB, before BLOB,
+CREATE TABLE IF NOT EXISTS marks (board TEXT, journal TEXT, number INTEGER,
+                                  PRIMARY KEY (board, journal)) WITHOUT ROWID;
+CREATE TRIGGER IF NOT EXISTS mark AFTER INSERT ON heard BEGIN
+    INSERT OR REPLACE INTO marks VALUES (new.board, new.journal, new.number);
+END;
+CREATE TABLE IF NOT EXISTS games (board TEXT, game INTEGER, final TEXT, text BLOB, before BLOB,
                                   PRIMARY KEY (board, game)) WITHOUT ROWID;
+CREATE TABLE IF NOT EXISTS done (board TEXT PRIMARY KEY, games INTEGER, since INTEGER);
 """
 Summary = dict[str, Any]
 
@@ -55,6 +66,7 @@ class Said:
     is_sure: bool
     players: tuple[str, str] | None
     is_confirmed: bool = True
+    row: int = 0  # of the state
 
     def view(self) -> dgt.BoardView:
         """The same, as `dgt.follow` says it. A board in doubt is away, too: nobody is there who
@@ -75,7 +87,8 @@ class Now:
 
 class State:
     """All that the games are made of, in its order, in a file of SQLite: whoever reads it again
-    makes the same games. The players and tags of rounds are in it, too, as of no board."""
+    makes the same games. The tags of rounds are in it, too, as of no board. Of games that are done
+    it keeps the text in place of what they were made of."""
 
     def __init__(self, path: str | None) -> None:
         """sqlite3.Error if the file can't be had."""
@@ -89,24 +102,92 @@ class State:
         self.kept.execute("INSERT INTO heard (journal, board, number, entry) VALUES (?, ?, ?, ?)",
                           [journal, board, number, json.dumps(entry)])
 
+    def mark(self, journal: str, board: str, number: int) -> None:
+        """What a journal has of a board up to this number isn't needed."""
+        self.kept.execute("INSERT OR REPLACE INTO marks VALUES (?, ?, ?)", [board, journal, number])
+
     def marks(self) -> dict[tuple[str, str], int]:
         """Up to which number each journal is heard of each board."""
-        rows = self.kept.execute("SELECT board, journal, max(number) FROM heard GROUP BY 1, 2")
-        return {(board, journal): number for board, journal, number in rows if journal}
+        rows = self.kept.execute("SELECT board, journal, number FROM marks WHERE journal != ''")
+        return {(board, journal): number for board, journal, number in rows}
 
-    def news(self) -> list[tuple[str, str, int, Any]]:
-        """What the games don't have yet: a journal, a board, a number, and an entry."""
-        rows = self.kept.execute("SELECT id, journal, board, number, entry FROM heard WHERE id > ? "
-                                 "ORDER BY id LIMIT 1000", [self.read]).fetchall()
+    def latest(self) -> list[tuple[str, str, int, Any]]:
+        """The last entry of each board: the board, a journal, a number, and the entry."""
+        rows = self.kept.execute("SELECT board, journal, number, entry, max(id) FROM heard "
+                                 "WHERE board != '' AND entry != 'null' GROUP BY board")
+        return [(*row, json.loads(entry)) for *row, entry, _ in rows]  # type: ignore[misc]
+
+    def news(self) -> list[tuple[int, str, str, int, Any]]:
+        """What the games don't have yet: a row, a journal, a board, a number, and an entry."""
+        rows = self.kept.execute(
+            "SELECT id, journal, board, number, entry FROM heard LEFT JOIN done USING (board) "
+            "WHERE id > ? AND id >= coalesce(since, 0) ORDER BY id LIMIT 1000",
+            [self.read]).fetchall()
         self.read = rows[-1][0] if rows else self.read
-        return [(journal, board, number, json.loads(entry))
-                for _, journal, board, number, entry in rows]
+        return [(*row, json.loads(entry)) for *row, entry in rows]  # type: ignore[misc]
+
+    def finish(self, board: str, game: int, text: str) -> None:
+        """Keeps the text of a game that is done."""
+        self.kept.execute("INSERT INTO games (board, game, final) VALUES (?, ?, ?) ON CONFLICT DO "
+                          "UPDATE SET final = excluded.final", [board, game, text])
+
+    def cut(self, board: str, games: int, since: int) -> None:
+        """So many games of a board are done, and the next one is made of the rows since this
+        one."""
+        self.kept.execute("INSERT OR REPLACE INTO done VALUES (?, ?, ?)", [board, games, since])
+        self.kept.execute("DELETE FROM heard WHERE board = ? AND id < ?", [board, since])
+
+    def row_of_last(self, board: str, count: int) -> int:
+        """The first of as many last rows of a board."""
+        row = self.kept.execute("SELECT id FROM heard WHERE board = ? ORDER BY id DESC LIMIT 1 "
+                                "OFFSET ?", [board, count - 1]).fetchone()
+        return int(row[0]) if row else 0
+
+    def counts(self) -> dict[str, int]:
+        """How many games of each board are done."""
+        return dict(self.kept.execute("SELECT board, games FROM done"))
+
+    def done(self) -> list[tuple[str, int, str]]:
+        """The games that are done: a board, the game's number on it, and its text."""
+        return self.kept.execute(
+            "SELECT board, game, final FROM games JOIN done USING (board) "
+            "WHERE game <= done.games AND final IS NOT NULL").fetchall()
+
+    def file(self, rows: list[tuple[str, int, bytes, bytes]]) -> None:
+        """Notes of games, each a board and a number, what the file of --pgn is about to have, and
+        has."""
+        self.kept.executemany(
+            "INSERT INTO games (board, game, text, before) VALUES (?, ?, ?, ?) ON CONFLICT DO "
+            "UPDATE SET text = excluded.text, before = excluded.before", rows)
+
+    def filed(self, board: str, game: int) -> list[bytes]:
+        """What the file may have of a game."""
+        row = self.kept.execute("SELECT text, before FROM games WHERE board = ? AND game = ?",
+                                [board, game]).fetchone()
+        return [each for each in row or () if each]
 
 
-def said_of(board: topics.Board, at: float) -> Said:
+def said_of(board: topics.Board, at: float, row: int) -> Said:
     letters = re.sub(r"\d", lambda digit: "." * int(digit[0]), board.placement).replace("/", "")
     return Said(board.name, at, letters, board.clock, board.state, board.is_sure, board.players,
-                board.is_confirmed)
+                board.is_confirmed, row)
+
+
+def correct(said: list[Said], before: str) -> None:
+    """Corrects what a board reported from one confirmed position to the next. If a report of all
+    squares, after a doubt, contradicts a square that has changed meanwhile, its change was none."""
+    doubt = next((at for at, each in enumerate(said) if each.state == "doubt"), 0)
+    if not doubt or any(each.state in AWAY for each in said):
+        return
+    wrong = said[doubt - 1].letters
+    right = next(each.letters for each in said[doubt:] if each.is_sure)
+    squares = [square for square in range(64) if wrong[square] != right[square]]
+    for square in squares if len(squares) <= MOST_WRONG else ():
+        since = next((at for at in range(doubt - 1, -1, -1)
+                      if said[at].letters[square] != wrong[square]), -1) + 1
+        if since or before[square:square + 1] != wrong[square]:
+            for each in said[since:doubt]:
+                each.letters = each.letters[:square] + right[square] + each.letters[square + 1:]
 
 
 def clock_of(clock: topics.Clock | None) -> dgt.Clock | None:
@@ -115,9 +196,10 @@ def clock_of(clock: topics.Clock | None) -> dgt.Clock | None:
     if clock.is_none:
         return dgt.NoClock()
     left, right = (divmod(each, 60) for each in (clock.left, clock.right))
+    status = TURNS.get(clock.turn or "", 0) | clock.running
     with contextlib.suppress(dgt.BadValue):  # more hours than a DGT clock has
         return dgt.Times(dgt.Time(*divmod(left[0], 60), left[1]),
-                         dgt.Time(*divmod(right[0], 60), right[1]))
+                         dgt.Time(*divmod(right[0], 60), right[1]), status)
     return None
 
 
@@ -149,20 +231,21 @@ class Shelf:
         self.changed: list[Kept] = []
         self.is_stale, self.written = True, (b"", "")
         self.news, self.saving, self.fault = threading.Event(), threading.Lock(), ""
+        self.content = b"" if self.file is None else self.file._read() or b""
+        for board, number, text in state.done():
+            self.put(self.begin(board, number), text)
 
     def open(self) -> None:
         """All that was heard before is on the shelf: the file is written from now on."""
         if not self.is_open and self.file is not None:
             threading.Thread(target=self.save_all, daemon=True).start()
-        self.is_open = True
+        self.is_open, self.content = True, b""
 
     def begin(self, board: str, number: int) -> Kept:
         kept = Kept(board, None if self.file is None else self.file.begin(), number=number)
-        if self.file is not None and not self.is_open:
-            filed = self.state.kept.execute("SELECT text, before FROM filed WHERE board = ? AND "
-                                            "game = ?", [board, number]).fetchone()
-            content = self.file._read() or b""
-            kept.in_file.written = next((each for each in filed or () if each in content), b"")
+        if self.content:
+            kept.in_file.written = next((each for each in self.state.filed(board, number)
+                                         if each in self.content), b"")
         return kept
 
     def put(self, kept: Kept, text: str) -> None:
@@ -236,9 +319,8 @@ class Shelf:
             for each in changed:
                 file.put(each.text, each.in_file)
         try:
-            self.state.kept.executemany(
-                "INSERT OR REPLACE INTO filed VALUES (?, ?, ?, ?)",
-                [(*key, each.in_file.text, each.in_file.written) for key, each in new.items()])
+            self.state.file([(*key, each.in_file.text, each.in_file.written)
+                             for key, each in new.items()])
         except sqlite3.Error as fault:
             with self.lock:
                 self.changed += changed
@@ -263,12 +345,20 @@ class Place:
 
     name = unsaved = ""
 
-    def __init__(self, shelf: Shelf, board: str) -> None:
-        self.shelf, self.board, self.count = shelf, board, 0
+    def __init__(self, shelf: Shelf, board: str, count: int) -> None:
+        self.shelf, self.board, self.count = shelf, board, count
         self.kept: Kept | None = None
+        self.done: list[Kept] = []  # those before it, until the state has them
+
+    @property
+    def played(self) -> int:
+        """How many games have begun, but for one without moves."""
+        return self.count - bool(self.kept and not self.kept.text)
 
     def begin(self) -> None:
-        self.count += 1
+        if self.kept is not None and self.kept.text:
+            self.done.append(self.kept)
+        self.count = self.played + 1
         self.kept = self.shelf.begin(self.board, self.count)
 
     def put(self, text: str) -> None:
@@ -287,6 +377,13 @@ class Table:
     place: Place
     players: tuple[str, str] | None = None
     told: Any = None
+    pending: list[tuple[str, Said]] = field(default_factory=list)  # with the journal of each
+    confirmed: str = ""  # the letters that were confirmed last
+    letters: str = ""  # on the board now
+    row: int = 0  # the first one with these letters
+    rows: int = 0
+    begun: int = 0  # the game that began last, and the first row with its beginning
+    since: int = 0
     journal: str = ""
     shift: float = 0.0  # of the journal's times
     at: float = 0.0  # the board's time, of its last entry
@@ -298,9 +395,14 @@ class Table:
         return self.base[0] + min(here - self.base[1], TRUST) - LATE if self.base else self.at
 
     def set_due(self) -> None:
-        due, self.due = self.games.due, NEVER
+        due, self.due = None if self.pending else self.games.due, NEVER
         if due is not None and self.base and due <= self.base[0] + TRUST - LATE:
             self.due = self.base[1] + due - self.base[0] + LATE
+
+    def note_beginning(self) -> None:
+        """If a game has begun, it did with the position that the board shows."""
+        if self.begun != self.place.count:
+            self.begun, self.since = self.place.count, self.row
 
     def name_players(self, players: tuple[str, str] | None) -> None:
         """The players of the next game, and of this one if it has none or has just begun."""
@@ -342,7 +444,7 @@ class Collector:
     def __init__(self, shelf: Shelf, tags: dict[str, str], white_clock: str,
                  tell: Callable[[str, Summary | None, bool], None], state: State) -> None:
         self.shelf, self.tags, self.white_clock, self.tell = shelf, tags, white_clock, tell
-        self.state = state
+        self.state, self.counts, self.is_between = state, state.counts(), False
         self.waiting: queue.SimpleQueue[Now | str | None] = queue.SimpleQueue()
         self.tables: dict[str, Table] = {}
         self.shown: dict[str, topics.Board] = {}  # what the games have of each board
@@ -362,9 +464,7 @@ class Collector:
 
     def run(self) -> None:
         while True:
-            while news := self.state.news():
-                for journal, name, number, entry in news:
-                    self.take(journal, name, number / 1000, entry)
+            self.take_news()
             self.shelf.open()
             now = time.monotonic()
             for name in [name for name, table in self.tables.items() if table.due <= now]:
@@ -374,42 +474,111 @@ class Collector:
                 said = self.waiting.get(timeout=min(1.0, max(0.0, due - time.monotonic())))
             except queue.Empty:
                 continue
+            self.take_news()  # what was heard before this
             if said is None:
                 return
             if isinstance(said, str):
-                if table := self.tables.pop(said, None):
-                    table.games.close()
-                    self.tell(said, None, False)  # it may be back, and was taken for the same
+                self.remove(said)
             elif table := self.tables.get(said.board):
                 table.base = None
                 if said.at is not None and said.journal == table.journal:
                     table.base = said.at + table.shift, time.monotonic()
                 table.set_due()
 
-    def take(self, journal: str, name: str, at: float, entry: Any) -> None:
-        """A board's entry, or tags of all games that begin from now on."""
+    def take_news(self) -> None:
+        while news := self.state.news():
+            for row, journal, name, number, entry in news:
+                self.take(row, journal, name, number / 1000, entry)
+
+    def take(self, row: int, journal: str, name: str, at: float, entry: Any) -> None:
+        """A board's entry, or one of a round."""
         if not name:
-            self.tags |= entry
-            for table in self.tables.values():
-                game = table.games.game
-                table.games.set_tags(entry, game is not None and not game.moves)
-            return
+            return self.take_round(row, entry)
+        if entry is None:  # something is lost
+            self.do(name, lambda table: self.lose(table, at))
+            return None
         board = self.shown.setdefault(name, topics.Board(name))
         board.hear_entry(round(1000 * at), entry)
-        if board.is_shown:
-            self.do(name, functools.partial(self.see, journal, said_of(board, at)))
+        board.journal, board.heard_at = journal, at
+        if board.is_shown and not self.is_between:
+            self.do(name, functools.partial(self.hear_said, journal, said_of(board, at, row)))
+
+    def take_round(self, row: int, tags: dict[str, str] | None) -> None:
+        """Tags of all games that begin from now on; or the games under way are over, and none
+        begins until then."""
+        if tags is None:
+            for name in list(self.tables):
+                self.remove(name)
+            self.is_between = True
+            return
+        self.tags |= tags
+        for table in self.tables.values():
+            game = table.games.game
+            table.games.set_tags(tags, game is not None and not game.moves)
+        if self.is_between:
+            self.is_between = False
+            for name, board in self.shown.items():
+                said = said_of(board, board.heard_at, row)
+                self.do(name, functools.partial(self.hear_said, board.journal, said))
+
+    def remove(self, name: str) -> None:
+        """Nothing is added to the game on a board any more. The board may be back, and was taken
+        for the same."""
+        if table := self.tables.pop(name, None):
+            table.games.close()
+            self.counts[name] = table.place.played
+            if table.place.kept and table.place.kept.text:
+                table.place.done.append(table.place.kept)
+            table.since = table.row
+            self.finish(name, table, table.place.played)
+            self.tell(name, None, False)
+
+    def finish(self, name: str, table: Table, games: int) -> None:
+        """The state keeps games that are done, and of what the board said what comes after."""
+        try:
+            for kept in table.place.done:
+                self.state.finish(name, kept.number, kept.text)
+            self.state.cut(name, games, table.since)
+        except sqlite3.Error as fault:
+            report(f"the state can't be cut: {fault} (it is tried again with the next game)")
+        else:
+            table.place.done.clear()
+
+    def hear_said(self, journal: str, said: Said, table: Table) -> None:
+        """What is known of a board waits until it is confirmed: it may be corrected till then."""
+        table.pending.append((journal, said))
+        table.rows += 1
+        is_sure = said.is_sure and said.is_confirmed
+        if not is_sure and len(table.pending) < MOST_PENDING:
+            return
+        if is_sure:
+            correct([each for _, each in table.pending], table.confirmed)
+            table.confirmed = said.letters
+        for of_journal, each in table.pending:
+            self.see(of_journal, each, table)
+        table.pending.clear()
+        if table.rows > 2 * MOST_ROWS:
+            table.rows = MOST_ROWS
+            self.state.cut(table.place.board, table.place.count - 1,
+                           self.state.row_of_last(table.place.board, MOST_ROWS))
+
+    def lose(self, table: Table, at: float) -> None:
+        """Nobody watched the board up to this time."""
+        table.at = max(table.at, at + table.shift)
+        table.games.see(dgt.BoardView(in_doubt=True, away="ended"), table.at)
 
     def wait(self, now: float, table: Table) -> None:
         """What was heard of a board is all that there is until this time."""
         table.at = max(table.at, table.now(now))
         table.games.wait(table.at)
+        table.note_beginning()
 
     def see(self, journal: str, said: Said, table: Table) -> None:
         """Hears what is known of a board from a time on, once all has happened that was due. The
         clock of another machine may be behind, and nobody watched before it did."""
         if journal != table.journal:
             if table.at:
-                table.games.see(dgt.BoardView(in_doubt=True, away="ended"), table.at)
+                self.lose(table, table.at - table.shift)
             table.journal, table.shift = journal, max(0.0, table.at + 1 - said.at)
         table.at = max(table.at, said.at + table.shift)
         while (due := table.games.due) is not None and due <= table.at:
@@ -417,7 +586,10 @@ class Collector:
         table.games.set_tags({"Date": time.strftime("%Y.%m.%d", time.localtime(said.at)),
                               **self.tags}, False)
         table.name_players(said.players)
+        if said.is_sure and said.letters != table.letters:
+            table.letters, table.row = said.letters, said.row
         table.games.see(said.view(), table.at)
+        table.note_beginning()
 
     def do(self, name: str, what: Callable[[Table], None]) -> None:
         """Does something with a board's games, and says what is new of them."""
@@ -426,15 +598,18 @@ class Collector:
             what(table)
         except Exception:  # of one board: the others' games go on
             del self.tables[name]
+            self.counts[name] = table.place.count
             report(f"{name!r}: its game is broken off\n{traceback.format_exc()}")
             return
         table.set_due()
+        if table.place.done:
+            self.finish(name, table, table.place.count - 1)
         if (state := table.state()) != table.told:
             table.told = state
             self.tell(name, summary(table.games, self.white_clock), table.games.recogniser.turned)
 
     def add(self, name: str) -> Table:
-        place = Place(self.shelf, name)
+        place = Place(self.shelf, name, self.counts.get(name, 0))
         games = dgt.Games(nothing, nothing, place, {**self.tags, "Board": name}, self.white_clock)
         table = self.tables[name] = Table(games, place)
         return table

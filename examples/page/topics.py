@@ -4,6 +4,7 @@ from __future__ import annotations
 
 import json
 import re
+import time
 from dataclasses import dataclass, field
 from typing import Any
 
@@ -17,6 +18,7 @@ STATES = ("following", "doubt", "silent", "gone", "ended", "unknown")
 MOST_BYTES = 500  # of a message
 MOST_LOG = 500 * 110  # of one with entries
 MOST_NAME = MOST_PLAYERS = 200  # bytes
+LOST = 25.0  # seconds after which a journal that isn't heard may be another one's board
 # A line of `dgt picture`: how many bytes had come, and where the pieces stand.
 LINE = re.compile(r"(\d{8,20}) ([PRNBKQprnbkqXYZ1-8]{1,8}(?:/[PRNBKQprnbkqXYZ1-8]{1,8}){7})")
 # One of `dgt picture --clock`.
@@ -117,11 +119,12 @@ def read(topic: str, payload: bytes) -> Any:
 
 @dataclass(frozen=True)
 class Log:
-    """A message of a journal: each entry that it has of a board after the number `before`, of which
-    `last` is the number of the last one. A number is a time in milliseconds, as `now` is."""
+    """A message of a journal: each entry that it has of a board after the number `before`. It has
+    those from `first` to `last`. A number is a time in milliseconds, as `now` is."""
 
     journal: str
     now: int
+    first: int
     last: int
     before: int
     entries: list[list[Any]]
@@ -131,7 +134,8 @@ def read_log(payload: bytes) -> Log:
     try:
         log = Log(*json.loads(payload[:MOST_LOG]))
         is_right = bool(re.fullmatch(r"\w{1,40}", log.journal)) and all(
-            type(each) is int and 0 <= each < 2**53 for each in (log.now, log.last, log.before))
+            type(each) is int and 0 <= each < 2**53
+            for each in (log.now, log.first, log.last, log.before))
         for number, *said in log.entries if is_right else ():
             is_right &= type(number) is int
             read_entry(said)
@@ -150,6 +154,11 @@ def read_entry(said: list[Any]) -> dict[str, Any]:
     return entry | {CONFIRMED: entry.get(POSITION) if is_confirmed else (0, "")}
 
 
+def ahead(now: int) -> int:
+    """By how many milliseconds the clock here is ahead of another one."""
+    return round(1000 * time.time()) - now
+
+
 def turned(placement: str) -> str:
     """The placement as it is seen from the other side."""
     return placement[::-1]
@@ -166,7 +175,10 @@ class Board:
     texts: dict[str, str] = field(default_factory=dict)  # of the same
     journal: str = ""  # that has the board, if one has it
     clock_number: int = 0  # of the entry with this clock
+    others: dict[str, int] = field(default_factory=dict)  # other journals, and their last numbers
     has_ended: bool = False  # the journal's program
+    live_at: float = 0.0  # when the journal was heard
+    ahead: int | None = None  # the clock here, of the journal's, in milliseconds
     is_fresh: bool = False  # its position was heard since the broker came
     heard_at: float = 0.0
     clock_at: float = 0.0
@@ -189,6 +201,12 @@ class Board:
     @property
     def state(self) -> str:
         return "ended" if self.has_ended else str(self.said.get(STATE, "unknown"))
+
+    def may_be_of(self, journal: str, now: float, is_live: bool) -> bool:
+        """Whether a journal is the one that is heard. If two programs watch one board, that is the
+        one that was first, until it is away or isn't heard any more."""
+        return self.journal in ("", journal) or is_live and (
+            self.state in ("silent", "gone", "ended") or now > self.live_at + LOST)
 
     @property
     def placement(self) -> str:
@@ -233,7 +251,8 @@ class Board:
         clock_at = now - max(0, number - self.clock_number) / 1000
         if abs(clock_at - self.clock_at) > 0.5:
             self.clock_at = clock_at
-        self.heard_at, self.has_ended = now, False
+        self.heard_at, self.live_at, self.has_ended = now, now, False
+        self.ahead = ahead(number)
 
     def as_entry(self) -> list[Any]:
         """The same, of a board that no journal has."""

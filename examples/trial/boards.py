@@ -30,6 +30,7 @@ def placement(codes):
     return text
 
 
+INCREMENT = 5  # seconds that a clock adds when it is pressed
 RUNS, WHITE_TURN, BLACK_TURN, ABSENT = 0x01, 0x10, 0x08, 0x20  # bits of a clock's status
 
 
@@ -45,11 +46,12 @@ def clock_message(left, right, status):
 
 
 class Board:
-    """A board: it answers the byte 42 by all its squares and 41 by its clock. It sends each change
-    of a square once 44 or 4b came, and after 4b each one of its clock, too."""
+    """A board: it answers the byte 42 by all its squares, 41 by its clock and 45 by its serial
+    number, five digits, if it has one. It sends each change of a square once 44 or 4b came, and
+    after 4b each one of its clock, too."""
 
-    def __init__(self, path):
-        self.path = pathlib.Path(path)
+    def __init__(self, path, serial=None):
+        self.path, self.serial = pathlib.Path(path), serial
         self.codes = bytearray(START)
         self.clock = (0, 0, ABSENT)
         self.lock = threading.Lock()
@@ -121,6 +123,8 @@ class Board:
                     self.tells, self.tells_clock = True, byte == 0x4B
                 elif byte == 0x42:
                     self.write(b"\x86\x00\x43" + self.codes)
+                elif byte == 0x45 and self.serial:
+                    self.write(b"\x91\x00\x08" + self.serial)
                 elif byte == 0x41:
                     self.write(clock_message(*self.clock))
 
@@ -136,6 +140,41 @@ class Board:
             self.put(old, 0)
             time.sleep(0.1)
             self.put(new, code)
+
+
+class Clock:
+    """A clock at a board. One of its sides may run; White's is the left one."""
+
+    def __init__(self, board):
+        self.board, self.left, self.runs = board, [5400, 5400], None
+        self.lock = threading.Lock()
+
+    def show(self):
+        status = 0 if self.runs is None else RUNS | (WHITE_TURN, BLACK_TURN)[self.runs]
+        self.board.show_clock(*self.left, status)
+
+    def run(self, side, _=None):
+        with self.lock:
+            self.runs = side
+            self.show()
+
+    def tick(self):
+        with self.lock:
+            if self.runs is not None:
+                self.left[self.runs] -= 1
+                self.show()
+
+    def press(self, side):
+        """A player presses it after a move. Returns the time that is left to him."""
+        with self.lock:
+            self.left[side] += INCREMENT
+            self.runs = 1 - side
+            self.show()
+        return self.time(side)
+
+    def time(self, side):
+        minutes, seconds = divmod(self.left[side], 60)
+        return "{}:{:02}:{:02}".format(*divmod(minutes, 60), seconds)
 
 
 class Boards(list):
