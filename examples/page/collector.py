@@ -132,7 +132,7 @@ class State:
                           "UPDATE SET final = excluded.final", [board, game, text])
 
     def cut(self, board: str, games: int, since: int) -> None:
-        """So many games of a board are done, and the next one is made of the rows since this
+        """Notes how many games of a board are done. The next one is made of the rows since this
         one."""
         self.kept.execute("INSERT OR REPLACE INTO done VALUES (?, ?, ?)", [board, games, since])
         self.kept.execute("DELETE FROM heard WHERE board = ? AND id < ?", [board, since])
@@ -575,7 +575,7 @@ class Collector:
 
     def see(self, journal: str, said: Said, table: Table) -> None:
         """Hears what is known of a board from a time on, once all has happened that was due. The
-        clock of another machine may be behind, and nobody watched before it did."""
+        clock of another machine may be slow, and nobody watched before it did."""
         if journal != table.journal:
             if table.at:
                 self.lose(table, table.at - table.shift)
