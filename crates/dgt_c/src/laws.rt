@@ -101,11 +101,15 @@ pub fn reports_are_said()
     ensures said { ReportsAreSaid }
 {}
 
-/// The kinds and the members with which a struct says an event, and its text.
+/// The text of an event that a struct says is written, and if it says none, nothing is.
 pub fn event_texts()
     ensures text { EventsHaveTexts }
     ensures nothing { NothingHasNoText }
     ensures read { EventsAreRead }
+{}
+
+/// The kinds and the members with which a struct says an event.
+pub fn said_events()
     ensures message { (said : DgtEvent) (body : List ℕ) (message : Content) →
         SaysEvent said body (Message message) → SaysMessage said body message }
     ensures refused { (said : DgtEvent) (body : List ℕ) (code : ℕ) (fault : BodyFault) →
