@@ -1,10 +1,10 @@
 """Checks the calls of the package for Python that make commands for the clock: on a host, on a
 follower, and on a board that is followed. Their bytes are those of docs/PROTOCOL.md and
-checks/lines.txt."""
+checks/rows.txt."""
 
 import pathlib
 
-LINES = pathlib.Path(__file__).resolve().parent / "lines.txt"
+LINES = pathlib.Path(__file__).resolve().parent / "rows.txt"
 # The call, its arguments, and the bytes: the tables of clock messages, segments and commands by
 # name.
 ROWS = [
@@ -28,7 +28,7 @@ ROWS = [
     ("button", [], "2b 03 03 08 00"),
     ("clock_version", [], "2b 03 03 09 00"),
 ]
-# Those that a row of checks/lines.txt shows whole.
+# Those that a row of checks/rows.txt shows whole.
 SHOWN = [ROWS[at][2] for at in (1, 2, 5, 8, 16, 17, 18)]
 DIGITS = "text must be at most 6 digits, spaces and hyphens: "
 ASCII = "text must be at most 8 ASCII characters: "
