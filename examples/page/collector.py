@@ -384,6 +384,7 @@ class Table:
     rows: int = 0
     begun: int = 0  # the game that began last, and the first row with its beginning
     since: int = 0
+    record: tuple[Any, bytes, str] = None, b"", ""  # the game as JSON, and of when
     journal: str = ""
     shift: float = 0.0  # of the journal's times
     at: float = 0.0  # the board's time, of its last entry
@@ -437,9 +438,25 @@ def summary(games: dgt.Games, white_clock: str) -> Summary | None:
     }
 
 
+def written(game: dgt.PgnGame) -> bytes:
+    """A game as JSON: its moves in short notation, the placement before the first and after each,
+    and the seconds that the player has left."""
+    moves = list(game.moves)  # the thread of the games may add some
+    first = moves[0].before if moves else game.state
+    clocks = [each.clock and 3600 * each.clock.hours + 60 * each.clock.minutes + each.clock.seconds
+              for each in moves]
+    return json.dumps({
+        "number": first.number, "is_white_first": first.white, "result": game.result,
+        "moves": [each.san for each in moves], "clocks": clocks,
+        "squares": [[each.move[:2], each.move[2:4]] for each in moves],
+        "placements": [state.fen.split()[0] for state in (first, *(e.after for e in moves))],
+    }).encode()
+
+
 class Collector:
     """Makes games in a thread of its own, of what the boards say in their order. `tell` gets the
-    name of a board, the summary of its game, and whether it began on a turned board."""
+    name of a board, the summary of its game, and whether it began on a turned board. If the name is
+    empty, the tags of games have changed."""
 
     def __init__(self, shelf: Shelf, tags: dict[str, str], white_clock: str,
                  tell: Callable[[str, Summary | None, bool], None], state: State) -> None:
@@ -461,6 +478,18 @@ class Collector:
         self.thread.join()
         for table in self.tables.values():
             table.games.close()
+
+    def record(self, name: str) -> tuple[bytes, str]:
+        """The game on a board as JSON, or null, and a tag of just this text."""
+        table = self.tables.get(name)
+        told = table and table.told
+        if not table or not told or not (game := table.games.game):
+            return b"null", '"none"'
+        key = told, [each.clock for each in game.moves[-2:]]
+        if table.record[0] != key:
+            text = written(game)
+            table.record = key, text, f'"{hashlib.sha256(text).hexdigest()[:20]}"'
+        return table.record[1:]
 
     def run(self) -> None:
         while True:
@@ -515,6 +544,7 @@ class Collector:
         for table in self.tables.values():
             game = table.games.game
             table.games.set_tags(tags, game is not None and not game.moves)
+        self.tell("", None, False)
         if self.is_between:
             self.is_between = False
             for name, board in self.shown.items():

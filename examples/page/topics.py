@@ -19,6 +19,9 @@ MOST_BYTES = 500  # of a message
 MOST_LOG = 500 * 110  # of one with entries
 MOST_NAME = MOST_PLAYERS = 200  # bytes
 LOST = 25.0  # seconds after which a journal that isn't heard may be another one's board
+SIDES = ("left", "right")  # of a clock
+AT_START = time.time() - time.monotonic()
+NEAR = 1.5  # seconds by which a clock may differ from what a page makes of its last reading
 # A line of `dgt picture`: how many bytes had come, and where the pieces stand.
 LINE = re.compile(r"(\d{8,20}) ([PRNBKQprnbkqXYZ1-8]{1,8}(?:/[PRNBKQprnbkqXYZ1-8]{1,8}){7})")
 # One of `dgt picture --clock`.
@@ -176,6 +179,8 @@ class Board:
     journal: str = ""  # that has the board, if one has it
     clock_number: int = 0  # of the entry with this clock
     others: dict[str, int] = field(default_factory=dict)  # other journals, and their last numbers
+    less: str | None = None  # the side of the clock that had less time than before
+    told: dict[str, Any] | None = None  # the event that pages were sent last
     has_ended: bool = False  # the journal's program
     live_at: float = 0.0  # when the journal was heard
     ahead: int | None = None  # the clock here, of the journal's, in milliseconds
@@ -223,11 +228,12 @@ class Board:
         return players
 
     def hear(self, topic: str, said: Any, now: float, text: str = "") -> None:
-        """Notes what a topic says. A clock's time that was heard before is as old as then: a broker
-        that comes back repeats it."""
+        """Notes what a topic says. A clock's message that was heard before is as old as then: a
+        broker that comes back repeats it."""
         self.heard_at = now
-        if topic == CLOCK and said != self.clock:
+        if topic == CLOCK and text != self.texts.get(CLOCK):
             self.clock_at = now
+            self.compare_clock(said)
         if said is None:
             self.said.pop(topic, None)
         else:
@@ -241,10 +247,30 @@ class Board:
     def hear_entry(self, number: int, said: list[Any]) -> None:
         """Notes what an entry says."""
         entry = read_entry(said)
-        if entry.get(CLOCK) != self.clock:
-            self.clock_number = number
+        text = said[IN_ENTRY.index(CLOCK)] or ""
+        if text != self.texts.get(CLOCK):
+            self.clock_number, self.texts[CLOCK] = number, text
+            self.compare_clock(entry.get(CLOCK))
         self.said = {**entry, COUNTERS: self.said.get(COUNTERS, {})}
         self.is_fresh = True
+
+    def compare_clock(self, new: Clock | None) -> None:
+        """Notes which side of a new reading has less time."""
+        old, is_read = self.clock, bool(new and new.running)
+        less = [side for side in SIDES if old and not old.is_none and is_read
+                and getattr(new, side) < getattr(old, side)]
+        self.less = less[0] if less else self.less if is_read else None
+
+    @property
+    def runs(self) -> str | None:
+        """The side of the clock that runs: by the turn if White's side is known, or the one that
+        had less time than before. If neither is known, the left one is taken for White's."""
+        clock, side = self.clock, self.game and self.game["white_side"]
+        if clock is None or not clock.running:
+            return None
+        is_left = (clock.turn == "white") == ((side or "left") == "left")
+        by_turn = clock.turn and SIDES[not is_left]
+        return by_turn if by_turn and side else self.less or by_turn
 
     def hear_time(self, number: int, now: float) -> None:
         """Notes what time it is on the board, by which its clock is as old as it is."""
@@ -261,7 +287,7 @@ class Board:
         return [state, *(self.texts.get(each) for each in IN_ENTRY[1:]), self.is_confirmed]
 
     def event(self) -> dict[str, Any]:
-        """What a page is sent. `at` of the clock is a time here: see `written`."""
+        """What a page is sent. `at` of the clock is the `moment` at which it was read."""
         count, placement = self.said[POSITION]
         players, clock = self.players, self.clock
         return {
@@ -272,20 +298,28 @@ class Board:
             "players": players and {"white": players[0], "black": players[1]},
             "clock": None if clock is None else {"none": True} if clock.is_none else {
                 "left": clock.left, "right": clock.right, "running": clock.running,
-                "turn": clock.turn, "low": clock.low, "at": self.clock_at},
+                "turn": clock.turn, "low": clock.low, "runs": self.runs,
+                "at": moment(self.clock_at)},
             "game": self.game,
         }
 
 
-def written(event: dict[str, Any], now: float) -> str:
-    """An event as JSON: `at` of each clock is how many milliseconds ago it was heard."""
+def moment(at: float) -> int:
+    """A time of `time.monotonic` in milliseconds since 1970, which go on evenly."""
+    return round(1000 * (AT_START + at))
 
-    def aged(board: dict[str, Any]) -> dict[str, Any]:
-        clock = board["clock"]
-        if not clock or "at" not in clock:
-            return board
-        return {**board, "clock": {**clock, "at": max(0, round(1000 * (now - clock["at"])))}}
 
-    if "boards" in event:
-        event = {**event, "boards": [aged(board) for board in event["boards"]]}
-    return json.dumps(aged(event) if "board" in event else event)
+def is_foreseen(told: dict[str, Any] | None, event: dict[str, Any]) -> bool:
+    """Whether a page that was sent the one event shows the other by itself: it counts the side of
+    the clock down that runs."""
+    old, new = told and told["clock"], event["clock"]
+    if not told or {**told, "clock": None} != {**event, "clock": None}:
+        return False
+    if not old or not new or "none" in old or "none" in new:
+        return bool(old == new)
+    if any(old[key] != new[key] for key in ("running", "turn", "low", "runs")):
+        return False
+    passed = (new["at"] - old["at"]) / 1000 if event["state"] == "following" else 0
+    return all(
+        abs(max(0, old[side] - passed) - new[side]) < NEAR if side == new["runs"]
+        else old[side] == new[side] for side in SIDES)

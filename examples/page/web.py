@@ -1,0 +1,313 @@
+"""A web server for many open pages. One loop does all, so that a slow browser holds up no other."""
+
+from __future__ import annotations
+
+import asyncio
+import collections
+import http.server
+import io
+import ipaddress
+import itertools
+import math
+import re
+import resource
+import socket
+import threading
+import traceback
+from collections.abc import Callable
+from typing import Any
+
+SECONDS = 10.0  # for a request as a whole; its answer has as many, and one for each RATE bytes
+RATE = 10_000
+MOST_HEAD, MOST_BODY = 1 << 14, 1 << 16  # bytes of a request
+# Connections at once, of all addresses and of each: those of open pages, and those that wait for a
+# request. Of these the oldest goes if there are more; and a page more gets the answer 503.
+MOST_PAGES, MOST_PAGES_OF_ONE = 4096, 2048
+MOST_WAITING, MOST_WAITING_OF_ONE = 1024, 256
+# A page that hasn't taken this many events is cut off. It comes back by itself, and begins anew.
+BEHIND = 10_000
+AT_ONCE = 100  # events that one write has at most
+PAUSE = 0.1  # seconds between two writes to all pages
+QUIET = 15.0  # seconds after which a page is sent something, to find out whether it is there
+STUCK = 60.0  # seconds after which a page that takes nothing is cut off
+END = re.compile(rb"\r?\n\r?\n")
+LENGTH = re.compile(rb"(?i)\ncontent-length:[ \t]*(\d{1,9})[ \t\r]*$", re.M)
+
+
+def network(address: str) -> str:
+    """Whose address it is: of IPv6 one user has all that begin with the same 64 bits."""
+    found = ipaddress.ip_address(address.partition("%")[0])
+    if isinstance(found, ipaddress.IPv4Address):
+        return str(found)
+    return str(found.ipv4_mapped or int(found) >> 64)
+
+
+class Events:
+    """What all open pages are sent. Each event is encoded once, and a page has its place there."""
+
+    def __init__(self) -> None:
+        self.lock = threading.Lock()
+        self.kept: collections.deque[bytes] = collections.deque(maxlen=BEHIND)
+        self.end = 0
+        self.wake: Callable[[], None] | None = None
+
+    def add(self, event: bytes) -> None:
+        with self.lock:
+            self.kept.append(b"data: " + event + b"\n\n")
+            self.end += 1
+        if wake := self.wake:
+            wake()
+
+    def since(self, place: int) -> tuple[bytes, int]:
+        """Some events from a place on, and the place after them. LookupError if it is too old."""
+        with self.lock:
+            first = place - self.end + len(self.kept)
+            if first < 0:
+                raise LookupError
+            some = list(itertools.islice(self.kept, first, first + AT_ONCE))
+        return b"".join(some), place + len(some)
+
+
+class Visit(http.server.BaseHTTPRequestHandler):
+    """A whole request, which is answered at once. `place` is that of a page: it gets all events
+    from there on."""
+
+    protocol_version = "HTTP/1.1"
+    server: Any
+    wfile: io.BytesIO
+    place: int | None = None
+
+    def setup(self) -> None:
+        self.rfile, self.wfile = io.BytesIO(self.request), io.BytesIO()
+
+    def handle(self) -> None:
+        self.close_connection = True
+        self.handle_one_request()
+
+    def finish(self) -> None:
+        pass
+
+    def log_message(self, *_: Any) -> None:
+        pass
+
+
+class Connection(asyncio.Protocol):
+    """A browser's connection: a request after the other, or the events of a page."""
+
+    transport: asyncio.Transport
+    address = ""
+
+    def __init__(self, server: Server) -> None:
+        self.server, self.unread, self.due = server, b"", math.inf
+        self.place: int | None = None  # among the events, of a page
+        self.is_full = False
+        self.written = 0.0
+
+    def connection_made(self, transport: asyncio.BaseTransport) -> None:
+        assert isinstance(transport, asyncio.Transport)
+        self.transport = transport
+        transport.set_write_buffer_limits(0)
+        self.address = network(transport.get_extra_info("peername")[0])
+        self.server.all.add(self)
+        self.wait()
+
+    def connection_lost(self, _: Exception | None) -> None:
+        self.server.forget(self)
+
+    def drop(self) -> None:
+        self.server.forget(self)
+        self.transport.abort()
+
+    def wait(self) -> None:
+        """Waits for the next request."""
+        self.due = self.server.loop.time() + SECONDS
+        self.server.let_wait(self)
+
+    def data_received(self, chunk: bytes) -> None:
+        if self.place is None:  # a page says nothing
+            self.unread += chunk
+            self.read()
+
+    def read(self) -> None:
+        """Answers each request that is whole, once the browser has taken the answer before."""
+        while self.unread and not self.is_full and not self.transport.is_closing():
+            found = END.search(self.unread)
+            size = found.end() if found else 0
+            if self.unread.startswith(b"POST ") and (
+                    length := LENGTH.search(self.unread, 0, size)):
+                size += int(length[1])
+            if size > MOST_HEAD + MOST_BODY or not size and len(self.unread) > MOST_HEAD:
+                self.drop()
+            if not size or len(self.unread) < size:
+                break
+            request, self.unread = self.unread[:size], self.unread[size:]
+            self.answer(request)
+        if len(self.unread) > MOST_HEAD + MOST_BODY:
+            self.drop()
+
+    def answer(self, request: bytes) -> None:
+        self.server.waiting.pop(self, None)
+        try:
+            visit = self.server.visit(request, (self.address, 0), self.server)
+        except Exception:
+            self.server.report(f"a request failed\n{traceback.format_exc()}")
+            self.drop()
+            return
+        text = visit.wfile.getvalue()
+        self.due = self.server.loop.time() + SECONDS + len(text) / RATE
+        self.transport.write(text)
+        if visit.place is not None:
+            self.unread, self.place = b"", visit.place
+            self.server.add_page(self)
+        elif visit.close_connection:
+            self.transport.close()
+        elif not self.is_full:
+            self.wait()
+
+    def pause_writing(self) -> None:
+        self.is_full = True
+        if self.place is not None:
+            self.due = self.server.loop.time() + STUCK
+
+    def resume_writing(self) -> None:
+        self.is_full = False
+        if self.place is not None:
+            self.catch_up()
+        elif not self.transport.is_closing():
+            self.wait()
+            self.read()
+
+    def catch_up(self) -> None:
+        """Sends a page what is new."""
+        assert self.place is not None
+        self.due = math.inf
+        while self.place < self.server.events.end and not self.is_full:
+            try:
+                text, self.place = self.server.since(self.place)
+            except LookupError:
+                self.drop()
+                return
+            self.send(text)
+
+    def send(self, text: bytes) -> None:
+        self.written = self.server.loop.time()
+        self.transport.write(text)
+
+
+class Server:
+    """Listens at a socket, and answers each request by a `Visit`. `report` prints a fault."""
+
+    loop: asyncio.AbstractEventLoop
+
+    def __init__(self, listening: socket.socket, visit: Callable[..., Visit], events: Events,
+                 report: Callable[[str], None]) -> None:
+        self.socket, self.visit, self.events, self.report = listening, visit, events, report
+        self.address, self.port = listening.getsockname()[:2]
+        self.all: set[Connection] = set()
+        self.waiting: dict[Connection, None] = {}  # the oldest first
+        self.pages: dict[Connection, None] = {}
+        self.of_one: collections.Counter[str] = collections.Counter()  # pages of an address
+        self.some: dict[int, tuple[bytes, int]] = {}  # events from a place on, for all pages
+        self.is_woken, self.written = False, 0.0
+        self.ended: asyncio.Event | None = None
+        _, most = resource.getrlimit(resource.RLIMIT_NOFILE)
+        resource.setrlimit(resource.RLIMIT_NOFILE, (most, most))
+        self.most_pages = MOST_PAGES if most < 0 else min(MOST_PAGES, most - MOST_WAITING - 100)
+
+    def serve_forever(self) -> None:
+        """Serves until `shutdown`."""
+        asyncio.run(self.serve())
+
+    def shutdown(self) -> None:
+        """Ends that, from another thread."""
+        if self.ended:
+            self.loop.call_soon_threadsafe(self.ended.set)
+
+    async def serve(self) -> None:
+        self.loop, self.ended = asyncio.get_running_loop(), asyncio.Event()
+        self.loop.set_exception_handler(self.hear_fault)
+        listening = await self.loop.create_server(lambda: Connection(self), sock=self.socket)
+        watching = self.loop.create_task(self.watch())
+        self.events.wake = self.wake
+        try:
+            await self.ended.wait()
+        finally:
+            self.events.wake = None
+            watching.cancel()
+            listening.close()
+
+    def hear_fault(self, _: Any, context: dict[str, Any]) -> None:
+        """The loop fails at something. If it has no descriptor for one more connection, half of
+        those that wait go."""
+        if "accept" in context["message"]:
+            for one in list(self.waiting)[:len(self.waiting) // 2]:
+                one.drop()
+        elif not isinstance(fault := context.get("exception"), ConnectionError):
+            lines = traceback.format_exception(fault) if fault else []
+            self.report(f"{context['message']}\n{''.join(lines)}".rstrip())
+
+    def let_wait(self, one: Connection) -> None:
+        self.waiting.pop(one, None)
+        self.waiting[one] = None
+        same = [each for each in self.waiting if each.address == one.address]
+        if len(same) > MOST_WAITING_OF_ONE:
+            same[0].drop()
+        elif len(self.waiting) > MOST_WAITING:
+            next(iter(self.waiting)).drop()
+
+    def has_room(self, address: str) -> bool:
+        """Whether an address may open one more page."""
+        return len(self.pages) < self.most_pages and self.of_one[address] < MOST_PAGES_OF_ONE
+
+    def add_page(self, page: Connection) -> None:
+        self.pages[page] = None
+        self.of_one[page.address] += 1
+        page.written = self.loop.time()
+        if page.is_full:
+            page.pause_writing()
+        else:
+            page.catch_up()
+
+    def forget(self, one: Connection) -> None:
+        self.all.discard(one)
+        self.waiting.pop(one, None)
+        if one in self.pages:
+            del self.pages[one]
+            self.of_one -= collections.Counter([one.address])
+
+    def since(self, place: int) -> tuple[bytes, int]:
+        """As of `Events`; pages at the same place get the same bytes."""
+        if place not in self.some:
+            self.some[place] = self.events.since(place)
+        return self.some[place]
+
+    def wake(self) -> None:
+        """There are events. This is called in any thread."""
+        if not self.is_woken:
+            self.is_woken = True
+            try:
+                self.loop.call_soon_threadsafe(self.ask_write)
+            except RuntimeError:
+                pass  # the loop has ended
+
+    def ask_write(self) -> None:
+        self.loop.call_at(self.written + PAUSE, self.write)
+
+    def write(self) -> None:
+        """Sends all pages what is new."""
+        self.written, self.is_woken = self.loop.time(), False
+        self.some.clear()
+        for page in list(self.pages):
+            if not page.is_full:
+                page.catch_up()
+
+    async def watch(self) -> None:
+        """Ends what takes too long."""
+        while True:
+            await asyncio.sleep(1)
+            now = self.loop.time()
+            for one in [each for each in self.all if each.due < now]:
+                one.drop()
+            for page in [each for each in self.pages if each.written + QUIET < now]:
+                if not page.is_full:
+                    page.send(b":\n\n")
