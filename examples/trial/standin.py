@@ -8,6 +8,8 @@ import json
 import pathlib
 import queue
 import threading
+import time
+import urllib.parse
 from typing import Any
 
 import boards
@@ -38,9 +40,17 @@ ROOKS = {"e1c1": "a1d1", "e1g1": "h1f1"}  # of each castling in these games: how
 
 
 def clock(left: int, right: int, **more: Any) -> Said:
-    """A clock that runs on White's side, which is the left one."""
-    times = {"left": left, "right": right, "running": True, "turn": "white", "low": False, "at": 0}
-    return {**times, **more}
+    """A clock that runs on White's side, which is the left one. It showed these times `age` ms
+    ago."""
+    times = {"left": left, "right": right, "running": True, "turn": "white", "low": False,
+             "at": now() - more.pop("age", 0)} | more
+    sides = {"white": "left", "black": "right"}
+    return {"runs": sides[times["turn"]] if times["running"] else None} | times
+
+
+def now() -> int:
+    """The server's time, in milliseconds."""
+    return round(1000 * time.time())
 
 
 def board(name: str, **more: Any) -> Said:
@@ -69,12 +79,24 @@ def in_game(name: str, number: int, plies: int, **more: Any) -> Said:
     return board(name, count=67 + 10 * plies, placement=boards.placement(codes), **known) | more
 
 
+def record(number: int, plies: int) -> Said:
+    """The whole game of a board that is `in_game`."""
+    known = [in_game("", number, count) for count in range(plies + 1)]
+    moves = GAMES[number % len(GAMES)][2].split()[:plies]
+    return {"number": 1, "is_white_first": True, "result": known[-1]["game"]["result"],
+            "moves": moves, "clocks": [5400 - 30 * ply for ply in range(plies)],
+            "squares": [one["game"]["last"] for one in known[1:]],
+            "placements": [one["placement"] for one in known]}
+
+
 class StandIn:
     """The server. Its events are those of `known` and then each that is sent."""
 
     def __init__(self, *known: Said) -> None:
         self.known = {one["board"]: one for one in known}
         self.broker, self.pages, self.lock = True, set[queue.Queue[Said | None]](), threading.Lock()
+        self.records: dict[str, Said] = {}
+        self.event = self.round = ""
         self.server: http.server.ThreadingHTTPServer | None = None
         self.port = 0
         self.start()
@@ -110,14 +132,18 @@ class StandIn:
             self.pages.clear()
 
     def visit(self, asked: http.server.BaseHTTPRequestHandler) -> None:
-        is_page = asked.path == "/"
-        asked.send_response(200 if is_page or asked.path == "/events" else 404)
-        kind = "text/html; charset=utf-8" if is_page else "text/event-stream"
-        asked.send_header("Content-Type", kind)
+        path, _, query = asked.path.partition("?")
+        kind = {"/": "text/html; charset=utf-8", "/events": "text/event-stream",
+                "/game.json": "application/json"}.get(path)
+        asked.send_response(200 if kind else 404)
+        asked.send_header("Content-Type", kind or "text/plain")
         asked.end_headers()
-        if is_page:
+        if path == "/":
             asked.wfile.write(PAGE.read_bytes())
-        elif asked.path == "/events":
+        elif path == "/game.json":
+            name = urllib.parse.parse_qs(query)["board"][0]
+            asked.wfile.write(json.dumps(self.records.get(name)).encode())
+        elif kind:
             self.send_events(asked)
 
     def send_events(self, asked: http.server.BaseHTTPRequestHandler) -> None:
@@ -135,7 +161,8 @@ class StandIn:
             self.pages.discard(page)
 
     def first(self) -> Said:
-        return {"broker": self.broker, "now": 0, "boards": list(self.known.values())}
+        return {"broker": self.broker, "now": now(), "event": self.event, "round": self.round,
+                "boards": list(self.known.values())}
 
     def tell(self, event: Said) -> None:
         with self.lock:
