@@ -30,6 +30,7 @@ AT_ONCE = 100  # events that one write has at most
 PAUSE = 0.1  # seconds between two writes to all pages
 QUIET = 15.0  # seconds after which a page is sent something, to find out whether it is there
 STUCK = 60.0  # seconds after which a page that takes nothing is cut off
+UNSENT = 1 << 17  # bytes of a connection that the kernel may hold
 END = re.compile(rb"\r?\n\r?\n")
 LENGTH = re.compile(rb"(?i)\ncontent-length:[ \t]*(\d{1,9})[ \t\r]*$", re.M)
 
@@ -107,6 +108,7 @@ class Connection(asyncio.Protocol):
         assert isinstance(transport, asyncio.Transport)
         self.transport = transport
         transport.set_write_buffer_limits(0)
+        transport.get_extra_info("socket").setsockopt(socket.SOL_SOCKET, socket.SO_SNDBUF, UNSENT)
         self.address = network(transport.get_extra_info("peername")[0])
         self.server.all.add(self)
         self.wait()
@@ -220,7 +222,7 @@ class Server:
 
     def shutdown(self) -> None:
         """Ends that, from another thread."""
-        if self.ended:
+        if self.ended and not self.loop.is_closed():
             self.loop.call_soon_threadsafe(self.ended.set)
 
     async def serve(self) -> None:
