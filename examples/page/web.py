@@ -77,6 +77,7 @@ class Visit(http.server.BaseHTTPRequestHandler):
     server: Any
     wfile: io.BytesIO
     place: int | None = None
+    pause = 0.0  # seconds before the answer is sent
 
     def setup(self) -> None:
         self.rfile, self.wfile = io.BytesIO(self.request), io.BytesIO()
@@ -155,7 +156,15 @@ class Connection(asyncio.Protocol):
             self.server.report(f"a request failed\n{traceback.format_exc()}")
             self.drop()
             return
-        text = visit.wfile.getvalue()
+        if visit.pause:
+            self.is_full = True  # nothing is read meanwhile
+            self.due = math.inf
+            self.server.loop.call_later(visit.pause, self.send_answer, visit)
+        else:
+            self.send_answer(visit)
+
+    def send_answer(self, visit: Visit) -> None:
+        text, self.is_full = visit.wfile.getvalue(), False
         self.due = self.server.loop.time() + SECONDS + len(text) / RATE
         self.transport.write(text)
         if visit.place is not None:
@@ -212,12 +221,14 @@ class Server:
         self.some: dict[int, tuple[bytes, int]] = {}  # events from a place on, for all pages
         self.is_woken, self.written = False, 0.0
         self.ended: asyncio.Event | None = None
-        _, most = resource.getrlimit(resource.RLIMIT_NOFILE)
-        resource.setrlimit(resource.RLIMIT_NOFILE, (most, most))
-        self.most_pages = MOST_PAGES if most < 0 else min(MOST_PAGES, most - MOST_WAITING - 100)
+        self.most_pages = MOST_PAGES
 
     def serve_forever(self) -> None:
-        """Serves until `shutdown`."""
+        """Serves until `shutdown`. The process may have all descriptors that it can get."""
+        _, most = resource.getrlimit(resource.RLIMIT_NOFILE)
+        resource.setrlimit(resource.RLIMIT_NOFILE, (most, most))
+        if most >= 0:
+            self.most_pages = min(MOST_PAGES, most - MOST_WAITING - 100)
         asyncio.run(self.serve())
 
     def shutdown(self) -> None:
