@@ -4,6 +4,7 @@ from __future__ import annotations
 
 import asyncio
 import collections
+import contextlib
 import http.server
 import io
 import ipaddress
@@ -221,14 +222,17 @@ class Server:
         self.some: dict[int, tuple[bytes, int]] = {}  # events from a place on, for all pages
         self.is_woken, self.written = False, 0.0
         self.ended: asyncio.Event | None = None
-        self.most_pages = MOST_PAGES
+        self.most_pages, self.most_waiting = MOST_PAGES, MOST_WAITING
 
     def serve_forever(self) -> None:
-        """Serves until `shutdown`. The process may have all descriptors that it can get."""
-        _, most = resource.getrlimit(resource.RLIMIT_NOFILE)
-        resource.setrlimit(resource.RLIMIT_NOFILE, (most, most))
-        if most >= 0:
-            self.most_pages = min(MOST_PAGES, most - MOST_WAITING - 100)
+        """Serves until `shutdown`. With few descriptors it has fewer connections."""
+        count, most = resource.getrlimit(resource.RLIMIT_NOFILE)
+        with contextlib.suppress(OSError):  # where that is forbidden
+            resource.setrlimit(resource.RLIMIT_NOFILE, (most, most))
+            count = most
+        if count != resource.RLIM_INFINITY:
+            self.most_waiting = min(MOST_WAITING, count // 4)
+            self.most_pages = min(MOST_PAGES, count - self.most_waiting - 100)
         asyncio.run(self.serve())
 
     def shutdown(self) -> None:
@@ -265,7 +269,7 @@ class Server:
         same = [each for each in self.waiting if each.address == one.address]
         if len(same) > MOST_WAITING_OF_ONE:
             same[0].drop()
-        elif len(self.waiting) > MOST_WAITING:
+        elif len(self.waiting) > self.most_waiting:
             next(iter(self.waiting)).drop()
 
     def has_room(self, address: str) -> bool:
