@@ -97,6 +97,7 @@ class StandIn:
         self.broker, self.pages, self.lock = True, set[queue.Queue[Said | None]](), threading.Lock()
         self.records: dict[str, Said] = {}
         self.event = self.round = ""
+        self.late = 0  # milliseconds that what a page begins with is late
         self.server: http.server.ThreadingHTTPServer | None = None
         self.port = 0
         self.start()
@@ -161,10 +162,11 @@ class StandIn:
             self.pages.discard(page)
 
     def first(self) -> Said:
-        return {"broker": self.broker, "now": now(), "event": self.event, "round": self.round,
-                "boards": list(self.known.values())}
+        return {"broker": self.broker, "now": now() - self.late, "event": self.event,
+                "round": self.round, "boards": list(self.known.values())}
 
     def tell(self, event: Said) -> None:
+        event = {"now": now(), **event}
         with self.lock:
             for page in self.pages:
                 page.put(event)
