@@ -1,9 +1,9 @@
-//! Messages, events and commands read as the lines of checks/lines.txt, and refusals say what is
+//! Messages, events and commands read as the lines of checks/rows.txt, and refusals say what is
 //! wrong.
 
 use dgt::*;
 
-const LINES: &str = include_str!("../../../checks/lines.txt");
+const LINES: &str = include_str!("../../../checks/rows.txt");
 
 /// The rows of the table after a heading: what stands in backticks in the first two cells.
 fn rows_after(heading: &str) -> Vec<[Vec<&'static str>; 2]> {
