@@ -4,7 +4,7 @@ from __future__ import annotations
 
 import time
 from collections import deque
-from collections.abc import Callable
+from collections.abc import Callable, Sequence
 from dataclasses import replace
 from typing import Protocol
 
@@ -13,7 +13,7 @@ from ._turn import to_put
 from .errors import BadValue
 from .following import BoardView
 from .moves import GameBegun, MoveEvent, MoveMade, MoveRecogniser, MoveTakenBack
-from .pgn import PgnGame, PgnMove, _GameText, numbered
+from .pgn import RESULTS, PgnGame, PgnMove, _GameText, numbered
 from .rules import GameState
 from .values import SQUARES, Clock, Time, Times, checked
 
@@ -84,14 +84,12 @@ class Games(Uncopied):
         """`file` gets each game as PGN, with these tags. `white_clock` is the side of the clock
         that has White's time, `left` or `right`. `fen` is that of `MoveRecogniser`, and `port` what
         the board is called in a warning. `BadFen` if the FEN is none, `BadValue` if the side is."""
-        if white_clock not in ("left", "right"):
-            raise BadValue(f"white_clock must be left or right: {white_clock!r}")
+        self._is_white_left = _is_left(white_clock)
         self.recogniser = MoveRecogniser(fen, set_up=_SET_UP_WAIT)
         self.game: PgnGame | None = None
         self._text = _GameText(PgnGame())
         self._port = port
         self._tell, self._warn, self._file, self._tags = tell, warn, file, tags or {}
-        self._is_white_left = white_clock == "left"
         self._letters, self._lifted, self._away = "", set[str](), ""
         self._clock: Times | None = None
         # What the board has shown since the last move, with the clock of that time.
@@ -163,6 +161,47 @@ class Games(Uncopied):
             self.game.tags.update(tags)
             self._save()
 
+    @property
+    def white_clock(self) -> str:
+        """The side of the clock that has White's time, `left` or `right`. Set it at any time: the
+        clocks of all moves of the game follow. `BadValue` if the side is none."""
+        return "left" if self._is_white_left else "right"
+
+    @white_clock.setter
+    def white_clock(self, side: str) -> None:
+        self._is_white_left = _is_left(side)
+        for made in self.game.moves if self.game else ():
+            made.clock = self._left(made.times, made) or made.clock
+        self._text.change(0)
+        self._save()
+
+    def replace(self, ply: int, count: int, moves: Sequence[str], now: float) -> None:
+        """Puts other moves in the place of some, as `PgnGame.replace` does, with its errors, and
+        `BadValue` if there is no game. What the board shows is looked at with the next `see`; if
+        moves are only taken back, once it changes."""
+        game = self._under_way()
+        was_final = not game.state.moves()
+        game.replace(ply, count, moves)
+        self._go_on(ply, bool(moves))
+        if not game.state.moves():
+            self._end_by_rules(now)
+        elif was_final:
+            game.result, self._is_over = "*", False
+        self._save()
+
+    def end(self, result: str, now: float) -> None:
+        """Ends the game with a result that the board doesn't show. With `*` it goes on. `BadValue`
+        if the result is none, or there is no game."""
+        game = self._under_way()
+        if result not in RESULTS:
+            raise BadValue(f"result must be one of {', '.join(RESULTS)}: {result!r}")
+        if result != "*":
+            self._end(result, "arbiter", now)
+            return
+        game.result, self._is_over, self._is_end_told = result, False, False
+        self._go_on(len(game.moves), True)
+        self._save()
+
     def close(self) -> bool:
         """Writes what isn't in the file yet. Returns whether the file has everything; what it
         lacks is a warning."""
@@ -217,7 +256,7 @@ class Games(Uncopied):
             return
         left = self._left(self._clock, last)
         if left is not None and left != last.clock and self._is_as_told:
-            last.clock, self._save_at = left, now + _CLOCK_WAIT
+            last.clock, last.times, self._save_at = left, self._clock, now + _CLOCK_WAIT
             self._text.change(len(self.game.moves) - 1)
 
     def _runs_for(self, made: PgnMove) -> bool:
@@ -249,7 +288,8 @@ class Games(Uncopied):
                 break
         if self._settled < len(self.game.moves):
             last = self.game.moves[-1]
-            last.clock = self._left(clock, last) or last.clock
+            if left := self._left(clock, last):
+                last.clock, last.times = left, clock
             self._text.change(len(self.game.moves) - 1)
         self._settled = len(self.game.moves)
 
@@ -304,14 +344,12 @@ class Games(Uncopied):
         if not self.game.moves:
             self.game.start = _root(self.game.start, event)
         made = self.game.add(event.move)
-        made.clock = self._left(self._clock, made)
+        made.clock, made.times = self._left(self._clock, made), self._clock
         times = [self._clock.first, self._clock.second] if self._clock else []
         times = times if self._is_white_left else times[::-1]
         self._report(" ".join([numbered(made.before, made.san), made.move, *map(str, times)]))
         if not event.state.moves():
-            winner = "0-1" if event.state.white else "1-0"
-            is_mate = event.state.check
-            self._end(winner if is_mate else "1/2-1/2", "mate" if is_mate else "stalemate", now)
+            self._end_by_rules(now)
 
     def _take_back(self, is_replaced: bool) -> None:
         """The last move is taken back. If another was put in its place, it was on its way, and the
@@ -326,13 +364,37 @@ class Games(Uncopied):
         self.game.result = "*"
         self._report(f"undo {numbered(made.before, made.san)} {made.move}")
 
+    def _end_by_rules(self, now: float) -> None:
+        """The side whose turn it is has no move."""
+        assert self.game is not None
+        state = self.game.state
+        winner = "0-1" if state.white else "1-0"
+        self._end(winner if state.check else "1/2-1/2", "mate" if state.check else "stalemate", now)
+
     def _end(self, result: str, why: str, now: float) -> None:
         assert self.game is not None
         self.game.result, self._result, self._is_over = result, "", True
-        self._final_at = now if why == "kings" else now + _FINAL_WAIT
+        self._final_at = now + _FINAL_WAIT if why in ("mate", "stalemate") else now
         if why == "kings":
             self.recogniser.end_game()
         self._report(f"result {result} {why}")
+
+    # ---- What somebody corrects
+
+    def _under_way(self) -> PgnGame:
+        if self.game is None:
+            raise BadValue("no game has begun")
+        return self.game
+
+    def _go_on(self, ply: int, is_new: bool) -> None:
+        """The game goes on by its moves, of which those after `ply` may be others."""
+        assert self.game is not None
+        self._text.change(ply)
+        self._settled = self._fixed = len(self.game.moves)
+        self._seen.clear()
+        if is_new:
+            self.recogniser.hold()
+        self.recogniser.replace(self.game.start, [each.move for each in self.game.moves])
 
     # ---- The kings, and other positions
 
@@ -399,6 +461,12 @@ class Games(Uncopied):
             if self._fault:
                 self._warn(f"{self._file.name} is written again")
             self._fault = ""
+
+
+def _is_left(side: str) -> bool:
+    if side not in ("left", "right"):
+        raise BadValue(f"white_clock must be left or right: {side!r}")
+    return side == "left"
 
 
 def _root(begun: GameState, first: MoveMade) -> GameState:

@@ -250,6 +250,19 @@ class MoveRecogniser:
         self.hold()
         self._is_lost = bool(self._roots)
 
+    def replace(self, start: GameState, moves: Iterable[str]) -> None:
+        """Sets how the game has begun and which moves were made, as somebody corrects them. What
+        the board shows is looked at once it changes; after `hold` with the next `see`.
+        `IllegalMove` if one is none: then nothing is changed."""
+        made, state = [], checked(start, GameState)
+        for move in moves:
+            state = state.after(move)
+            made.append((move, state))
+        self._roots, self._moves, self._numbers = (start,), made, {start.letters: [0]}
+        for number, (_, after) in enumerate(made, 1):
+            self._numbers.setdefault(after.letters, []).append(number)
+        self._forget()
+
     def end_game(self) -> None:
         """Notes that the game is over, as the players have shown by their kings. Before another
         position is set up, both kings have to be taken off again."""

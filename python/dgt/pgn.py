@@ -8,7 +8,7 @@ from dataclasses import dataclass, field
 
 from .errors import BadValue
 from .rules import START_FEN, GameState
-from .values import Time, checked, square_number
+from .values import Time, Times, checked, square_number
 
 RESULTS = ("1-0", "0-1", "1/2-1/2", "*")
 """What a game may end with. `*` is a game that goes on, or was broken off."""
@@ -74,6 +74,8 @@ class PgnMove:
     after: GameState
     clock: Time | None = None
     """The time that is left to the player who has made it, if that is known."""
+    times: Times | None = None
+    """What the clock showed of both players then, if that is known."""
 
 
 @dataclass(slots=True)
@@ -116,6 +118,31 @@ class PgnGame:
         added = PgnMove(move, san(before, move), before, before.after(move), clock)
         self.moves.append(added)
         return added
+
+    def replace(self, ply: int, count: int, moves: Iterable[str]) -> None:
+        """Puts other moves in the place of `count` moves, the first of which has `ply` moves before
+        it. The moves after them stay. If as many are put, they keep the clocks. `IllegalMove` if
+        one of all these moves is none then, `BadValue` if the game hasn't so many moves: it stays
+        as it was.
+
+        >>> game = PgnGame()
+        >>> for move in ("e2e4", "e7e5", "g1f3"):
+        ...     _ = game.add(move)
+        >>> game.replace(1, 1, ["c7c5"])
+        >>> [each.san for each in game.moves]
+        ['e4', 'c5', 'Nf3']
+        """
+        if not 0 <= ply <= ply + count <= len(self.moves):
+            raise BadValue(f"{count} moves after {ply} of {len(self.moves)}")
+        old = self.moves[ply:]
+        state, kept, made = old[0].before if old else self.state, old[count:], list[PgnMove]()
+        for name in [*moves, *(each.move for each in kept)]:
+            made.append(PgnMove(name, san(state, name), state, state.after(name)))
+            state = made[-1].after
+        same = old if len(made) == len(old) else kept
+        for each, before in zip(made[len(made) - len(same):], same):
+            each.clock, each.times = before.clock, before.times
+        self.moves[ply:] = made
 
     def text(self) -> str:
         """Returns the game in the export format: its tags, an empty line, and its moves in lines of
