@@ -6,9 +6,9 @@ import collections
 import contextlib
 import functools
 import hashlib
+import json
 import os
 import queue
-import json
 import re
 import sqlite3
 import sys
@@ -22,10 +22,11 @@ from typing import Any
 import dgt
 
 import topics
+from corrections import DESK, Entry
+from views import SHOWN_MOVES, Summary, summary, written
 
 PROGRAM = os.path.basename(sys.argv[0])
 MOST_GAMES = 10000  # the latest ones
-SHOWN_MOVES = 12
 # New players belong to a game of at most this many half-moves, and later to the next game.
 OPENING = 20
 NEVER = float("inf")
@@ -41,17 +42,18 @@ TABLES = """
 PRAGMA journal_mode = WAL;
 PRAGMA synchronous = NORMAL;
 CREATE TABLE IF NOT EXISTS heard (id INTEGER PRIMARY KEY, journal TEXT, board TEXT, number INTEGER,
-                                  entry TEXT);
+                                  entry TEXT,
+                                  at REAL DEFAULT ((julianday('now') - 2440587.5) * 86400));
 CREATE TABLE IF NOT EXISTS marks (board TEXT, journal TEXT, number INTEGER,
                                   PRIMARY KEY (board, journal)) WITHOUT ROWID;
 CREATE TRIGGER IF NOT EXISTS mark AFTER INSERT ON heard BEGIN
     INSERT OR REPLACE INTO marks VALUES (new.board, new.journal, new.number);
 END;
 CREATE TABLE IF NOT EXISTS games (board TEXT, game INTEGER, final TEXT, text BLOB, before BLOB,
-                                  PRIMARY KEY (board, game)) WITHOUT ROWID;
+                                  row INTEGER DEFAULT 0, PRIMARY KEY (board, game)) WITHOUT ROWID;
 CREATE TABLE IF NOT EXISTS done (board TEXT PRIMARY KEY, games INTEGER, since INTEGER);
 """
-Summary = dict[str, Any]
+Tell = Callable[[str, Summary | None, bool], None]
 
 
 @dataclass
@@ -85,6 +87,9 @@ class Now:
     at: float | None
 
 
+Heard = Now | str | Callable[[], None]
+
+
 class State:
     """All that the games are made of, in its order, in a file of SQLite: whoever reads it again
     makes the same games. The tags of rounds are in it, too, as of no board. Of games that are done
@@ -96,11 +101,30 @@ class State:
                                     check_same_thread=False, timeout=5.0)
         self.kept.executescript(TABLES)
         self.read = 0  # up to which row the games have it
+        self.last = 1 << 62  # the row up to which they may have it
 
     def add(self, journal: str, board: str, number: int, entry: Any) -> None:
         """sqlite3.Error if it can't be kept."""
         self.kept.execute("INSERT INTO heard (journal, board, number, entry) VALUES (?, ?, ?, ?)",
                           [journal, board, number, json.dumps(entry)])
+
+    def add_all(self, *rows: tuple[str, str, int, Any]) -> None:
+        """Adds rows, all or none of them."""
+        places = ", ".join(["(?, ?, ?, ?)"] * len(rows))
+        self.kept.execute(f"INSERT INTO heard (journal, board, number, entry) VALUES {places}",
+                          [each for *row, entry in rows for each in (*row, json.dumps(entry))])
+
+    def corrections(self, count: int) -> list[tuple[str, float, Entry]]:
+        """The last corrections: a board or none, the time, and what it was."""
+        rows = self.kept.execute("SELECT board, at, entry FROM heard WHERE journal = ? "
+                                 "ORDER BY id DESC LIMIT ?", [DESK, count]).fetchall()
+        return [(board, at, json.loads(entry)) for board, at, entry in rows]
+
+    def settings(self, what: str) -> list[Any]:
+        """What an arbiter has set of one kind, in its order."""
+        rows = self.kept.execute("SELECT entry FROM heard WHERE journal = ? AND board = '' "
+                                 "ORDER BY id", [DESK]).fetchall()
+        return [entry[what] for text, in rows if what in (entry := json.loads(text))]
 
     def mark(self, journal: str, board: str, number: int) -> None:
         """What a journal has of a board up to this number isn't needed."""
@@ -114,28 +138,36 @@ class State:
     def latest(self) -> list[tuple[str, str, int, Any]]:
         """The last entry of each board: the board, a journal, a number, and the entry."""
         rows = self.kept.execute("SELECT board, journal, number, entry, max(id) FROM heard "
-                                 "WHERE board != '' AND entry != 'null' GROUP BY board")
+                                 "WHERE board != '' AND journal != ? AND entry != 'null' "
+                                 "GROUP BY board", [DESK])
         return [(*row, json.loads(entry)) for *row, entry, _ in rows]  # type: ignore[misc]
 
     def news(self) -> list[tuple[int, str, str, int, Any]]:
         """What the games don't have yet: a row, a journal, a board, a number, and an entry."""
         rows = self.kept.execute(
             "SELECT id, journal, board, number, entry FROM heard LEFT JOIN done USING (board) "
-            "WHERE id > ? AND id >= coalesce(since, 0) ORDER BY id LIMIT 1000",
-            [self.read]).fetchall()
+            "WHERE id > ? AND id <= ? AND id >= coalesce(since, 0) ORDER BY id LIMIT 1000",
+            [self.read, self.last]).fetchall()
         self.read = rows[-1][0] if rows else self.read
         return [(*row, json.loads(entry)) for *row, entry in rows]  # type: ignore[misc]
 
-    def finish(self, board: str, game: int, text: str) -> None:
-        """Keeps the text of a game that is done."""
-        self.kept.execute("INSERT INTO games (board, game, final) VALUES (?, ?, ?) ON CONFLICT DO "
-                          "UPDATE SET final = excluded.final", [board, game, text])
+    def finish(self, board: str, game: int, text: str, row: int) -> None:
+        """Keeps the text of a game that is done, which has all corrections up to a row."""
+        self.kept.execute("INSERT INTO games (board, game, final, row) VALUES (?, ?, ?, ?) "
+                          "ON CONFLICT DO UPDATE SET final = excluded.final, row = excluded.row",
+                          [board, game, text, row])
+
+    def finished(self) -> dict[tuple[str, int], int]:
+        """Up to which row the text has it of each game that is done."""
+        return {(board, game): row for board, game, row in
+                self.kept.execute("SELECT board, game, row FROM games WHERE final IS NOT NULL")}
 
     def cut(self, board: str, games: int, since: int) -> None:
         """Notes how many games of a board are done. The next one is made of the rows since this
         one."""
         self.kept.execute("INSERT OR REPLACE INTO done VALUES (?, ?, ?)", [board, games, since])
-        self.kept.execute("DELETE FROM heard WHERE board = ? AND id < ?", [board, since])
+        self.kept.execute("DELETE FROM heard WHERE board = ? AND id < ? AND journal != ?",
+                          [board, since, DESK])
 
     def row_of_last(self, board: str, count: int) -> int:
         """The first of as many last rows of a board."""
@@ -231,6 +263,7 @@ class Shelf:
         self.changed: list[Kept] = []
         self.is_stale, self.written = True, (b"", "")
         self.news, self.saving, self.fault = threading.Event(), threading.Lock(), ""
+        self.watchers: list[threading.Event] = []  # of those who want to know of each change
         self.content = b"" if self.file is None else self.file._read() or b""
         for board, number, text in state.done():
             self.put(self.begin(board, number), text)
@@ -259,20 +292,30 @@ class Shelf:
             kept.text, self.is_stale = text, True
             if self.file is not None:
                 self.changed.append(kept)
-        self.news.set()
+        for each in (self.news, *self.watchers):
+            each.set()
+
+    def find(self, board: str, number: int) -> Kept | None:
+        with self.lock:
+            return next((kept for kept in self.games if (kept.board, kept.number) ==
+                         (board, number)), None)
+
+    def texts(self) -> list[str]:
+        """All games in their order."""
+        counts: collections.Counter[str] = collections.Counter()
+        ordered = []
+        for kept in self.games:
+            counts[kept.board] += 1
+            ordered.append((counts[kept.board], natural(kept.board), kept.text))
+        ordered.sort(key=lambda each: each[:2])
+        return [text for *_, text in ordered]
 
     def pgn(self) -> tuple[bytes, str]:
         """All games as PGN, and a tag of just this text: the first game of each board, then the
         second of each, and so on."""
         with self.lock:
             if self.is_stale:
-                counts: collections.Counter[str] = collections.Counter()
-                ordered = []
-                for kept in self.games:
-                    counts[kept.board] += 1
-                    ordered.append((counts[kept.board], natural(kept.board), kept.text))
-                ordered.sort(key=lambda each: each[:2])
-                text = "\n".join(text for *_, text in ordered).encode(errors="replace")
+                text = "\n".join(self.texts()).encode(errors="replace")
                 self.written = text, f'"{hashlib.sha256(text).hexdigest()[:20]}"'
                 self.is_stale = False
             return self.written
@@ -418,39 +461,8 @@ class Table:
         """Something that is another one if the summary is."""
         game = self.games.game
         return game and (self.place.count, len(game.moves), game.state, game.result,
-                         self.games.recogniser.turned)
-
-
-def summary(games: dgt.Games, white_clock: str) -> Summary | None:
-    """What pages show of the game on a board."""
-    game = games.game
-    if game is None:
-        return None
-    shown, state = game.moves[-SHOWN_MOVES:], game.state
-    last = shown[-1].move if shown else ""
-    return {
-        "moves": [each.san for each in shown],
-        "number": shown[0].before.number if shown else state.number,
-        "to_move": "white" if state.white else "black",
-        "last": [last[:2], last[2:4]] if last else None,
-        "result": game.result,
-        "white_side": white_clock,
-    }
-
-
-def written(game: dgt.PgnGame) -> bytes:
-    """A game as JSON: its moves in short notation, the placement before the first and after each,
-    and the seconds that the player has left."""
-    moves = list(game.moves)  # the thread of the games may add some
-    first = moves[0].before if moves else game.state
-    clocks = [each.clock and 3600 * each.clock.hours + 60 * each.clock.minutes + each.clock.seconds
-              for each in moves]
-    return json.dumps({
-        "number": first.number, "is_white_first": first.white, "result": game.result,
-        "moves": [each.san for each in moves], "clocks": clocks,
-        "squares": [[each.move[:2], each.move[2:4]] for each in moves],
-        "placements": [state.fen.split()[0] for state in (first, *(e.after for e in moves))],
-    }).encode()
+                         [each.move for each in game.moves[-SHOWN_MOVES:]],
+                         self.games.recogniser.turned, self.games.white_clock)
 
 
 class Collector:
@@ -459,17 +471,20 @@ class Collector:
     empty, the tags of games have changed."""
 
     def __init__(self, shelf: Shelf, tags: dict[str, str], white_clock: str,
-                 tell: Callable[[str, Summary | None, bool], None], state: State) -> None:
-        self.shelf, self.tags, self.white_clock, self.tell = shelf, tags, white_clock, tell
+                 tell: Tell, state: State, is_last: bool = True) -> None:
+        """If it `is_last`, nobody needs what the state has of games that are done."""
+        self.shelf, self.tags, self.white_clock, self.tell = shelf, {**tags}, white_clock, tell
+        self.is_last, self.finished, self.row = is_last, state.finished(), 0
         self.state, self.counts, self.is_between = state, state.counts(), False
-        self.waiting: queue.SimpleQueue[Now | str | None] = queue.SimpleQueue()
+        self.waiting: queue.SimpleQueue[Heard | None] = queue.SimpleQueue()
         self.tables: dict[str, Table] = {}
         self.shown: dict[str, topics.Board] = {}  # what the games have of each board
         self.thread = threading.Thread(target=self.run, daemon=True)
         self.thread.start()
 
-    def hear(self, said: Now | str) -> None:
-        """The time on a board, or the name of one that is removed; what it said is in the state."""
+    def hear(self, said: Heard) -> None:
+        """The time on a board, or the name of one that is removed, or something to do between two
+        entries; what the boards said is in the state."""
         self.waiting.put(said)
 
     def close(self) -> None:
@@ -485,11 +500,15 @@ class Collector:
         told = table and table.told
         if not table or not told or not (game := table.games.game):
             return b"null", '"none"'
-        key = told, [each.clock for each in game.moves[-2:]]
+        key = told, [(each.move, each.clock) for each in game.moves]
         if table.record[0] != key:
             text = written(game)
             table.record = key, text, f'"{hashlib.sha256(text).hexdigest()[:20]}"'
         return table.record[1:]
+
+    def next(self, seconds: float) -> Heard | None:
+        """What is heard next within this time. `queue.Empty` if nothing is."""
+        return self.waiting.get(timeout=seconds)
 
     def run(self) -> None:
         while True:
@@ -500,13 +519,15 @@ class Collector:
                 self.do(name, functools.partial(self.wait, now))
             due = min((table.due for table in self.tables.values()), default=NEVER)
             try:
-                said = self.waiting.get(timeout=min(1.0, max(0.0, due - time.monotonic())))
+                said = self.next(min(1.0, max(0.0, due - time.monotonic())))
             except queue.Empty:
                 continue
             self.take_news()  # what was heard before this
             if said is None:
                 return
-            if isinstance(said, str):
+            if callable(said):
+                said()
+            elif isinstance(said, str):
                 self.remove(said)
             elif table := self.tables.get(said.board):
                 table.base = None
@@ -516,8 +537,8 @@ class Collector:
 
     def take_news(self) -> None:
         while news := self.state.news():
-            for row, journal, name, number, entry in news:
-                self.take(row, journal, name, number / 1000, entry)
+            for self.row, journal, name, number, entry in news:
+                self.take(self.row, journal, name, number / 1000, entry)
 
     def take(self, row: int, journal: str, name: str, at: float, entry: Any) -> None:
         """A board's entry, or one of a round."""
@@ -565,9 +586,13 @@ class Collector:
 
     def finish(self, name: str, table: Table, games: int) -> None:
         """The state keeps games that are done, and of what the board said what comes after."""
+        if not self.is_last:
+            table.place.done.clear()
+            return
         try:
             for kept in table.place.done:
-                self.state.finish(name, kept.number, kept.text)
+                self.state.finish(name, kept.number, kept.text, self.row)
+                self.finished[name, kept.number] = self.row
             self.state.cut(name, games, table.since)
         except sqlite3.Error as fault:
             report(f"the state can't be cut: {fault} (it is tried again with the next game)")
@@ -587,7 +612,7 @@ class Collector:
         for of_journal, each in table.pending:
             self.see(of_journal, each, table)
         table.pending.clear()
-        if table.rows > 2 * MOST_ROWS:
+        if table.rows > 2 * MOST_ROWS and self.is_last:
             table.rows = MOST_ROWS
             self.state.cut(table.place.board, table.place.count - 1,
                            self.state.row_of_last(table.place.board, MOST_ROWS))
@@ -636,7 +661,7 @@ class Collector:
             self.finish(name, table, table.place.count - 1)
         if (state := table.state()) != table.told:
             table.told = state
-            self.tell(name, summary(table.games, self.white_clock), table.games.recogniser.turned)
+            self.tell(name, summary(table.games), table.games.recogniser.turned)
 
     def add(self, name: str) -> Table:
         place = Place(self.shelf, name, self.counts.get(name, 0))

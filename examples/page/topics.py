@@ -177,6 +177,7 @@ class Board:
     is_turned: bool = False  # White's pieces began on the ranks 8 and 7
     texts: dict[str, str] = field(default_factory=dict)  # of the same
     journal: str = ""  # that has the board, if one has it
+    named: tuple[str, str] | None = None  # its players, as an arbiter's file has them
     clock_number: int = 0  # of the entry with this clock
     others: dict[str, int] = field(default_factory=dict)  # other journals, and their last numbers
     less: str | None = None  # the side of the clock that had less time than before
@@ -224,7 +225,7 @@ class Board:
 
     @property
     def players(self) -> tuple[str, str] | None:
-        players: tuple[str, str] | None = self.said.get(PLAYERS)
+        players: tuple[str, str] | None = self.named or self.said.get(PLAYERS)
         return players
 
     def hear(self, topic: str, said: Any, now: float, text: str = "") -> None:

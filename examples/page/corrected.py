@@ -1,0 +1,264 @@
+"""Makes games of what boards say and of what an arbiter corrects: his rows of the state."""
+
+from __future__ import annotations
+
+import functools
+import math
+import queue
+import sqlite3
+import time
+from collections.abc import Callable
+from dataclasses import dataclass, field
+from typing import Any
+
+import dgt
+
+import collector
+import corrections
+import topics
+from collector import Said, Table, report, said_of
+from corrections import DESK, Entry, Refused
+
+Players = dict[str, tuple[str, str]]
+
+
+@dataclass
+class Wanted:
+    """What an arbiter wants to be kept, of a board or of none. `keep` keeps it, if that is more
+    than one row, and `reply` gets what is wrong with it."""
+
+    board: str
+    entry: Entry
+    keep: Callable[[Entry], None] | None = None
+    reply: queue.SimpleQueue[str] = field(default_factory=queue.SimpleQueue)
+
+
+class Corrected(collector.Collector):
+    """Makes games. `name` gets the players of a round, as its file has them. The side of a clock
+    that has White's time is `left` or `right`, or it is learned."""
+
+    def __init__(self, shelf: collector.Shelf, tags: dict[str, str], side: str,
+                 tell: collector.Tell, name: Callable[[Players], None], state: collector.State,
+                 is_last: bool) -> None:
+        self.names: Players = {}
+        self.name, self.usual = name, side
+        self.sides: dict[str, str] = {}  # of each clock, if it isn't the usual one
+        self.learners: dict[str, tuple[int, corrections.Learner]] = {}  # with the game's number
+        self.targets: dict[str, str] = {}  # the address that gets the games of a round
+        self.late: Corrected | None = None  # which makes the same games some time later
+        super().__init__(shelf, tags, "left" if side == "learn" else side, tell, state, is_last)
+
+    def hear(self, said: collector.Heard) -> None:
+        super().hear(said)
+        if self.late is not None and not callable(said):
+            self.late.hear(said)
+
+    # ---- Keeping a correction
+
+    def ask(self, wanted: Wanted) -> None:
+        """Keeps what an arbiter wants, once it is known that it can be done. Refused if not."""
+        self.hear(functools.partial(self.decide, wanted))
+        try:
+            fault = wanted.reply.get(timeout=20)
+        except queue.Empty:
+            fault = "the games don't answer"
+        if fault:
+            raise Refused(fault)
+
+    def decide(self, wanted: Wanted) -> None:
+        """Keeps a correction with the times of the boards that it is about, by which it has the
+        same effect when the state is read again. It is tried on a copy before."""
+        here, board = time.monotonic(), wanted.board
+        at = {name: math.ceil(1000 * (max(table.at, table.now(here)) - table.shift))
+              for name, table in self.tables.items() if board in ("", name)}
+        try:
+            self.check(board, wanted.entry)
+            if board:
+                self.state.add(DESK, board, at.get(board, 0), wanted.entry)
+            else:
+                keep = wanted.keep or functools.partial(self.state.add, DESK, "", 0)
+                keep({**wanted.entry, "at": at})
+        except (Refused, sqlite3.Error) as fault:
+            wanted.reply.put(str(fault))
+        else:
+            self.take_news()
+            wanted.reply.put("")
+
+    def game(self, board: str, number: int) -> dgt.PgnGame:
+        """A copy of a game. Refused if there is none."""
+        table, kept = self.tables.get(board), self.shelf.find(board, number)
+        if table is not None and number == table.place.count and table.games.game is not None:
+            return corrections.copied(table.games.game)
+        if kept is None:
+            raise Refused(f"there is no game {number} on board {board}")
+        return corrections.read_game(kept.text)
+
+    def check(self, board: str, entry: Entry) -> None:
+        """Refused if a correction can't be made."""
+        if "game" in entry:
+            corrections.correct(self.game(board, entry["game"]), entry)
+        if "swap" in entry:
+            self.check_swap(*entry["swap"])
+
+    def check_swap(self, one: str, other: str) -> None:
+        """Refused if another board doesn't show the position of the game on a board."""
+        table, board = self.tables.get(one), self.shown.get(other)
+        game = table.games.game if table else None
+        if one == other or board is None or not board.is_shown:
+            raise Refused(f"there is no other board {other}")
+        if table is None or game is None:
+            raise Refused(f"there is no game on board {one}")
+        shown, right = said_of(board, 0.0, 0).letters, game.state.letters
+        right = right[::-1] if table.games.recogniser.turned else right
+        wrong = [dgt.SQUARES[at] for at in range(64) if shown[at] != right[at]]
+        if wrong:
+            raise Refused(f"set up the position of the game on board {other} first: see "
+                          f"{', '.join(wrong[:8])}{' and others' if len(wrong) > 8 else ''}")
+
+    # ---- Making games of it
+
+    def take(self, row: int, journal: str, name: str, at: float, entry: Any) -> None:
+        if journal != DESK:
+            if name:
+                self.shown.setdefault(name, topics.Board(name)).named = self.names.get(name)
+            return super().take(row, journal, name, at, entry)
+        times = {name: 1000 * at} if name else entry["at"]
+        for each in [each for each in times if each in self.tables]:
+            self.do(each, functools.partial(self.reach, times[each] / 1000))
+        try:
+            if name:
+                self.correct(row, name, entry)
+            else:
+                self.set(entry)
+        except (Refused, dgt.DgtError) as fault:
+            report(f"not corrected: {name} {entry}: {fault}")
+        return None
+
+    def reach(self, at: float, table: Table) -> None:
+        """All happens that is due up to a time of the board. What isn't confirmed waits."""
+        table.at = max(table.at, at + table.shift)
+        while not table.pending and (due := table.games.due) is not None and due <= table.at:
+            table.games.wait(due)
+        table.note_beginning()
+
+    def correct(self, row: int, name: str, entry: Entry) -> None:
+        """Corrects the game that is under way on a board, or one before it. The text of one that is
+        done may have it already."""
+        table, number = self.tables.get(name), entry["game"]
+        if table is not None and number == table.place.count and table.games.game is not None:
+            self.do(name, functools.partial(self.correct_live, entry))
+        elif row > self.finished.get((name, number), 0):
+            kept = self.shelf.find(name, number)
+            if kept is None:
+                raise Refused("no such game")
+            game = corrections.read_game(kept.text)
+            corrections.correct(game, entry)
+            self.shelf.put(kept, game.text())
+            self.keep_done(row, kept)
+
+    def keep_done(self, row: int, kept: collector.Kept) -> None:
+        """The state keeps the text of a game that is done, which has the correction of a row."""
+        if self.is_last:
+            try:
+                self.state.finish(kept.board, kept.number, kept.text, row)
+                self.finished[kept.board, kept.number] = row
+            except sqlite3.Error as fault:
+                report(f"the state can't be kept: {fault}")
+
+    def correct_live(self, entry: Entry, table: Table) -> None:
+        """Corrects the game under way, and looks at the board anew."""
+        corrections.correct_live(table.games, entry, table.at)
+        board = self.shown.get(table.place.board)
+        if not table.pending and board is not None and board.is_shown:
+            table.games.see(said_of(board, 0.0, 0).view(), table.at)
+            table.note_beginning()
+
+    def set(self, entry: Entry) -> None:
+        """What is set of no single game."""
+        if "names" in entry:
+            self.take_names(**entry["names"])
+        for name, side in entry.get("clock", {}).items():
+            self.sides[name] = side
+            if name in self.tables:
+                self.do(name, self.set_side)
+        for name, said in entry.get("from", {}).items():
+            if name in self.tables:
+                self.do(name, functools.partial(self.move_to, *said))
+
+    def take_names(self, tags: dict[str, str], players: dict[str, list[str]], push: str) -> None:
+        """The tags and players of a round, for the games that begin from now on, and for those of
+        this round that are under way."""
+        self.tags |= tags
+        if push:
+            self.targets[self.tags.get("Round", "?")] = push
+        self.names = {name: (white, black) for name, (white, black) in players.items()}
+        self.name(self.names)
+        self.tell("", None, False)
+        for name, board in self.shown.items():
+            board.named = self.names.get(name)
+        for name in list(self.tables):
+            self.do(name, functools.partial(self.name_game, name, tags))
+
+    def name_game(self, name: str, tags: dict[str, str], table: Table) -> None:
+        game, players = table.games.game, self.names.get(name)
+        is_of_round = game is not None and (not game.moves or all(
+            game.tags.get(each) == tags[each] for each in ("Event", "Round") if each in tags))
+        if players is not None:
+            table.players = players
+            tags = {**tags, "White": players[0], "Black": players[1]}
+        table.games.set_tags(tags, is_of_round)
+
+    def add(self, name: str) -> Table:
+        table = super().add(name)
+        self.set_side(table)
+        if name in self.names:
+            table.name_players(self.names[name])
+        return table
+
+    # ---- Clocks, and boards that are swapped
+
+    def side(self, name: str) -> str:
+        """White's side of a board's clock, or that it is learned."""
+        return self.sides.get(name, self.usual)
+
+    def set_side(self, table: Table) -> None:
+        """White's side of a board's clock is this one from now on, also in the game under way."""
+        side = self.side(table.place.board)
+        if side != "learn":
+            table.games.white_clock = side
+        self.learn(table)
+
+    def see(self, journal: str, said: Said, table: Table) -> None:
+        super().see(journal, said, table)
+        if said.is_sure:
+            turned = table.games.recogniser.turned
+            self.learner(table).see(said.letters[::-1] if turned else said.letters, said.clock)
+        self.learn(table)
+
+    def wait(self, now: float, table: Table) -> None:
+        super().wait(now, table)
+        self.learn(table)
+
+    def learner(self, table: Table) -> corrections.Learner:
+        """Learns of the game that is under way, and of no other: clocks are turned in between."""
+        name = table.place.board
+        number, learner = self.learners.get(name, (0, corrections.Learner()))
+        if number != table.place.count:
+            learner = corrections.Learner(before=learner.before)
+            if self.side(name) == "learn":
+                table.games.white_clock = self.white_clock
+        self.learners[name] = table.place.count, learner
+        return learner
+
+    def learn(self, table: Table) -> None:
+        """Sets the clock's side as it was learned, if it has to be."""
+        game = table.games.game
+        if game is not None and self.side(table.place.board) == "learn":
+            side = self.learner(table).side(game)
+            if side is not None and side != table.games.white_clock:
+                table.games.white_clock = side
+
+    def move_to(self, journal: str, number: int, table: Table) -> None:
+        """The game goes on at another board, of which a journal has said something last with this
+        number: nobody was away."""
+        table.journal, table.shift = journal, max(0.0, table.at + 0.001 - number / 1000)

@@ -1,0 +1,288 @@
+"""What an arbiter corrects: what his rows of the state mean, and what they do to games."""
+
+from __future__ import annotations
+
+import os
+import pathlib
+import re
+import threading
+import urllib.parse
+from collections.abc import Callable, Iterator
+from dataclasses import dataclass, field, replace
+from typing import Any
+
+import dgt
+
+import topics
+
+DESK = "desk"  # the journal of an arbiter's rows
+# Results as PGN has them, and what it calls their reasons.
+RESULTS = ("1-0", "0-1", "1/2-1/2", "*")
+REASONS = ("normal", "time forfeit", "rules infraction", "adjudication", "abandoned")
+SIDES = ("left", "right", "learn")
+FILE_TAGS = ("Event", "Site", "Date", "Round")
+LOOK = 1.0  # seconds between two looks at the time of a file
+MOST_FILE = 1 << 20  # bytes
+MOST_COUNTED = 60  # seconds of a clock from one time to the next
+MOST_SHOWN = 200  # positions
+LOCAL = ("localhost", "127.0.0.1", "::1")
+WORDS = re.compile(r"\{([^}]*)\}|(\d+\.+|\S+)")
+SAN = re.compile(r"([KQRBN]?)([a-h]?)([1-8]?)[x:-]?([a-h])([1-8])(?:=?([QRBNqrbn]))?")
+CASTLINGS = {"O-O": ("e1g1", "e8g8"), "O-O-O": ("e1c1", "e8c8")}
+Entry = dict[str, Any]
+
+
+class Refused(Exception):
+    """A correction, or a file, says what can't be."""
+
+
+# ---- Games as text
+
+
+def named(state: dgt.GameState, word: str) -> str:
+    """The legal move that a word means, in short or long notation."""
+    plain = word.rstrip("+#!?").replace("0", "O")
+    found = SAN.fullmatch(plain)
+    if plain in CASTLINGS:
+        fits = [CASTLINGS[plain][not state.white]]
+        fits = [each for each in fits if state.letters[dgt.SQUARES.index(each[:2])] in "Kk"]
+    elif found:
+        piece, *parts = found.groups()
+        pattern = re.compile("".join(each or "." for each in parts[:4]) + (parts[4] or "").lower())
+        fits = [each for each in state.moves() if pattern.fullmatch(each) and (
+            state.letters[dgt.SQUARES.index(each[:2])].upper() == (piece or "P")
+            or not piece and parts[0] and parts[1])]
+    else:
+        fits = []
+    fits = [each for each in fits if each in state.moves()]
+    if len(fits) == 1:
+        return fits[0]
+    why = "may be several moves" if fits else "is no move"
+    raise Refused(f"{word} {why} at {state.number}{'.' if state.white else '...'}")
+
+
+def read_moves(state: dgt.GameState, text: str) -> Iterator[tuple[str, str]]:
+    """The moves of a text, each with the comment after it."""
+    move = ""
+    for found in WORDS.finditer(text):
+        comment, word = found.groups()
+        if comment is not None:
+            yield move, comment
+            move = ""
+        elif not word[0].isdigit() or word.startswith("0-0"):
+            if word == "*":
+                continue
+            if move:
+                yield move, ""
+            move = named(state, word)
+            state = state.after(move)
+    if move:
+        yield move, ""
+
+
+def read_game(text: str) -> dgt.PgnGame:
+    """A game of the text that `dgt.PgnGame` writes of it."""
+    heads, _, body = text.partition("\n\n")
+    tags = {name: re.sub(r"\\(.)", r"\1", value)
+            for name, value in re.findall(r'(?m)^\[(\w+) "(.*)"\]$', heads)}
+    fen, result = tags.pop("FEN", None), tags.pop("Result", "*")
+    tags.pop("SetUp", None)
+    start = dgt.GameState.parse(fen) if fen else dgt.GameState.start()
+    game = dgt.PgnGame(tags, start, [], result)
+    for move, comment in read_moves(start, body):
+        clock = re.fullmatch(r"\[%clk (\d+):(\d+):(\d+)\]", comment.strip())
+        if move:
+            game.add(move, dgt.Time(*map(int, clock.groups())) if clock else None)
+        if comment and not clock:
+            game.comment = " ".join(comment.split())
+    return game
+
+
+def copied(game: dgt.PgnGame) -> dgt.PgnGame:
+    return replace(game, tags=dict(game.tags), moves=[replace(each) for each in game.moves])
+
+
+# ---- Corrections of games
+
+
+def spliced(game: dgt.PgnGame, text: str) -> Entry:
+    """The correction after which a game has the moves of a text. Refused if it can't."""
+    old = [each.move for each in game.moves]
+    new = [move for move, _ in read_moves(game.start, re.sub(r"\{[^}]*\}", " ", text))]
+    ply = next((at for at, pair in enumerate(zip(old, new)) if pair[0] != pair[1]),
+               min(len(old), len(new)))
+    same = 0
+    while same < min(len(old), len(new)) - ply and old[-1 - same] == new[-1 - same]:
+        same += 1
+    return {"ply": ply, "old": old[ply:len(old) - same], "new": new[ply:len(new) - same]}
+
+
+def tags_of(entry: Entry) -> dict[str, str]:
+    """The tags of a game that a correction sets. An empty one is taken away."""
+    if "result" in entry:
+        return {"Termination": "" if entry["result"] == "*" else str(entry["why"])}
+    return dict(entry.get("tags", {}))
+
+
+def set_tags(game: dgt.PgnGame, tags: dict[str, str]) -> None:
+    game.tags.update(tags)
+    for name in [name for name, value in tags.items() if not value]:
+        del game.tags[name]
+
+
+def correct(game: dgt.PgnGame, entry: Entry) -> None:
+    """Corrects a game that is done, or a copy. Refused if that can't be."""
+    if "ply" in entry:
+        ply, count = entry["ply"], len(entry["old"])
+        if [each.move for each in game.moves[ply:ply + count]] != entry["old"]:
+            raise Refused("the game has other moves by now")
+        try:
+            game.replace(ply, count, entry["new"])
+        except dgt.DgtError as fault:
+            raise Refused(f"no such moves: {fault}") from None
+    set_tags(game, tags_of(entry))
+    game.result = entry.get("result", game.result)
+
+
+def correct_live(games: dgt.Games, entry: Entry, at: float) -> None:
+    """Corrects the game that is under way, at a time of its board."""
+    if games.game is None:
+        raise Refused("no game has begun")
+    set_tags(games.game, tags_of(entry))
+    if "ply" in entry:
+        games.replace(entry["ply"], len(entry["old"]), entry["new"], at)
+    elif "result" in entry:
+        games.end(entry["result"], at)
+    games.set_tags({}, True)
+
+
+# ---- The clock's side
+
+
+@dataclass
+class Learner:
+    """Learns which side of a clock is White's, of the sides that count while the board shows each
+    position of a game. A clock may be pressed late, so that most positions decide, and some with
+    each player's turn have to be seen."""
+
+    counted: dict[str, int] = field(default_factory=dict)  # the side, by what the board showed
+    turns: dict[int, tuple[bool, int]] = field(default_factory=dict)  # whose turn it was, and that
+    before: topics.Clock | None = None
+
+    def see(self, letters: str, clock: topics.Clock | None) -> None:
+        """Notes what the board shows, and its clock."""
+        before, self.before = self.before, clock
+        if clock is not None and before is not None:
+            counts = [before.left - clock.left, before.right - clock.right]
+            if min(counts) == 0 < max(counts) < MOST_COUNTED:
+                self.counted[letters] = counts.index(max(counts))
+                if len(self.counted) > MOST_SHOWN:
+                    del self.counted[next(iter(self.counted))]
+
+    def side(self, game: dgt.PgnGame) -> str | None:
+        """White's side, as far as the game has been seen, or `None` if that isn't known yet."""
+        states = [(len(game.moves), game.state)]
+        states += [(len(game.moves) - 1, game.moves[-1].before)] if game.moves else []
+        self.turns |= {ply: (state.white, self.counted[state.letters]) for ply, state in states
+                       if state.letters in self.counted}
+        right = sum(1 if white == (side == 1) else -1 for white, side in self.turns.values())
+        if not right or len({white for white, _ in self.turns.values()}) < 2:
+            return None
+        return "right" if right > 0 else "left"
+
+
+# ---- The file of names
+
+
+def check_address(url: str) -> str:
+    """An address that may get a token. Refused if it is none."""
+    try:
+        parts = urllib.parse.urlsplit(url)
+    except ValueError as fault:
+        raise Refused(f"{url!r}: {fault}") from None
+    if not parts.hostname or parts.scheme not in ("http", "https") or parts.username is not None:
+        raise Refused(f"{url!r} is no address, as https://example.org/push")
+    if parts.scheme == "http" and parts.hostname not in LOCAL:
+        raise Refused("a token is sent by https alone, but to this machine")
+    return url
+
+
+@dataclass
+class Names:
+    """What a file says of a round, and the address that gets its games."""
+
+    tags: dict[str, str] = field(default_factory=dict)
+    players: dict[str, list[str]] = field(default_factory=dict)
+    push: str = ""
+
+
+def read_names(text: str) -> Names:
+    """Refused with the lines that are wrong."""
+    names, wrong = Names(), []
+    for number, line in enumerate(text.splitlines(), 1):
+        name, equals, value = (each.strip() for each in line.partition(" = "))
+        if not line.strip() or line.lstrip().startswith("#"):
+            continue
+        if name in FILE_TAGS and equals and value.isprintable():
+            names.tags[name] = value
+        else:
+            try:
+                if name == "Push":
+                    names.push = check_address(value)
+                    continue
+                if not equals or not name or name in names.players or set("/+#") & set(name):
+                    raise topics.Refused
+                names.players[name] = list(topics.read_players(value))
+            except topics.Refused:
+                wrong.append(f"line {number}: {line.strip()[:80]!r} is no NAME = WHITE - BLACK")
+            except Refused as fault:
+                wrong.append(f"line {number}: {fault}")
+    if wrong:
+        raise Refused("; ".join(wrong[:5]))
+    return names
+
+
+class Watch:
+    """A file of names, which is read again once it has changed."""
+
+    def __init__(self, path: str) -> None:
+        """Refused if it can't be read, or is wrong."""
+        self.path, self.fault, self.names = path, "", Names()
+        self.stamp = self.seen = self.look()
+        self.read()
+        if self.fault:
+            raise Refused(f"{path}: {self.fault}")
+
+    def look(self) -> Any:
+        """Something that is another one if the file is."""
+        try:
+            now = os.stat(self.path)
+            return now.st_mtime_ns, now.st_size, now.st_ino
+        except OSError:
+            return None
+
+    def read(self) -> bool:
+        """Reads the file. If it is wrong, the names stay as they were."""
+        try:
+            content = pathlib.Path(self.path).read_bytes()[:MOST_FILE]
+            self.names, self.fault = read_names(content.decode("utf-8-sig")), ""
+        except OSError as fault:
+            self.fault = fault.strerror or str(fault)
+        except UnicodeDecodeError:
+            self.fault = "it is no UTF-8"
+        except Refused as fault:
+            self.fault = str(fault)
+        return not self.fault
+
+    def run(self, hear: Callable[[Names], None], report: Callable[[str], None]) -> None:
+        """Reads the file again once it has changed, and stays as it is from one look to the
+        next."""
+        stop = threading.Event()
+        while not stop.wait(LOOK):
+            stamp, self.seen = self.seen, self.look()
+            if self.seen != stamp or stamp == self.stamp:
+                continue
+            self.stamp = stamp
+            if self.read():
+                hear(self.names)
+            report(f"{self.path}: {self.fault or 'read again'}")

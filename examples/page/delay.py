@@ -1,0 +1,84 @@
+"""Games and boards as they were some minutes ago: all that others than the arbiter get."""
+
+from __future__ import annotations
+
+import collections
+import queue
+import threading
+import time
+from typing import Any, Protocol
+
+import collector
+import corrected
+
+
+class Shown(Protocol):
+    """What shows the boards."""
+
+    def show(self, journal: str, board: str, number: int, entry: list[Any]) -> None:
+        """A board said this."""
+
+    def show_time(self, now: collector.Now) -> None:
+        """It is this time on a board."""
+
+    def remove(self, name: str) -> None:
+        """A board goes."""
+
+
+class LateState(collector.State):
+    """The rows of a state, each of which is read so many seconds after it came. The time of the
+    machine counts for those that were there before, and no step of it for the others."""
+
+    def __init__(self, state: collector.State, seconds: float) -> None:
+        self.kept, self.read, self.seconds, self.last, self.newest = state.kept, 0, seconds, 0, 0
+        self.gates: collections.deque[tuple[float, int]] = collections.deque()
+        here, now = time.monotonic(), time.time()
+        for row, at in self.kept.execute("SELECT id, at FROM heard ORDER BY id"):
+            self.gates.append((here + min(seconds, max(0.0, at + seconds - now)), row))
+            self.newest = row
+
+    def news(self) -> list[tuple[int, str, str, int, Any]]:
+        here = time.monotonic()
+        newest, = self.kept.execute("SELECT coalesce(max(id), 0) FROM heard").fetchone()
+        if newest > self.newest:
+            self.newest = newest
+            self.gates.append((here + self.seconds, newest))
+        while self.gates and self.gates[0][0] <= here:
+            self.last = self.gates.popleft()[1]
+        return super().news()
+
+
+class Late(corrected.Corrected):
+    """Makes the games of a late state. `boards` shows what it has."""
+
+    def __init__(self, shelf: collector.Shelf, tags: dict[str, str], side: str,
+                 tell: collector.Tell, name: Any, state: LateState, boards: Shown) -> None:
+        self.boards, self.seconds, self.is_closed = boards, state.seconds, threading.Event()
+        self.held: collections.deque[tuple[float, collector.Heard]] = collections.deque()
+        super().__init__(shelf, tags, side, tell, name, state, True)
+
+    def hear(self, said: collector.Heard) -> None:
+        self.held.append((time.monotonic() + self.seconds, said))
+
+    def close(self) -> None:
+        self.is_closed.set()
+        super().close()
+
+    def next(self, seconds: float) -> collector.Heard | None:
+        if self.is_closed.is_set():
+            return None
+        due = self.held[0][0] if self.held else collector.NEVER
+        if due > (here := time.monotonic()):
+            self.is_closed.wait(min(seconds, due - here))
+            raise queue.Empty
+        said = self.held.popleft()[1]
+        if isinstance(said, str):
+            self.boards.remove(said)
+        elif isinstance(said, collector.Now):
+            self.boards.show_time(said)
+        return said
+
+    def take(self, row: int, journal: str, name: str, at: float, entry: Any) -> None:
+        if isinstance(entry, list):
+            self.boards.show(journal, name, round(1000 * at), entry)
+        super().take(row, journal, name, at, entry)

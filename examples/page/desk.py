@@ -1,0 +1,351 @@
+"""The arbiter's desk: one page at an address of its own, which shows all boards as they are now and
+takes corrections."""
+
+from __future__ import annotations
+
+import base64
+import binascii
+import hashlib
+import hmac
+import html
+import pathlib
+import secrets
+import string
+import time
+import urllib.parse
+from collections.abc import Callable
+from dataclasses import dataclass
+from typing import Any
+
+import dgt
+
+import collector
+import corrected
+import corrections
+import web
+from corrections import RESULTS, Refused
+from corrected import Wanted
+
+TEMPLATE = pathlib.Path(__file__).resolve().parent / "desk.html"
+WAIT = 1.0  # seconds before a wrong password is refused
+SHOWN = 20  # corrections
+LOCAL = ("localhost", "127.0.0.1", "[::1]")
+Form = dict[str, str]
+quoted = html.escape
+
+
+@dataclass
+class Source:
+    """What the desk shows, and what keeps its corrections. `status` yields lines of how all is."""
+
+    boards: Any
+    games: corrected.Corrected
+    password: str | None
+    status: Callable[[], list[tuple[str, bool]]]
+    metrics: Callable[[], str]
+
+    def __post_init__(self) -> None:
+        key = self.password.encode() if self.password else secrets.token_bytes()
+        self.token = hmac.digest(key, b"a form of the desk", "sha256").hex()
+
+
+class Desk(web.Visit):
+    """One request of an arbiter's browser."""
+
+    source: Source
+
+    def do_GET(self) -> None:
+        path, _, query = self.path.partition("?")
+        if "Content-Length" in self.headers or "Transfer-Encoding" in self.headers:
+            self.close_connection = True  # what follows isn't read, and is no next request
+        if not self.is_let_in():
+            return
+        if path in ("/", "/desk"):
+            self.show(dict(urllib.parse.parse_qsl(query)))
+        elif path == "/metrics":
+            self.answer(200, "text/plain; version=0.0.4", self.source.metrics())
+        elif path == "/games.pgn":
+            self.answer(200, "application/x-chess-pgn",
+                        self.source.games.shelf.pgn()[0].decode(errors="replace"))
+        else:
+            self.answer(404, "text/plain", "there is no such page\n")
+
+    def do_POST(self) -> None:
+        length = self.headers.get("Content-Length", "")
+        self.close_connection = True
+        if not length.isdecimal() or int(length) > web.MOST_BODY:
+            return self.answer(413, "text/plain", "this is no form of the desk\n")
+        body = self.rfile.read(int(length))
+        if not self.is_let_in():
+            return
+        form = dict(urllib.parse.parse_qsl(body.decode(errors="replace"), keep_blank_values=True))
+        if not self.is_of_desk(form):
+            return self.answer(403, "text/plain", "this form isn't of the desk: open it again\n")
+        place = {name: form[name] for name in ("board", "game") if form.get(name)}
+        try:
+            self.correct(form)
+        except (Refused, dgt.DgtError, ValueError) as fault:
+            return self.show(place, str(fault), form)
+        self.answer(303, "text/plain", "", Location=f"/desk?{urllib.parse.urlencode(place)}"
+                    f"&kept={urllib.parse.quote(form['kind'])}")
+
+    # ---- Who may come
+
+    def is_let_in(self) -> bool:
+        """Whether the browser has the password; without one, whether it asks this machine by its
+        own name, as no page from elsewhere can."""
+        password, given = self.source.password, self.headers.get("Authorization", "")
+        if password is None:
+            host = self.headers.get("Host", "")
+            if (host.rpartition(":")[0] or host) in LOCAL or host in LOCAL:
+                return True
+            self.answer(403, "text/plain", "the desk is at http://localhost\n")
+            return False
+        if is_password(given, password):
+            return True
+        if given:
+            self.pause = WAIT
+        self.close_connection = True
+        self.answer(401, "text/plain", "the desk has a password\n",
+                    WWW_Authenticate='Basic realm="desk", charset="UTF-8"')
+        return False
+
+    def is_of_desk(self, form: Form) -> bool:
+        """Whether a form is of this desk, and not of another page."""
+        origin = self.headers.get("Origin")
+        is_own = origin is None or (urllib.parse.urlsplit(origin).netloc
+                                    == self.headers.get("Host", ""))
+        site = self.headers.get("Sec-Fetch-Site", "same-origin")
+        token = form.get("token", "").encode()
+        return (is_own and site in ("same-origin", "none")
+                and hmac.compare_digest(token, self.source.token.encode()))
+
+    def answer(self, status: int, kind: str, text: str, **heads: str) -> None:
+        content = text.encode(errors="replace")
+        self.send_response(status)
+        for name, value in {
+                "Content-Type": f"{kind}; charset=utf-8", "Content-Length": str(len(content)),
+                "Cache-Control": "no-store", "X-Content-Type-Options": "nosniff",
+                "X-Frame-Options": "DENY", "Referrer-Policy": "same-origin", **heads}.items():
+            self.send_header(name.replace("_", "-"), value)
+        self.end_headers()
+        if self.command != "HEAD":
+            self.wfile.write(content)
+
+    # ---- What is shown
+
+    def show(self, query: Form, fault: str = "", form: Form | None = None) -> None:
+        """Sends the page of all boards, or of one. A form that was refused has what was typed."""
+        nonce, name = secrets.token_urlsafe(16), query.get("board", "")
+        said = ""
+        if fault:
+            said = f'<p role="alert" class="bad">Not kept: {quoted(fault)}</p>'
+        elif "kept" in query:
+            said = f'<p role="status" class="good">Kept: {quoted(query["kept"][:20])}</p>'
+        try:
+            title, live, forms = (self.board(name, query.get("game", ""), form or {}) if name
+                                  else ("Desk", self.overview(), ""))
+        except (Refused, ValueError) as missing:
+            fault, title, forms = str(missing), "Desk", ""
+            live = f'<p class="bad">{quoted(fault)}</p>{self.overview()}'
+        page = string.Template(TEMPLATE.read_text()).substitute(
+            nonce=nonce, title=quoted(title), said=said, live=live, forms=forms)
+        policy = (f"default-src 'none'; style-src 'nonce-{nonce}'; script-src 'nonce-{nonce}'; "
+                  "connect-src 'self'; form-action 'self'; base-uri 'none'; frame-ancestors 'none'")
+        self.answer(409 if fault else 200, "text/html", page, Content_Security_Policy=policy)
+
+    def overview(self) -> str:
+        lines = "".join(f'<p class="{"bad" if is_bad else ""}">{quoted(text)}</p>'
+                        for text, is_bad in self.source.status())
+        events = sorted(self.source.boards.now()["boards"],
+                        key=lambda event: collector.natural(event["board"]))
+        rows = "".join(map(self.row, events))
+        heads = "".join(f'<th scope="col"{more}>{head}</th>' for head, more in (
+            ("Board", ""), ("White", ""), ("Black", ""), ("Clock", ""),
+            ("Last moves", ' class="more"'), ("Result", ""), ("State", "")))
+        return (f"{lines}<table><caption>Boards</caption><thead><tr>{heads}</tr></thead>"
+                f"<tbody>{rows}</tbody></table>{self.corrections()}")
+
+    def row(self, event: dict[str, Any]) -> str:
+        name, game, players = event["board"], event["game"], event["players"]
+        link = (f'<a href="/desk?{urllib.parse.urlencode({"board": name})}" '
+                f'aria-label="Board {quoted(name)}">{quoted(name)}</a>')
+        white, black = (players["white"], players["black"]) if players else ("?", "?")
+        state = event["state"]
+        mark = "" if state == "following" else ' class="bad"'
+        return (f'<tr><th scope="row">{link}</th><td>{quoted(white)}</td><td>{quoted(black)}</td>'
+                f'<td class="short">{clocks(event)}</td>'
+                f'<td class="more">{quoted(last_moves(game))}</td>'
+                f'<td class="short">{quoted(game["result"] if game else "no game")}</td>'
+                f'<td{mark}>{quoted(state)}</td></tr>')
+
+    def corrections(self) -> str:
+        items = "".join(
+            f"<li>{time.strftime('%H:%M:%S', time.localtime(at))} "
+            f"{quoted(f'board {board}: ' if board else '')}{quoted(described(entry))}</li>"
+            for board, at, entry in self.source.games.state.corrections(SHOWN))
+        return f"<h2>Last corrections</h2><ul>{items}</ul>" if items else ""
+
+    def board(self, name: str, number: str, form: Form) -> tuple[str, str, str]:
+        """The title, what changes by itself, and the forms of a board."""
+        games = self.source.games
+        table = games.tables.get(name)
+        last = table.place.count if table else games.counts.get(name, 0)
+        chosen = int(number) if number else last
+        game = games.game(name, chosen)
+        event = next((each for each in self.source.boards.now()["boards"]
+                      if each["board"] == name), None)
+        links = " ".join(
+            f'<a href="/desk?{urllib.parse.urlencode({"board": name, "game": each})}"'
+            f'{current(each == chosen)}>Game {each}</a>' for each in range(1, last + 1))
+        now = "" if event is None or chosen != last else (
+            f'<p>{quoted(event["state"])}. Clock (left, right): {clocks(event)}. '
+            f"On the board: {quoted(event['placement'])}</p>")
+        live = (f'<p><a href="/desk">All boards</a> {links}</p>{now}<p>{quoted(shown(game))}</p>')
+        title = f"Board {name}, game {chosen}"
+        return title, live, self.forms(name, chosen, game, form, chosen == last)
+
+    def forms(self, name: str, number: int, game: dgt.PgnGame, typed: Form, is_last: bool) -> str:
+        def form(kind: str, head: str, fields: str) -> str:
+            hidden = "".join(
+                f'<input type="hidden" name="{each}" value="{quoted(str(value))}">'
+                for each, value in (("token", self.source.token), ("kind", kind), ("board", name),
+                                    ("game", number)))
+            place = urllib.parse.urlencode({"board": name, "game": number})
+            return (f'<form method="post" action="/desk?{quoted(place)}" aria-label="{head}">'
+                    f"<h2>{head}</h2>{hidden}{fields}<button>Keep: {head}</button></form>")
+
+        is_typed = typed.get("kind")
+        tags = game.tags
+        moves = typed["moves"] if is_typed == "moves" else moves_of(game)
+        parts = [
+            form("result", "result", select("Result", "result", RESULTS, game.result)
+                 + select("Reason", "why", corrections.REASONS, tags.get("Termination", "normal"))),
+            form("moves", "moves", '<label class="wide">Moves, corrected as they were played'
+                 f'<textarea name="moves" rows="6" spellcheck="false">{quoted(moves)}</textarea>'
+                 f'</label><input type="hidden" name="before" value="{quoted(moves_of(game))}">'),
+            form("tags", "players", "".join(
+                f'<label>{each} <input name="{each}" value="{quoted(tags.get(each, "?"))}"></label>'
+                for each in ("White", "Black", "Round"))),
+        ]
+        others = [each["board"] for each in self.source.boards.now()["boards"]
+                  if each["board"] != name]
+        if is_last:
+            parts.append(form("clock", "clock", select(
+                "Side with White's time", "side", corrections.SIDES,
+                self.source.games.side(name))))
+        if is_last and others:
+            parts.append(form("swap", "other board", select(
+                "The game goes on at board", "other",
+                sorted(others, key=collector.natural), "")))
+        return "".join(parts)
+
+    # ---- What is corrected
+
+    def correct(self, form: Form) -> None:
+        """Keeps the correction of a form. Refused, or a ValueError, if it can't be."""
+        games, kind, board = self.source.games, form.get("kind"), form.get("board", "")
+        number = int(form.get("game", ""))
+        entry: dict[str, Any] = {"game": number}
+        if kind == "result":
+            if form.get("result") not in RESULTS or form.get("why") not in corrections.REASONS:
+                raise Refused("there is no such result")
+            entry |= {"result": form["result"], "why": form["why"]}
+        elif kind == "moves":
+            game = games.game(board, number)
+            if form.get("before") != moves_of(game):
+                raise Refused("the game went on meanwhile: see it, and correct it once more")
+            entry |= corrections.spliced(game, form.get("moves", ""))
+        elif kind == "tags":
+            tags = {each: form[each].strip() for each in ("White", "Black", "Round")}
+            if not all(0 < len(each) <= 200 and each.isprintable() for each in tags.values()):
+                raise Refused("each needs a name")
+            entry |= {"tags": tags}
+        elif kind == "clock" and form.get("side") in corrections.SIDES:
+            board, entry = "", {"clock": {board: form["side"]}}
+        elif kind == "swap":
+            swap = board, form.get("other", "")
+            keep = self.source.boards.swap
+            return games.ask(Wanted("", {"swap": swap}, keep))
+        else:
+            raise Refused("there is no such form")
+        games.ask(Wanted(board, entry))
+
+
+def is_password(given: str, password: str) -> bool:
+    """Whether a head of HTTP has the password, of any user. It takes the same time if not."""
+    kind, _, code = given.partition(" ")
+    try:
+        _, _, said = base64.b64decode(code, validate=True).partition(b":")
+    except (binascii.Error, ValueError):
+        said = b""
+    one, other = (hashlib.sha256(each).digest() for each in (said, password.encode()))
+    return hmac.compare_digest(one, other) and kind.lower() == "basic"
+
+
+def current(is_it: bool) -> str:
+    return ' aria-current="page"' if is_it else ""
+
+
+def select(label: str, name: str, values: Any, chosen: str) -> str:
+    options = "".join(f'<option{" selected" if each == chosen else ""}>{quoted(each)}</option>'
+                      for each in values)
+    return f'<label>{label} <select name="{name}">{options}</select></label>'
+
+
+def clocks(event: dict[str, Any]) -> str:
+    clock = event["clock"]
+    if not clock or clock.get("none"):
+        return "none"
+    times = [f"{each // 3600}:{each // 60 % 60:02}:{each % 60:02}"
+             for each in (clock["left"], clock["right"])]
+    return f"{' '.join(times)}{' runs' if clock['running'] else ''}"
+
+
+def last_moves(game: dict[str, Any] | None) -> str:
+    if not game or not game["moves"]:
+        return ""
+    is_black = (len(game["moves"]) % 2 == 0) == (game["to_move"] == "black")
+    words, number = [], game["number"]
+    for at, move in enumerate(game["moves"]):
+        if (at % 2 == 1) == is_black:
+            words.append(f"{number}.")
+        elif not at:
+            words.append(f"{number}...")
+        number += (at % 2 == 0) == is_black
+        words.append(move)
+    return " ".join(words[-8:])
+
+
+def moves_of(game: dgt.PgnGame) -> str:
+    """The moves of a game without clocks."""
+    words = []
+    for made in game.moves:
+        words += [f"{made.before.number}."] if made.before.white else []
+        words.append(made.san)
+    return " ".join(words)
+
+
+def shown(game: dgt.PgnGame) -> str:
+    tags = game.tags
+    why = f" ({tags['Termination']})" if "Termination" in tags else ""
+    return (f"{tags.get('White', '?')} - {tags.get('Black', '?')}, round {tags.get('Round', '?')}. "
+            f"{game.result}{why}. {len(game.moves)} half-moves: {moves_of(game)}")
+
+
+def described(entry: dict[str, Any]) -> str:
+    """A correction in words."""
+    game = f"game {entry['game']}, " if "game" in entry else ""
+    if "result" in entry:
+        return f"{game}result {entry['result']}, {entry['why']}"
+    if "ply" in entry:
+        return (f"{game}after {entry['ply']} half-moves: {' '.join(entry['new']) or 'nothing'} in "
+                f"place of {' '.join(entry['old']) or 'nothing'}")
+    if "tags" in entry:
+        return game + ", ".join(f"{name} {value}" for name, value in entry["tags"].items())
+    if "clock" in entry:
+        return "; ".join(f"White's clock of board {name}: {side}"
+                         for name, side in entry["clock"].items())
+    if "swap" in entry:
+        return "boards {} and {} swapped".format(*entry["swap"])
+    return f"the file of names, round {entry['names']['tags'].get('Round', '?')}"

@@ -1,0 +1,43 @@
+"""What pages are sent of a game."""
+
+from __future__ import annotations
+
+import json
+from typing import Any
+
+import dgt
+
+SHOWN_MOVES = 12
+Summary = dict[str, Any]
+
+
+def summary(games: dgt.Games) -> Summary | None:
+    """What pages show of the game on a board."""
+    game = games.game
+    if game is None:
+        return None
+    shown, state = game.moves[-SHOWN_MOVES:], game.state
+    last = shown[-1].move if shown else ""
+    return {
+        "moves": [each.san for each in shown],
+        "number": shown[0].before.number if shown else state.number,
+        "to_move": "white" if state.white else "black",
+        "last": [last[:2], last[2:4]] if last else None,
+        "result": game.result,
+        "white_side": games.white_clock,
+    }
+
+
+def written(game: dgt.PgnGame) -> bytes:
+    """A game as JSON: its moves in short notation, the placement before the first and after each,
+    and the seconds that the player has left."""
+    moves = list(game.moves)  # the thread of the games may add some
+    first = moves[0].before if moves else game.state
+    clocks = [each.clock and 3600 * each.clock.hours + 60 * each.clock.minutes + each.clock.seconds
+              for each in moves]
+    return json.dumps({
+        "number": first.number, "is_white_first": first.white, "result": game.result,
+        "moves": [each.san for each in moves], "clocks": clocks,
+        "squares": [[each.move[:2], each.move[2:4]] for each in moves],
+        "placements": [state.fen.split()[0] for state in (first, *(e.after for e in moves))],
+    }).encode()
