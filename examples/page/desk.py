@@ -155,7 +155,7 @@ class Desk(web.Visit):
         self.answer(409 if fault else 200, "text/html", page, Content_Security_Policy=policy)
 
     def overview(self) -> str:
-        lines = "".join(f'<p class="{"bad" if is_bad else ""}">{quoted(text)}</p>'
+        lines = "".join(f"<p{' class=bad' if is_bad else ''}>{quoted(text)}</p>"
                         for text, is_bad in self.source.status())
         events = sorted(self.source.boards.now()["boards"],
                         key=lambda event: collector.natural(event["board"]))
@@ -174,9 +174,9 @@ class Desk(web.Visit):
         state = event["state"]
         mark = "" if state == "following" else ' class="bad"'
         return (f'<tr><th scope="row">{link}</th><td>{quoted(white)}</td><td>{quoted(black)}</td>'
-                f'<td class="short">{clocks(event)}</td>'
+                f'<td>{clocks(event)}</td>'
                 f'<td class="more">{quoted(last_moves(game))}</td>'
-                f'<td class="short">{quoted(game["result"] if game else "no game")}</td>'
+                f'<td>{quoted(game["result"] if game else "no game")}</td>'
                 f'<td{mark}>{quoted(state)}</td></tr>')
 
     def corrections(self) -> str:
@@ -213,7 +213,8 @@ class Desk(web.Visit):
                                     ("game", number)))
             place = urllib.parse.urlencode({"board": name, "game": number})
             return (f'<form method="post" action="/desk?{quoted(place)}" aria-label="{head}">'
-                    f"<h2>{head}</h2>{hidden}{fields}<button>Keep: {head}</button></form>")
+                    f"<h2>{head.capitalize()}</h2>{hidden}{fields}"
+                    f"<button>Keep: {head}</button></form>")
 
         is_typed = typed.get("kind")
         tags = game.tags
