@@ -26,7 +26,7 @@ class Shown(Protocol):
 
 
 class LateState(collector.State):
-    """The rows of a state, each of which is read so many seconds after it came. The time of the
+    """The rows of a state, each of which is read some seconds after it came. The time of the
     machine counts for those that were there before, and no step of it for the others."""
 
     def __init__(self, state: collector.State, seconds: float) -> None:

@@ -122,8 +122,8 @@ class PgnGame:
     def replace(self, ply: int, count: int, moves: Iterable[str]) -> None:
         """Puts other moves in the place of `count` moves, the first of which has `ply` moves before
         it. The moves after them stay. If as many are put, they keep the clocks. `IllegalMove` if
-        one of all these moves is none then, `BadValue` if the game hasn't so many moves: it stays
-        as it was.
+        one of all these moves is none then, `BadValue` if there are fewer moves: the game stays as
+        it was.
 
         >>> game = PgnGame()
         >>> for move in ("e2e4", "e7e5", "g1f3"):
