@@ -192,7 +192,7 @@ class Desk(web.Visit):
         table = games.tables.get(name)
         last = table.place.count if table else games.counts.get(name, 0)
         chosen = int(number) if number else last
-        game = games.game(name, chosen)
+        game = games.game(name, chosen) if chosen else None
         event = next((each for each in self.source.boards.now()["boards"]
                       if each["board"] == name), None)
         links = " ".join(
@@ -201,45 +201,47 @@ class Desk(web.Visit):
         now = "" if event is None or chosen != last else (
             f'<p>{quoted(event["state"])}. Clock (left, right): {clocks(event)}. '
             f"On the board: {quoted(event['placement'])}</p>")
-        live = (f'<p><a href="/desk">All boards</a> {links}</p>{now}<p>{quoted(shown(game))}</p>')
-        title = f"Board {name}, game {chosen}"
-        return title, live, self.forms(name, chosen, game, form, chosen == last)
+        told = shown(game) if game else "No game has begun on this board."
+        live = f'<p><a href="/desk">All boards</a> {links}</p>{now}<p>{quoted(told)}</p>'
+        title = f"Board {name}, game {chosen}" if game else f"Board {name}"
+        parts = self.forms_of_game(name, chosen, game, form) if game else []
+        parts += self.forms_of_board(name, chosen) if chosen == last else []
+        return title, live, "".join(parts)
 
-    def forms(self, name: str, number: int, game: dgt.PgnGame, typed: Form, is_last: bool) -> str:
-        def form(kind: str, head: str, fields: str) -> str:
-            hidden = "".join(
-                f'<input type="hidden" name="{each}" value="{quoted(str(value))}">'
-                for each, value in (("token", self.source.token), ("kind", kind), ("board", name),
-                                    ("game", number)))
-            place = urllib.parse.urlencode({"board": name, "game": number})
-            return (f'<form method="post" action="/desk?{quoted(place)}" aria-label="{head}">'
-                    f"<h2>{head.capitalize()}</h2>{hidden}{fields}"
-                    f"<button>Keep: {head}</button></form>")
+    def form(self, place: Form, kind: str, head: str, fields: str) -> str:
+        hidden = "".join(
+            f'<input type="hidden" name="{name}" value="{quoted(value)}">'
+            for name, value in {"token": self.source.token, "kind": kind, **place}.items())
+        return (f'<form method="post" action="/desk?{quoted(urllib.parse.urlencode(place))}" '
+                f'aria-label="{head}"><h2>{head.capitalize()}</h2>{hidden}{fields}'
+                f"<button>Keep: {head}</button></form>")
 
-        is_typed = typed.get("kind")
-        tags = game.tags
-        moves = typed["moves"] if is_typed == "moves" else moves_of(game)
-        parts = [
-            form("result", "result", select("Result", "result", RESULTS, game.result)
-                 + select("Reason", "why", corrections.REASONS, tags.get("Termination", "normal"))),
-            form("moves", "moves", '<label class="wide">Moves, corrected as they were played'
-                 f'<textarea name="moves" rows="6" spellcheck="false">{quoted(moves)}</textarea>'
-                 f'</label><input type="hidden" name="before" value="{quoted(moves_of(game))}">'),
-            form("tags", "players", "".join(
+    def forms_of_game(self, name: str, number: int, game: dgt.PgnGame, typed: Form) -> list[str]:
+        place, tags = {"board": name, "game": str(number)}, game.tags
+        moves = typed["moves"] if typed.get("kind") == "moves" else moves_of(game)
+        return [
+            self.form(place, "result", "result", select("Result", "result", RESULTS, game.result)
+                      + select("Reason", "why", corrections.REASONS,
+                               tags.get("Termination", "normal"))),
+            self.form(place, "moves", "moves", '<label class="wide">Moves, corrected as they were '
+                      f'played<textarea name="moves" rows="6" spellcheck="false">{quoted(moves)}'
+                      '</textarea></label>'
+                      f'<input type="hidden" name="before" value="{quoted(moves_of(game))}">'),
+            self.form(place, "tags", "players", "".join(
                 f'<label>{each} <input name="{each}" value="{quoted(tags.get(each, "?"))}"></label>'
                 for each in ("White", "Black", "Round"))),
         ]
-        others = [each["board"] for each in self.source.boards.now()["boards"]
-                  if each["board"] != name]
-        if is_last:
-            parts.append(form("clock", "clock", select(
-                "Side with White's time", "side", corrections.SIDES,
-                self.source.games.side(name))))
-        if is_last and others:
-            parts.append(form("swap", "other board", select(
-                "The game goes on at board", "other",
-                sorted(others, key=collector.natural), "")))
-        return "".join(parts)
+
+    def forms_of_board(self, name: str, number: int) -> list[str]:
+        place = {"board": name, "game": str(number)}
+        others = sorted((each["board"] for each in self.source.boards.now()["boards"]
+                         if each["board"] != name), key=collector.natural)
+        parts = [self.form(place, "clock", "clock", select(
+            "Side with White's time", "side", corrections.SIDES, self.source.games.side(name)))]
+        if others and number:
+            parts.append(self.form(place, "swap", "other board", select(
+                "The game goes on at board", "other", others, "")))
+        return parts
 
     # ---- What is corrected
 
