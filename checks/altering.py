@@ -1,6 +1,6 @@
 """What checks/wrong_bodies and checks/definitions share: edits of a crate that the prover has to
 refuse, copies of crates to try them in, and what rt check prints of these. A model's edits are
-read for checks/c_library, too."""
+read for checks/c_library, too. As a program it makes such a copy: `altering.py CRATE FOLDER`."""
 
 import contextlib
 import dataclasses
@@ -9,6 +9,7 @@ import pathlib
 import re
 import shutil
 import subprocess
+import sys
 from collections.abc import Iterable
 
 ROOT = pathlib.Path(__file__).resolve().parent.parent
@@ -195,3 +196,7 @@ def copy_to(folder: pathlib.Path, name: str) -> pathlib.Path:
 def at_once() -> int:
     """How many crates the machine can check at once."""
     return int(subprocess.check_output([ROOT / "tools" / "at_once"]))
+
+
+if __name__ == "__main__":
+    copy_to(pathlib.Path(sys.argv[2]), sys.argv[1])
