@@ -16,7 +16,7 @@ import time
 
 import engines
 import games
-from engines import Wrong, wanted
+from wrong import Wrong, wanted
 
 SETTLE = 0.3
 # How much longer a move rests in each further try, if the machine holds the hands up.

@@ -4,6 +4,8 @@ checks/rows.txt."""
 
 import pathlib
 
+from wrong import Wrong, wanted
+
 LINES = pathlib.Path(__file__).resolve().parent / "rows.txt"
 # The call, its arguments, and the bytes: the tables of clock messages, segments and commands by
 # name.
@@ -49,15 +51,6 @@ REFUSED = [
     *(("set_and_run", [(), value, 0], f"right {TIME}") for value in (None, "1", (0, 0, 0, 7))),
     ("icons", [bytes(253)], "payload must be at most 252 bytes: "),
 ]
-
-
-class Wrong(Exception):
-    """A call does not do what it should."""
-
-
-def wanted(what, got, right):
-    if got != right:
-        raise Wrong(f"{what}: {got!r} in place of {right!r}")
 
 
 class Line:

@@ -15,11 +15,9 @@ import sys
 import types
 import unittest.mock
 
+from wrong import Wrong
+
 HAPPENINGS = [("e2", "."), ("e4", "P")]
-
-
-class Wrong(Exception):
-    """An example shows something else than it does."""
 
 
 class Port:

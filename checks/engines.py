@@ -15,6 +15,7 @@ import time
 
 import games
 import ports
+from wrong import Wrong, wanted
 
 ROOT = pathlib.Path(__file__).resolve().parent.parent
 WORDS = [sys.executable, "-m", "dgt", "uci"]
@@ -22,15 +23,6 @@ SECONDS = 40
 # What xboard takes for the death of an engine, and what a system says of a fault.
 DEADLY = ["unknown host", "no remote directory", "not found", "no such file", "can't alloc",
           "permission denied", "errno", "traceback", "resource temporarily"]
-
-
-class Wrong(Exception):
-    """Something is not as it should be."""
-
-
-def wanted(what, got, right):
-    if got != right:
-        raise Wrong(f"{what}: {got!r} in place of {right!r}")
 
 
 class Engine:

@@ -3,21 +3,13 @@ stays unfinished disturbs, a board is asked at once, its serial number is reques
 heard."""
 
 import model
+from wrong import Wrong, wanted
 
 START = "rnbqkbnr/pppppppp/8/8/8/8/PPPPPPPP/RNBQKBNR"
 LIFT = model.spell(model.FIELD, [52, 0])
 READING = model.spell(model.CLOCK, [1, 2, 3, 4, 5, 6, 1])
 UNREADABLE = model.spell(model.CLOCK, [1, 0x7F, 3, 4, 5, 6, 1])
 HEARTBEAT, ANEW = b"\x44\x42", bytes(255) + b"\x44\x42\x44"
-
-
-class Wrong(Exception):
-    """A call does something else than it should."""
-
-
-def wanted(what, got, right):
-    if got != right:
-        raise Wrong(f"{what}: {got!r} in place of {right!r}")
 
 
 def confirms(dgt, dump):

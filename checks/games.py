@@ -10,6 +10,8 @@ import pathlib
 import random
 import re
 
+from wrong import Wrong, wanted
+
 START = "rnbqkbnr/pppppppp/8/8/8/8/PPPPPPPP/RNBQKBNR w KQkq - 0 1"
 PERFT = [
     (START, [20, 400, 8902]),
@@ -20,15 +22,6 @@ PERFT = [
     ("r4rk1/1pp1qppp/p1np1n2/2b1p1B1/2B1P1b1/P1NP1N2/1PP1QPPP/R4RK1 w - - 0 10", [46, 2079]),
     ("n1n5/PPPk4/8/8/8/8/4Kppp/5N1N b - - 0 1", [24, 496, 9483]),
 ]
-
-
-class Wrong(Exception):
-    """A position or a move is not as it should be."""
-
-
-def wanted(what, got, right):
-    if got != right:
-        raise Wrong(f"{what}: {got!r} in place of {right!r}")
 
 
 # ---- The rules

@@ -7,6 +7,8 @@ import os
 import pathlib
 import tempfile
 
+from wrong import wanted
+
 DEVICES = ["ttyUSB10", "ttyS0", "ttyUSB1", "tty", "rfcomm0", "ttyUSB0", "ttyACM0"]
 # Names in /dev/serial/by-id, and the device of each.
 LINKS = [("usb-BB", "ttyUSB1"), ("usb-B", "ttyUSB1"), ("usb-gone", "ttyUSB7"),
@@ -34,15 +36,6 @@ RIGHT = [
     ("ttyUSB10", None, None, None, None),
 ]
 NONE = "no serial port of USB or Bluetooth (plug the board in)"
-
-
-class Wrong(Exception):
-    """The list is not as it should be."""
-
-
-def wanted(what, got, right):
-    if got != right:
-        raise Wrong(f"{what}: {got!r} in place of {right!r}")
 
 
 def plug_in(dev, sysfs):

@@ -4,6 +4,8 @@ import re
 import shutil
 import subprocess
 
+from wrong import Wrong
+
 SQUARES = tuple(f"{file}{rank}" for rank in "87654321" for file in "abcdefgh")
 START = "rnbqkbnr/pppppppp/8/8/8/8/PPPPPPPP/RNBQKBNR w KQkq - 0 1"
 RESULTS = ("1-0", "0-1", "1/2-1/2", "*")
@@ -11,10 +13,6 @@ PGN_EXTRACT = shutil.which("pgn-extract") or shutil.which("/usr/games/pgn-extrac
 WIDE = 1 << 20
 HEAD = re.compile(r'\[(\w+) "((?:[^"\\]|\\["\\])*)"\]')
 MOVE = re.compile(r"([KQRBN]?)([a-h]?)([1-8]?)(x?)([a-h][1-8])(?:=([QRBN]))?([+#]?)")
-
-
-class Wrong(Exception):
-    """A file of games is not as it should be."""
 
 
 class Read:

@@ -24,6 +24,7 @@ import time
 import tty
 
 import late
+from wrong import Wrong, wanted
 
 START = "rnbqkbnr/pppppppp/8/8/8/8/PPPPPPPP/RNBQKBNR"
 LIFTED = "rnbqkbnr/pppppppp/8/8/8/8/PPPP1PPP/RNBQKBNR"
@@ -37,15 +38,6 @@ SECONDS = 20
 TIOCGEXCL = 0x80045440  # of Linux: whether later openers are refused; termios doesn't name it
 # What a machine that is busy with other things may add to a time.
 LATE = 5.0
-
-
-class Wrong(Exception):
-    """Something is not as it should be."""
-
-
-def wanted(what, got, right):
-    if got != right:
-        raise Wrong(f"{what}: {got!r} in place of {right!r}")
 
 
 class Line:

@@ -6,6 +6,7 @@ import sys
 import time
 
 import late
+from wrong import Wrong
 
 BOARD = pathlib.Path(__file__).resolve().parent.parent / "examples" / "board.py"
 SECONDS = 20
@@ -32,10 +33,6 @@ REFUSED = [
     ("clock 1:60:00 0:00:01", "minutes must be a number from 0 to 59: 60"),
     ("clock 0:00:60 0:00:01", "seconds must be a number from 0 to 59: 60"),
 ]
-
-
-class Wrong(Exception):
-    """The clock is not as it should be."""
 
 
 def started():

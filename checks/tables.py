@@ -12,6 +12,7 @@ import tempfile
 
 import games
 import pgn_games
+from wrong import Wrong
 
 INCREMENT = 5
 MOST_STEPS = 1000  # this number of steps without any time between them are a busy wait
@@ -21,10 +22,6 @@ RUNS, WHITE_TURN, BLACK_TURN = 0x01, 0x10, 0x08
 # those of them whose moves weren't all known.
 COUNTED = ["games", "moves", "castlings", "captures in passing", "promotions",
            "promotions to other pieces than a queen", "take-backs", "positions", "unresolved"]
-
-
-class Wrong(Exception):
-    """A game is not kept as it was played."""
 
 
 class Timer:

@@ -5,10 +5,7 @@ import typing
 
 import model
 import worked
-
-
-class Wrong(Exception):
-    """A text is not as it should be."""
+from wrong import Wrong
 
 
 def messages():

@@ -9,17 +9,10 @@ import math
 import operator
 import pickle
 
+from wrong import Wrong, wanted
+
 START = "rnbqkbnr/pppppppp/8/8/8/8/PPPPPPPP/RNBQKBNR"
 LETTERS = "rnbqkbnr" + "pppppppp" + 32 * "." + "PPPPPPPP" + "RNBQKBNR"
-
-
-class Wrong(Exception):
-    """A value is not as it should be."""
-
-
-def wanted(what, got, right):
-    if got != right:
-        raise Wrong(f"{what}: {got!r} in place of {right!r}")
 
 
 def refusal(what, error, call):

@@ -4,6 +4,8 @@ at the end, are those of `dgt simulate --faults` for the same acts."""
 import random
 import subprocess
 
+from wrong import Wrong, wanted
+
 SCRIPTS, ACTS, SEED = 150, 60, 14
 SQUARES = [f"{file}{rank}" for rank in "87654321" for file in "abcdefgh"]
 LETTERS = ".PRNBKQprnbkqXYZ"
@@ -13,15 +15,6 @@ ASKS = (0x40, 0x41, 0x42, 0x43, 0x44, 0x45, 0x47, 0x4B, 0x4C, 0x4D, 0x55)
 # Whole messages and parts of them, and parts of commands.
 GARBAGE = ("8e000534", "860043080909", "8e00052401", "8e000534008e000540", "05", "2b04", "60ff4242",
            "4442", "92", "930005")
-
-
-class Wrong(Exception):
-    """The world does not do what it should."""
-
-
-def wanted(what, got, right):
-    if got != right:
-        raise Wrong(f"{what}: {got!r} in place of {right!r}")
 
 
 # ---- The acts of a script, each with its line
