@@ -1,8 +1,7 @@
-//! Calls, tables of bytes, scenes and runs of engines.
+//! Calls, tables of bytes, conversations and runs of engines.
 
 mod asserting;
 mod boards;
-mod command_lines;
 mod commanding;
 mod decoding;
 mod engines;
@@ -10,7 +9,6 @@ mod fixtures;
 mod followers;
 mod hosts;
 mod messages;
-mod scenes;
 mod scripts;
 mod texts;
 mod values;

@@ -44,60 +44,32 @@ fn a_field_and_a_refusal(rt: HostRuntime) -> Result<(), Fail> {
 }
 
 #[test]
-fn the_first_top_bit(rt: HostRuntime) {
-    let mut bytes = [0; 40];
-    assert_same(&rt, first_top(&[]), 0);
-    assert_same(&rt, first_top(&[0x8e]), 0);
-    assert_same(&rt, first_top(&bytes[..32]), 32);
-    bytes[31] = 0x80;
-    assert_same(&rt, first_top(&bytes[..32]), 31);
-    bytes[31] = 0x00;
-    bytes[32] = 0x8e;
-    assert_same(&rt, first_top(&bytes[..33]), 32);
-    assert_same(&rt, first_top(&[0xff; 40]), 0);
-}
-
-#[test]
 fn an_unfinished_message_is_reported_once(rt: HostRuntime) {
     let mut decoder = Decoder::new();
-    let fed = decoder.feed(&[0x8e, 0x00]);
-    assert_that(&rt, fed.used == 2 && fed.event.is_none(), "no event");
+    assert_same(&rt, decoder.feed(&[0x8e, 0x00]).used, 2);
     assert_same(&rt, decoder.rest(), 2);
     assert_same(&rt, decoder.finish(), Some(Unfinished { have: 2 }));
     assert_same(&rt, decoder.finish(), None);
-    assert_same(&rt, decoder.rest(), 0);
-}
-
-#[test]
-fn a_decoder_made_as_new(rt: HostRuntime) {
-    let mut decoder = Decoder::new();
-    let fed = decoder.feed(&[0x8e, 0x00]);
-    assert_that(&rt, fed.used == 2 && fed.event.is_none(), "no event");
+    assert_same(&rt, decoder.feed(&[0x8e]).used, 1);
     decoder.reset();
     assert_same(&rt, decoder.rest(), 0);
-    assert_same(&rt, decoder.finish(), None);
+    assert_same(&rt, first_top(&[0x00, 0x05, 0x8e]), 2);
 }
 
-fn is_field(event: Option<Event<'_>>) -> bool {
-    matches!(event, Some(Event::Message(Message::Field { .. })))
+fn is_field(event: Event<'_>) -> bool {
+    matches!(event, Event::Message(Message::Field { .. }))
 }
 
 #[test]
 fn a_framer_lends_what_it_found(rt: HostRuntime) {
     let mut framer = Framer::new();
-    let advanced = framer.advance(&[0x8e, 0x00, 0x05]);
-    assert!(rt; advanced.used == 3 && advanced.found.is_none());
+    assert_same(&rt, framer.advance(&[0x8e, 0x00, 0x05]).used, 3);
     assert_same(&rt, framer.unfinished_len(), 3);
     let advanced = framer.advance(&[0x24, 0x01, 0x07]);
     assert_same(&rt, advanced.used, 2);
-    assert_same(&rt, framer.unfinished_len(), 0);
-    match advanced.found {
-        Some(found) => {
-            assert_same(&rt, found, Found::Message);
-            assert_that(&rt, is_field(framer.event(found)), "a field");
-        }
-        None => panic!(rt; "no message was found"),
-    }
+    assert_same(&rt, advanced.found, Some(Found::Message));
+    let event = framer.event(Found::Message);
+    assert_that(&rt, event.is_some_and(is_field), "a field");
     framer.reset();
     let advanced = framer.advance(&[0x07]);
     assert_same(&rt, advanced.found, Some(Found::Stray(0x07)));
@@ -130,32 +102,18 @@ impl Listener for Places {
     }
 }
 
-/// What a listener hears of a chunk.
-fn assert_reported(
-    rt: &impl Abort,
-    decoder: &mut Decoder,
-    chunk: &[u8],
-    reported: &[usize],
-    messages: usize,
-) {
+#[test]
+fn a_listener_hears_each_event_at_its_place_in_the_chunk(rt: HostRuntime) {
     let mut heard = Places {
         places: [0; 3],
         count: 0,
         messages: 0,
     };
-    decoder.feed_all(chunk, &mut heard);
-    assert_same(rt, heard.places.get(..heard.count), Some(reported));
-    assert_same(rt, heard.messages, messages);
-}
-
-#[test]
-fn a_listener_hears_each_event_at_its_place_in_the_chunk(rt: HostRuntime) {
     let mut decoder = Decoder::new();
-    assert_reported(&rt, &mut decoder, &[], &[], 0);
-    let cut = [0x86, 0x00, 0x43, 0x00, 0x8e, 0x00, 0x05, 0x34];
-    assert_reported(&rt, &mut decoder, &cut, &[5], 0);
-    assert_same(&rt, decoder.rest(), 4);
+    decoder.feed_all(&[0x8e, 0x00, 0x05, 0x34], &mut heard);
+    assert_same(&rt, heard.count, 0);
     let ends = [0x00, 0x07, 0x8e, 0x00, 0x05, 0x24, 0x01, 0x93];
-    assert_reported(&rt, &mut decoder, &ends, &[1, 2, 7], 2);
+    decoder.feed_all(&ends, &mut heard);
+    assert_same(&rt, (heard.places, heard.messages), ([1, 2, 7], 2));
     assert_same(&rt, decoder.rest(), 1);
 }

@@ -1,29 +1,25 @@
 //! Worked messages and placements, and a clock, a board and a world to begin with.
 
-use dgt_board::{Board, Identity, MAX_SENT, TooLong, simulated_clock};
+use dgt_board::{Board, Identity, MAX_SENT, simulated_clock};
 use dgt_link::{World, WorldFault};
 use dgt_message::{Clock, NoClock, Reading, Status, Times};
-use dgt_values::{Body, Position, SevenBit};
+use dgt_values::{Position, SevenBit};
 use std::alloc::Global;
-use std::test::Fail;
 
-// A dump of the pieces before the first move, with these on e2 and on h1.
+// A dump of the pieces before the first move, with this on e2.
 macro_rules! dump {
-    ($e2:literal, $h1:literal) => {
+    ($e2:literal) => {
         [
             0x86, 0x00, 0x43, 8, 9, 10, 12, 11, 10, 9, 8, 7, 7, 7, 7, 7, 7, 7, 7, 0, 0, 0, 0, 0, 0,
             0, 0, 0, 0, 0, 0, 0, 0, 0, 0, 0, 0, 0, 0, 0, 0, 0, 0, 0, 0, 0, 0, 0, 0, 0, 0, 1, 1, 1,
-            1, $e2, 1, 1, 1, 2, 3, 4, 6, 5, 4, 3, $h1,
+            1, $e2, 1, 1, 1, 2, 3, 4, 6, 5, 4, 3, 2,
         ]
     };
 }
 
-pub const START_DUMP: [u8; MAX_SENT] = dump!(1, 2);
+pub const START_DUMP: [u8; MAX_SENT] = dump!(1);
 
-pub const NO_E2_DUMP: [u8; MAX_SENT] = dump!(0, 2);
-
-/// Its last byte is no piece.
-pub const BAD_DUMP: [u8; MAX_SENT] = dump!(1, 16);
+pub const NO_E2_DUMP: [u8; MAX_SENT] = dump!(0);
 
 /// The fields by which e2 is empty and a white pawn stands on e4.
 pub const E2_FIELD: [u8; 5] = [0x8e, 0x00, 0x05, 0x34, 0x00];
@@ -38,6 +34,21 @@ pub const VERSION: [u8; 5] = [0x93, 0x00, 0x05, 0x01, 0x03];
 pub const LONG_SERIAL: [u8; 13] = [
     0xa2, 0x00, 0x0d, 0x30, 0x30, 0x30, 0x30, 0x30, 0x30, 0x30, 0x30, 0x30, 0x31,
 ];
+
+pub const TRADEMARK: [u8; 18] = [
+    0x92, 0x00, 0x12, b'S', b'I', b'M', b'U', b'L', b'A', b'T', b'E', b'D', b' ', b'B', b'O', b'A',
+    b'R', b'D',
+];
+
+pub const BATTERY: [u8; 4] = [0xa0, 0x00, 0x04, 0x64];
+
+/// A command to the clock, and how it is acknowledged.
+pub const BEEP: [u8; 6] = [0x2b, 0x04, 0x03, 0x0b, 0x10, 0x00];
+
+pub const BEEP_ACK: [u8; 10] = [0x8d, 0x00, 0x0a, 0x0a, 0x10, 0x0b, 0x0a, 0x00, 0x00, 0x00];
+
+/// Asks for serial, trademark, version, battery and the version of the clock.
+pub const QUESTIONS: [u8; 9] = [0x45, 0x47, 0x4d, 0x4c, 0x2b, 0x03, 0x03, 0x09, 0x00];
 
 /// What a clock of each kind of [`Shown`] sends.
 pub const ZEROS: [u8; 10] = [0x8d, 0x00, 0x0a, 0x00, 0x00, 0x00, 0x00, 0x00, 0x00, 0x00];
@@ -54,6 +65,13 @@ pub const NO_E2: &str = "rnbqkbnr/pppppppp/8/8/8/8/PPPP1PPP/RNBQKBNR";
 pub const E4_ADDED: &str = "rnbqkbnr/pppppppp/8/8/4P3/8/PPPPPPPP/RNBQKBNR";
 
 pub const E4_PLAYED: &str = "rnbqkbnr/pppppppp/8/8/4P3/8/PPPP1PPP/RNBQKBNR";
+
+/// The line of `E4_FIELD`.
+pub const E4_LINE: &[u8] = b"00000005 field e4 P\n";
+
+/// The closing lines of a world in which nothing was done.
+pub const NEW_LINES: &[u8] =
+    b"board rnbqkbnr/pppppppp/8/8/8/8/PPPPPPPP/RNBQKBNR\nhost unknown\nhostclock unknown\nquiet yes\n";
 
 /// What a clock shows.
 #[derive(Clone, Copy)]
@@ -81,25 +99,6 @@ fn no_clock() -> Option<Clock> {
     let zero = SevenBit::try_from(0).ok()?;
     let status = Status::new(SevenBit::try_from(0x20).ok()?);
     Some(Clock::NoClock(NoClock::new([zero; 6], status).ok()?))
-}
-
-pub fn identity(
-    trademark: &[u8],
-    battery: &[u8],
-    long_serial: &[u8],
-) -> Result<Result<Identity, TooLong>, Fail> {
-    let zero = SevenBit::try_from(0x30)?;
-    let serial = [zero, zero, zero, zero, SevenBit::try_from(0x31)?];
-    let (main, sub) = (SevenBit::try_from(1)?, SevenBit::try_from(3)?);
-    Ok(Identity::new(
-        serial,
-        Body::new(trademark)?,
-        main,
-        sub,
-        Body::new(battery)?,
-        0x14,
-        Body::new(long_serial)?,
-    ))
 }
 
 /// A new board with the starting position.
@@ -134,13 +133,4 @@ pub fn is_shown(clock: Option<&Clock>, shown: Shown) -> bool {
         Some(clock) => clock_that_shows(shown) == Some(*clock),
         None => false,
     }
-}
-
-pub fn is_all(bytes: &[u8], byte: u8) -> bool {
-    for each in bytes {
-        if *each != byte {
-            return false;
-        }
-    }
-    true
 }

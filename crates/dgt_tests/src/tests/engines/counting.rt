@@ -1,11 +1,15 @@
 //! Readers and writers of the standard library that count their calls, under devices.
 
 use crate::tests::asserting::assert_row;
-use crate::tests::engines::devices::{CallCounter, Lender, MovesNone, Refuser, Stutterer};
+use crate::tests::engines::devices::{Counter, Lender, Recorder, Stutterer};
 use crate::tests::engines::engine::Engine;
-use crate::tests::engines::messages::{BEEP, BEEP_AND_MORE, FIELD, QUESTIONS};
+use crate::tests::fixtures::*;
 use arrayvec::ArrayVec;
-use dgt_text::{Device, Failed, Sink, Source};
+use dgt_command::{Command, CommandEvent};
+use dgt_decode::Event;
+use dgt_lines::{format_event, write_closing, write_command, write_unfinished};
+use dgt_text::{Device, Failed, Sink, Source, write_event};
+use dgt_values::Position;
 use std::io::{Cursor, ErrorKind};
 use std::test::Fail;
 
@@ -43,34 +47,28 @@ fn a_device_reads_on_after_a_million_interrupted_reads(rt: HostRuntime) {
 #[test]
 fn a_device_that_fails_is_called_once(rt: HostRuntime) {
     for (row, kind) in KINDS.iter().enumerate() {
-        let mut reader = Refuser::new(*kind);
-        let answer = Device::new(&mut reader).read_some(&mut [0; 8]);
-        assert_row(&rt, row, answer, Err(Failed));
-        assert_row(&rt, row, reader.calls, 1);
-        let mut writer = Refuser::new(*kind);
-        let answer = Device::new(&mut writer).write_some(b"a");
-        assert_row(&rt, row, answer, Err(Failed));
-        assert_row(&rt, row, writer.calls, 1);
-        let answer = Device::new(&mut writer).flush_all();
-        assert_row(&rt, row, answer, Err(Failed));
-        assert_row(&rt, row, writer.calls, 2);
+        let mut counter = Counter::refusing(*kind);
+        let mut device = Device::new(&mut counter);
+        assert_row(&rt, row, device.read_some(&mut [0; 8]), Err(Failed));
+        assert_row(&rt, row, device.write_some(b"a"), Err(Failed));
+        assert_row(&rt, row, device.flush_all(), Err(Failed));
+        let calls = (counter.reads, counter.writes, counter.flushes);
+        assert_row(&rt, row, calls, (1, 1, 1));
     }
 }
 
 #[test]
 fn a_writer_that_takes_none_is_called_once(rt: HostRuntime) {
-    let mut writer = MovesNone::new();
-    let answer = Device::new(&mut writer).write_some(b"a");
-    assert_row(&rt, 0, answer, Err(Failed));
-    assert_row(&rt, 0, writer.calls, 1);
+    let mut counter = Counter::new(0);
+    let answer = Device::new(&mut counter).write_some(b"a");
+    assert_row(&rt, 0, (answer, counter.writes), (Err(Failed), 1));
     // to take none of no bytes is no failure
-    let answer = Device::new(&mut writer).write_some(b"");
-    assert_row(&rt, 1, answer, Ok(0));
+    assert_row(&rt, 1, Device::new(counter).write_some(b""), Ok(0));
 }
 
 #[test]
 fn a_device_passes_each_call_on_once(rt: HostRuntime) {
-    let mut counter = CallCounter::new();
+    let mut counter = Counter::new(8);
     let mut device = Device::new(&mut counter);
     assert_row(&rt, 0, device.write_some(b"ab"), Ok(2));
     assert_row(&rt, 1, device.flush_all(), Ok(()));
@@ -85,11 +83,30 @@ fn a_device_asks_for_as_many_bytes_as_it_has_room_for(rt: HostRuntime) {
 
 #[test]
 fn a_device_reads_on_after_the_end(rt: HostRuntime) {
-    let mut reader = MovesNone::new();
-    let mut device = Device::new(&mut reader);
+    let mut counter = Counter::new(0);
+    let mut device = Device::new(&mut counter);
     assert_row(&rt, 0, device.read_some(&mut [0; 8]), Ok(0));
     assert_row(&rt, 1, device.read_some(&mut [0; 8]), Ok(0));
-    assert_row(&rt, 2, reader.calls, 2);
+    assert_row(&rt, 2, counter.reads, 2);
+}
+
+#[test]
+fn a_line_is_one_write_without_a_flush(rt: HostRuntime) -> Result<(), Fail> {
+    let (mut sink, start) = (Recorder::new(), Position::start());
+    write_event(&mut sink, 1, &Event::Stray(0x05))?;
+    write_command(&mut sink, 12, &CommandEvent::Command(Command::Dump))?;
+    write_unfinished(&mut sink, 13, 2)?;
+    let lines = b"00000001 stray 05\n00000012 dump\n00000013 unfinished 2\n".as_slice();
+    assert_row(&rt, 0, sink.taken(), lines);
+    assert_row(&rt, 1, (sink.writes, sink.flushes), (3, 0));
+    let mut sink = Recorder::new();
+    write_closing(&start, None, None, true, &mut sink)?;
+    assert_row(&rt, 2, sink.taken(), NEW_LINES);
+    assert_row(&rt, 3, (sink.writes, sink.flushes), (1, 0));
+    let mut text = [0; 8];
+    let length = format_event(&Event::Stray(0x05), &mut text);
+    assert_row(&rt, 4, (length, text), (Ok(8), *b"stray 05"));
+    Ok(())
 }
 
 // These parts, each this number of times.
@@ -114,23 +131,23 @@ type Counted = (
 );
 
 // A dump of a board with a pawn on each square, which has the longest placement, and fields.
-const PLACEMENTS: [(&[u8], u32); 3] = [(&[0x86, 0x00, 0x43], 1), (&[0x01], 64), (FIELD, 1638)];
+const PLACEMENTS: [(&[u8], u32); 3] = [(&[0x86, 0x00, 0x43], 1), (&[0x01], 64), (&E4_FIELD, 1638)];
 
 const COUNTED: [Counted; 12] = [
     // an engine reads 4096 bytes at most
-    (Engine::Monitor, &[(FIELD, 1000)], 9000, 3, 2, 2),
+    (Engine::Monitor, &[(&E4_FIELD, 1000)], 9000, 3, 2, 2),
     (Engine::Picture, &PLACEMENTS, 9000, 4, 3, 3),
-    (Engine::Commands, &[(BEEP, 833)], 9000, 3, 2, 2),
+    (Engine::Commands, &[(&BEEP, 833)], 9000, 3, 2, 2),
     // a chunk without a line is flushed, too
-    (Engine::Monitor, &[(FIELD, 1)], 1, 10, 1, 5),
-    (Engine::Monitor, &[(FIELD, 1)], 2, 10, 1, 3),
-    (Engine::Monitor, &[(FIELD, 1)], 64, 10, 1, 1),
-    (Engine::Commands, &[(BEEP, 1)], 1, 10, 1, 6),
-    (Engine::Commands, &[(BEEP, 1)], 2, 10, 1, 3),
-    (Engine::Commands, &[(BEEP, 1)], 64, 10, 1, 1),
-    (Engine::Commands, &[(BEEP_AND_MORE, 1)], 64, 10, 2, 2),
+    (Engine::Monitor, &[(&E4_FIELD, 1)], 1, 10, 1, 5),
+    (Engine::Monitor, &[(&E4_FIELD, 1)], 2, 10, 1, 3),
+    (Engine::Monitor, &[(&E4_FIELD, 1)], 64, 10, 1, 1),
+    (Engine::Commands, &[(&BEEP, 1)], 1, 10, 1, 6),
+    (Engine::Commands, &[(&BEEP, 1)], 2, 10, 1, 3),
+    (Engine::Commands, &[(&BEEP, 1)], 64, 10, 1, 1),
+    (Engine::Commands, &[(&BEEP, 1), (&[0x2b], 1)], 64, 10, 2, 2),
     // a write for each message and outcome, and a flush before the first read
-    (Engine::Serve(&[]), &[(QUESTIONS, 1)], 4, 10, 5, 4),
+    (Engine::Serve(&[]), &[(&QUESTIONS, 1)], 4, 10, 5, 4),
     (Engine::Simulate, &[(b"send\n", 2)], 64, 10, 3, 2),
 ];
 
@@ -139,8 +156,13 @@ fn a_write_and_a_flush_for_each_chunk(rt: HostRuntime) -> Result<(), Fail> {
     for (row, (engine, parts, step, limit, writes, flushes)) in COUNTED.iter().enumerate() {
         let bytes = repeated(parts)?;
         let mut source = Lender::new(bytes.as_slice(), *step);
-        let mut counter = CallCounter::new();
-        let answer = engine.run(&rt, 0, &mut source, &mut Device::new(&mut counter), *limit)?;
+        let mut counter = Counter::new(usize::MAX);
+        let answer = engine.run(
+            rt.alloc(),
+            &mut source,
+            &mut Device::new(&mut counter),
+            *limit,
+        )?;
         assert_row(&rt, row, answer, Ok(()));
         assert_row(
             &rt,

@@ -1,6 +1,6 @@
 //! Sources and sinks that record what passes, and fail when a test wants them to.
 
-ghost use Rattle.std.specs.Prelude.{Some};
+ghost use Rattle.std.specs.Prelude.{◌≤◌, IfOk, Some};
 
 use arrayvec::ArrayVec;
 use dgt_text::{Failed, Sink, Source};
@@ -140,67 +140,62 @@ impl Sink for Recorder {
     }
 }
 
-/// A writer of the standard library, which takes every byte and counts its calls.
+/// A reader and writer of the standard library that counts its calls. It fails at each with this
+/// kind of error, or reads zeros and takes bytes for ever, at most `most` at a call.
 #[derive(Drop)]
-pub struct CallCounter {
+pub struct Counter {
+    refusal: Option<io::ErrorKind>,
+    most: usize,
+    pub reads: u64,
     pub writes: u64,
     pub flushes: u64,
 }
 
-impl CallCounter {
-    pub fn new() -> Self {
-        CallCounter {
+impl Counter {
+    pub fn new(most: usize) -> Self {
+        Counter {
+            refusal: None,
+            most,
+            reads: 0,
             writes: 0,
             flushes: 0,
         }
     }
+
+    pub fn refusing(kind: io::ErrorKind) -> Self {
+        let mut counter = Counter::new(0);
+        counter.refusal = Some(kind);
+        counter
+    }
+
+    fn answer(&self, asked: usize) -> io::Result<usize>
+        ensures { IfOk result (λ moved. moved ≤ asked) }
+    {
+        match self.refusal {
+            Some(kind) => Err(io::Error::from(kind)),
+            None => Ok(asked.min(self.most)),
+        }
+    }
 }
 
-impl Write for CallCounter {
+impl Read for Counter {
+    fn read(&mut self, buf: &mut [u8]) -> io::Result<usize> {
+        self.reads = self.reads.saturating_add(1);
+        buf.fill(0);
+        self.answer(buf.len())
+    }
+}
+
+impl Write for Counter {
     fn write(&mut self, buf: &[u8]) -> io::Result<usize> {
         self.writes = self.writes.saturating_add(1);
-        Ok(buf.len())
+        self.answer(buf.len())
     }
 
     fn flush(&mut self) -> io::Result<()> {
         self.flushes = self.flushes.saturating_add(1);
+        self.answer(0)?;
         Ok(())
-    }
-}
-
-/// A writer that takes no byte, and a reader that fails.
-#[derive(Drop)]
-pub struct Broken;
-
-impl Read for Broken {
-    fn read(&mut self, _buf: &mut [u8]) -> io::Result<usize> {
-        Err(io::Error::from(io::ErrorKind::Other))
-    }
-}
-
-impl Write for Broken {
-    fn write(&mut self, _buf: &[u8]) -> io::Result<usize> {
-        Ok(0)
-    }
-
-    fn flush(&mut self) -> io::Result<()> {
-        Err(io::Error::from(io::ErrorKind::Other))
-    }
-}
-
-/// A reader of the standard library that gives a zero at each call, for ever.
-#[derive(Drop)]
-pub struct Zeros;
-
-impl Read for Zeros {
-    fn read(&mut self, buf: &mut [u8]) -> io::Result<usize> {
-        match buf.first_mut() {
-            Some(first) => {
-                *first = 0;
-                Ok(1)
-            }
-            None => Ok(0),
-        }
     }
 }
 
@@ -259,70 +254,6 @@ impl Write for Trickle<'_> {
     fn flush(&mut self) -> io::Result<()> {
         self.wait()?;
         self.flushes = self.flushes.saturating_add(1);
-        Ok(())
-    }
-}
-
-/// A reader and writer of the standard library that fails with this kind of error, and counts its
-/// calls.
-#[derive(Drop)]
-pub struct Refuser {
-    kind: io::ErrorKind,
-    pub calls: u64,
-}
-
-impl Refuser {
-    pub fn new(kind: io::ErrorKind) -> Self {
-        Refuser { kind, calls: 0 }
-    }
-}
-
-impl Read for Refuser {
-    fn read(&mut self, _buf: &mut [u8]) -> io::Result<usize> {
-        self.calls = self.calls.saturating_add(1);
-        Err(io::Error::from(self.kind))
-    }
-}
-
-impl Write for Refuser {
-    fn write(&mut self, _buf: &[u8]) -> io::Result<usize> {
-        self.calls = self.calls.saturating_add(1);
-        Err(io::Error::from(self.kind))
-    }
-
-    fn flush(&mut self) -> io::Result<()> {
-        self.calls = self.calls.saturating_add(1);
-        Err(io::Error::from(self.kind))
-    }
-}
-
-/// A reader of the standard library at its end, and a writer that takes no byte. Each counts its
-/// calls, but for flushes.
-#[derive(Drop)]
-pub struct MovesNone {
-    pub calls: u64,
-}
-
-impl MovesNone {
-    pub fn new() -> Self {
-        MovesNone { calls: 0 }
-    }
-}
-
-impl Read for MovesNone {
-    fn read(&mut self, _buf: &mut [u8]) -> io::Result<usize> {
-        self.calls = self.calls.saturating_add(1);
-        Ok(0)
-    }
-}
-
-impl Write for MovesNone {
-    fn write(&mut self, _buf: &[u8]) -> io::Result<usize> {
-        self.calls = self.calls.saturating_add(1);
-        Ok(0)
-    }
-
-    fn flush(&mut self) -> io::Result<()> {
         Ok(())
     }
 }

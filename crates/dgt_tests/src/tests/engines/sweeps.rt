@@ -2,107 +2,162 @@
 
 use crate::tests::asserting::assert_that;
 use crate::tests::engines::devices::{Lender, Recorder};
-use crate::tests::engines::engine::{Answer, Engine, Subject, asked_board, new_world};
-use crate::tests::engines::messages::{
-    BATTERY, FIELD, NEW_LINES, SERIAL, START, START_LINE, TRADEMARK, VERSION, ZERO_TIMES,
-};
-use crate::tests::engines::troubles::{Row, TROUBLES, Text, Trial, Trouble};
-use dgt_board::{Board, Polled};
-use dgt_link::World;
-use dgt_text::{RunFault, read_act};
-use std::alloc::{AllocGlobal, Global};
+use crate::tests::engines::engine::{Answer, Engine};
+use crate::tests::fixtures::*;
+use arrayvec::ArrayVec;
+use dgt_text::RunFault;
+use std::alloc::AllocGlobal;
 use std::process::Abort;
 use std::test::Fail;
 
 // The most bytes in a read and in a write.
-const STEPS: [usize; 3] = [1, 2, 64];
+const STEPS: [usize; 2] = [1, 64];
 
-// An engine, what it reads and writes, and what a run answers in which nothing fails.
-#[derive(Clone, Copy)]
-struct Sweep {
-    engine: Engine<'static>,
-    text: Text,
-    whole: Answer,
+// What fails in a run: a read, a write or a flush by its number, or a sink that is full, or there
+// are too few turns.
+#[derive(Clone, Copy, PartialEq, Eq)]
+enum Trouble {
+    Read,
+    Write,
+    Flush,
+    Room,
+    Turns,
 }
 
-impl Sweep {
-    // Makes one run, at most `step` bytes in a read and in a write, looks at all that it leaves,
-    // and returns whether it met its trouble.
-    fn meets(
-        self,
-        rt: &(impl Abort + AllocGlobal),
-        step: usize,
-        trial: Trial,
-    ) -> Result<bool, Fail> {
-        let input = self.text.input()?;
-        let mut subject = self.engine.subject(rt.alloc())?;
-        let (mut source, mut sink, limit) = trial.ends(input.as_slice(), step);
+// All of them, each with its first place: reads, writes and flushes count from 1.
+const TROUBLES: [(Trouble, u32); 5] = [
+    (Trouble::Read, 1),
+    (Trouble::Write, 1),
+    (Trouble::Flush, 1),
+    (Trouble::Room, 0),
+    (Trouble::Turns, 0),
+];
+
+impl Trouble {
+    fn fault(self) -> RunFault {
+        match self {
+            Trouble::Read => RunFault::ReadFailed,
+            Trouble::Write | Trouble::Flush | Trouble::Room => RunFault::WriteFailed,
+            Trouble::Turns => RunFault::TooManyTurns,
+        }
+    }
+
+    // Whether a write is torn by it.
+    fn tears(self) -> bool {
+        matches!(self, Trouble::Write | Trouble::Room)
+    }
+}
+
+// A run in which something fails: the read, write or flush of number `at`, or a sink with room for
+// `at` bytes alone, or there are `at` turns alone.
+#[derive(Clone, Copy)]
+struct Trial {
+    trouble: Trouble,
+    at: u32,
+}
+
+impl Trial {
+    // The place of this trouble, or a number that no run comes to.
+    fn place(self, trouble: Trouble) -> u32 {
+        if self.trouble == trouble {
+            self.at
+        } else {
+            u32::MAX
+        }
+    }
+
+    // Its source of these bytes and its sink, `step` bytes in a call, and how many turns there are.
+    fn ends(self, bytes: &[u8], step: usize) -> (Lender<'_>, Recorder, u32) {
+        let mut source = Lender::new(bytes, step);
+        source.fails_at = self.place(Trouble::Read) as u64;
+        let mut sink = Recorder::new();
         sink.step = step;
-        let answer = self
-            .engine
-            .run_on(&mut subject, &mut source, &mut sink, limit);
-        let is_met = trial.is_met(rt, &source, &sink, answer, self.whole);
-        let is_torn = is_met && trial.trouble.tears();
-        self.text.assert_written(rt, &source, &sink, is_torn)?;
-        let is_right = match &subject {
-            Subject::Board(board) => self.leaves_board(board, &source, &sink, is_torn)?,
-            Subject::World(world) => {
-                self.leaves_world(rt.alloc(), world, &source, &sink, is_torn)?
-            }
-            _ => true,
-        };
-        assert_that(rt, is_right, "the board or the world that is left");
-        Ok(is_met)
+        sink.write_fails_at = self.place(Trouble::Write) as u64;
+        sink.flush_fails_at = self.place(Trouble::Flush) as u64;
+        sink.room = self.place(Trouble::Room) as usize;
+        (source, sink, self.place(Trouble::Turns).min(1000))
     }
 
-    // Whether the board is as one that took what came, and sent what was written or begun.
-    fn leaves_board(
-        self,
-        board: &Board,
-        source: &Lender<'_>,
-        sink: &Recorder,
-        is_torn: bool,
-    ) -> Result<bool, Fail> {
-        let (came, most) = if is_torn {
-            self.text.torn_at(sink.taken().len())
-        } else {
-            (source.given, 1000)
-        };
-        let input = self.text.input()?;
-        let bytes = input.as_slice().get(..came).ok_or("too many bytes came")?;
-        let right = board_after(self.engine.asked(), bytes, most)?;
-        Ok(is_same_board(board, &right))
+    // Where the trouble came.
+    fn came(self, source: &Lender<'_>, sink: &Recorder) -> u64 {
+        match self.trouble {
+            Trouble::Read | Trouble::Turns => source.reads,
+            Trouble::Write => sink.writes,
+            Trouble::Flush => sink.flushes,
+            Trouble::Room => sink.taken().len() as u64,
+        }
     }
+}
 
-    // Whether the world is as one in which the lines were played that came, or that were written
-    // or begun.
-    fn leaves_world(
-        self,
-        alloc: Global,
-        world: &World,
-        source: &Lender<'_>,
-        sink: &Recorder,
-        is_torn: bool,
-    ) -> Result<bool, Fail> {
-        let (came, begun) = self.text.torn_at(sink.taken().len());
-        let lines = if is_torn && came < self.text.input()?.len() {
-            begun
-        } else {
-            lines_ended(self.text, source)
-        };
-        Ok(is_same_world(world, &world_after(alloc, self.text, lines)?))
+// Bytes of the input, and what is written once they have come.
+type Row = (&'static [u8], &'static [u8]);
+
+// An engine, what it reads and writes, what it writes at the end of the bytes, and what a run
+// answers in which nothing fails.
+type Sweep = (Engine<'static>, &'static [Row], &'static [u8], Answer);
+
+fn input_of(rows: &[Row]) -> Result<ArrayVec<u8, 256>, Fail> {
+    let mut input = ArrayVec::new();
+    for (bytes, _) in rows {
+        input.try_extend_from_slice(bytes)?;
     }
+    Ok(input)
+}
+
+// What is written of the bytes that came, and then at their end.
+fn text_of(rows: &[Row], last: &[u8], source: &Lender<'_>) -> Result<ArrayVec<u8, 1024>, Fail> {
+    let mut text = ArrayVec::new();
+    let mut end = 0usize;
+    for (bytes, written) in rows {
+        end = end.saturating_add(bytes.len());
+        if end <= source.given {
+            text.try_extend_from_slice(written)?;
+        }
+    }
+    if source.ended {
+        text.try_extend_from_slice(last)?;
+    }
+    Ok(text)
+}
+
+// Makes one run, at most `step` bytes in a read and in a write, and returns whether it met its
+// trouble. After a torn write the sink has a prefix of the text, and else all of it.
+fn meets(
+    rt: &(impl Abort + AllocGlobal),
+    (engine, rows, last, whole): Sweep,
+    step: usize,
+    trial: Trial,
+) -> Result<bool, Fail> {
+    let input = input_of(rows)?;
+    let (mut source, mut sink, limit) = trial.ends(input.as_slice(), step);
+    let answer = engine.run(rt.alloc(), &mut source, &mut sink, limit)?;
+    let is_met = answer != whole;
+    let text = text_of(rows, last, &source)?;
+    let is_written = if is_met && trial.trouble.tears() {
+        text.as_slice().starts_with(sink.taken()) && sink.taken().len() < text.len()
+    } else {
+        text.as_slice() == sink.taken()
+    };
+    assert_that(rt, is_written, "what is written");
+    assert_that(rt, !source.late && !sink.late, "no call that came late");
+    assert_that(rt, sink.flushed || sink.failed, "all is flushed");
+    if is_met {
+        assert_that(rt, answer == Err(trial.trouble.fault()), "the fault");
+        let is_at_its_place = trial.came(&source, &sink) == trial.at as u64;
+        assert_that(rt, is_at_its_place, "the place of the fault");
+    }
+    Ok(is_met)
 }
 
 // Makes a run with the trouble at each place in turn, up to one that is after its end.
-fn sweep_places(
+fn meets_all(
     rt: &(impl Abort + AllocGlobal),
-    run: Sweep,
+    sweep: Sweep,
     step: usize,
     (trouble, first): (Trouble, u32),
 ) -> Result<(), Fail> {
     for at in first..1000 {
-        if !run.meets(rt, step, Trial { trouble, at })? {
+        if !meets(rt, sweep, step, Trial { trouble, at })? {
             return Ok(());
         }
     }
@@ -110,27 +165,8 @@ fn sweep_places(
     Ok(())
 }
 
-// What is run, what it reads and writes, what it writes at the end, and what a whole run answers.
-type Swept = (Engine<'static>, &'static [Row], &'static [u8], Answer);
-
-fn sweep_all(rt: &(impl Abort + AllocGlobal), table: &[Swept]) -> Result<(), Fail> {
-    for (engine, rows, last, whole) in table {
-        let run = Sweep {
-            engine: *engine,
-            text: Text { rows, last },
-            whole: *whole,
-        };
-        for step in STEPS {
-            for trouble in TROUBLES {
-                sweep_places(rt, run, step, trouble)?;
-            }
-        }
-    }
-    Ok(())
-}
-
 // Each message and each fault, and a prefix of a message at the end.
-const GARBAGE: [Row; 8] = [
+const MONITORED: [Row; 8] = [
     (&[0x05], b"00000001 stray 05\n"),
     (&[0x8e, 0x00, 0x8e], b"00000004 cut 2\n"),
     (&[0x00, 0x05, 0x24, 0x01], b"00000008 field e4 P\n"),
@@ -147,262 +183,126 @@ const GARBAGE: [Row; 8] = [
     (&[0x8e], b""),
 ];
 
-const MESSAGES: [Row; 2] = [(START, START_LINE), (&[0x7f], b"00000068 stray 7f\n")];
-
-const PICTURES: [Row; 5] = [
-    (FIELD, b""),
+const PICTURES: [Row; 4] = [
+    (&E4_FIELD, b""),
     (
-        START,
+        &START_DUMP,
         b"00000072 rnbqkbnr/pppppppp/8/8/8/8/PPPPPPPP/RNBQKBNR\n",
     ),
-    (&[0x05, 0x8e, 0x00], b""),
     (
-        FIELD,
-        b"00000080 rnbqkbnr/pppppppp/8/8/4P3/8/PPPPPPPP/RNBQKBNR\n",
+        &E4_FIELD,
+        b"00000077 rnbqkbnr/pppppppp/8/8/4P3/8/PPPPPPPP/RNBQKBNR\n",
     ),
     (&[0x8e], b""),
 ];
 
-const DOUBTS: [Row; 9] = [
-    (FIELD, b""),
-    (&[0x05], b""),
+const DOUBTS: [Row; 4] = [
     (
-        START,
-        b"00000073 rnbqkbnr/pppppppp/8/8/8/8/PPPPPPPP/RNBQKBNR\n",
+        &START_DUMP,
+        b"00000067 rnbqkbnr/pppppppp/8/8/8/8/PPPPPPPP/RNBQKBNR\n",
     ),
-    (&[0x05], b"00000074 doubt\n"),
-    (&[0x8e, 0x00], b""),
+    (&[0x05], b"00000068 doubt\n"),
     (
-        FIELD,
-        b"00000081 rnbqkbnr/pppppppp/8/8/4P3/8/PPPPPPPP/RNBQKBNR\n",
+        &E4_FIELD,
+        b"00000073 rnbqkbnr/pppppppp/8/8/4P3/8/PPPPPPPP/RNBQKBNR\n",
     ),
-    (
-        START,
-        b"00000148 rnbqkbnr/pppppppp/8/8/8/8/PPPPPPPP/RNBQKBNR\n",
-    ),
-    (&[0x8e, 0x00, 0x02], b"00000151 doubt\n"),
     (&[0x8e], b""),
 ];
 
-const TIMES: &[u8] = &[0x8d, 0x00, 0x0a, 0x01, 0x30, 0x00, 0x01, 0x29, 0x55, 0x11];
-
-const NO_CLOCK: &[u8] = &[0x8d, 0x00, 0x0a, 0x00, 0x00, 0x00, 0x00, 0x00, 0x00, 0x20];
-
-const CLOCKS: [Row; 7] = [
-    (TIMES, b"00000010 clock 1:30:00 1:29:55 running white\n"),
+const CLOCKS: [Row; 4] = [
+    (&RUNNING, b"00000010 clock 1:30:00 1:29:55 running white\n"),
     (
-        START,
+        &START_DUMP,
         b"00000077 rnbqkbnr/pppppppp/8/8/8/8/PPPPPPPP/RNBQKBNR\n",
     ),
-    (TIMES, b""),
-    (
-        FIELD,
-        b"00000092 rnbqkbnr/pppppppp/8/8/4P3/8/PPPPPPPP/RNBQKBNR\n",
-    ),
-    (NO_CLOCK, b"00000102 clock none\n"),
-    (TIMES, b"00000112 clock 1:30:00 1:29:55 running white\n"),
-    (&[0x8d], b""),
+    (&RUNNING, b""),
+    (&NO_CLOCK, b"00000097 clock none\n"),
 ];
 
-const WORDS: [Row; 7] = [
+const COMMANDS: [Row; 6] = [
     (&[0x44], b"00000001 updateboard\n"),
-    (&[0x42], b"00000002 dump\n"),
-    (&[0x2b, 0x04, 0x03, 0x0b, 0x03, 0x00], b"00000008 beep 3\n"),
-    (&[0x00], b"00000009 stray 00\n"),
-    (&[0x2b, 0x02], b"00000011 badsize\n"),
-    (&[0x60, 0x02, 0x42, 0xff], b"00000015 leds 42ff\n"),
+    (&BEEP, b"00000007 beep 16\n"),
+    (&[0x00], b"00000008 stray 00\n"),
+    (&[0x2b, 0x02], b"00000010 badsize\n"),
+    (&[0x60, 0x02, 0x42, 0xff], b"00000014 leds 42ff\n"),
     (&[0x2b, 0x03, 0x03], b""),
 ];
 
-const COMMANDS: [Row; 2] = [
-    (&[0x4d], b"00000001 version\n"),
-    (&[0xff], b"00000002 stray ff\n"),
-];
-
-const PRINTED: [Swept; 10] = [
-    (
-        Engine::Monitor,
-        &GARBAGE,
-        b"00000023 unfinished 1\n",
-        Ok(()),
-    ),
-    (Engine::Monitor, &MESSAGES, b"", Ok(())),
-    (Engine::Monitor, &[], b"", Ok(())),
-    (Engine::Picture, &PICTURES, b"", Ok(())),
-    (Engine::PictureWithDoubts, &DOUBTS, b"", Ok(())),
-    (Engine::PictureWithClock, &CLOCKS, b"", Ok(())),
-    (Engine::PictureWithBoth, &CLOCKS, b"", Ok(())),
-    (Engine::Commands, &WORDS, b"00000018 unfinished 3\n", Ok(())),
-    (Engine::Commands, &COMMANDS, b"", Ok(())),
-    (Engine::Commands, &[], b"", Ok(())),
-];
-
-#[test]
-fn readers_meet_each_trouble_at_each_place(rt: HostRuntime) -> Result<(), Fail> {
-    sweep_all(&rt, &PRINTED)
-}
-
-// Lets the board send at most `most` messages, and returns how many more it may send.
-fn send_some(board: &mut Board, most: usize) -> usize {
-    let mut left = most;
-    let mut message = [0; 67];
-    for _ in 0..most {
-        if !matches!(board.poll(&mut message), Polled::Wrote(_)) {
-            break;
-        }
-        left = left.saturating_sub(1);
-    }
-    left
-}
-
-// A board that was asked these questions, then took these bytes, and sent at most `most` messages,
-// each as soon as it could.
-fn board_after(asked: &[u8], bytes: &[u8], most: usize) -> Result<Board, Fail> {
-    let mut board = asked_board(asked)?;
-    let mut left = send_some(&mut board, most);
-    for byte in bytes {
-        board.take(&[*byte])?;
-        left = send_some(&mut board, left);
-    }
-    Ok(board)
-}
-
-fn is_same_board(board: &Board, other: &Board) -> bool {
-    board.owed_len() == other.owed_len()
-        && board.owes() == other.owes()
-        && board.partial() == other.partial()
-        && board.mode() == other.mode()
-        && *board.position() == *other.position()
-        && *board.clock() == *other.clock()
-}
-
-const SERVED: [Row; 8] = [
-    (&[0x4d], VERSION),
-    (&[0x00], b""),
+const SERVED: [Row; 7] = [
+    (&[0x4d], &VERSION),
     (&[0x2b, 0x02], b""),
-    (&[0x45], SERIAL),
-    (&[0x43], ZERO_TIMES),
+    (&[0x45], &SERIAL),
+    (&[0x43], &ZEROS),
     (&[0x40], b""),
-    (&[0x42], START),
+    (&[0x42], &START_DUMP),
     (&[0x2b, 0x04], b""),
 ];
 
-// A board that owes two replies, and one that owes as many as it can.
-const OWING: [Row; 6] = [
-    (b"", TRADEMARK),
-    (b"", BATTERY),
-    (&[0x60, 0x02, 0x42, 0x42], b""),
-    (&[0x41], ZERO_TIMES),
-    (&[0x43], b""),
-    (&[0x4d], VERSION),
-];
+// Of a board that owes two replies; it sends before it reads.
+const OWED: [Row; 3] = [(b"", &TRADEMARK), (b"", &BATTERY), (&[0x4d], &VERSION)];
 
-const OWED: Row = (b"", VERSION);
-
-const FULL: [Row; 9] = [
-    OWED,
-    OWED,
-    OWED,
-    OWED,
-    OWED,
-    OWED,
-    OWED,
-    OWED,
-    (&[0x45], SERIAL),
-];
-
-const SERVINGS: [Swept; 4] = [
-    (Engine::Serve(b""), &SERVED, b"", Ok(())),
-    (Engine::Serve(&[0x47, 0x4c]), &OWING, b"", Ok(())),
-    (Engine::Serve(&[0x4d; 8]), &FULL, b"", Ok(())),
-    (Engine::Serve(b""), &[], b"", Ok(())),
-];
-
-#[test]
-fn a_served_board_meets_each_trouble_at_each_place(rt: HostRuntime) -> Result<(), Fail> {
-    sweep_all(&rt, &SERVINGS)
-}
-
-// A world in which the acts of the first `most` lines were done, as far as these are acts.
-fn world_after(alloc: Global, text: Text, most: usize) -> Result<World, Fail> {
-    let mut world = new_world(alloc)?;
-    let mut store = [0; 257];
-    for (line, _) in text.rows.iter().take(most) {
-        let line = line.strip_suffix(b"\n").unwrap_or(line);
-        let Ok(act) = read_act(line, &mut store) else {
-            break;
-        };
-        world.step(act);
-    }
-    Ok(world)
-}
-
-fn is_same_world(world: &World, other: &World) -> bool {
-    is_same_board(world.board(), other.board())
-        && world.host().picture() == other.host().picture()
-        && world.host().clock() == other.host().clock()
-        && world.host().awaited() == other.host().awaited()
-        && world.host().unread() == other.host().unread()
-        && world.up_len() == other.up_len()
-        && world.down_len() == other.down_len()
-}
-
-// How many lines have ended among the bytes that came.
-fn lines_ended(text: Text, source: &Lender<'_>) -> usize {
-    let (mut end, mut lines) = (0usize, 0usize);
-    for (line, _) in text.rows {
-        end = end.saturating_add(line.len());
-        if source.ended || (end <= source.given && line.ends_with(b"\n")) {
-            lines = lines.saturating_add(1);
-        }
-    }
-    lines
-}
-
-const MOVES: [Row; 11] = [
-    (b"send\n", b"nothing\n"),
+const ACTS: [Row; 7] = [
     (b"host 44\n", b"done\n"),
     (b"host 42\n", b"done\n"),
     (b"toboard 2\n", b"done\n"),
     (b"send\n", b"done\n"),
+    (b"send\n", b"nothing\n"),
     (b"change e2 .\n", b"done\n"),
-    (b"send\n", b"noroom\n"),
-    (b"tohost 40\n", b"done\n"),
-    (b"tohost 40\n", b"done\n"),
-    (b"send\n", b"done\n"),
-    (b"tohost 9", b""),
+    (b"tohost 67", b""),
 ];
 
-const MOVED: &[u8] = b"done\nboard rnbqkbnr/pppppppp/8/8/8/8/PPPP1PPP/RNBQKBNR\n\
-host rnbqkbnr/pppppppp/8/8/8/8/PPPP1PPP/RNBQKBNR\nhostclock unknown\nquiet yes\n";
+const ACTS_DONE: &[u8] = b"done\nboard rnbqkbnr/pppppppp/8/8/8/8/PPPP1PPP/RNBQKBNR\n\
+host rnbqkbnr/pppppppp/8/8/8/8/PPPPPPPP/RNBQKBNR\nhostclock unknown\nquiet no\n";
 
-const BAD: [Row; 4] = [
+// Acts before a bad line are done.
+const BAD: [Row; 3] = [
     (b"host 44\n", b"done\n"),
-    (b"host 42\n", b"done\n"),
     (b"sned\n", b""),
     (b"host 43\n", b""),
 ];
 
-const BAD_END: [Row; 2] = [(b"send\n", b"nothing\n"), (b"sned", b"")];
+// A command is lost.
+const LOST: [Row; 3] = [
+    (b"host 42\n", b"done\n"),
+    (b"garbledown -\n", b"done\n"),
+    (b"toboard 1\n", b"nothing\n"),
+];
 
-const SCRIPTS: [Swept; 4] = [
-    (Engine::Simulate, &MOVES, MOVED, Ok(())),
+const BAD_LINE: Answer = Err(RunFault::BadLine { line: 2, at: 0 });
+
+const SWEEPS: [Sweep; 12] = [
     (
-        Engine::Simulate,
-        &BAD,
-        b"",
-        Err(RunFault::BadLine { line: 3, at: 0 }),
+        Engine::Monitor,
+        &MONITORED,
+        b"00000023 unfinished 1\n",
+        Ok(()),
     ),
+    (Engine::Picture, &PICTURES, b"", Ok(())),
+    (Engine::PictureWithDoubts, &DOUBTS, b"", Ok(())),
+    (Engine::PictureWithClock, &CLOCKS, b"", Ok(())),
+    (Engine::PictureWithBoth, &CLOCKS, b"", Ok(())),
     (
-        Engine::Simulate,
-        &BAD_END,
-        b"",
-        Err(RunFault::BadLine { line: 2, at: 0 }),
+        Engine::Commands,
+        &COMMANDS,
+        b"00000017 unfinished 3\n",
+        Ok(()),
     ),
+    (Engine::Serve(&[]), &SERVED, b"", Ok(())),
+    (Engine::Serve(&[0x47, 0x4c]), &OWED, b"", Ok(())),
+    (Engine::Simulate, &ACTS, ACTS_DONE, Ok(())),
+    (Engine::Simulate, &BAD, b"", BAD_LINE),
     (Engine::Simulate, &[], NEW_LINES, Ok(())),
+    (Engine::SimulateFaults, &LOST, NEW_LINES, Ok(())),
 ];
 
 #[test]
-fn a_script_meets_each_trouble_at_each_place(rt: HostRuntime) -> Result<(), Fail> {
-    sweep_all(&rt, &SCRIPTS)
+fn each_engine_meets_each_trouble_at_each_place(rt: HostRuntime) -> Result<(), Fail> {
+    for sweep in SWEEPS {
+        for step in STEPS {
+            for trouble in TROUBLES {
+                meets_all(&rt, sweep, step, trouble)?;
+            }
+        }
+    }
+    Ok(())
 }
