@@ -330,7 +330,8 @@ class Boards:
             board = self.known.setdefault(name, topics.Board(name))
             board.journal = journal
             board.hear_entry(number, entry)
-            board.hear_time(number, time.monotonic())
+            if board.clock_number == number:
+                board.clock_at = time.monotonic()
             self.tell_change(board)
 
     def show_time(self, now: collector.Now) -> None:
