@@ -37,7 +37,10 @@ panic = "abort"
 CHANGED = [("#![no_std]\n", ""),
            ("#![forbid(unsafe_code)]\n", "#![allow(unused, unexpected_cfgs)]\n"),
            ("generated! {\n", 'generated! {\n    c "generated/c/mod.rs",\n')]
-USES = "use std::marker::{Model, Send};"
+# What the files of dgt_c have that plain Rust lacks. Texts of events stand on dgt_lines, of which
+# no module is generated.
+NOT_THERE = ["use std::marker::{Model, Send};", "mod texts;\n"]
+LEFT_OUT = ["laws", "texts"]
 # A call of C and its parameters. C has two for a slice.
 CALL = re.compile(r'(pub (?:unsafe )?extern "C" fn \w+\()([^)]*)(\)[^{]*\{)')
 SLICE = re.compile(r"(\w+): &(mut )?\[(\w+)\]")
@@ -99,8 +102,10 @@ def stripped(generate: ModuleType, path: pathlib.Path) -> str:
             else:
                 super().attribute()
 
-    text = OfC("c", path.read_text().replace(USES, "")).run()
-    return slices_of_c(str(text))
+    text = path.read_text()
+    for each in NOT_THERE:
+        text = text.replace(each, "")
+    return slices_of_c(str(OfC("c", text).run()))
 
 
 def write(folder: pathlib.Path, arrayvec: str) -> None:
@@ -112,7 +117,7 @@ def write(folder: pathlib.Path, arrayvec: str) -> None:
     generate.write(generate.generate(crates), modules)
     (modules / "c").mkdir()
     for path in sorted((crates / "dgt_c" / "src").glob("*.rt")):
-        if path.stem != "laws":
+        if path.stem not in LEFT_OUT:
             name = "mod" if path.stem == "lib" else path.stem
             (modules / "c" / f"{name}.rs").write_text(stripped(generate, path))
     text = (folder / "src" / "lib.rs").read_text()
