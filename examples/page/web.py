@@ -224,8 +224,9 @@ class Server:
         self.ended: asyncio.Event | None = None
         self.most_pages, self.most_waiting = MOST_PAGES, MOST_WAITING
 
-    def serve_forever(self) -> None:
-        """Serves until `shutdown`. With few descriptors it has fewer connections."""
+    def serve_forever(self, begun: Callable[[], object] = lambda: None) -> None:
+        """Serves until `shutdown`, and calls `begun` once it does. With few descriptors it has
+        fewer connections."""
         count, most = resource.getrlimit(resource.RLIMIT_NOFILE)
         with contextlib.suppress(OSError):  # where that is forbidden
             resource.setrlimit(resource.RLIMIT_NOFILE, (most, most))
@@ -233,20 +234,21 @@ class Server:
         if count != resource.RLIM_INFINITY:
             self.most_waiting = min(MOST_WAITING, count // 4)
             self.most_pages = min(MOST_PAGES, count - self.most_waiting - 100)
-        asyncio.run(self.serve())
+        asyncio.run(self.serve(begun))
 
     def shutdown(self) -> None:
         """Ends that, from another thread."""
         if self.ended and not self.loop.is_closed():
             self.loop.call_soon_threadsafe(self.ended.set)
 
-    async def serve(self) -> None:
+    async def serve(self, begun: Callable[[], object]) -> None:
         self.loop, self.ended = asyncio.get_running_loop(), asyncio.Event()
         self.loop.set_exception_handler(self.hear_fault)
         listening = await self.loop.create_server(lambda: Connection(self), sock=self.socket)
         watching = self.loop.create_task(self.watch())
         self.events.wake = self.wake
         try:
+            begun()
             await self.ended.wait()
         finally:
             self.events.wake = None
