@@ -455,6 +455,8 @@ void confirmations() {
     CHECK(!follower.confirmed() && !follower.in_doubt() && follower.due() == seconds(4));
     follower.set_confirm(false);
     CHECK(follower.due() == seconds(12));
+    follower.line_disturbed();
+    CHECK(follower.in_doubt() && follower.due() == dgt::Milliseconds(4500));
     follower.line_lost();
     follower.set_identify(false);
     CHECK(ask(follower, board, seconds(5)) == 258 && ask(follower, board, seconds(5)) == 0);

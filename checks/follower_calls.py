@@ -76,6 +76,26 @@ def stays_unfinished(dgt, dump):
     ]
 
 
+def is_disturbed(dgt, dump):
+    """A line that is reported to lose bytes disturbs: a dump that is awaited ends the doubt, and
+    the board is asked anew all the same."""
+    follower = dgt.Follower()
+
+    def known():
+        return follower.due_at, follower.confirmed, follower.in_doubt
+
+    for now in (0.0, 10.0):
+        follower.ask(now)
+        follower.hear(dump, now)
+    return [
+        ("disturbed", (follower.line_disturbed(), follower.picture["e2"], *known()),
+         (None, "P", 12.5, False, True)),
+        ("asked anew", (follower.ask(12.499), follower.ask(12.5)), (b"", ANEW)),
+        ("while an answer is owed", (follower.line_disturbed(), follower.hear(dump, 12.6),
+                                     *known()), (None, None, 15.0, False, False)),
+    ]
+
+
 def identifies(dgt, dump):
     follower, serial = dgt.Follower(identify=True), model.spell(model.SERIAL, b"12345")
     asked = [follower.ask(0.0), follower.hear(dump, 0.1), follower.ask(0.1), follower.ask(0.2)]
@@ -115,7 +135,7 @@ def hears(dgt, dump):
 def check(dgt):
     """Returns how many calls were compared."""
     dump = model.spell(model.DUMP, dgt.Position.start().codes)
-    cases = confirms, stays_unfinished, identifies, hears
+    cases = confirms, stays_unfinished, is_disturbed, identifies, hears
     rows = [row for case in cases for row in case(dgt, dump)]
     for what, got, right in rows:
         wanted(f"follower, {what}", got, right)

@@ -15,6 +15,7 @@ import pty
 import select
 import signal
 import socket
+import struct
 import subprocess
 import sys
 import tempfile
@@ -263,6 +264,42 @@ def loses_an_end(dgt, line):
         wanted("whether a second passed", 0.9 < time.monotonic() - began < 1 + LATE, True)
         expect("after the next asking", board, (START, False, None))
     wanted("bytes asked", [len(each) for _, each in line.asked[:2]], [258, 258])
+
+
+class Counting:
+    """The module fcntl, by which a port counts what happens to it, as `counts` says."""
+
+    def __init__(self, name):
+        self.name, self.counts = name, [7] * 11
+
+    def __getattr__(self, name):
+        return getattr(fcntl, name)
+
+    def ioctl(self, port, request, *words):
+        if request == termios.TIOCGICOUNT and os.ttyname(port) == self.name:
+            return struct.pack("11i36x", *self.counts)
+        return fcntl.ioctl(port, request, *words)
+
+
+def counts_faults(dgt, line):
+    """The line loses a whole message. The picture is in doubt if the port counts lost bytes."""
+    dgt._port.fcntl = counting = Counting(os.ttyname(line.ends[1]))
+    try:
+        with dgt.follow(line.path, 1.0, confirm=True) as board:
+            expect("at first", board, (START, False, None))
+            line.spoil = lambda message: b"" if message[3:4] == bytes([52]) else message
+            for at in range(6, 11):  # errors of framing, overruns, of parity, breaks, full buffers
+                counting.counts[at] += 1
+                line.put(("e2", ".P"[at % 2]), ("e4", ".P"[at % 2]))
+                right = line.board.position.placement, False, None
+                views = expect_at_last("healed", board, right)
+                wanted(f"doubts by count {at}", [doubt for _, doubt, _ in views][:-1], [True] * 2)
+            for at in range(6):  # what isn't lost
+                counting.counts[at] += 1
+                line.put(("d4", ".P"[at % 2]))
+                expect("no fault", board, (line.board.position.placement, False, None))
+    finally:
+        dgt._port.fcntl = fcntl
 
 
 def silence(dgt, line):
@@ -734,9 +771,10 @@ def streams(dgt, line):
                              (LIFTED, False, None), (LIFTED, True, CLOSED)])
 
 
-CASES = [changes, lights, asks_when_due, heals, confirms, clock_heals, noise, loses_an_end, silence,
-         goes_and_comes, comes_late, faults, closing, leaving, closing_elsewhere, settings, waits,
-         wakes, takes_nothing, handed, handed_fails, streams, slow_streams]
+CASES = [changes, lights, asks_when_due, heals, confirms, clock_heals, noise, loses_an_end,
+         counts_faults, silence, goes_and_comes, comes_late, faults, closing, leaving,
+         closing_elsewhere, settings, waits, wakes, takes_nothing, handed, handed_fails, streams,
+         slow_streams]
 
 
 def try_case(dgt, case):

@@ -32,11 +32,14 @@ int main(int count, char **words) {
     dgt_follower_set_mode(&board, DGT_MODE_UPDATE_NICE); /* it reports its clock, too */
     setlinebuf(stdout);
     for (int port; /* ever */; dgt_port_close(port), dgt_follower_line_lost(&board)) {
+        dgt_port_faults faults = {0};
         for (int why = 0; (port = dgt_port_open(words[1])) < 0; sleep(2))
             if (errno != why) fprintf(stderr, "%s: %s\n", words[1], dgt_port_advice(why = errno));
-        for (long n; (n = dgt_port_exchange(port, &board, chunk, sizeof chunk)) >= 0;)
+        for (long n; (n = dgt_port_exchange(port, &board, chunk, sizeof chunk)) >= 0;) {
             for (long at = 0; at < n; show(&board, port))
                 at += (long)dgt_follower_hear(&board, dgt_port_now(), chunk + at, (size_t)(n - at),
                                               &event, NULL, 0);
+            if (dgt_port_is_disturbed(port, &faults)) dgt_follower_line_disturbed(&board);
+        }
     }
 }

@@ -29,8 +29,10 @@ int main(int count, char **words) {
         try {
             board.line_lost();
             dgt::Port port(words[1]);
-            for (;;)
+            for (;;) {
                 board.hear(dgt::now(), port.exchange(board), [&](auto &) { show(board, port); });
+                if (port.is_disturbed()) board.line_disturbed();
+            }
         } catch (const dgt::PortError &error) {
             if (error.what() != why) std::cerr << (why = error.what()) << '\n';
         }

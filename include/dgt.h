@@ -753,6 +753,11 @@ bool dgt_follower_last_heard(dgt_follower *follower, uint64_t *time)
 /* How many heartbeats may still follow one another, of those that the patience allows. */
 uint32_t dgt_follower_heartbeats_left(dgt_follower *follower) DGT_NONNULL_(1);
 
+/* Bytes from the board were lost or altered, as whoever reads the line has found out: serial ports
+ * count overruns and framing errors (dgt_port.h asks for them). It is a disturbance. Have the
+ * follower hear the bytes before the fault first. */
+void dgt_follower_line_disturbed(dgt_follower *follower) DGT_NONNULL_(1);
+
 /* The line is lost, and what was under way on it: the follower is as new, with its period, its
  * patience and its mode, and with whether it confirms and identifies. It knows no picture and no
  * serial number, and its next asking is due at once. */
@@ -1172,6 +1177,7 @@ static inline dgt_follower *dgt_follower_(dgt_follower *handle) {
 #define dgt_follower_serial(it, ...) dgt_follower_serial(dgt_follower_(it), __VA_ARGS__)
 #define dgt_follower_last_heard(it, ...) dgt_follower_last_heard(dgt_follower_(it), __VA_ARGS__)
 #define dgt_follower_heartbeats_left(it) dgt_follower_heartbeats_left(dgt_follower_(it))
+#define dgt_follower_line_disturbed(it) dgt_follower_line_disturbed(dgt_follower_(it))
 #define dgt_follower_line_lost(it) dgt_follower_line_lost(dgt_follower_(it))
 
 static inline dgt_decoder *dgt_decoder_(dgt_decoder *handle) {

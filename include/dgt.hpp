@@ -1045,6 +1045,9 @@ public:
     /// How many short askings may still follow one another.
     std::uint32_t heartbeats_left() { return dgt_follower_heartbeats_left(&follower_); }
 
+    /// Bytes were lost or altered, as whoever reads the line has found out. It is a disturbance.
+    void line_disturbed() { dgt_follower_line_disturbed(&follower_); }
+
     /// The line is lost, and what was under way on it: it is as new, with its period, its patience
     /// and its mode, and with whether it confirms and identifies.
     void line_lost() { dgt_follower_line_lost(&follower_); }

@@ -6,8 +6,10 @@
  *
  *     int port = dgt_port_open("/dev/ttyUSB0");
  *     if (port < 0) return fprintf(stderr, "%s\n", dgt_port_advice(errno)), 1;
- *     while ((n = dgt_port_exchange(port, &follower, chunk, sizeof chunk)) >= 0)
+ *     while ((n = dgt_port_exchange(port, &follower, chunk, sizeof chunk)) >= 0) {
  *         dgt_follower_hear_all(&follower, dgt_port_now(), chunk, (size_t)n);
+ *         if (dgt_port_is_disturbed(port, &faults)) dgt_follower_line_disturbed(&follower);
+ *     }
  *     fprintf(stderr, "%s\n", dgt_port_advice(errno));        // the port has gone
  *     dgt_port_close(port);                                   // open it again once it is back
  *
@@ -26,6 +28,7 @@
 #include <dirent.h>
 #include <errno.h>
 #include <fcntl.h>
+#include <linux/serial.h>
 #include <poll.h>
 #include <stdbool.h>
 #include <stddef.h>
@@ -51,6 +54,7 @@
 enum {
     DGT_PORT_PATIENCE = 2000,   /* for how many milliseconds dgt_port_write waits for the port */
     DGT_PORT_LONGEST = 3600000, /* for how many dgt_port_read does */
+    DGT_PORT_LATE = 100,        /* for how many bytes may come from before a fault */
     DGT_PORT_PATH_ROOM = 512    /* the room of a path, with the 0 at its end */
 };
 
@@ -218,6 +222,33 @@ static inline long dgt_port_exchange(int port, dgt_follower *follower, uint8_t *
     if (!dgt_port_write(port, out, asked.bytes)) return -1;
     if (!dgt_follower_due_at(follower, &due)) due = UINT64_MAX;
     return dgt_port_read(port, bytes, n, due);
+}
+
+/* How many bytes a port has lost or altered since it was plugged in, as the system counts: those
+ * that overran, were framed wrongly, had a wrong parity or were a break. 0 if the port doesn't count
+ * them, as a pseudo-terminal. */
+static inline unsigned dgt_port_count_(int port) {
+    struct serial_icounter_struct count;
+    if (ioctl(port, TIOCGICOUNT, &count) != 0) return 0;
+    return (unsigned)count.frame + (unsigned)count.overrun + (unsigned)count.parity +
+           (unsigned)count.brk + (unsigned)count.buf_overrun;
+}
+
+/* What a port has lost or altered. Set all of it to 0 first. */
+typedef struct dgt_port_faults {
+    unsigned count_;
+    uint64_t late_until_;
+} dgt_port_faults;
+
+/* Whether a port has lost or altered bytes since the last call. Call it once a follower has heard
+ * what was read, and if so dgt_follower_line_disturbed. For DGT_PORT_LATE milliseconds after a fault
+ * it is true, too: bytes may come that the port got before it. */
+static inline bool dgt_port_is_disturbed(int port, dgt_port_faults *faults) {
+    unsigned count = dgt_port_count_(port);
+    uint64_t now = dgt_port_now();
+    if (count != faults->count_) faults->late_until_ = now + DGT_PORT_LATE;
+    faults->count_ = count;
+    return now < faults->late_until_;
 }
 
 /* Closes a port, for others to open. */

@@ -46,10 +46,12 @@ public:
         if (port_ >= 0) dgt_port_close(port_);
     }
     Port(Port &&other) noexcept
-        : name_(std::move(other.name_)), port_(std::exchange(other.port_, -1)) {}
+        : name_(std::move(other.name_)), port_(std::exchange(other.port_, -1)),
+          faults_(other.faults_) {}
     Port &operator=(Port &&other) noexcept {
         std::swap(port_, other.port_);
         std::swap(name_, other.name_);
+        std::swap(faults_, other.faults_);
         return *this;
     }
 
@@ -79,12 +81,17 @@ public:
         return read<Room>(follower.due());
     }
 
+    /// Whether the port has lost or altered bytes since the last call. Call it once a follower has
+    /// heard what was read, and if so its line_disturbed.
+    bool is_disturbed() { return dgt_port_is_disturbed(port_, &faults_); }
+
     /// The descriptor, for poll and its like. It doesn't block.
     int descriptor() const noexcept { return port_; }
 
 private:
     std::string name_;
     int port_;
+    dgt_port_faults faults_{};
 };
 
 } // namespace dgt

@@ -469,6 +469,13 @@ static void confirming(void) {
     CHECK(is_due_at(follower, 8500));
     dgt_follower_set_confirm(follower, false);
     CHECK(is_due_at(follower, 17500));
+
+    /* So does a line that is reported to lose bytes, until the next dump. */
+    dgt_follower_line_disturbed(follower);
+    CHECK(!dgt_follower_confirmed(follower) && dgt_follower_in_doubt(follower));
+    CHECK(is_due_at(follower, 10000) && asks(follower, 9999, 0) && asks(follower, 10000, ANEW));
+    hear_dump(follower, 10010, 1);
+    CHECK(!dgt_follower_in_doubt(follower) && is_due_at(follower, 20000));
     free(follower);
 }
 

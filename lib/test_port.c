@@ -1,7 +1,25 @@
 /* Tries dgt_port.h on a pseudo-terminal, and on a folder that stands for /dev. Exits with 1 and
  * prints the first thing that is not as dgt_port.h says, or 0. */
 #define _GNU_SOURCE
+#include <linux/serial.h>
+#include <stdarg.h>
+#include <sys/ioctl.h>
+
+/* What the port counts, which a pseudo-terminal doesn't. */
+static struct serial_icounter_struct counted;
+
+/* Stands for ioctl in dgt_port.h. */
+static int ioctl_counting(int port, unsigned long request, ...) {
+    va_list rest;
+    if (request != TIOCGICOUNT) return ioctl(port, request);
+    va_start(rest, request);
+    *va_arg(rest, struct serial_icounter_struct *) = counted;
+    va_end(rest);
+    return 0;
+}
+#define ioctl ioctl_counting
 #include "dgt_port.h"
+#undef ioctl
 
 #include <signal.h>
 #include <stdio.h>
@@ -101,6 +119,23 @@ static void writing(void) {
     CHECK(tcflush(port, TCIOFLUSH) == 0 && tcflush(line, TCIOFLUSH) == 0);
 }
 
+/* Whether one of the faults has just been counted. It is so for DGT_PORT_LATE, and then no more. */
+static bool is_noticed(dgt_port_faults *faults, int *count) {
+    ++*count;
+    bool is_noticed = dgt_port_is_disturbed(port, faults) && dgt_port_is_disturbed(port, faults);
+    nanosleep(&(struct timespec){0, 1000000 * (DGT_PORT_LATE + 1)}, NULL);
+    return is_noticed && !dgt_port_is_disturbed(port, faults);
+}
+
+static void counting(void) {
+    dgt_port_faults faults = {0};
+    CHECK(!dgt_port_is_disturbed(port, &faults));
+    CHECK(is_noticed(&faults, &counted.frame) && is_noticed(&faults, &counted.overrun));
+    CHECK(is_noticed(&faults, &counted.parity) && is_noticed(&faults, &counted.brk));
+    CHECK(is_noticed(&faults, &counted.buf_overrun) && !is_noticed(&faults, &counted.rx));
+    CHECK(!is_noticed(&faults, &counted.tx) && !is_noticed(&faults, &counted.cts));
+}
+
 static void exchanging(void) {
     static dgt_follower follower;
     const uint8_t dump[67] = {0x86, 0, 67, [3 + 52] = 1};
@@ -198,6 +233,7 @@ int main(void) {
     opening();
     reading();
     writing();
+    counting();
     exchanging();
     return 0;
 }

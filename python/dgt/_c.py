@@ -281,6 +281,7 @@ CALLS: dict[str, tuple[Any, ...]] = {
     "dgt_follower_serial": (c_bool, c_void_p, c_void_p),
     "dgt_follower_last_heard": (c_bool, c_void_p, POINTER(c_uint64)),
     "dgt_follower_heartbeats_left": (c_uint32, c_void_p),
+    "dgt_follower_line_disturbed": (None, c_void_p),
     "dgt_follower_line_lost": (None, c_void_p),
     "dgt_decoder_size": (c_size_t,),
     "dgt_decoder_init": (None, c_void_p),

@@ -21,6 +21,10 @@ _LEAST = 64
 """The lowest number of a descriptor of this package."""
 _CHUNK = 256
 """How many bytes one call returns at most: the package hears as many in some 8 ms at worst."""
+_COUNTS, _FAULTS = 80, slice(24, 44)
+"""How many bytes Linux counts a port's events in, and which of them count faults."""
+_LATE = 0.1
+"""For how many seconds after a fault was counted bytes may come that the port got before it."""
 
 
 def raised(descriptor: int) -> int:
@@ -72,6 +76,23 @@ class Port:
         self._poll = select.poll()
         self._poll.register(closing, select.POLLIN)
         self._unsent = b""
+        self._counted, self._late_until = self._count(), float("-inf")
+
+    def _count(self) -> bytes:
+        """How often bytes overran, and a byte was framed wrongly, had a wrong parity or was a
+        break, as the system counts. A pseudo-terminal counts nothing."""
+        try:
+            return fcntl.ioctl(self._line, termios.TIOCGICOUNT, bytes(_COUNTS))[_FAULTS]
+        except OSError:
+            return b""
+
+    def is_disturbed(self, now: float) -> bool:
+        """Whether bytes were lost or altered, of those that `exchange` has returned until this
+        time."""
+        counted = self._count()
+        if counted != self._counted:
+            self._counted, self._late_until = counted, now + _LATE
+        return now < self._late_until
 
     def ask(self, chunk: bytes) -> None:
         """Has a chunk sent. What the port hasn't taken of earlier ones is dropped."""

@@ -180,6 +180,12 @@ class Follower(EventReader, Asker):
         """How many askings may still follow one another before one begins anew."""
         return int(self._call(dgt.dgt_follower_heartbeats_left))
 
+    def line_disturbed(self) -> None:
+        """Bytes of the board were lost or altered, as whoever reads the line has found out: serial
+        ports count overruns and framing errors. It is a disturbance. Have the follower hear the
+        bytes before the fault first."""
+        self._call(dgt.dgt_follower_line_disturbed)
+
     def line_lost(self) -> None:
         """The line was lost, with what was under way on it. The follower is then as new, with its
         period, its patience and its mode, and with whether it confirms and identifies."""

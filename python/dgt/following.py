@@ -100,6 +100,8 @@ class _Steps:
         self.view = BoardView()
         self.changes: deque[BoardView] = deque()
         self._missing: str | None = None
+        self.is_disturbed = False
+        """Whether the line has just lost or altered bytes, as whoever reads it has found out."""
         self.asked_at = self._asked_before = float("-inf")
 
     def ask(self, now: float) -> bytes:
@@ -111,11 +113,17 @@ class _Steps:
         return asked
 
     def hear(self, chunk: bytes, now: float) -> list[Event]:
-        """Hears a chunk of bytes that came at this time, and returns its events."""
+        """Hears a chunk of bytes that came at this time, and returns its events. If the line is
+        disturbed, a dump in the chunk may be older than the fault."""
         events = []
+        if self.is_disturbed:
+            self.follower.line_disturbed()
         for event in self.follower.hear_each(chunk, now):
             events.append(event)
             self._note(isinstance(event, Refused) and event.fault == Fault.BAD_READING)
+        if self.is_disturbed:
+            self.follower.line_disturbed()
+            self._note()
         return events
 
     def seconds_left(self, now: float, until: float | None) -> float:
@@ -322,7 +330,9 @@ class Following(Uncopied, ClockCommands[None]):
             self._line, self._look_at = None, time.monotonic() + _LOOK
             self._steps.lose((fault.strerror or str(fault)) if self._is_given else _GONE)
         else:
-            self._hear(chunk, time.monotonic())
+            now = time.monotonic()
+            self._steps.is_disturbed = isinstance(line, Port) and line.is_disturbed(now)
+            self._hear(chunk, now)
 
     def _hear(self, chunk: bytes, now: float) -> None:
         self._steps.hear(chunk, now)

@@ -2,7 +2,7 @@
 
 ghost use Rattle.std.specs.Prelude.{◌≡◌, ◌≤◌, ◌<◌, ◌↔◌, length, take, false, true, IsTrue, IsSome, MatchOption};
 ghost use Rattle.dgt_host.specs.Host.{new_host};
-ghost use Rattle.dgt_follow.specs.Pace.{forgetting, next_due};
+ghost use Rattle.dgt_follow.specs.Pace.{forgetting, next_due, pace_disturbed};
 ghost use Rattle.dgt_follow.specs.Follower.{follower_after, following, new_follower};
 ghost use Rattle.dgt_c.specs.Hearing.{HearsReported};
 ghost use Rattle.dgt_c.specs.Following.{AsksReported, asked_reported, update_mode_number};
@@ -283,6 +283,16 @@ pub extern "C" fn dgt_follower_set_identify(follower: &mut DgtFollower, identify
         (record follower.old.inside.pace { identify = identify }) }
 {
     follower.get().set_identify(identify);
+}
+
+/// Bytes from the board were lost or altered, as whoever reads the line has found out.
+#[unsafe(no_mangle)]
+pub extern "C" fn dgt_follower_line_disturbed(follower: &mut DgtFollower)
+    ensures place { follower.new.at ≡ follower.old.at }
+    ensures disturbed { follower.new.inside
+        ≡ following follower.old.inside.host (pace_disturbed follower.old.inside.pace) }
+{
+    follower.get().line_disturbed();
 }
 
 /// The line is lost: the follower is as new, with its settings.

@@ -10,7 +10,7 @@ use Rattle.dgt_host.proofs.ConfirmedLemmas.{confirms_more, pictures_append}
 use Rattle.dgt_host.proofs.StretchLemmas.{messages_append, messages_behind}
 use Rattle.dgt_follow.specs.declared.asking.Asking.{Asking}
 use Rattle.dgt_follow.specs.Follower.{AskingsConfirmNothing, ConfirmedAsHeard, FollowerView, asking_of, follower_after}
-use Rattle.dgt_follow.specs.Calls.{Hears, Asks, Sends, SetsMode, SetsConfirm, SetsIdentify, AsksNow, ConfirmedOverCalls, bytes_heard, follower_after_call, follower_after_calls, follower_asking}
+use Rattle.dgt_follow.specs.Calls.{Hears, Asks, Sends, SetsMode, SetsConfirm, SetsIdentify, AsksNow, Disturbs, ConfirmedOverCalls, bytes_heard, follower_after_call, follower_after_calls, follower_asking}
 
 confirmed_append : (confirmed : Bool) (picture : Option (List Piece)) (said more : List Content)
     → confirmed_after_all confirmed picture (said ++ more)
@@ -128,4 +128,8 @@ module _ (later : EventsAppend) (still : UnfinishedAppend) (quiet : UnfinishedIs
   over_calls f (AsksNow ∷ more) held =
       let between : FollowerView = follower_after_call f AsksNow in
       kept f between (follower_after_calls between more) (bytes_heard more) (refl, refl, λ e. e)
+      (over_calls between more held)
+  over_calls f (Disturbs ∷ more) held =
+      let between : FollowerView = follower_after_call f Disturbs in
+      kept f between (follower_after_calls between more) (bytes_heard more) (refl, refl, λ e. cc)
       (over_calls between more held)

@@ -10,7 +10,7 @@ use Rattle.dgt_host.specs.Confirmed.{changes, same_pieces}
 use Rattle.dgt_follow.specs.declared.asking.Asking.{Asking}
 use Rattle.dgt_follow.specs.declared.pace.TheConstants.{OVERDUE}
 use Rattle.dgt_follow.specs.Pace.{PaceView, asking, asks_at_once, due_time, is_before, is_calm, is_due, is_overdue, is_stuck, is_unanswered, is_unasked, pace_after_asking, pace_after_event, pace_at, settled_time, time_after, trusts, usual_time, wait, wants_confirming, wants_serial}
-use Rattle.dgt_follow.specs.Follower.{OverdueIsAskedAnew, OverdueIsDoubt, StuckIsAskedAnew, SureStaysSure, is_sure}
+use Rattle.dgt_follow.specs.Follower.{DisturbedIsAskedAnew, OverdueIsAskedAnew, OverdueIsDoubt, SureStaysSure, is_sure}
 
 -- ---- what is unanswered is not calm
 
@@ -127,11 +127,6 @@ is_asked_anew pace full now owed late =
     (owed_or_calm (is_some pace.asked) pace.answered (not by_then.disturbed) owed)
     (omega (arith, longer pace.asked (wait by_then) (max OVERDUE (pace.period / 4)) short, late))
 
-disturbed_by : (disturbed stuck : Bool) → stuck ≡ true → (disturbed || stuck) ≡ true
-disturbed_by true stuck e = refl
-disturbed_by false true e = refl
-disturbed_by false false e = cc
-
 not_calm : (asked disturbed : Bool) → disturbed ≡ true → (asked && not disturbed) ≡ false
 not_calm true true e = refl
 not_calm false disturbed e = refl
@@ -142,10 +137,9 @@ quarter : (disturbed owed : Bool) (overdue period part : ℕ) → disturbed ≡ 
 quarter true owed overdue period part e = refl
 quarter false owed overdue period part e = cc
 
-pub is_asked_when_stuck : StuckIsAskedAnew
-is_asked_when_stuck pace full now stuck late =
+pub is_asked_when_disturbed : DisturbedIsAskedAnew
+is_asked_when_disturbed pace full now disturbed late =
     let by_then = pace_at pace now in
-    let disturbed : by_then.disturbed ≡ true = disturbed_by pace.disturbed (is_stuck pace now) stuck in
     let waits : wait by_then ≡ pace.period / 4
     = quarter by_then.disturbed (is_unanswered pace) OVERDUE pace.period (pace.period / 4) disturbed in
     due_anew by_then full now (not_calm (is_some pace.asked && pace.answered) by_then.disturbed disturbed)
@@ -251,4 +245,5 @@ stays_sure pace now sure = (
   event_stays_sure pace now sure,
   λ what. asking_stays_sure what (pace_at pace now) now
       (sure_at pace.confirmed pace.doubtful (is_overdue pace now) (is_stuck pace now) sure),
+  refl,
 )

@@ -11,7 +11,7 @@ use Rattle.dgt_host.specs.Confirmed.{IsRight, confirmed_after_all, messages}
 use Rattle.dgt_host.specs.Host.{host_awaiting}
 use Rattle.dgt_follow.specs.declared.asking.Asking.{Asking}
 use Rattle.dgt_follow.specs.declared.asking.UpdateMode.{UpdateMode}
-use Rattle.dgt_follow.specs.Pace.{pace_after_asking, pace_at}
+use Rattle.dgt_follow.specs.Pace.{pace_after_asking, pace_at, pace_disturbed}
 use Rattle.dgt_follow.specs.Follower.{FollowerView, asking_of, follower_after, following, host_after_asking}
 
 -- A call that is done. Only the loss of the line is none of these: it makes the follower as new.
@@ -23,6 +23,7 @@ pub data Call : Type 0 where
   SetsConfirm : (confirm : Bool) → Call
   SetsIdentify : (identify : Bool) → Call
   AsksNow : Call
+  Disturbs : Call  -- bytes were lost or altered
 
 abbrev pub follower_asking : Asking → FollowerView → ℕ → FollowerView
 follower_asking what follower now =
@@ -42,6 +43,8 @@ follower_after_call follower (SetsIdentify identify) =
     following follower.host (record follower.pace { identify = identify })
 follower_after_call follower AsksNow =
     following follower.host (record follower.pace { wanted = true })
+follower_after_call follower Disturbs =
+    following follower.host (pace_disturbed follower.pace)
 
 abbrev pub follower_after_calls : FollowerView → List Call → FollowerView
 follower_after_calls follower [] = follower

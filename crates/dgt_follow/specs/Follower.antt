@@ -12,7 +12,7 @@ use Rattle.dgt_host.specs.Host.{HostView, awaits_too_many, host_after_event, hos
 use Rattle.dgt_follow.specs.declared.asking.Asking.{Asking}
 use Rattle.dgt_follow.specs.declared.asking.UpdateMode.{UpdateMode}
 use Rattle.dgt_follow.specs.declared.pace.TheConstants.{OVERDUE}
-use Rattle.dgt_follow.specs.Pace.{PaceView, asking, asking_bytes, is_overdue, is_stuck, is_unanswered, new_pace, pace_after_asking, pace_after_event, pace_at, time_after, unfinished_by}
+use Rattle.dgt_follow.specs.Pace.{PaceView, asking, asking_bytes, is_overdue, is_stuck, is_unanswered, new_pace, pace_after_asking, pace_after_event, pace_at, pace_disturbed, time_after, unfinished_by}
 
 pub record FollowerView : Type 0 where
   pub host : HostView
@@ -102,11 +102,11 @@ OverdueIsAskedAnew =
     time_after pace.asked (max OVERDUE (pace.period / 4)) ≤ now →
     asking (pace_at pace now) full now ≡ Asking.Anew
 
--- A follower with a message that has been unfinished for a second begins anew when a quarter of the
--- period has passed.
-abbrev pub StuckIsAskedAnew : Type 0
-StuckIsAskedAnew =
-    (pace : PaceView) (full : Bool) (now : ℕ) → IsTrue (is_stuck pace now) →
+-- A follower that was disturbed begins anew when a quarter of the period has passed, and so does one
+-- with a message that has been unfinished for a second.
+abbrev pub DisturbedIsAskedAnew : Type 0
+DisturbedIsAskedAnew =
+    (pace : PaceView) (full : Bool) (now : ℕ) → IsTrue (pace.disturbed || is_stuck pace now) →
     time_after pace.asked (pace.period / 4) ≤ now → asking (pace_at pace now) full now ≡ Asking.Anew
 
 -- A picture that is confirmed is not in doubt.
@@ -119,6 +119,7 @@ SureStaysSure =
     ((awaited : List Kind) (picture : Option (List Piece)) (event : Event) →
     IsTrue (is_sure (pace_after_event pace now awaited picture event)))
     × ((what : Asking) → IsTrue (is_sure (pace_after_asking what (pace_at pace now) now)))
+    × IsTrue (is_sure (pace_disturbed pace))
 
 -- ---- what it asks
 

@@ -161,6 +161,10 @@ pace_after_event_if_any pace now awaited picture None = pace
 pace_after_event_if_any pace now awaited picture (Some event) =
     pace_after_event pace now awaited picture event
 
+-- the pace after bytes were lost or altered, as whoever reads the line has found out
+abbrev pub pace_disturbed : PaceView → PaceView
+pace_disturbed pace = record pace { disturbed = true; doubtful = true; confirmed = false }
+
 -- the counts and the settings of both are the same, whatever was noted
 pub record KeepsCount (before after : PaceView) : Type 0 where
   pub period : after.period ≡ before.period

@@ -10,7 +10,7 @@ ghost use Rattle.dgt_command.specs.Encoding.{EncodesCommand, command_encoding};
 ghost use Rattle.dgt_decode.specs.Grammar.{Event as EventSaid};
 ghost use Rattle.dgt_decode.specs.Feeding.{FirstEvent, at_place_if_any, event_content_if_any};
 ghost use Rattle.dgt_host.specs.Host.{IsUnasked, Sends, awaits_too_many, new_host};
-ghost use Rattle.dgt_follow.specs.Pace.{clock_request, forgetting, next_due};
+ghost use Rattle.dgt_follow.specs.Pace.{clock_request, forgetting, next_due, pace_disturbed};
 ghost use Rattle.dgt_follow.specs.Follower.{Asks, HostAsks, asking_of, clock_known, follower_after, following, new_follower};
 
 use crate::asking::{Asking, UpdateMode};
@@ -318,6 +318,16 @@ impl Follower {
     {
         self.host.line_lost();
         self.pace.line_lost();
+    }
+
+    /// Bytes from the board were lost or altered, as whoever reads the line has found out: a serial
+    /// port counts overruns and framing errors. It is a disturbance, and the picture is in doubt
+    /// until the next dump that is awaited. Hand the bytes before the fault to
+    /// [`Follower::hear`] first.
+    pub fn line_disturbed(&mut self)
+        ensures { self.new ≡ following self.old.host (pace_disturbed self.old.pace) }
+    {
+        self.pace.note_disturbance();
     }
 
     /// The picture of the board, if a dump was heard.

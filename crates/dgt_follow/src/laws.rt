@@ -12,7 +12,7 @@ ghost use Rattle.dgt_values.specs.Equality.{CloneIsSame, EqualIsSame};
 ghost use Rattle.dgt_host.specs.Host.{HostView, Request, Sends, host_after};
 ghost use Rattle.dgt_host.specs.Confirmed.{changes, repeats};
 ghost use Rattle.dgt_follow.specs.Calls.{Call, ConfirmedOverCalls, OneStretchIsSeen, bytes_heard, follower_after_call, follower_after_calls};
-ghost use Rattle.dgt_follow.specs.Follower.{Asks, AskingsConfirmNothing, ConfirmedAsHeard, FollowedInChunks, FollowerView, OverdueIsAskedAnew, OverdueIsDoubt, StuckIsAskedAnew, SureStaysSure, asking_of, clock_known, follower_after, following};
+ghost use Rattle.dgt_follow.specs.Follower.{Asks, AskingsConfirmNothing, ConfirmedAsHeard, DisturbedIsAskedAnew, FollowedInChunks, FollowerView, OverdueIsAskedAnew, OverdueIsDoubt, SureStaysSure, asking_of, clock_known, follower_after, following};
 ghost use Rattle.dgt_follow.specs.Pace.{KeepsCount, PaceView, asking, asking_bytes, is_overdue, is_stuck, new_pace, next_due, pace_after_asking, pace_after_event, pace_at, unfinished_by};
 ghost use Rattle.dgt_follow.specs.declared.asking.Asking.{Asking};
 ghost use Rattle.dgt_follow.specs.declared.asking.UpdateMode.{UpdateMode};
@@ -87,6 +87,13 @@ pub fn calls_leave()
         after.pace ≡ before.pace → after ≡ follower_after_call before (Call.Sends request.kind) }
     ensures heard { (before : FollowerView) (now : ℕ) (bytes : List ℕ) →
         follower_after_call before (Call.Hears now bytes) ≡ follower_after before now bytes }
+    ensures disturbed { (before : FollowerView) →
+        follower_after_call before Call.Disturbs
+        ≡ following before.host (record before.pace {
+          disturbed = true;
+          doubtful = true;
+          confirmed = false;
+        }) }
     ensures told { (before : FollowerView) (mode : UpdateMode) (confirm identify : Bool) →
         let after = follower_after_calls before (Call.SetsMode mode ∷ Call.SetsConfirm confirm
         ∷ Call.SetsIdentify identify ∷ Call.AsksNow ∷ []) in
@@ -102,11 +109,11 @@ pub fn calls_leave()
 {}
 
 /// An answer that is a second late is a doubt, and so is a message that has been unfinished for a
-/// second. The board is soon asked anew.
+/// second. The board is soon asked anew, also after any other disturbance.
 pub fn overdue_is_doubt()
     ensures doubt { OverdueIsDoubt }
     ensures asked { OverdueIsAskedAnew }
-    ensures stuck { StuckIsAskedAnew }
+    ensures disturbed { DisturbedIsAskedAnew }
 {}
 
 /// A confirmed picture is never in doubt.

@@ -73,6 +73,7 @@ set_is (Call.SetsMode mode) before sets = (refl, record { patience = refl; left 
 set_is (Call.SetsConfirm confirm) before sets = (refl, record { patience = refl; left = refl })
 set_is (Call.SetsIdentify identify) before sets = (refl, record { patience = refl; left = refl })
 set_is Call.AsksNow before sets = (refl, record { patience = refl; left = refl })
+set_is Call.Disturbs before sets = (refl, record { patience = refl; left = refl })
 set_is (Call.Hears now bytes) before sets = absurd (false≢true sets)
 set_is (Call.Asks now) before sets = absurd (false≢true sets)
 set_is (Call.Sends kind) before sets = absurd (false≢true sets)

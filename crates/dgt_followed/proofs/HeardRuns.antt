@@ -157,6 +157,7 @@ no_bytes (Call.SetsMode mode) sets = refl
 no_bytes (Call.SetsConfirm confirm) sets = refl
 no_bytes (Call.SetsIdentify identify) sets = refl
 no_bytes Call.AsksNow sets = refl
+no_bytes Call.Disturbs sets = refl
 no_bytes (Call.Hears now bytes) sets = cc
 no_bytes (Call.Asks now) sets = refl
 no_bytes (Call.Sends kind) sets = refl

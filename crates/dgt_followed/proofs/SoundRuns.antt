@@ -21,19 +21,21 @@ use Rattle.dgt_followed.proofs.Undoubted.{asks_no_doubt}
 abbrev IsCalm : FollowedView → Type 0
 IsCalm followed = IsRestatedWorld followed.world × HasNoDoubt followed.pace
 
-set_is_calm : (follower : FollowerView) (call : Call) → is_setting call ≡ true → HasNoDoubt follower.pace
-    → HasNoDoubt (follower_after_call follower call).pace
-set_is_calm follower (Call.SetsMode mode) sets calm =
+set_is_calm : (before : FollowedView) (call : Call) → is_setting call ≡ true
+    → IsSoundHappening (TimedHappening.Sets call) before → HasNoDoubt before.pace
+    → HasNoDoubt (follower_after_call (follower_of before) call).pace
+set_is_calm before (Call.SetsMode mode) sets sound calm =
     record { doubtful = calm.doubtful; disturbed = calm.disturbed }
-set_is_calm follower (Call.SetsConfirm confirm) sets calm =
+set_is_calm before (Call.SetsConfirm confirm) sets sound calm =
     record { doubtful = calm.doubtful; disturbed = calm.disturbed }
-set_is_calm follower (Call.SetsIdentify identify) sets calm =
+set_is_calm before (Call.SetsIdentify identify) sets sound calm =
     record { doubtful = calm.doubtful; disturbed = calm.disturbed }
-set_is_calm follower Call.AsksNow sets calm =
+set_is_calm before Call.AsksNow sets sound calm =
     record { doubtful = calm.doubtful; disturbed = calm.disturbed }
-set_is_calm follower (Call.Hears now bytes) sets calm = absurd (false≢true sets)
-set_is_calm follower (Call.Asks now) sets calm = absurd (false≢true sets)
-set_is_calm follower (Call.Sends kind) sets calm = absurd (false≢true sets)
+set_is_calm before Call.Disturbs sets reported calm = absurd reported
+set_is_calm before (Call.Hears now bytes) sets sound calm = absurd (false≢true sets)
+set_is_calm before (Call.Asks now) sets sound calm = absurd (false≢true sets)
+set_is_calm before (Call.Sends kind) sets sound calm = absurd (false≢true sets)
 
 is_no_break : (act : ActContent) → is_noticed (FaultyContent.Plain act) ≡ false → act ≢ ActContent.HostBreak
 is_no_break act unseen same = cc
@@ -95,7 +97,7 @@ module _
   step_is_calm (TimedHappening.Sets call) before after (is, calm)
       ((answer, step, keeps_patience, since, clock_since), (sets, set)) sound = (
         plain_restates (ActContent.ToHost 0) before.world after.world answer (λ e. cc) tt is step,
-        subst (λ (f : FollowerView). HasNoDoubt f.pace) (sym set) (set_is_calm (follower_of before) call sets calm),
+        subst (λ (f : FollowerView). HasNoDoubt f.pace) (sym set) (set_is_calm before call sets sound calm),
       )
   step_is_calm (TimedHappening.Acts (FaultyContent.Plain act)) before after (is, calm)
       ((answer, step, keeps_patience, since, clock_since), (unseen, pace)) rest = (

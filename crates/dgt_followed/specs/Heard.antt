@@ -22,7 +22,7 @@ pub data TimedHappening : Type 0 where
   Asks : (now : ℕ) → TimedHappening
   -- at this time it hears this number of bytes of the up line, or all that are there
   Hears : (now count : ℕ) → TimedHappening
-  -- this call sets something, and neither hears nor asks
+  -- this call sets or notes something, and neither hears nor asks
   Sets : (call : Call) → TimedHappening
   -- any other act, by which its host may send a command and notices nothing
   Acts : (act : FaultyContent) → TimedHappening
@@ -40,6 +40,7 @@ is_setting (Call.SetsMode mode) = true
 is_setting (Call.SetsConfirm confirm) = true
 is_setting (Call.SetsIdentify identify) = true
 is_setting Call.AsksNow = true
+is_setting Call.Disturbs = true
 is_setting call = false
 
 -- By these acts the host hears bytes, loses the line, begins anew or gives up replies. A follower

@@ -7,6 +7,7 @@ use Rattle.dgt_message.specs.Picture.{picture_after}
 use Rattle.dgt_board.specs.declared.replies.Reply.{Reply}
 use Rattle.dgt_board.specs.State.{BoardState}
 use Rattle.dgt_follow.specs.declared.asking.Asking.{Asking}
+use Rattle.dgt_follow.specs.Calls.{Call}
 use Rattle.dgt_follow.specs.Follower.{asking_of}
 use Rattle.dgt_follow.specs.Pace.{PaceView, is_overdue, is_stuck, is_unanswered}
 use Rattle.dgt_link.specs.declared.acts.Outcome.{Outcome}
@@ -83,11 +84,12 @@ pub record AsksInTime (now : ℕ) (before : FollowedView) : Type 0 where
       (what ≡ Asking.Nothing) ⊎ ((what ≡ Asking.Identify) ⊎ (is_unanswered before.pace ≡ false))
   pub idle : asking_of (follower_of before) now ≡ Asking.Anew → before.world.host.awaited ≡ []
 
--- It asks in time, or hears or sets something, or something happens that is no fault. A dump is
--- sent only after each change of a square has been reported.
+-- It asks in time, or hears or sets something, or something happens that is no fault, and none is
+-- reported. A dump is sent only after each change of a square has been reported.
 abbrev pub IsSoundHappening : TimedHappening → FollowedView → Type 0
 IsSoundHappening (TimedHappening.Asks now) before = AsksInTime now before
 IsSoundHappening (TimedHappening.Hears now count) before = Unit {0}
+IsSoundHappening (TimedHappening.Sets Call.Disturbs) before = ⊥
 IsSoundHappening (TimedHappening.Sets call) before = Unit {0}
 IsSoundHappening (TimedHappening.Acts (FaultyContent.Plain act)) before =
     ActsAtRest act before.world

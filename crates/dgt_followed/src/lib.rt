@@ -306,8 +306,13 @@ pub fn happenings_are_sound()
         (is_overdue before.pace now ≡ false) × (is_stuck before.pace now ≡ false) }
     ensures hears { (now count : ℕ) (before : FollowedView) →
         IsSoundHappening (TimedHappening.Hears now count) before }
-    ensures sets { (call : Call) (before : FollowedView) →
-        IsSoundHappening (TimedHappening.Sets call) before }
+    ensures sets { (mode : UpdateMode) (flag : Bool) (before : FollowedView) →
+        IsSoundHappening (TimedHappening.Sets (Call.SetsMode mode)) before
+        × IsSoundHappening (TimedHappening.Sets (Call.SetsConfirm flag)) before
+        × IsSoundHappening (TimedHappening.Sets (Call.SetsIdentify flag)) before
+        × IsSoundHappening (TimedHappening.Sets Call.AsksNow) before }
+    ensures reported { (before : FollowedView) →
+        ¬ (IsSoundHappening (TimedHappening.Sets Call.Disturbs) before) }
     ensures acts { (act : ActContent) (before : FollowedView) → ActsAtRest act before.world →
         IsSoundHappening (TimedHappening.Acts (FaultyContent.Plain act)) before }
     ensures fault { (bytes : List ℕ) (before : FollowedView) →
@@ -385,8 +390,9 @@ pub fn happenings_are_heard()
         ≡ true ∷ true ∷ true ∷ true ∷ true ∷ [] }
     ensures sets { (now : ℕ) (bytes : List ℕ) (kind : Option Kind) (mode : UpdateMode)
         (flag : Bool) → map is_setting (Call.Hears now bytes ∷ Call.Asks now ∷ Call.Sends kind
-        ∷ Call.SetsMode mode ∷ Call.SetsConfirm flag ∷ Call.SetsIdentify flag ∷ Call.AsksNow ∷ [])
-        ≡ false ∷ false ∷ false ∷ true ∷ true ∷ true ∷ true ∷ [] }
+        ∷ Call.SetsMode mode ∷ Call.SetsConfirm flag ∷ Call.SetsIdentify flag ∷ Call.AsksNow
+        ∷ Call.Disturbs ∷ [])
+        ≡ false ∷ false ∷ false ∷ true ∷ true ∷ true ∷ true ∷ true ∷ [] }
     ensures bytes { (before : FollowedView) (now first second third : ℕ) →
         before.world.up.bytes ≡ first ∷ second ∷ third ∷ [] →
         bytes_by (TimedHappening.Hears now 2) before ≡ first ∷ second ∷ [] }

@@ -64,8 +64,8 @@ pub struct BoardView {
 /// It never ends: a stream that has gone is opened again.
 ///
 /// The stream is whatever `open` returns. A read has to return after a while if nothing comes, by
-/// `TimedOut` or `WouldBlock`, so that the board can be asked in time. `Ok(0)` and any other fault
-/// say that the stream has gone. A port of the crate `serialport` does for each system it knows:
+/// `TimedOut` or `WouldBlock`, so that the board can be asked in time. `InvalidData` says that bytes
+/// were lost or altered. `Ok(0)` and any other fault say that the stream has gone. A port of the crate `serialport` does for each system it knows:
 ///
 /// ```ignore
 /// let port = || Ok(serialport::new("COM3", 9600).timeout(Duration::from_millis(100)).open()?);
@@ -173,8 +173,9 @@ impl<Open: FnMut() -> io::Result<Stream>, Stream: Read + Write> Views<Open, Stre
             self.heard += self.follower.hear(now(), &self.chunk[self.heard..self.came]);
             None
         } else if let Some(stream) = &mut self.stream {
-            let asked = ask(&mut self.follower, stream);
-            match asked.and_then(|count| Ok((count, read(stream, &mut self.chunk)?))) {
+            let follower = &mut self.follower;
+            let asked = ask(follower, stream);
+            match asked.and_then(|count| Ok((count, read(follower, stream, &mut self.chunk)?))) {
                 Ok((count, came)) => {
                     if count > 0 {
                         (self.asked_before, self.asked) = (self.asked, Some(now()));
@@ -260,7 +261,11 @@ fn ask(follower: &mut Follower, stream: &mut impl Write) -> io::Result<usize> {
 }
 
 /// Reads what comes, and returns how many bytes: 0 if nothing came in time.
-fn read(stream: &mut impl Read, chunk: &mut [u8]) -> io::Result<usize> {
+fn read(
+    follower: &mut Follower,
+    stream: &mut impl Read,
+    chunk: &mut [u8],
+) -> io::Result<usize> {
     match stream.read(chunk) {
         Ok(0) => Err(ErrorKind::UnexpectedEof.into()),
         Ok(count) => Ok(count),
@@ -270,6 +275,10 @@ fn read(stream: &mut impl Read, chunk: &mut [u8]) -> io::Result<usize> {
                 Ok(0)
             }
             ErrorKind::TimedOut | ErrorKind::Interrupted => Ok(0),
+            ErrorKind::InvalidData => {
+                follower.line_disturbed();
+                Ok(0)
+            }
             _ => Err(fault),
         },
     }

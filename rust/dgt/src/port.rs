@@ -1,6 +1,7 @@
 //! The serial port of a board, on Linux.
 
 use crate::following::{Views, now};
+use core::mem;
 use core::time::Duration;
 use std::collections::BTreeSet;
 use std::fs::{self, File};
@@ -19,9 +20,9 @@ const O_NONBLOCK: i32 = 0o4000;
 
 /// For how many milliseconds a write waits for the port.
 const PATIENCE: u64 = 2000;
-/// Locks the port, which is its standard input, and sets it up.
+/// Locks the port, which is its standard input, and sets it up. It marks what is altered.
 const SET_UP: &str = "flock -n 0 || exit 2
-stty 9600 raw -echo cs8 -parenb -cstopb -crtscts clocal";
+stty 9600 raw -echo cs8 -parenb -cstopb -crtscts clocal inpck parmrk";
 
 /// How the names of serial ports of USB and Bluetooth begin.
 const KINDS: [&str; 3] = ["rfcomm", "ttyACM", "ttyUSB"];
@@ -89,6 +90,43 @@ pub fn follow(
 #[derive(Debug)]
 pub struct Port {
     file: File,
+    marks: Marks,
+    is_disturbed: bool,
+}
+
+/// What a port has begun to mark. `ff ff` is the byte ff, and `ff 00` comes before a byte whose stop
+/// bit is wrong, or before the 00 of a break.
+#[derive(Debug, Default, PartialEq)]
+enum Marks {
+    #[default]
+    Nothing,
+    Mark,
+    Altered,
+}
+
+impl Marks {
+    /// Takes the marks from bytes. Returns how many bytes are left, and whether one was altered:
+    /// they are left out.
+    fn take(&mut self, bytes: &mut [u8]) -> (usize, bool) {
+        let (mut kept, mut is_altered) = (0, false);
+        for at in 0..bytes.len() {
+            let byte = bytes[at];
+            *self = match (&self, byte) {
+                (Marks::Nothing, 0xff) => Marks::Mark,
+                (Marks::Mark, 0) => Marks::Altered,
+                (Marks::Altered, _) => {
+                    is_altered = true;
+                    Marks::Nothing
+                }
+                _ => {
+                    bytes[kept] = byte;
+                    kept += 1;
+                    Marks::Nothing
+                }
+            };
+        }
+        (kept, is_altered)
+    }
 }
 
 impl Port {
@@ -110,7 +148,7 @@ impl Port {
         let file = options.open(path)?;
         set_up.args(["-c", SET_UP]).stdin(file.try_clone()?).stderr(Stdio::null());
         match set_up.status()?.code() {
-            Some(0) => Ok(Port { file }),
+            Some(0) => Ok(Port { file, marks: Marks::default(), is_disturbed: false }),
             Some(2) => Err(io::Error::other("in use by another program")),
             _ => Err(io::Error::other("not a serial port")),
         }
@@ -118,9 +156,18 @@ impl Port {
 }
 
 impl Read for Port {
-    /// Reads what has come. `WouldBlock` if nothing has.
+    /// Reads what has come. `WouldBlock` if nothing has. `InvalidData` if bytes were altered that
+    /// came before or among those that were read last. Bytes that overran aren't noticed.
     fn read(&mut self, chunk: &mut [u8]) -> io::Result<usize> {
-        self.file.read(chunk)
+        while !mem::take(&mut self.is_disturbed) {
+            let came = self.file.read(chunk)?;
+            let (kept, is_altered) = self.marks.take(&mut chunk[..came]);
+            self.is_disturbed = is_altered;
+            if kept > 0 || came == 0 {
+                return Ok(kept);
+            }
+        }
+        Err(ErrorKind::InvalidData.into())
     }
 }
 
@@ -145,9 +192,33 @@ impl Write for Port {
 
 #[cfg(test)]
 mod tests {
-    use super::{PathBuf, Vec, fs, ports_in};
+    use super::{Marks, PathBuf, Vec, fs, ports_in};
     use std::os::unix::fs::symlink;
     use std::{env, format, process};
+
+    #[test]
+    fn marks_are_taken_out() {
+        let rows: [(&[u8], &[u8], bool); 6] = [
+            (&[0x8e, 0x00, 0x05], &[0x8e, 0x00, 0x05], false),
+            (&[0xff, 0xff, 0x00], &[0xff, 0x00], false),
+            (&[0x01, 0xff, 0x00, 0x34, 0x02], &[0x01, 0x02], true),
+            (&[0xff, 0x00, 0x00], &[], true),
+            (&[0xff, 0x00, 0xff, 0xff, 0xff], &[0xff], true),
+            (&[0xff, 0x00, 0x01, 0xff, 0x00, 0x02], &[], true),
+        ];
+        for (came, kept, is_altered) in rows {
+            for cut in 0..=came.len() {
+                let (mut marks, mut bytes, mut altered) = (Marks::default(), Vec::new(), false);
+                for chunk in [&came[..cut], &came[cut..]] {
+                    let mut chunk = chunk.to_vec();
+                    let (count, is_altered) = marks.take(&mut chunk);
+                    bytes.extend_from_slice(&chunk[..count]);
+                    altered |= is_altered;
+                }
+                assert_eq!((bytes.as_slice(), altered, marks), (kept, is_altered, Marks::Nothing));
+            }
+        }
+    }
 
     #[test]
     fn each_port_has_one_name() {
