@@ -47,8 +47,6 @@ try:
 except ImportError as missing:
     sys.exit(f"board.py: {missing}")
 
-FILES, RANKS = "abcdefgh", "87654321"
-START = "rnbqkbnrpppppppp................................PPPPPPPPRNBQKBNR"
 SQUARES = {0x86, 0x8E}  # how the messages begin that report squares: all of them, and one
 
 
@@ -98,8 +96,6 @@ class Hands:
 
     def __init__(self, port: Port) -> None:
         self.port, self.board = port, dgt.Board()
-        self.squares = {file + rank: START[8 * number + place]
-                        for number, rank in enumerate(RANKS) for place, file in enumerate(FILES)}
         self.is_mute = self.is_curt = self.is_cut = self.is_lost = False
 
     def send(self, message: bytes) -> None:
@@ -123,18 +119,17 @@ class Hands:
 
     def put(self, square: str, piece: str) -> None:
         self.board.change(square, piece)
-        self.squares[square] = piece
         for message in self.board.messages():
             self.send(message)
 
     def move(self, start: str, end: str) -> None:
-        piece = self.squares[start]
-        if self.squares[end] != ".":
+        position = self.board.position
+        if position[end] != ".":
             self.put(end, ".")
             time.sleep(0.1)
         self.put(start, ".")
         time.sleep(0.1)
-        self.put(end, piece)
+        self.put(end, position[start])
 
     def unplug(self) -> None:
         self.port.unplug()
@@ -143,7 +138,7 @@ class Hands:
     def obey(self, step: str) -> None:
         match step.split():
             case ["turn"]:
-                for square, piece in zip(self.squares, reversed(START)):
+                for square, piece in zip(dgt.SQUARES, reversed(dgt.Position.start())):
                     self.put(square, piece)
             case ["raw", text]:
                 self.port.write(bytes.fromhex(text))
@@ -163,7 +158,7 @@ class Hands:
                 self.is_mute = True
             case [square, piece]:
                 self.put(square, piece)
-            case [move] if move[:2] in self.squares and move[2:] in self.squares:
+            case [move] if move[:2] in dgt.SQUARES and move[2:] in dgt.SQUARES:
                 self.move(move[:2], move[2:])
             case _:
                 raise ValueError("none of the lines that --help lists")
