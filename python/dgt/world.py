@@ -7,12 +7,12 @@ from enum import StrEnum
 from typing import Any
 
 from . import _c
-from ._c import MAX_SENT, MAX_WORD
+from ._c import MAX_OWED, MAX_SENT, MAX_WORD
 from ._handle import Bytes, Uncopied, readable, writable
 from ._library import dgt
 from .board import Board, Identity
 from .commands import Ask, Asked, ClockMessage, Command, Leds
-from .errors import BadValue, Busy, NoSuchCommand
+from .errors import BadValue, NoSuchCommand
 from .host import Host
 from .values import Clock, Position, byte, number
 
@@ -59,7 +59,6 @@ class World(Uncopied):
         self._board, self._host = Board(position, clock, identity), Host()
         self._up_room, self._down_room = up, down
         self._up, self._down = bytearray(), bytearray()
-        self._partial = 0  # bytes that the board holds of an unfinished command
         self._out, self._out_at = writable(MAX_WORD)
 
     @property
@@ -86,7 +85,7 @@ class World(Uncopied):
     def quiet(self) -> bool:
         """Whether nothing is under way: both lines are empty, neither side holds a part of a
         message or command, and the board has nothing to send."""
-        held = self._up or self._down or self._partial or self._host.unread
+        held = self._up or self._down or self._board.partial or self._host.unread
         return not held and not self._board.owes
 
     # ---- What happens on the board, and what both sides send
@@ -142,18 +141,13 @@ class World(Uncopied):
         if self._is_busy():
             return Outcome.BUSY
         while left and not self._is_busy():
-            used, word = self._board.take(self._down[:left])
+            used, _ = self._board.take(self._down[:left])
             del self._down[:used]
             left -= used
-            self._partial = 0 if word is not None else self._partial + used
         return Outcome.DONE
 
     def _is_busy(self) -> bool:
-        try:
-            self._board.take(b"")
-        except Busy:
-            return True
-        return False
+        return self._board.owed_len == MAX_OWED
 
     def to_host(self, count: int) -> Outcome:
         """The host hears up to `count` bytes from the line. `NOTHING` if there is none."""
@@ -187,7 +181,7 @@ class World(Uncopied):
         self._up.clear()
         self._down.clear()
         self._host.line_lost()
-        self._board_forgets()
+        self._board.line_lost()
         return Outcome.DONE
 
     def host_disconnects(self) -> Outcome:
@@ -218,7 +212,7 @@ class World(Uncopied):
     def board_loses_power(self) -> Outcome:
         """The board loses its power and gets it back: it is as after `line_lost`. The lines keep
         their bytes."""
-        self._board_forgets()
+        self._board.line_lost()
         return Outcome.DONE
 
     def host_restarts(self) -> Outcome:
@@ -234,7 +228,3 @@ class World(Uncopied):
         """The host gives up the replies that it awaits, which may be lost. Nothing else changes."""
         self._host.give_up_awaited()
         return Outcome.DONE
-
-    def _board_forgets(self) -> None:
-        self._board.line_lost()
-        self._partial = 0
