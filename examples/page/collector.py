@@ -200,9 +200,8 @@ class State:
 
 
 def said_of(board: topics.Board, at: float, row: int) -> Said:
-    letters = re.sub(r"\d", lambda digit: "." * int(digit[0]), board.placement).replace("/", "")
-    return Said(board.name, at, letters, board.clock, board.state, board.is_sure, board.players,
-                board.is_confirmed, row)
+    return Said(board.name, at, board.position.letters, board.clock, board.state, board.is_sure,
+                board.players, board.is_confirmed, row)
 
 
 def correct(said: list[Said], before: str) -> None:

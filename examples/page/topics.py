@@ -8,6 +8,8 @@ import time
 from dataclasses import dataclass, field
 from typing import Any
 
+import dgt
+
 # The topics of a board, below boards/NAME. Of several that are retained, a server hears them in
 # this order: whether a position is right and confirmed is known before it comes.
 LOG, JOURNAL, STATE, CONFIRMED, POSITION, CLOCK, PLAYERS, COUNTERS = TOPICS = (
@@ -23,7 +25,7 @@ SIDES = ("left", "right")  # of a clock
 AT_START = time.time() - time.monotonic()
 NEAR = 1.5  # seconds by which a clock may differ from what a page makes of its last reading
 # A line of `dgt picture`: how many bytes had come, and where the pieces stand.
-LINE = re.compile(r"(\d{8,20}) ([PRNBKQprnbkqXYZ1-8]{1,8}(?:/[PRNBKQprnbkqXYZ1-8]{1,8}){7})")
+LINE = re.compile(r"(\d{8,20}) (\S+)")
 # One of `dgt picture --clock`.
 TIME = r"(\d{1,3}:[0-5]\d:[0-5]\d)"
 TIMES = re.compile(rf"\d{{8,20}} clock {TIME} {TIME} (running|stopped) (white|black|-)( low)?")
@@ -46,17 +48,14 @@ class Clock:
     low: bool = False
 
 
-def is_rank(text: str) -> bool:
-    """Eight squares: a letter is one, a digit is its number of empty ones."""
-    return sum(int(part) if part.isdigit() else 1 for part in text) == 8
-
-
-def read_position(text: str) -> tuple[int, str]:
-    """The count of bytes, and the placement."""
-    found = LINE.fullmatch(text)
-    if not found or not all(map(is_rank, found[2].split("/"))):
+def read_position(text: str) -> tuple[int, dgt.Position]:
+    """The count of bytes, and where the pieces stand."""
+    if not (found := LINE.fullmatch(text)):
         raise Refused
-    return int(found[1]), found[2]
+    try:
+        return int(found[1]), dgt.Position.parse(found[2])
+    except dgt.BadPlacement:
+        raise Refused from None
 
 
 def seconds(text: str) -> int:
@@ -154,17 +153,12 @@ def read_entry(said: list[Any]) -> dict[str, Any]:
     *texts, is_confirmed = said
     entry = {topic: read(topic, text.encode())
              for topic, text in zip(IN_ENTRY, texts, strict=True) if text}
-    return entry | {CONFIRMED: entry.get(POSITION) if is_confirmed else (0, "")}
+    return entry | {CONFIRMED: entry.get(POSITION) if is_confirmed else (0, None)}
 
 
 def ahead(now: int) -> int:
     """By how many milliseconds the clock here is ahead of another one."""
     return round(1000 * time.time()) - now
-
-
-def turned(placement: str) -> str:
-    """The placement as it is seen from the other side."""
-    return placement[::-1]
 
 
 @dataclass
@@ -202,7 +196,7 @@ class Board:
     def is_confirmed(self) -> bool:
         """Whether the board has confirmed its position, as far as its publisher says that."""
         confirmed = self.said.get(CONFIRMED)
-        return bool(confirmed is None or confirmed[1] == self.placement)
+        return bool(confirmed is None or confirmed[1] == self.position)
 
     @property
     def state(self) -> str:
@@ -215,8 +209,9 @@ class Board:
             self.state in ("silent", "gone", "ended") or now > self.live_at + LOST)
 
     @property
-    def placement(self) -> str:
-        return str(self.said[POSITION][1])
+    def position(self) -> dgt.Position:
+        position: dgt.Position = self.said[POSITION][1]
+        return position
 
     @property
     def clock(self) -> Clock | None:
@@ -289,12 +284,12 @@ class Board:
 
     def event(self) -> dict[str, Any]:
         """What a page is sent. `at` of the clock is the `moment` at which it was read."""
-        count, placement = self.said[POSITION]
-        players, clock = self.players, self.clock
+        count, position = self.said[POSITION]
+        placement, players, clock = str(position), self.players, self.clock
         return {
             "board": self.name,
             "count": count,
-            "placement": turned(placement) if self.is_turned else placement,
+            "placement": placement[::-1] if self.is_turned else placement,
             "state": "following" if self.state == "doubt" else self.state,
             "players": players and {"white": players[0], "black": players[1]},
             "clock": None if clock is None else {"none": True} if clock.is_none else {
