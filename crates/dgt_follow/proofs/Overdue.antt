@@ -14,15 +14,6 @@ use Rattle.dgt_follow.specs.Follower.{DisturbedIsAskedAnew, OverdueIsAskedAnew, 
 
 -- ---- what is unanswered is not calm
 
-first_of : (a b : Bool) → (a && b) ≡ true → a ≡ true
-first_of true b e = refl
-first_of false b e = cc
-
-calm_or_owed : (some answered quiet : Bool) → ((some && answered) && quiet) ≡ true → (some && not answered) ≡ false
-calm_or_owed true true quiet e = refl
-calm_or_owed true false quiet e = cc
-calm_or_owed false answered quiet e = cc
-
 owed_or_calm : (some answered quiet : Bool) → (some && not answered) ≡ true → ((some && answered) && quiet) ≡ false
 owed_or_calm true false quiet e = refl
 owed_or_calm true true quiet e = cc

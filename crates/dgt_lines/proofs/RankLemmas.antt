@@ -188,12 +188,6 @@ so_far_none rank = record {
   few = omega arith;
 }
 
--- and all of it
-pub so_far_all : (written : List ℕ) (was_empty : Bool) (last seen : ℕ) (later : List Piece) (whole : List ℕ)
-    → later ≡ [] → RankSoFar written was_empty last seen later whole → written ≡ whole
-so_far_all written was_empty last seen later whole e all =
-    all.ends ∙ ap (λ l. all.prefix ++ rank_text_after all.empty l) (sym e) ∙ all.goes_on
-
 -- ---- a square is set
 
 abbrev pub rank_text : List Piece → List ℕ

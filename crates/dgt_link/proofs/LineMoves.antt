@@ -158,15 +158,6 @@ pub record IsTaking (before : BoardView) (line : LineContents) (moved : ℕ) (no
   pub left_is : left ≡ without_first line moved
   pub earlier : StaysUnfinished before line.bytes moved
 
-pub taking_begins : (before : BoardView) (line : LineContents) → IsTaking before line 0 before line
-taking_begins before line =
-    record {
-      within = omega arith;
-      taken = inl (refl, refl);
-      left_is = refl;
-      earlier = λ fewer some less. absurd (omega (arith, some, less));
-    }
-
 some_taken : (before now : BoardView) (bytes : List ℕ) (moved : ℕ) → 0 < moved → HasTakenAny before bytes moved now
     → HasTaken before (take moved bytes) now
 some_taken before now bytes moved some (inl (none, same)) = absurd (omega (arith, some, none))

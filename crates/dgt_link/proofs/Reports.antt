@@ -58,9 +58,6 @@ record Sends (x : MachineState) (move : Move) : Type 0 where
   pub up : (after_move x move).up ≡ x.up ++ sent_by x move
   pub picture : (after_move x move).picture ≡ x.picture
 
-sends_nothing : (x y : MachineState) → y.up ≡ x.up → y.up ≡ x.up ++ []
-sends_nothing x y same = same ∙ sym (append-nil x.up)
-
 reported_if : (x : MachineState) (asked : Bool) (message : Content)
     → ((if asked then after_reported x message else x).up ≡ x.up ++ (if asked then message ∷ [] else []))
     × ((if asked then after_reported x message else x).picture ≡ x.picture)
