@@ -22,7 +22,7 @@ abbrev pub Adds : {A : Type 0} → Result A BadAsk → List ℕ → List ℕ →
 Adds r old new command =
     MatchResult r (λ _. new ≡ old ++ command_encoding command) (λ fault. fault ≡ OutOfMemory)
 
--- and a name comes next
+-- a call appends the bytes of this command, and a name comes next
 abbrev pub Takes : Result Awaited BadAsk → List ℕ → List ℕ → CommandContent → Type 0
 Takes r old new command =
     MatchResult r (λ next. (next ≡ Name) × (new ≡ old ++ command_encoding command))

@@ -48,7 +48,7 @@ HasBytes text bytes =
     ((text ≡ codes "-") × (bytes ≡ []))
     ⊎ ((text ≢ codes "-") × (text ≢ []) × (decode_of text ≡ Ok bytes))
 
--- and is a clock message that carries as many as its id says
+-- a text has the bytes of a clock message, as many as its id says
 abbrev pub HasPayload : KnownId → ℕ → List ℕ → ClockContent → Type 0
 HasPayload known size text message =
     (payload : List ℕ) × (decode_sized text size ≡ Ok payload)

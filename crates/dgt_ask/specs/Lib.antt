@@ -1,4 +1,4 @@
 -- what public contracts cite
 pub mod Asks
--- and private ones
+-- what private contracts cite
 pub mod Asking

@@ -36,7 +36,7 @@ reply_raises : (owed added : List Reply) (squares news : ℕ) → length added �
     → length (owed ++ added) + squares + news ≤ length owed + squares + news + 1
 reply_raises owed added squares news h = rw (length-append owed added) (omega (arith, h))
 
--- and one that adds none makes the clock owed at most
+-- a command that adds no reply makes the clock owed at most
 mode_raises : (owed : List Reply) (squares : ℕ) (before after : Bool) (message : Content)
     → length (owed ++ []) + squares + length (cond after (message ∷ []) [])
     ≤ length owed + squares + length (cond before (message ∷ []) []) + 1

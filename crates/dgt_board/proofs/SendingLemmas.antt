@@ -155,7 +155,7 @@ field_reported board square k within e =
     rw e (same_square _ _
     (get_or-set_same board.reported_squares square (piece_on board.squares square) Piece.Empty within))
 
--- and each other one is reported where it was
+-- a square that was reported stays so
 field_reports : (board : BoardState) (square k : ℕ) → square < length board.reported_squares → differs board k ≡ false
     → differs (after_reporting board (field_of board square)) k ≡ false
 field_reports board square k within h = go (k == square) refl
@@ -283,7 +283,7 @@ pub times_are_next : (board : BoardState) → slice_get board.owed 0 ≡ None
 times_are_next board none squares owed =
     rw (no_first board.owed none, no_first (unreported_squares board) squares, owed) refl
 
--- and else nothing
+-- with no reply, no square and no clock left, nothing is next
 pub nothing_is_next : (board : BoardState) → slice_get board.owed 0 ≡ None
     → slice_get (unreported_squares board) 0 ≡ None
     → board.times_owed ≡ false → next_message board ≡ None

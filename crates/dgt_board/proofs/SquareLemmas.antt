@@ -62,7 +62,7 @@ module _ (board : BoardState) (mask : ℕ) (reported_all : length board.reported
       let apart = (reports k within).0 ((bit_set_by_shift mask k).0 (shr_and_one mask k ∙ set)) in
       ap not (ne_eqb _ _ (λ codes. apart (reported ∙ ap Some (same_code _ _ codes) ∙ sym shown)))
 
-  -- and one whose bit is clear doesn't
+  -- a square whose bit is clear doesn't differ
   clear_same : (k : ℕ) → k < 64 → bit_at mask k ≡ 0 → differs board k ≡ false
   clear_same k within clear =
       let reported = slice_get-get_or board.reported_squares k Piece.Empty (omega arith) in

@@ -27,7 +27,7 @@ pub record IsShortIdentity (identity : IdentityContent) : Type 0 where
   pub battery : length identity.battery ≤ 64
   pub long_serial : length identity.long_serial ≤ 64
 
--- and so is what it reports of its clock
+-- what a board reports of its clock is short
 abbrev pub IsShortClock : ClockState → Type 0
 IsShortClock (ClockState.times readings) = Unit {0}
 IsShortClock (ClockState.no_clock absence) = length absence.raw ≤ 63

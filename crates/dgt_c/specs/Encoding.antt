@@ -56,7 +56,7 @@ SaysMembers said body (Content.version main sub) =
 SaysMembers said body (Content.carried code bytes) =
     (said.kind ≡ EVENT_OTHER → code ≡ said.code) × (bytes ≡ body)
 
--- and so does the kind
+-- the kind and the members, or the body, say this message
 abbrev pub SaysContent : DgtEvent → List ℕ → Content → Type 0
 SaysContent said body message =
     (said.kind ≡ (message_reported message).kind) × SaysMembers said body message

@@ -77,7 +77,7 @@ ReportsReserveZeros =
     × ((before : ℕ) (awaited : List Kind) (x : Placed) (reported : DgtEvent)
     → Reports before awaited x reported → reported.reserved ≡ replicate 29 0)
 
--- and so has one that views a message
+-- a struct that views a message has zeros for its reserved member
 abbrev pub ViewsReserveZeros : Type 0
 ViewsReserveZeros =
     (code : ℕ) (body : List ℕ) → (view_reported code body).reserved ≡ replicate 29 0
@@ -163,7 +163,7 @@ NothingIsEncoded =
     → ((message : Content) → ¬ (SaysMessage said body message))
     → EncodesMessage said body old new reported → (reported.status ≡ 2) × (new ≡ old)
 
--- and if it says one, such a message is encoded
+-- if C says a message, such a message is encoded
 abbrev pub MessagesAreEncoded : Type 0
 MessagesAreEncoded =
     (said : DgtEvent) (body old new : List ℕ) (reported : DgtEncoded) (message : Content)
@@ -197,7 +197,7 @@ EventsHaveTexts =
     → (other : Event) × SaysEvent said body other
     × EncodesBytes (event_text other ++ 0 ∷ []) old new reported
 
--- and if it says none, nothing is written
+-- if C says no event, nothing is written
 abbrev pub NothingHasNoText : Type 0
 NothingHasNoText =
     (said : DgtEvent) (body old new : List ℕ) (reported : DgtEncoded)

@@ -42,7 +42,7 @@ pub record IsClockForm (bytes : List ℕ) : Type 0 where
   pub last : get_or bytes (length bytes - 1) 0 ≡ 0x00
   pub size : length (take (length bytes - 1 - 4) (drop 4 bytes)) + 3 ≡ get_or bytes 1 0
 
--- and those of an LED frame
+-- what the bytes of an LED frame look like
 pub record IsLedForm (bytes : List ℕ) : Type 0 where
   pub long : 2 ≤ length bytes
   pub first : get_or bytes 0 0 ≡ 0x60

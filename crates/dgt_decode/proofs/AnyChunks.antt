@@ -23,7 +23,7 @@ first_reported : (held chunk : List ℕ) (used : ℕ) (x : Option Event) → Fir
 first_reported held chunk used None h = rw (h.0, take-length chunk) h.1
 first_reported held chunk used (Some event) h = h.1
 
--- and after bytes of which these are held
+-- what the used bytes of a chunk come to, after all bytes before it
 pub call_reported : (s : List ℕ) (call : Call) → FirstEvent (unfinished_message s) call.chunk call.used call.event
     → events (s ++ take call.used call.chunk) ≡ events s ++ at_place_if_any (length s + call.used) call.event
 call_reported s call first =

@@ -23,7 +23,7 @@ pub lead-seven : (bytes : List ℕ) → SevenByRecursion bytes → lead bytes �
 lead-seven [] h = refl
 lead-seven (b ∷ bytes) h = rw (lt-leb 128 b h.0, lead-seven bytes h.1) refl
 
--- and no segment
+-- seven-bit bytes are no segment
 pub segments-seven : (bytes : List ℕ) → SevenByRecursion bytes → segments bytes ≡ []
 segments-seven [] h = refl
 segments-seven (b ∷ bytes) h = rw (lt-leb 128 b h.0) (segments-seven bytes h.1)

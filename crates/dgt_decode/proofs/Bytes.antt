@@ -47,7 +47,7 @@ pub held_begins : (held : List ℕ) → IsHeld held → 0 < length held → 128 
 held_begins [] h some = absurd (omega arith)
 held_begins (b ∷ held) h some = (IsAlone-parts b held (alone_held (b ∷ held) h some).0).0
 
--- and still does with more bytes
+-- what is held begins with a set top bit, with more bytes after it, too
 pub held_begins_more : (held run : List ℕ) → IsHeld held → 0 < length held → 128 ≤ get_or (held ++ run) 0 0
 held_begins_more held run h some = rw (get_or_append_left held run 0 0 some) (held_begins held h some)
 

@@ -56,7 +56,7 @@ lead-divided prefix parts seven h =
     rw (lead-append prefix (concat parts), lead-seven prefix seven, segments-seven prefix seven, lead-parts parts h)
     (append-nil prefix)
 
--- and the segments after it are the segments
+-- the segments after a seven-bit prefix are the segments
 segments-divided : (prefix : List ℕ) (parts : List (List ℕ)) → SevenByRecursion prefix → AllByRecursion IsSegment parts
     → segments (prefix ++ concat parts) ≡ parts
 segments-divided prefix parts seven h =
@@ -71,7 +71,7 @@ cut_divides s =
       in_a_row = sym (whole s);
     }
 
--- and the only one
+-- the cut is the only division
 pub one_cut : (s prefix : List ℕ) (parts : List (List ℕ)) → CutsInto prefix parts s → (prefix ≡ lead s)
     × (parts ≡ segments s)
 one_cut s prefix parts d = (

@@ -45,7 +45,7 @@ is_read reads m h =
       reports = rw (reads m.said m.bytes h) refl;
     }
 
--- and so are several
+-- messages that are encoded are read
 are_read : AreRead → (ms : List Sent) → AllByRecursion (λ m. Encodes m.said m.bytes) ms → AllByRecursion IsRead ms
 are_read reads [] h = tt
 are_read reads (m ∷ ms) h = (is_read reads m h.0, are_read reads ms h.1)
@@ -61,7 +61,7 @@ encodings (m ∷ ms) = m.bytes ∷ encodings ms
 lead-before : (g q : List ℕ) → IsAlone g → lead (g ++ q) ≡ []
 lead-before g q alone = rw (lead-append g q, alone.no_lead, alone.one) refl
 
--- and then come the segments of what stands after
+-- if a message begins after them, its segments come after that one
 segments-before : (g q : List ℕ) → IsAlone g → lead q ≡ [] → segments (g ++ q) ≡ g ∷ segments q
 segments-before g q alone e = rw (segments-append g q, alone.one, e, append-nil g) refl
 

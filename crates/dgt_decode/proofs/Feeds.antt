@@ -22,7 +22,7 @@ take-take-drop k n chunk h =
     let whole : k + (n - k) ≡ n = omega arith in
     ap (λ (m : ℕ). take m chunk) (sym whole) ∙ take-add k (n - k) chunk
 
--- and at each shorter prefix
+-- if a prefix of a chunk makes no event, no shorter one does
 pub quiet-shorter : (held chunk : List ℕ) (k n : ℕ) → k ≤ n → events (held ++ take n chunk) ≡ []
     → events (held ++ take k chunk) ≡ []
 quiet-shorter held chunk k n h e =

@@ -87,7 +87,7 @@ frames-stray kept b none seven =
       unfinished = λ e. nothing_held;
     }
 
--- and it is taken by itself
+-- a stray byte is taken by itself
 pub prefix-stray : (kept rest : List ℕ) → unfinished_message kept ≡ [] → 0 < length rest → slice_index rest 0 < 128
     → FramesPrefix kept rest 1 [] (Some (found.Stray (slice_index rest 0)))
 prefix-stray kept [] none some seven = absurd (omega (arith, some))
@@ -233,7 +233,7 @@ frames-body state kept b left was body seven =
     frames-after kept b (left - 1) is.0 (omega (arith, is.1)) seven
     (omega (arith, announced_total-append kept (b ∷ []) is.1, is.2, is.3))
 
--- and so does the third byte, with no body to come
+-- the third byte does, with no body to come, too
 pub frames-head : (state : FramerState) (kept : List ℕ) (b high low : ℕ) → IsKept state kept → state ≡ Head
     → length kept ≢ 1 → b < 128 → high ≡ slice_index kept 1 → low ≡ b → 3 ≤ 128 * high + low
     → let left = 128 * high + low - 3 in

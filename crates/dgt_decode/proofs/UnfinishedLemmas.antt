@@ -79,7 +79,7 @@ unfolding unfinished_message
 unfinished-of_unfinished h nothing = refl
 unfinished-of_unfinished h (waiting g alone e) = rw (alone.one, e) refl
 
--- and makes no event
+-- what is unfinished makes no event
 pub events-of_unfinished : (h : List ℕ) → IsUnfinished h → events h ≡ []
 unfolding events
 events-of_unfinished h nothing = refl

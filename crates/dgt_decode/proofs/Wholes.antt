@@ -22,6 +22,6 @@ IsAlone-whole g w = IsAlone-begin g w.long w.first (by_recursion (drop 1 g) w.la
 pub verdict-of_whole : (g : List ℕ) → IsWholeMessage g → verdict g ≡ Some (at_place (length g) (message_event g))
 verdict-of_whole g w = verdict-full g w.long w.whole
 
--- and it leaves nothing unfinished
+-- a whole message leaves nothing unfinished
 pub whole_unfinished : (g : List ℕ) → IsWholeMessage g → unfinished_message g ≡ []
 whole_unfinished g w = unfinished-alone g (IsAlone-whole g w) ∙ rw (verdict-of_whole g w) refl

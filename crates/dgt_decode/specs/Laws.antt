@@ -26,7 +26,7 @@ EventsAppend = (s p : List ℕ) → events (s ++ p)
     ≡ events s ++ events_behind (length s - length (unfinished_message s))
     (events (unfinished_message s ++ p))
 
--- and so it is with what is unfinished at the end
+-- What is unfinished at the end needs only the unfinished message of what came before.
 abbrev pub UnfinishedAppend : Type 0
 UnfinishedAppend = (s p : List ℕ) →
     unfinished_message (s ++ p) ≡ unfinished_message (unfinished_message s ++ p)

@@ -17,7 +17,7 @@ pub more_bytes : (bytes chunk : List ℕ) (i n : ℕ)
     → (bytes ++ take i chunk) ++ take n (take (length chunk - i) (drop i chunk)) ≡ bytes ++ take (i + n) chunk
 more_bytes bytes chunk i n = rw (take_rest, take-add i n chunk) (append_assoc bytes (take i chunk) _)
 
--- and all that come after them
+-- the parts of a chunk, one after another, are the chunk
 pub all_bytes : (bytes chunk : List ℕ) (i n : ℕ)
     → ((bytes ++ take i chunk) ++ take n (take (length chunk - i) (drop i chunk))) ++ drop (i + n) chunk
     ≡ bytes ++ chunk
@@ -63,7 +63,7 @@ module _ {S : Type 0} {W : Sink S} {P : List ℕ → List ℕ → Type 0} (bytes
         → GathersPrefix W (held, held') a b (Ok used) P bytes rest text
     gathers_some q waits = (used, refl, record { more = more; gathers = q; has = has; waits = waits })
 
-    -- and the line was refused
+    -- they end one, and its line was refused
     pub gathers_refused : (r : Result ℕ RunFault) (e : RunFault) → IsErrAnd r (λ y. y ≡ e)
         → (e ≡ WriteFailed) × Stopped W a b (held ++ more) → GathersPrefix W (held, held') a b r P bytes rest text
     gathers_refused (Ok x) e k q = absurd k

@@ -78,7 +78,7 @@ each_is_printed has k s are =
     let found = has.0 s are in
     (found.1, word_lines k found.0, record { words = found.0; are_words = found.2; said = refl })
 
--- and only one
+-- each list of bytes has only one text
 pub each_is_printed_once : EachHasItsWords → EachIsPrintedOnce
 each_is_printed_once has k s r q text also h g =
     let same = has.1 s h.words g.words r q h.are_words g.are_words in

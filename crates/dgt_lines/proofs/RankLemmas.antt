@@ -240,7 +240,7 @@ ranks_text-eight pieces = simp drop-drop refl
 abbrev pub ended_ranks : List (List ℕ) → List ℕ
 ended_ranks ranks = flat_map (λ rank. rank ++ ascii "/" ∷ []) ranks
 
--- and one after them
+-- ranks that are joined: a slash after each but the last
 join-last : (ranks : List (List ℕ)) (last : List ℕ)
     → ended_ranks ranks ++ last ≡ join_with_byte (ascii "/") (ranks ++ last ∷ [])
 join-last [] last = refl

@@ -12,7 +12,7 @@ EachIsPrinted =
     (offset : ℕ) (bytes : List ℕ) → AreBytes bytes →
     (rest : List ℕ) × (text : List ℕ) × Prints offset bytes rest text
 
--- and only one
+-- bytes that come after this number of others have only one text
 abbrev pub EachIsPrintedOnce : Type 0
 EachIsPrintedOnce =
     (offset : ℕ) (bytes rest other text also : List ℕ) →

@@ -41,7 +41,7 @@ shown_time t =
     decimal t.hours ++ codes ":" ++ padded_decimal 2 t.minutes ++ codes ":" ++ padded_decimal 2
     t.seconds
 
--- and the flags
+-- hours, minutes, seconds and the flags
 unfoldable pub reading_text : Time → List ℕ
 reading_text t = shown_time t ++ codes " " ++ decimal t.flags
 
@@ -110,7 +110,7 @@ lines bytes = flat_map placed_line (events bytes)
 abbrev pub events_after : List ℕ → ℕ → List ℕ → List Placed
 events_after held offset chunk = events_behind offset (chunk_events held chunk)
 
--- and their lines
+-- the lines of a chunk that comes after this many bytes, of which these are unfinished
 abbrev pub lines_after : List ℕ → ℕ → List ℕ → List ℕ
 lines_after held offset chunk = flat_map placed_line (events_after held offset chunk)
 

@@ -17,6 +17,6 @@ IsInSink (Err TooManyTurns) text whole out = out ≡ text
 IsInSink (Err WriteFailed) text whole out = IsPrefix out whole
 IsInSink (Err (BadLine _ _)) text whole out = ⊥
 
--- and for the bytes that were read, if `monitor` gave it
+-- what stands in the sink, if `monitor` gave this answer after these bytes
 abbrev pub IsMonitored : {A : Type 0} → Result A RunFault → List ℕ → List ℕ → Type 0
 IsMonitored r bytes out = IsInSink r (lines bytes) (monitor_text bytes) out

@@ -68,7 +68,7 @@ picture_line x = line x.place (placement_text x.pieces)
 abbrev pub picture_lines : Option (List Piece) → List Placed → List ℕ
 picture_lines before placed = flat_map picture_line (pictures before placed)
 
--- and for each that bytes set, if nothing was known before
+-- a line for each picture that bytes set, if nothing was known before
 abbrev pub pictures_text : List ℕ → List ℕ
 pictures_text bytes = picture_lines None (events bytes)
 

@@ -62,7 +62,7 @@ abbrev pub HasEventLines : List ℕ → List ℕ → List ℕ → Type 0
 HasEventLines bytes text last =
     (text ≡ lines bytes) × (last ≡ unfinished_line (length bytes) (unfinished_message bytes))
 
--- and a framer that keeps `kept` holds what is unfinished
+-- the text is the lines of the bytes, and a framer that keeps `kept` holds what is unfinished
 pub record HasPrintedEvents (kept bytes text : List ℕ) : Type 0 where
   pub said : text ≡ lines bytes
   pub held : unfinished_message kept ≡ unfinished_message bytes
@@ -72,7 +72,7 @@ pub record HasPrintedEvents (kept bytes text : List ℕ) : Type 0 where
 abbrev pub HasReportLines : PictureState → List ℕ → List ℕ → List ℕ → Type 0
 HasReportLines first bytes text last = (text ≡ text_from first bytes) × (last ≡ [])
 
--- and `state` is the one after them
+-- the text is the lines of the bytes, and `state` is the one after them
 pub record HasPrintedReports (first : PictureState) (kept : List ℕ) (state : PictureState)
     (bytes text : List ℕ) : Type 0 where
   pub said : text ≡ text_from first bytes

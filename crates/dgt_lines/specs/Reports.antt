@@ -29,7 +29,7 @@ use Rattle.dgt_lines.specs.Pictures.{PlacedPicture, known_at, made_by, picture_a
 abbrev pub new_state : Doubt → PictureState
 new_state doubt = record { picture = None; doubt = doubt; clock = Hidden }
 
--- and the clock is shown
+-- nothing is known, and the clock is shown
 abbrev pub new_state_with_clock : Doubt → PictureState
 new_state_with_clock doubt = record { picture = None; doubt = doubt; clock = Unknown }
 
@@ -132,7 +132,7 @@ reports_at place (Message said) before = message_reports place said before
 reports_at place (Refused code (BadReading at)) before = []
 reports_at place _ before = fault_reports place before
 
--- and of events, one after another
+-- what is reported of events, one after another, with the state before them
 abbrev pub reports : PictureState → List Placed → List Report
 reports before placed = made_by state_after_event reports_at before placed
 
@@ -150,7 +150,7 @@ report_lines before placed = flat_map report_line (reports before placed)
 abbrev pub text_from : PictureState → List ℕ → List ℕ
 text_from before bytes = report_lines before (events bytes)
 
--- and the state after them
+-- the state after bytes, with this state before them
 abbrev pub state_from : PictureState → List ℕ → PictureState
 state_from before bytes = state_after_events before (events bytes)
 
@@ -158,7 +158,7 @@ state_from before bytes = state_after_events before (events bytes)
 abbrev pub report_text : Doubt → List ℕ → List ℕ
 report_text doubt bytes = report_lines (new_state doubt) (events bytes)
 
--- and with those of the clock
+-- the lines of bytes and of the clock, with nothing known before
 abbrev pub report_text_with_clock : Doubt → List ℕ → List ℕ
 report_text_with_clock doubt bytes = report_lines (new_state_with_clock doubt) (events bytes)
 
@@ -176,7 +176,7 @@ DoubtsLeavePictures =
     (doubt : Doubt) (bytes : List ℕ) → pictures_shown (reports (new_state doubt) (events bytes))
     ≡ pictures None (events bytes)
 
--- and the picture is the one after them
+-- with doubts or without, the picture after events is the same
 abbrev pub DoubtsKeepThePicture : Type 0
 DoubtsKeepThePicture =
     (before : PictureState) (placed : List Placed) → (state_after_events before placed).picture
@@ -243,7 +243,7 @@ ClockLeavesReports =
     (doubt : Doubt) (placed : List Placed) → without_clock
     (reports (new_state_with_clock doubt) placed) ≡ reports (new_state doubt) placed
 
--- and then the clock has no line
+-- if the clock is not shown, it has no line
 abbrev pub HiddenClockIsSilent : Type 0
 HiddenClockIsSilent =
     (doubt : Doubt) (placed : List Placed) → clocks_shown (reports (new_state doubt) placed) ≡ []

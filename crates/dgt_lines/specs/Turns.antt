@@ -27,7 +27,7 @@ abbrev pub HasTurns : {A : Type 0} → ℕ → Result A RunFault → List ℕ �
 HasTurns limit (Err TooManyTurns) bytes = limit ≤ length bytes
 HasTurns limit _ bytes = ⊤
 
--- and of the bytes, and what was written, P holds
+-- a run of at most this many turns was given these bytes, and P holds of these and the output
 abbrev pub InTurns : {A : Type 0} → ℕ → Result A RunFault → (List ℕ → List ℕ → Type 0) → List ℕ
     → List ℕ → Type 0
 InTurns limit r P bytes out = HasTurns limit r bytes × P bytes out
@@ -49,7 +49,7 @@ pub record RunsInTurns {S T A : Type 0} (R : Source S) (W : Sink T) (source : Ch
   pub all_read : OnOk r (IsAtEnd (R.left source.new))
   -- the source has failed if the answer says so, and else its mark is as before
   pub source_failed : R.failed source.new ≡ source_mark_after r (R.failed source.old)
-  -- and so it is of the sink
+  -- the sink has failed if the answer says so, and else its mark is as before
   pub sink_failed : W.failed sink.new ≡ sink_mark_after r (W.failed sink.old)
   -- no read comes after one that was refused or reported the end
   pub source_in_time : R.failed source.old ≡ false → R.ended source.old ≡ false
@@ -63,7 +63,7 @@ pub record RunsInTurns {S T A : Type 0} (R : Source S) (W : Sink T) (source : Ch
   -- there are at most `limit` reads
   pub turns : R.reads source.old + limit < 2 ^ 64
       → R.reads source.new ≤ R.reads source.old + limit
-  -- and as many if they are too many
+  -- there are `limit` reads if these are too many
   pub all_turns : r ≡ Err TooManyTurns → R.reads source.old + limit < 2 ^ 64
       → R.reads source.new ≡ R.reads source.old + limit
   -- nothing is left to flush

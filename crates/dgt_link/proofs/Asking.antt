@@ -85,7 +85,7 @@ pub break_moves : (x : MachineState) (outcome : Outcome) (moves : List Move) →
 break_moves x Outcome.Done moves e are = rw are refl
 break_moves x _ moves e are = cc
 
--- and so is a host break
+-- a host break is always done, and restarts the host
 pub host_break_moves : (x : MachineState) (outcome : Outcome) (moves : List Move) → outcome ≡ Outcome.Done
     → AreMovesOfStep ActContent.HostBreak outcome moves
     → IsRestarted (after_moves x moves) × IsPromised (after_moves x moves)

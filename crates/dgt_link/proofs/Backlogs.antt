@@ -10,7 +10,7 @@ abbrev pub BacklogFalls : Type 0
 BacklogFalls = (board : BoardState) (message : Content) → length board.reported_squares ≡ 64
     → next_message board ≡ Some message → backlog (after_sending board message) < backlog board
 
--- and rises by one for each event at most
+-- a backlog rises by one for each event at most
 abbrev pub BacklogRises : Type 0
 BacklogRises = (board : BoardState) (events : List EventContent)
     → backlog (effects board events) ≤ backlog board + length events

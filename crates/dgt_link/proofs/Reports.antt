@@ -144,7 +144,7 @@ pub seen_by_all : (x : MachineState) (moves : List Move) → AllByRecursion IsPl
 seen_by_all x [] all some = some
 seen_by_all x (move ∷ moves) all some = seen_by_all (after_move x move) moves all.1 (seen_stays x move all.0 some)
 
--- and so does one that is known once all messages under way are heard
+-- a picture that is known once all messages under way are heard stays so
 pub comes_by_all : (x : MachineState) (moves : List Move) → AllByRecursion IsPlain moves → IsSome (coming_picture x)
     → IsSome (coming_picture (after_moves x moves))
 comes_by_all x [] all some = some

@@ -33,7 +33,7 @@ healing_promised c world holds healing =
     let f = holds.follows healing.in_step in
     follows_with IsPromised f (coming_promise c.asked f.state f.comes healing.asked)
 
--- and a promised world that is quiet has the board's squares as its picture
+-- a promised world that is quiet has the board's squares as its picture
 pub promised_at_quiet : EachDividesOnce → (world : WorldView) → IsPromisedWorld world → IsQuietWorld world
     → world.host.picture ≡ Some world.board.state.squares
 promised_at_quiet once world is quiet =

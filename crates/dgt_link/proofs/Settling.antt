@@ -114,7 +114,7 @@ by_settling P send board host _ none = absurd none
 pub settling_no_break : (act : ActContent) → IsSettling act → act ≢ ActContent.Break
 settling_no_break = by_settling (λ act. act ≢ ActContent.Break) (λ e. cc) (λ count e. cc) (λ count e. cc)
 
--- and holds no host break
+-- acts that settle hold no host break
 pub settling_no_host_break : (acts : List ActContent) → AllByRecursion IsSettling acts
     → ¬ (Contains acts ActContent.HostBreak)
 settling_no_host_break [] all found = nothing_contained ActContent.HostBreak found
@@ -153,7 +153,7 @@ module _ (leads : Leads) where
       }
   run_promise _ world after _ x all stands none = absurd none
 
--- and of a world that settles is left a world
+-- a world that settles leaves a world
 pub run_is_world : ((act : ActContent) (world after : WorldView) (answer : Outcome) → IsWorld world
     → Step act world answer after → IsWorld after)
     → (count : ℕ) (old new : WorldView) → SettlesIn count old new → IsWorld old → IsWorld new

@@ -95,7 +95,7 @@ pub record IsSane (world : WorldView) : Type 0 where
   pub partial : IsPartial world.board.partial
   pub down : AreBytes world.down.bytes
 
--- and its lines have room for the longest message that a board sends and the longest command
+-- a sane world, with lines for the longest message of a board and the longest command
 pub record IsFaultyWorld (world : WorldView) : Type 0 where
   pub sane : IsSane world
   pub up_room : MIN_UP ≤ world.up.capacity

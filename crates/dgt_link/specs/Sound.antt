@@ -61,7 +61,7 @@ pub record IsSound (x : MachineState) : Type 0 where
   -- what is awaited is among the kinds to come, in their order
   pub awaited : IsSubsequence x.awaited (coming_kinds x)
 
--- and nothing more comes than the host knows of
+-- a sound state in which nothing comes but what the host knows of
 pub record IsExact (x : MachineState) : Type 0 where
   pub sound : IsSound x
   pub clock : coming_clock x ≡ x.board.reported_clock

@@ -78,7 +78,7 @@ abbrev pub StandsAfterStep : ActContent → Outcome → MachineState → WorldVi
 StandsAfterStep act outcome x after =
     (moves : List Move) × AreMovesOfStep act outcome moves × StandsFor after (after_moves x moves)
 
--- and the same after acts in order
+-- the world after acts in order stands for a state to which their moves lead from this one
 abbrev pub StandsAfterRun : List ActContent → List Outcome → MachineState → WorldView → Type 0
 StandsAfterRun acts outcomes x after =
     (moves : List Move) × AreMovesOfRun acts outcomes moves × StandsFor after (after_moves x moves)

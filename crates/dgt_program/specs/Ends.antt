@@ -32,7 +32,7 @@ FaultsComeFirst {S} {T} R W =
     → Does R W task source sink (Err fault)
     → (source.new ≡ source.old) × (sink.new ≡ sink.old)
 
--- and so it is for any words
+-- if a run for any words has another fault, nothing was read and nothing was written
 abbrev pub WordsComeFirst : {S T : Type 0} → Source S → Sink T → Type 0
 WordsComeFirst {S} {T} R W =
     (source : Change S) (sink : Change T) (fault : Fault) → IsBeforeRuns fault

@@ -129,7 +129,7 @@ abbrev pub IsRead : Type 0
 IsRead = (code : ℕ) (body : List ℕ) (said : Content) → code < 128 → IsCarried body
     → (reading code body ≡ Ok said) ↔ Fits said code body
 
--- and so is a fault
+-- a fault that fits a code and a body is their reading
 abbrev pub IsRefused : Type 0
 IsRefused = (code : ℕ) (body : List ℕ) (why : BodyFault) → code < 128 → IsCarried body
     → (reading code body ≡ Err why) ↔ IsFaultOf code body why

@@ -86,7 +86,7 @@ module _ (rules : Rules) {S T : Type 0} (R : Source S) (W : Sink T) where
       (stop_line rules at_end r e m l n (q.rest ++ chunk) t.0 k t.2)
       (end_exit rules W at_end r e m l d d' n (q.rest ++ chunk) k t)
 
-  -- and on a flush
+  -- the exit of a `?` on a flush
   pub scripted_unflushed : {A : Type 0} (at_end : Bool) (limit : ℕ) (r : Result A RunFault) (e : RunFault) (a b : S)
       (c d d' : T) (w m : WorldView) (line : LineBuffer) (n : ℕ) (bytes : List ℕ)
       → Consumes (R.left a) (R.left b) bytes → PlaysOn rules W (part 1 bytes w m) c d line n → IsErrAnd r (λ y. y ≡ e)

@@ -70,7 +70,7 @@ EachIsAnsweredOnce =
     → Answers before bytes steps after → Answers before bytes others other
     → (steps ≡ others) × (after ≡ other)
 
--- and what it does while it hears the bytes is a prefix of that
+-- what a board does while it hears bytes is a prefix of its answer
 abbrev pub EachPrefixGoesOn : Type 0
 EachPrefixGoesOn =
     (before between after : BoardView) (bytes : List ℕ) (steps others : List Exchange)

@@ -30,7 +30,7 @@ BrokenAnswersBegin =
     → IsServed {A = Unit {0}} (Err WriteFailed) before after bytes out
     → IsServed {A = Unit {0}} (Ok tt) before last bytes whole → IsPrefix out whole
 
--- and of two messages that the board sent the first was written whole
+-- of two messages that the board sent, the first was written whole
 abbrev pub OneIsCutOff : Type 0
 OneIsCutOff =
     (first second : Content) (out : List ℕ)

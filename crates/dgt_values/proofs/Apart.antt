@@ -17,7 +17,7 @@ first_begins : (bytes : List ℕ) → IsAsciiDigit (get_or bytes 0 0) → Begins
 first_begins [] h = omega (arith, h.0)
 first_begins (byte ∷ bytes) h = h
 
--- and the other way round
+-- the first byte of a text that begins with a digit is one
 begins_first : (bytes : List ℕ) → BeginsWithDigit bytes → IsAsciiDigit (get_or bytes 0 0)
 begins_first [] h = absurd h
 begins_first (byte ∷ bytes) h = h

@@ -210,7 +210,7 @@ from_ranks text pieces (rank ∷ ranks) eight joined each =
 pub placement_finishes : (text : List ℕ) (pieces : List Piece) → IsPlacement text pieces → Finishes text 7 8 pieces
 placement_finishes text pieces h = from_ranks text pieces h.ranks h.eight h.joined h.each
 
--- and the other way round
+-- what finishes by the counters is a placement
 pub finishes_placement : (text : List ℕ) (pieces : List Piece) → Finishes text 7 8 pieces → IsPlacement text pieces
 finishes_placement text pieces h =
     let all = parts text 7 8 pieces h in

@@ -87,7 +87,7 @@ ranks_left (suc n) =
       ),
     )
 
--- and one for the rest of this rank
+-- a digit for the rest of this rank
 something_left : (n s : ℕ) → s ≤ 8 → (more : List ℕ) × (rest : List Piece) × Finishes more n s rest
 something_left n zero h = ranks_left n
 something_left n (suc s) h =
