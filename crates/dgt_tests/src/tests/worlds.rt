@@ -7,8 +7,8 @@ use dgt_board::Board;
 use dgt_command::Command;
 use dgt_host::Host;
 use dgt_link::Act::{BoardSend, Change, ToBoard, ToHost};
-use dgt_link::{Act, FaultyAct, Outcome, World, WorldFault};
-use dgt_script::{LineFault, read_act, read_faulty_act};
+use dgt_link::{Act, FaultyAct, Outcome, WorldFault};
+use dgt_script::read_faulty_act;
 use dgt_values::{Kind, Piece, Square};
 use std::process::Abort;
 use std::test::Fail;
@@ -62,40 +62,6 @@ fn a_game_begins(rt: HostRuntime) -> Result<(), Fail> {
     assert_shown(&rt, world.board(), world.host(), E4_PLAYED);
     assert_same(&rt, world.play(&[Change(e4, Piece::Empty)]), 1);
     assert_shown(&rt, world.board(), world.host(), NO_E2);
-    Ok(())
-}
-
-// Does the act of each line, and returns whether all were done.
-fn plays(world: &mut World, script: &str) -> Result<bool, LineFault> {
-    for line in script.split('\n') {
-        let mut store = [0; 257];
-        if world.step(read_act(line.as_bytes(), &mut store)?) != Outcome::Done {
-            return Ok(false);
-        }
-    }
-    Ok(true)
-}
-
-// Scripts of which all acts are done, after which all is quiet and the host shows a new game.
-const SHOWN: [&str; 4] = [
-    // a command that is cut by a break
-    "host 2b04030b1000\ntoboard 2\nbreak\nhost 42\ntoboard 1\nsend\ntohost 67",
-    // a restart in the middle of a frame, whose zeros are the frame's
-    "host 6004ffffffff\ntoboard 2\nhostbreak\ntoboard 257\nsend\ntohost 67",
-    // a stale dump and a stale version come after the host began anew
-    "host 42\ntoboard 1\nhostbreak\ntoboard 257\nsend\ntohost 67\nsend\ntohost 67",
-    "host 4d\ntoboard 1\nhostbreak\ntoboard 257\nsend\ntohost 5\nsend\ntohost 67",
-];
-
-#[test]
-fn breaks_heal(rt: HostRuntime) -> Result<(), Fail> {
-    for script in SHOWN {
-        let mut world = world_of(rt.alloc(), 67, 257)?;
-        assert_that(&rt, plays(&mut world, script)?, script);
-        assert_shown(&rt, world.board(), world.host(), START);
-        let is_at_rest = world.quiet() && world.host().awaited().is_empty();
-        assert_that(&rt, is_at_rest, script);
-    }
     Ok(())
 }
 
