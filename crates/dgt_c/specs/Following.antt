@@ -7,7 +7,7 @@ use Rattle.dgt_c.specs.declared.header.TheConstants.{MODE_UPDATE, MODE_UPDATE_BO
 use Rattle.dgt_c.specs.declared.header.DgtSent.{DgtSent}
 use Rattle.dgt_c.specs.declared.header.TheConstants.{SENT, SENT_NO_ROOM}
 
--- the number of the mode into which the command of this one brings a board
+-- the number of an update mode in C
 abbrev pub update_mode_number : UpdateMode → ℕ
 update_mode_number UpdateMode.Squares = MODE_UPDATE_BOARD
 update_mode_number UpdateMode.Clock = MODE_UPDATE

@@ -1,4 +1,4 @@
--- The follower that C has before it says another.
+-- The follower of a handle before C starts another.
 use Rattle.dgt_follow.specs.declared.asking.UpdateMode.{UpdateMode}
 use Rattle.dgt_follow.specs.Follower.{FollowerView, new_follower}
 

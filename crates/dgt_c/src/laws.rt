@@ -17,8 +17,8 @@ ghost use Rattle.dgt_c.specs.Texts.{SaysEvent, SaysFault};
 
 pub mod header;
 
-/// What is reported of a chunk of a board's bytes is determined by it: how much of it is used, the
-/// structs and the bodies.
+/// A chunk of a board's bytes has one report: how many of its bytes are used, the structs and the
+/// bodies.
 pub fn one_report()
     ensures feed { OneFeed }
     ensures hearing { OneHearing }
@@ -29,8 +29,8 @@ pub fn one_report()
     dgt_decode::laws::one_first_event();
 }
 
-/// What is reported of a chunk of a host's bytes is determined by it, and so is the board that has
-/// taken it. A busy board stays.
+/// A chunk of a host's bytes has one report, and leaves one board that has taken it. A busy board
+/// stays as it was.
 pub fn one_command()
     ensures word { OneWord }
     ensures taking { OneTaking }

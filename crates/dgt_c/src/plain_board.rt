@@ -1,4 +1,4 @@
-//! The board that C has before it says another.
+//! The board of a handle before C starts another.
 
 ghost use Rattle.std.specs.Prelude.{◌≡◌};
 ghost use Rattle.dgt_c.specs.PlainBoard.{plain_board};

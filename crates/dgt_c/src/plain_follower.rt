@@ -1,4 +1,4 @@
-//! The follower that C has before it says another.
+//! The follower of a handle before C starts another.
 
 ghost use Rattle.std.specs.Prelude.{◌≡◌};
 ghost use Rattle.dgt_c.specs.PlainFollower.{plain_follower};

@@ -13,8 +13,8 @@ pub trait Listener {
     // the listener before an event, the event with its place, and the listener after it
     ghost hears: { Self → Placed → Self → Type 0 };
 
-    /// Hears an event, and how many bytes of the chunk come up to and including the one that makes
-    /// it.
+    /// Hears an event. Its place is how many bytes of the chunk come up to and including the one
+    /// that makes it.
     fn hear(&mut self, place: usize, event: &Event<'_>)
         ensures { hears self.old (at_place place (event_content event.now)) self.new };
 }

@@ -253,6 +253,7 @@ impl Host {
             changed: noted.changed,
         }
     }
+
     /// Uses a whole chunk, as [`Host::hear`] does one event after another. It reports no events:
     /// `picture`, `clock` and `awaited` return what has become of the host.
     ///

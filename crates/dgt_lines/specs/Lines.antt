@@ -95,7 +95,7 @@ offset_text offset = padded_decimal 8 offset
 abbrev pub line : ℕ → List ℕ → List ℕ
 line offset text = words_text (offset_text offset ∷ text ∷ []) ++ codes "\n"
 
--- the line of an event that the byte at the end of this many bytes makes
+-- the line of an event that ends after this many bytes
 abbrev pub event_line : ℕ → Event → List ℕ
 event_line offset event = line offset (event_text event)
 

@@ -45,7 +45,7 @@ pub(crate) const LINE_ROOM: usize = 128;
 /// Bytes on their way to a sink, at most `ROOM` of them. Contracts see those that were not written
 /// yet.
 ///
-/// An array of its own, since [`push_prefix`](Outgoing::push_front) writes after what is kept.
+/// An array of its own, since [`push_prefix`](Outgoing::push_prefix) writes after what is kept.
 #[derive(Drop)]
 pub struct Outgoing<const ROOM: usize> {
     bytes: [u8; ROOM],
