@@ -22,8 +22,8 @@ use Rattle.dgt_link.specs.Machine.{IsSending, MachineState, Move, state_of_board
 use Rattle.dgt_link.specs.Reported.{first_reply, sent_by as sent_by_move}
 use Rattle.dgt_link.specs.Step.{Becomes, IfDone, sending_outcome}
 use Rattle.dgt_link.specs.View.{WorldView, overflows}
-use Rattle.dgt_link.proofs.Reporting.{clock_reports, field_reports, reply_reports}
-use Rattle.dgt_link.proofs.Reports.{sending_sends}
+use Rattle.dgt_link.proofs.MessageReports.{clock_reports, field_reports, reply_reports}
+use Rattle.dgt_link.proofs.KnownPictures.{sending_sends}
 use Rattle.dgt_link.proofs.Sending.{next_is_sent}
 use Rattle.dgt_link.proofs.Taking.{effect_leaves}
 use Rattle.dgt_followed.specs.Followed.{FollowedView, RunsDone, asking_acts, follower_of, reading_acts}

@@ -1,4 +1,4 @@
--- What each act does to the promise of a host's clock, and what counts for it after many.
+-- What each act makes of the hope for a host's clock, and what counts for it after many.
 use Rattle.std.proofs.Common.{◌≡◌, refl, sym, ◌∙◌, ap, inr, List, [], ◌∷◌, Some, None, true, false, arith}
 use Rattle.std.specs.Prelude.{IsTrue, filter_map}
 use Rattle.dgt_command.specs.Content.{CommandContent}

@@ -23,7 +23,7 @@ use Rattle.dgt_link.proofs.Asking.{act_is_no_break, step_is_other}
 use Rattle.dgt_link.proofs.Lists.{Contains-cons, nothing_contained}
 use Rattle.dgt_link.proofs.Promises.{effect_owes}
 use Rattle.dgt_link.proofs.Quiet.{quiet_mode, quiet_up_to_date, reported_clock}
-use Rattle.dgt_link.proofs.Reporting.{clock_after_all-append}
+use Rattle.dgt_link.proofs.MessageReports.{clock_after_all-append}
 
 clock_after_known : (seen : Option ClockState) (message : Content) → IsSome seen → IsSome (clock_after seen message)
 clock_after_known None message known = absurd (false≢true known)

@@ -36,7 +36,7 @@ use Rattle.dgt_link.proofs.Dividing.{anew_divides}
 use Rattle.dgt_link.proofs.Lists.{Contains-cons, nothing_contained, right_empty}
 use Rattle.dgt_link.proofs.Promises.{IsComing, last_mode-append, noise-modes, nothing_asked}
 use Rattle.dgt_link.proofs.Quiet.{quiet_awaited}
-use Rattle.dgt_link.proofs.Resting.{nothing_first}
+use Rattle.dgt_link.proofs.WorldsByState.{nothing_first}
 use Rattle.dgt_link.proofs.AfterMoves.{moves_come, moves_sound}
 use Rattle.dgt_link.proofs.Sending.{next_is_sent}
 use Rattle.dgt_link.proofs.Soundness.{asked_sound, board_sound, move_sound, new_sound, noise-kinds}

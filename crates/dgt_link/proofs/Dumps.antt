@@ -26,7 +26,7 @@ use Rattle.dgt_link.proofs.Counting.{forgotten, forgotten_stands, nothing_said}
 use Rattle.dgt_link.proofs.History.{Goes, along, goes_all, later_shown, now, sends, step_goes}
 use Rattle.dgt_link.proofs.Hopes.{led}
 use Rattle.dgt_link.proofs.Lists.{not_empty, right_empty}
-use Rattle.dgt_link.proofs.Reports.{comes_by_all, known_behind, seen_by_all, step_is_plain}
+use Rattle.dgt_link.proofs.KnownPictures.{comes_by_all, known_behind, seen_by_all, step_is_plain}
 
 -- no act is a break
 abbrev Unbroken : List ActContent → Type 0

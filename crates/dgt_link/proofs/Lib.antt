@@ -1,7 +1,7 @@
 pub mod Lists
 pub mod Backlogs
 pub mod Subsequences
-pub mod Reporting
+pub mod MessageReports
 pub mod Taking
 pub mod Soundness
 pub mod Promises
@@ -16,7 +16,7 @@ pub mod Standing
 pub mod OneOutcome
 pub mod BoardSteps
 pub mod Asking
-pub mod Resting
+pub mod WorldsByState
 pub mod ActRuns
 pub mod PromisedActs
 pub mod Equal
@@ -25,11 +25,11 @@ pub mod SettlingMoves
 pub mod Clocks
 pub mod Behind
 pub mod Counting
-pub mod Rested
+pub mod RestAfterFaults
 pub mod Hopes
-pub mod Hoping
+pub mod PictureHopes
 pub mod ClockHopes
-pub mod Reports
+pub mod KnownPictures
 pub mod Fair
 pub mod History
 pub mod Counts

@@ -21,7 +21,7 @@ use Rattle.dgt_link.specs.Sound.{coming_picture}
 use Rattle.dgt_link.specs.Promise.{IsAsked, IsPromised, PictureIsComing, coming_mode, commands_after, event_mode, last_mode, mode_after, requests}
 use Rattle.dgt_link.proofs.Lists.{Contains-cons, nothing_contained}
 use Rattle.dgt_link.proofs.Taking.{nothing_of_noise}
-use Rattle.dgt_link.proofs.Reporting.{picture_after_all-append}
+use Rattle.dgt_link.proofs.MessageReports.{picture_after_all-append}
 
 -- ---- the mode that is coming
 

@@ -34,8 +34,8 @@ use Rattle.dgt_link.proofs.PromisedActs.{Leads}
 use Rattle.dgt_link.proofs.Lists.{Contains-cons, all_append, nothing_contained, IsShorter, Reaches, prefixes}
 use Rattle.dgt_link.specs.Readers.{Reads}
 use Rattle.dgt_link.proofs.Hearing.{held_alone, nothing_unfinished}
-use Rattle.dgt_link.proofs.Resting.{quiet_state, world_awaits_nothing, world_clock_known, world_clock_reported, world_picture}
-use Rattle.dgt_link.proofs.Resting.{world_picture_reported}
+use Rattle.dgt_link.proofs.WorldsByState.{quiet_state, world_awaits_nothing, world_clock_known, world_clock_reported, world_picture}
+use Rattle.dgt_link.proofs.WorldsByState.{world_picture_reported}
 use Rattle.dgt_link.proofs.ActRuns.{run-push, run_keeps}
 use Rattle.dgt_link.proofs.Taking.{HasSameGame, effects_same_game}
 

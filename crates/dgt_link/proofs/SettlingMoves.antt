@@ -18,7 +18,7 @@ use Rattle.dgt_link.specs.Sound.{IsSound}
 use Rattle.dgt_link.proofs.Backlogs.{BacklogFalls, BacklogRises}
 use Rattle.dgt_link.proofs.Promises.{move-mode, picture_keeps_coming}
 use Rattle.dgt_link.proofs.Quiet.{promised_picture}
-use Rattle.dgt_link.proofs.Resting.{nothing_first}
+use Rattle.dgt_link.proofs.WorldsByState.{nothing_first}
 use Rattle.dgt_link.proofs.AfterMoves.{moves_sound}
 use Rattle.dgt_link.proofs.Sending.{next_is_sent}
 use Rattle.dgt_link.proofs.Soundness.{move_sound}

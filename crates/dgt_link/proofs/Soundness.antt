@@ -19,9 +19,9 @@ use Rattle.dgt_link.specs.Machine.{IsHostBreak, Move, MachineState, commands_ane
 use Rattle.dgt_link.specs.Sound.{IsSound, IsExact, IsSubsequence, coming_kinds, kind_of_event, kind_of_reply}
 use Rattle.dgt_link.proofs.Subsequences.{subsequence_at_end, subsequence_append, awaited_after-subsequence}
 use Rattle.dgt_link.proofs.Subsequences.{awaited_exactly, one_more, moved_over}
-use Rattle.dgt_link.proofs.Reporting.{ReportedIsHeard, field_reports, clock_reports, reply_reports, reply_message-kind}
-use Rattle.dgt_link.proofs.Reporting.{clock_message-kind, picture_reported, clock_reported_of, clock_after_all-append}
-use Rattle.dgt_link.proofs.Reporting.{followed_after, handed_or_reported}
+use Rattle.dgt_link.proofs.MessageReports.{ReportedIsHeard, field_reports, clock_reports, reply_reports, reply_message-kind}
+use Rattle.dgt_link.proofs.MessageReports.{clock_message-kind, picture_reported, clock_reported_of, clock_after_all-append}
+use Rattle.dgt_link.proofs.MessageReports.{followed_after, handed_or_reported}
 use Rattle.dgt_command.specs.Words.{IsNoiseList}
 use Rattle.dgt_link.proofs.Taking.{Leaves, effect-kinds, effect_followed, effect_leaves, nothing_of_noise}
 

@@ -11,7 +11,7 @@ use Rattle.dgt_command.specs.Content.{ClockContent, CommandContent, EventContent
 use Rattle.dgt_command.specs.Words.{IsNoise, IsNoiseList}
 use Rattle.dgt_board.specs.State.{IdentityContent, BoardState, follows_clock, acknowledgements, after_command, effect, effects, replies_to}
 use Rattle.dgt_link.specs.Sound.{kind_of_event, kind_of_reply}
-use Rattle.dgt_link.proofs.Reporting.{owed_or_reported}
+use Rattle.dgt_link.proofs.MessageReports.{owed_or_reported}
 
 acknowledgements-kinds : (clock : ClockState) (identity : IdentityContent) (message : ClockContent)
     → filter_map kind_of_reply (acknowledgements clock identity message) ≡ []

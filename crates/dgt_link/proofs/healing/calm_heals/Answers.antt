@@ -2,7 +2,7 @@ use Rattle.std.proofs.Common.{refl, []}
 use Rattle.dgt_link.specs.declared.acts.Outcome.{Outcome}
 use Rattle.dgt_link.specs.Faults.{FaultyContent}
 use Rattle.dgt_link.specs.Healing.{IsFollowing, IsPromisedWorld}
-use Rattle.dgt_link.proofs.Hoping.{sane_keeps, sane_after}
+use Rattle.dgt_link.proofs.PictureHopes.{sane_keeps, sane_after}
 use Rattle.dgt_link.proofs.Restarting.{restart_runs}
 use Rattle.dgt_link.proofs.healing.calm_heals.Goals as goal
 

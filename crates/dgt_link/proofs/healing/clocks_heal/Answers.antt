@@ -2,7 +2,7 @@ use Rattle.dgt_board.specs.State.{follows_clock}
 use Rattle.dgt_link.specs.Clocks.{ClockIsComing, IsClockPromisedWorld, stops_clock}
 use Rattle.dgt_link.specs.Faults.{FaultyStep}
 use Rattle.dgt_link.proofs.ActRuns.{run_keeps}
-use Rattle.dgt_link.proofs.Rested.{clock_at_rest}
+use Rattle.dgt_link.proofs.RestAfterFaults.{clock_at_rest}
 use Rattle.dgt_link.proofs.ClockHopes.{clock_at_quiet, clock_hope, clock_owed_promises, clock_promises, keeps_clock_following, keeps_clock_promised}
 use Rattle.dgt_link.proofs.Hopes.{asked_follows, settled_promised}
 use Rattle.dgt_link.proofs.healing.clocks_heal.Goals as goal

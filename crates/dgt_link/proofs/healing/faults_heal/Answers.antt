@@ -1,6 +1,6 @@
 use Rattle.dgt_link.proofs.Counting.{counted_holds, follows_in_step, counted_in_turn, in_step_counted_holds, in_turn_at_quiet}
 use Rattle.dgt_link.proofs.ClockHopes.{clock_healing_promised}
-use Rattle.dgt_link.proofs.Rested.{healing_promised, promised_at_quiet}
+use Rattle.dgt_link.proofs.RestAfterFaults.{healing_promised, promised_at_quiet}
 use Rattle.dgt_link.proofs.healing.faults_heal.Goals as goal
 
 pub returns : goal.returns

@@ -1,4 +1,4 @@
-use Rattle.dgt_link.proofs.Reports.{known_behind, reported_by, was_reported}
+use Rattle.dgt_link.proofs.KnownPictures.{known_behind, reported_by, was_reported}
 use Rattle.dgt_link.proofs.healing.pictures_were_reported.Goals as goal
 
 pub returns : goal.returns

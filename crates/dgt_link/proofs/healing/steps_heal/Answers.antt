@@ -2,7 +2,7 @@ use Rattle.dgt_board.specs.State.{updates}
 use Rattle.dgt_link.specs.Faults.{stops}
 use Rattle.dgt_link.specs.Promise.{PictureIsComing}
 use Rattle.dgt_link.proofs.Hopes.{asked_follows}
-use Rattle.dgt_link.proofs.Hoping.{anew_heals, dump_promises, keeps_following, keeps_in_step, keeps_promised, picture_hope}
+use Rattle.dgt_link.proofs.PictureHopes.{anew_heals, dump_promises, keeps_following, keeps_in_step, keeps_promised, picture_hope}
 use Rattle.dgt_link.proofs.healing.steps_heal.Goals as goal
 
 pub returns : goal.returns

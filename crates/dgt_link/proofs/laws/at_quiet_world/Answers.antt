@@ -1,4 +1,4 @@
-use Rattle.dgt_link.proofs.Resting.{world_awaits_nothing, world_clock_known, world_clock_reported, world_picture, world_picture_reported}
+use Rattle.dgt_link.proofs.WorldsByState.{world_awaits_nothing, world_clock_known, world_clock_reported, world_picture, world_picture_reported}
 use Rattle.dgt_link.proofs.laws.at_quiet_world.Goals as goal
 
 pub returns : goal.returns

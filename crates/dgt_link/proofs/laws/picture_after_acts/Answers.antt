@@ -1,6 +1,6 @@
 use Rattle.dgt_link.proofs.Asking.{run_promises}
 use Rattle.dgt_link.specs.Machine.{after_moves}
-use Rattle.dgt_link.proofs.Hoping.{calm_promised}
+use Rattle.dgt_link.proofs.PictureHopes.{calm_promised}
 use Rattle.dgt_link.proofs.laws.picture_after_acts.Goals as goal
 
 pub returns-clause-promised : goal.returns-clause-promised

@@ -1,4 +1,4 @@
-use Rattle.dgt_link.proofs.Resting.{world_first_answer, world_fold, world_never_unasked}
+use Rattle.dgt_link.proofs.WorldsByState.{world_first_answer, world_fold, world_never_unasked}
 use Rattle.dgt_link.proofs.laws.worlds_are_reported.Goals as goal
 
 pub returns : goal.returns

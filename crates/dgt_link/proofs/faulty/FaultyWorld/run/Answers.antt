@@ -3,7 +3,7 @@ use Rattle.dgt_link.specs.Act.{ActContent}
 use Rattle.dgt_link.specs.declared.acts.Outcome.{Outcome}
 use Rattle.dgt_link.specs.Healing.{IsInTurnWorld, IsPromisedWorld}
 use Rattle.dgt_link.proofs.Counting.{plain_runs}
-use Rattle.dgt_link.proofs.Hoping.{sane_keeps}
+use Rattle.dgt_link.proofs.PictureHopes.{sane_keeps}
 use Rattle.dgt_link.proofs.faulty.FaultyWorld.run.Goals as goal
 
 pub returns-clause-from_any_state : goal.returns-clause-from_any_state

@@ -1,7 +1,7 @@
 use Rattle.std.proofs.Common.{arith, refl}
 use Rattle.dgt_link.specs.Healing.{IsPromisedWorld}
 use Rattle.dgt_link.specs.View.{IsQuietWorld}
-use Rattle.dgt_link.proofs.Rested.{settled_clock, settled_squares}
+use Rattle.dgt_link.proofs.RestAfterFaults.{settled_clock, settled_squares}
 use Rattle.dgt_link.proofs.Settling.{most_work, settled_kept, settled_more}
 use Rattle.dgt_link.proofs.faulty.FaultyWorld.settle.Goals as goal
 

@@ -2,7 +2,7 @@ use Rattle.dgt_link.specs.Settling.{SettlesIn}
 use Rattle.dgt_link.specs.Stands.{IsExactWorld, IsWorld}
 use Rattle.dgt_link.specs.View.{IsQuietWorld}
 use Rattle.dgt_link.proofs.PromisedActs.{Leads}
-use Rattle.dgt_link.proofs.Rested.{settled_clock as settled_same_clock}
+use Rattle.dgt_link.proofs.RestAfterFaults.{settled_clock as settled_same_clock}
 use Rattle.dgt_link.proofs.Settling.{rests, run_is_world, settled_awaited, settled_clock, settled_known, settled_mode}
 use Rattle.dgt_link.proofs.Settling.{settled_picture, settled_reported, settling_no_host_break}
 use Rattle.dgt_link.proofs.world.World.settle.Goals as goal

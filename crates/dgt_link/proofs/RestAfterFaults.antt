@@ -23,7 +23,7 @@ use Rattle.dgt_link.proofs.Clocks.{promised_clock}
 use Rattle.dgt_link.proofs.Lists.{right_empty}
 use Rattle.dgt_link.proofs.Promises.{coming_promise}
 use Rattle.dgt_link.proofs.Quiet.{picture_has_come, promised_picture}
-use Rattle.dgt_link.proofs.Resting.{nothing_first}
+use Rattle.dgt_link.proofs.WorldsByState.{nothing_first}
 use Rattle.dgt_link.proofs.Settling.{nothing_left_unfinished, nothing_partial, settled_kept}
 
 -- ---- what counts is promised

@@ -1,4 +1,4 @@
--- What each act makes of a world's hope: that it is in step, that it follows, and that it is promised to heal.
+-- What each act makes of the hope for a picture: in step, following, and promised to heal.
 use Rattle.std.proofs.Common.{◌≡◌, refl, ℕ, List, [], ◌∷◌, Some, true, false, arith, map, replicate}
 use Rattle.std.specs.List.{AllByRecursion}
 use Rattle.std.specs.Prelude.{IsTrue}
