@@ -54,6 +54,7 @@ mod command_chunks;
 mod command_lines;
 mod command_wording;
 mod doubts;
+mod engines;
 mod faults;
 mod formatting;
 mod gathering;
@@ -62,7 +63,6 @@ mod lines;
 mod picture_chunks;
 mod pictures;
 mod printers;
-mod printing;
 mod slice_source;
 mod std_device;
 mod streams;
@@ -74,6 +74,10 @@ pub use closing::write_closing;
 pub use command_chunks::COMMANDS_ROOM;
 pub use command_lines::write_command;
 pub use doubts::{Doubt, PictureState};
+pub use engines::{
+    commands, monitor, picture, picture_with_clock, picture_with_doubts,
+    picture_with_doubts_and_clock,
+};
 pub use faults::RunFault;
 pub use formatting::format_event;
 pub use gathering::{flush, put};
@@ -81,10 +85,6 @@ pub use lines::{write_event, write_unfinished};
 pub use picture_chunks::PICTURES_ROOM;
 pub use pictures::Picture;
 pub use printers::MAX_CHUNK;
-pub use printing::{
-    commands, monitor, picture, picture_with_clock, picture_with_doubts,
-    picture_with_doubts_and_clock,
-};
 pub use slice_source::Bytes;
 pub use std_device::Device;
 pub use streams::{Failed, Sink, Source};

@@ -2,7 +2,7 @@ use Rattle.std.proofs.Common.{ap, arith}
 use Rattle.dgt_command.specs.Framing.{rest_of}
 use Rattle.dgt_lines.proofs.Listed.{listed, listed_none}
 use Rattle.dgt_lines.proofs.Printed.{ran_with}
-use Rattle.dgt_lines.proofs.printing.commands.Goals as goal
+use Rattle.dgt_lines.proofs.engines.commands.Goals as goal
 
 pub print_input-requires : goal.print_input-requires
 print_input-requires g c = (

@@ -1,7 +1,7 @@
 use Rattle.std.proofs.Common.{subst}
 use Rattle.dgt_lines.specs.Monitoring.{IsInSink}
 use Rattle.dgt_lines.proofs.Printed.{ran_with}
-use Rattle.dgt_lines.proofs.printing.picture.Goals as goal
+use Rattle.dgt_lines.proofs.engines.picture.Goals as goal
 
 pub returns-clause-output : goal.returns-clause-output
 returns-clause-output g c =

@@ -1,7 +1,7 @@
 use Rattle.std.proofs.Common.{arith}
 use Rattle.dgt_lines.proofs.Heard.{heard_none, monitored}
 use Rattle.dgt_lines.proofs.Printed.{ran_with}
-use Rattle.dgt_lines.proofs.printing.monitor.Goals as goal
+use Rattle.dgt_lines.proofs.engines.monitor.Goals as goal
 
 pub print_input-requires : goal.print_input-requires
 print_input-requires g c = (omega arith, (heard_none _ c.new.ensures, c.new-outgoing.ensures))

@@ -1,7 +1,7 @@
 use Rattle.std.proofs.Common.{arith}
 use Rattle.dgt_lines.proofs.Pictured.{pictured_none, reported}
 use Rattle.dgt_lines.proofs.Printed.{ran_with}
-use Rattle.dgt_lines.proofs.printing.report.Goals as goal
+use Rattle.dgt_lines.proofs.engines.report.Goals as goal
 
 pub print_input-requires : goal.print_input-requires
 print_input-requires g c = (omega arith, (rw c.new.ensures (pictured_none c.args.first), c.new-outgoing.ensures))
