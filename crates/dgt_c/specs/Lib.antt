@@ -14,7 +14,7 @@ pub mod Kinds
 pub mod Boards
 pub mod Starting
 pub mod PlainBoard
-pub mod Following
+pub mod Followers
 pub mod PlainFollower
 -- What they determine.
 pub mod Once

@@ -47,7 +47,7 @@ mod commands;
 mod copying;
 mod encoding;
 mod events;
-mod following;
+mod follower_calls;
 mod handles;
 mod header;
 mod hearing;

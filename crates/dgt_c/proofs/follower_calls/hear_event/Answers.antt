@@ -5,7 +5,7 @@ use Rattle.dgt_c.specs.Slices.{overwritten}
 use Rattle.dgt_c.specs.Reported.{body_said, reported_at}
 use Rattle.dgt_c.specs.declared.header.DgtEvent.{DgtEvent}
 use Rattle.dgt_c.proofs.HearingLemmas.{heard_at_most_once}
-use Rattle.dgt_c.proofs.following.hear_event.Goals as goal
+use Rattle.dgt_c.proofs.follower_calls.hear_event.Goals as goal
 
 pub returns-clause-hears : goal.returns-clause-hears
 returns-clause-hears c =

@@ -5,7 +5,7 @@ ghost use Rattle.dgt_host.specs.Host.{new_host};
 ghost use Rattle.dgt_follow.specs.Pace.{forgetting, next_due, pace_disturbed};
 ghost use Rattle.dgt_follow.specs.Follower.{follower_after, following, new_follower};
 ghost use Rattle.dgt_c.specs.Hearing.{HearsReported};
-ghost use Rattle.dgt_c.specs.Following.{AsksReported, asked_reported, update_mode_number};
+ghost use Rattle.dgt_c.specs.Followers.{AsksReported, asked_reported, update_mode_number};
 
 use crate::copying::overwrite;
 use crate::events::{body_in, report_event};
