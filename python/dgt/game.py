@@ -48,7 +48,7 @@ import signal
 import sys
 import time
 
-from ._board_line import _PATIENCE
+from ._board_with_clock import _PATIENCE
 from ._pgn_file import PgnFile
 from .board import Mode
 from .errors import BadFen

@@ -31,7 +31,7 @@ import time
 from collections.abc import Callable
 
 from . import _port, following
-from ._board_line import BoardLine
+from ._board_with_clock import BoardWithClock
 from ._turn import Turn
 from .errors import BadFen, IllegalMove
 from .following import BoardView
@@ -137,7 +137,7 @@ class Engine:
     def __init__(self, port: str = "", period: float = _PERIOD,
                  say: Callable[[str], None] = _print) -> None:
         self.port, self._period, self._say = port, period, say
-        self.line: BoardLine | None = None
+        self.line: BoardWithClock | None = None
         self.is_over = False
         self._turn_setting, self._is_turned = "auto", False
         self._settle, self._shows_moves = _SETTLE[1] / 1000, True
@@ -325,7 +325,7 @@ class Engine:
         fault = "no port is set (start dgt-uci with it, or set the option Port)"
         try:
             if self.port:
-                self.line, fault = BoardLine(self.port, self._period), ""
+                self.line, fault = BoardWithClock(self.port, self._period), ""
         except OSError as refused:
             fault = f"{self.port}: {_why(refused.strerror or '')}"
         except ValueError:

@@ -12,7 +12,7 @@ _PATIENCE = 30
 """The board is asked so often that it would begin anew every few seconds by the usual patience."""
 
 
-class BoardLine(Following):
+class BoardWithClock(Following):
     """A board that is followed on a port, and whose picture is confirmed soon. `wait` also returns
     after a dump or an acknowledgement of the clock that changed nothing."""
 
