@@ -6,7 +6,7 @@ use Rattle.dgt_command.specs.Words.{IsPartial, IsWord}
 use Rattle.dgt_board.specs.State.{BoardState, effect, effects}
 use Rattle.dgt_board.specs.View.{BoardView, HasTaken, after_bytes}
 
--- bytes that complete a word are taken
+-- bytes that complete a frame are taken
 pub takes_word : IsPartial [] → (before after : BoardView) (bytes : List ℕ) (event : EventContent)
     → IsWord event (before.partial ++ bytes) → after.state ≡ effect before.state event → after.partial ≡ []
     → (after ≡ after_bytes before bytes (Some event)) × HasTaken before bytes after

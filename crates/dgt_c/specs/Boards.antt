@@ -17,15 +17,15 @@ mode_number Mode.Update = MODE_UPDATE
 mode_number Mode.UpdateBoard = MODE_UPDATE_BOARD
 mode_number Mode.UpdateNice = MODE_UPDATE_NICE
 
--- The board used the first `used` bytes: up to and including the first that completes a word, or
--- all of them. The word is reported.
+-- The board used the first `used` bytes: up to and including the first that completes a frame, or
+-- all of them. The frame is reported.
 abbrev pub TakesBytes : BoardView → List ℕ → ℕ → CommandReporting → BoardView → Type 0
 TakesBytes before chunk used reported after =
     (event : Option EventContent) × ReadsWord before.partial chunk used event
     × ReportsCommand event reported × (after ≡ after_bytes before (take used chunk) event)
     × HasTaken before (take used chunk) after
 
--- The board did so; or it was busy, and then no word is reported and nothing changes.
+-- The board did so; or it was busy, and then no frame is reported and nothing changes.
 abbrev pub Takes : BoardView → List ℕ → DgtTaken → CommandReporting → BoardView → Type 0
 Takes before chunk taken reported after =
     (taken.busy ≡ false → TakesBytes before chunk taken.used reported after)

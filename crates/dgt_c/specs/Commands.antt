@@ -1,4 +1,4 @@
--- What C receives about a word of a host: a struct, whose kind says which fields are set, and the
+-- What C receives about a frame of a host: a struct, whose kind says which fields are set, and the
 -- bytes of a command.
 use Rattle.std.specs.Prelude.{◌≡◌, ℕ, List, [], length, Option, Some, None}
 use Rattle.dgt_command.specs.Content.{CommandContent, EventContent, Read, BadSize, BadStart, BadEnd, Stray}

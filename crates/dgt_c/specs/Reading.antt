@@ -5,13 +5,13 @@ use Rattle.dgt_command.specs.Framing.{rest_after}
 use Rattle.dgt_command.specs.Words.{IsPartial, IsWord}
 use Rattle.dgt_c.specs.Commands.{CommandReporting, ReportsCommand}
 
--- The bytes used make a word of this event. If there is no event, the whole chunk was used, and
--- none of its bytes completes a word.
+-- The bytes used make a frame of this event. If there is no event, the whole chunk was used, and
+-- none of its bytes completes a frame.
 abbrev pub ReadsWord : List ℕ → List ℕ → ℕ → Option EventContent → Type 0
 ReadsWord held chunk used (Some event) = IsWord event (held ++ take used chunk)
 ReadsWord held chunk used None = (used ≡ length chunk) × IsPartial (held ++ chunk)
 
--- what is held after a chunk of which the first word that it completes is reported
+-- what is held after a chunk of which the first frame that it completes is reported
 abbrev pub FeedsWords : List ℕ → List ℕ → ℕ → CommandReporting → List ℕ → Type 0
 FeedsWords held chunk used reported after =
     (event : Option EventContent) × ReadsWord held chunk used event × ReportsCommand event reported

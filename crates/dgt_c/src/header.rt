@@ -228,7 +228,7 @@ pub struct DgtCommand {
     pub word_len: usize,
 }
 
-/// That no word was completed.
+/// That no frame was completed.
 pub const NO_WORD: DgtCommand = DgtCommand {
     kind: COMMAND_NONE,
     code: 0,

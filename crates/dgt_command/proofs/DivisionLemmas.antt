@@ -1,4 +1,4 @@
--- Zeros complete each partial word, and each list of bytes divides into words in one way.
+-- Zeros complete each partial frame, and each list of bytes divides into frames in one way.
 use Rattle.std.proofs.Common.{◌≡◌, ℕ, suc, zero, ◌+◌, ◌-◌, ◌<◌, ◌≤◌, List, [], ◌∷◌, ◌++◌, length, refl, sym, ap, subst}
 use Rattle.std.proofs.Common.{◌∙◌, inl, inr, arith, append_assoc, length-append, replicate, map}
 use Rattle.std.proofs.lemmas.Bool.{cases_eq, cases_lt, le-ltb, lt-ltb, ne_eqb, eq-eqb}
@@ -46,7 +46,7 @@ bytes_zeros n i = elim (cases_lt i n) [
   | inr h ↦ rw (get_or_past (zeros n) i 0 (omega (arith, length_zeros n))) (omega arith)
 ]
 
--- zeros complete the word
+-- zeros complete the frame
 pub record Completed (r : List ℕ) : Type 0 where
   pub event : EventContent
   pub count : ℕ
@@ -135,7 +135,7 @@ led_zeros (size ∷ rest) byte h =
       form = ap (λ (k : ℕ). 0x60 ∷ k ∷ (rest ++ 0 ∷ zeros n)) (sym long);
     }
 
--- what is shorter than its word becomes one by zeros
+-- what is shorter than its frame becomes one by zeros
 pub completed : (r : List ℕ) → AreBytes r → length r < word_length r → Completed r
 completed [] bytes h =
     record { event = Stray 0; count = 0; few = omega arith; noise = tt; form = (zero_begins_none, refl) }
@@ -153,7 +153,7 @@ completed (b ∷ rest) bytes h = elim (cases_eq b 0x2b) [
   ]
 ]
 
--- a proper prefix of a word is what is shorter than its word
+-- a proper prefix of a frame is what is shorter than its frame
 pub IsPartial-from_short : (r : List ℕ) → AreBytes r → length r < word_length r → IsPartial r
 IsPartial-from_short r bytes h =
     let found = completed r bytes h in
@@ -168,7 +168,7 @@ IsPartial-from_short r bytes h =
       };
     }
 
--- a partial word begins with no word
+-- a partial frame begins with no frame
 pub not_both : (r : List ℕ) (e : EventContent) (w x : List ℕ) → IsPartial r → HasForm e w → r ≡ w ++ x → ⊥
 not_both r e w x partial form is =
     let whole : List ℕ = r ++ partial.next ∷ partial.more in
@@ -178,18 +178,18 @@ not_both r e w x partial form is =
     let same = same_word e partial.event w whole (x ++ partial.next ∷ partial.more) [] form partial.word.form prefix in
     omega (arith, ap length same.word, ap length is, length-append w x, length-append r (partial.next ∷ partial.more))
 
--- a proper prefix of a word is shorter than its word
+-- a proper prefix of a frame is shorter than its frame
 pub short_from_IsPartial : (r : List ℕ) → IsPartial r → length r < word_length r
 short_from_IsPartial r partial = elim (cases_lt (length r) (word_length r)) [
   | inl h ↦ h
   | inr h ↦ let found = begins r h in absurd (not_both r found.event found.word found.after partial found.form found.is)
 ]
 
--- what begins with a word is no part of one
+-- what begins with a frame is no part of one
 pub no_word_within : NoWordBeginsAPart
 no_word_within e w x word partial = not_both (w ++ x) e w x partial word.form refl
 
--- bytes after a part of a word are bytes with it
+-- bytes after a part of a frame are bytes with it
 pub partial_bytes : (r more : List ℕ) → IsPartial r → AreBytes more → AreBytes (r ++ more)
 partial_bytes r more partial are =
     bytes_append r more (bytes_left r (partial.next ∷ partial.more) partial.word.are_bytes) are
@@ -199,11 +199,11 @@ pub partial_left : (bytes rest : List ℕ) (events : List EventContent) → Divi
 partial_left bytes rest [] divides = divides.1
 partial_left bytes rest (e ∷ events) divides = partial_left divides.1 rest events divides.4
 
--- no byte is a proper prefix of a word
+-- no byte is a proper prefix of a frame
 pub nothing_is_partial : IsPartial []
 nothing_is_partial = IsPartial-from_short [] (λ i. omega arith) (omega arith)
 
--- a word has at least one byte
+-- a frame has at least one byte
 pub some_word : (e : EventContent) (w : List ℕ) → HasForm e w → 0 < length w
 some_word e [] h = absurd (omega (arith, form_length e [] [] h))
 some_word e (b ∷ w) h = omega arith
@@ -255,7 +255,7 @@ divide (suc n) s short bytes = elim (cases_lt (length s) (word_length s)) [
       )
 ]
 
--- the words of a division
+-- the frames of a division
 divided_words : (s : List ℕ) (events : List EventContent) (rest : List ℕ) → Divides s events rest
     → (words : List Word) × AreWords s words rest × (map (λ (word : Word). word.event) words ≡ events)
 divided_words s [] rest h = ([], record { each = tt; whole = h.0; partial = h.1 }, refl)
@@ -270,7 +270,7 @@ divided_words s (event ∷ events) rest h =
       ap (λ (es : List EventContent). event ∷ es) more.2,
     )
 
--- words in a row, and a part of one after them, are no others
+-- frames in a row, and a part of one after them, are no others
 words_once : (xs ys : List Word) (r q : List ℕ)
     → AllByRecursion (λ word. IsWord word.event word.bytes) xs
     → AllByRecursion (λ word. IsWord word.event word.bytes) ys → IsPartial r → IsPartial q
@@ -291,7 +291,7 @@ words_once (x ∷ xs) (y ∷ ys) r q h k o p e =
     let more = words_once xs ys r q h.1 k.1 o p same.after in
     (ap (λ (z : Word). z ∷ xs) first ∙ ap (λ (l : List Word). y ∷ l) more.0, more.1)
 
--- bytes are words and a rest in one way, and in only one
+-- bytes are frames and a rest in one way, and in only one
 pub each_has_its_words : EachHasItsWords
 each_has_its_words = (
   (λ bytes are.
@@ -313,7 +313,7 @@ pub each_divides_once : EachDividesOnce
 each_divides_once =
     ((λ bytes are. divide (length bytes) bytes (omega arith) are), (λ bytes es fs r q h k. once bytes es fs r q h k))
 
--- a word that begins a word is that word
+-- a frame that begins a frame is that frame
 pub no_word_begins_another : NoWordBeginsAnother
 no_word_begins_another e f w v more h k is =
     let same = same_word e f w v more [] h.form k.form (sym is ∙ sym (append-nil v)) in
@@ -352,7 +352,7 @@ divides_prefix s t (e ∷ es) (f ∷ fs) r q h k =
       on.2,
     )
 
--- so they do after words
+-- so they do after frames
 pub commands_are_read_back : CommandsAreReadBack
 commands_are_read_back bytes es cs h all = Divides-append bytes (flat_map command_encoding cs) es (map Read cs) [] [] h
     (read_back cs all)
@@ -367,7 +367,7 @@ zeros_stray (suc n) =
       (0 ∷ [], zeros n, record { form = (zero_begins_none, refl); are_bytes = bytes_zeros 1 }, refl, more.2),
     )
 
--- a part of a word and 255 zeros are noise
+-- a part of a frame and 255 zeros are noise
 pub zeros_settle_the_reader : ZerosSettleTheReader
 zeros_settle_the_reader r partial =
     let bytes : AreBytes r = bytes_left r (partial.next ∷ partial.more) partial.word.are_bytes in
@@ -394,7 +394,7 @@ zeros_settle_the_reader r partial =
       ),
     )
 
--- nothing is held of a word that is whole, and else a part of one
+-- nothing is held of a frame that is whole, and else a part of one
 pub held_is_partial : (is_whole : Bool) (word : List ℕ) → (is_whole ≡ false → IsPartial word)
     → IsPartial (if is_whole then [] else word)
 held_is_partial true word h = nothing_is_partial

@@ -24,7 +24,7 @@ encoded_command _ = refl
 pub encodes_its_command : EncodingsGiveCommands
 encodes_its_command c word h = ap command_in h.encoded ∙ encoded_command c
 
--- an encoding is a word of the command that it reports
+-- an encoding is a frame of the command that it reports
 pub word_is_read : (c : CommandContent) (word : List ℕ) → EncodesCommand c word → IsWord (Read (command_in word)) word
 word_is_read c word h = rw (encodes_its_command c word h) (record { form = h.encoded; are_bytes = h.are_bytes })
 

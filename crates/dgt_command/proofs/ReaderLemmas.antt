@@ -13,7 +13,7 @@ use Rattle.dgt_command.proofs.WordLemmas.{form_length, begins}
 use Rattle.dgt_command.proofs.DivisionLemmas.{some_word, not_both, short_from_IsPartial, IsPartial-from_short}
 use Rattle.dgt_command.proofs.DivisionLemmas.{bytes_left}
 
--- bytes as long as their word begin with it
+-- bytes as long as their frame begin with it
 pub whole_prefix : (s : List ℕ) (n : ℕ) → AreBytes s → n ≡ word_length s → n ≤ length s → IsWholeWord (take n s)
 whole_prefix s n bytes is long =
     let found = begins s (omega (arith, is)) in
@@ -23,11 +23,11 @@ whole_prefix s n bytes is long =
     let both : AreBytes (found.word ++ found.after) = subst AreBytes found.is bytes in
     (found.event, rw prefix (record { form = found.form; are_bytes = bytes_left found.word found.after both }))
 
--- bytes shorter than their word are a part of one
+-- bytes shorter than their frame are a part of one
 pub partial_prefix : (s : List ℕ) (n : ℕ) → AreBytes s → n ≡ word_length s → length s < n → IsPartial s
 partial_prefix s n bytes is short = IsPartial-from_short s bytes (omega (arith, is))
 
--- a word that begins bytes which are partial without the last is all of them
+-- a frame that begins bytes which are partial without the last is all of them
 pub whole_last : (s : List ℕ) (n : ℕ) → IsPartial (take (length s - 1) s) → n ≤ length s → IsWholeWord (take n s)
     → IsWholeWord s
 whole_last s n partial long whole = elim (cases_lt (length s - 1) n) [
@@ -38,14 +38,14 @@ whole_last s n partial long whole = elim (cases_lt (length s - 1) n) [
       (sym (take-append-drop n prefix) ∙ ap (λ (z : List ℕ). z ++ drop n prefix) (take-take n (length s - 1) s h)))
 ]
 
--- no word has more than 257 bytes
+-- no frame has more than 257 bytes
 pub word_limit : (s : List ℕ) → AreBytes s → word_length s ≤ 257
 word_limit [] bytes = omega arith
 word_limit (b ∷ []) bytes = grind (arith, nat_tests)
 word_limit (b ∷ size ∷ []) bytes = let byte : size < 256 = bytes 1 in grind (arith, nat_tests)
 word_limit (b ∷ size ∷ third ∷ rest) bytes = let byte : size < 256 = bytes 1 in grind (arith, nat_tests)
 
--- a part of a word has at most 256 bytes
+-- a part of a frame has at most 256 bytes
 pub partial_limit : (r : List ℕ) → IsPartial r → length r < 257
 partial_limit r partial =
     omega (
@@ -55,14 +55,14 @@ partial_limit r partial =
           (bytes_left r (partial.next ∷ partial.more) partial.word.are_bytes),
     )
 
--- a word has 1 to 257 bytes
+-- a frame has 1 to 257 bytes
 pub words_are_short : WordsAreShort
 words_are_short e w h = (
   some_word e w h.form,
   omega (arith, form_length e w [] h.form, ap word_length (append-nil w), word_limit w h.are_bytes),
 )
 
--- what is kept, a whole word or a part of one, has at most 257 bytes
+-- what is kept, a whole frame or a part of one, has at most 257 bytes
 pub kept_limit : (is_whole : Bool) (word : List ℕ) → (is_whole ≡ true → IsWholeWord word)
     → (is_whole ≡ false → IsPartial word) → length word ≤ 257
 kept_limit true word whole partial = let found = whole refl in (words_are_short found.0 word found.1).1

@@ -1,4 +1,4 @@
--- No word begins another, each list that is long enough begins with one, and zeros complete each that isn't.
+-- No frame begins another. A list that is long enough begins with one, and zeros complete others.
 use Rattle.std.proofs.Common.{◌≡◌, ◌≢◌, ℕ, ◌+◌, ◌-◌, ◌<◌, ◌≤◌, false, List, [], ◌∷◌, ◌++◌, length, get_or, take, drop}
 use Rattle.std.proofs.Common.{refl, sym, ap, subst, ◌∙◌, inl, inr, arith, length-append, Option, Some, None}
 use Rattle.std.proofs.lemmas.Bool.{cases_eq, cases_lt, le-ltb, lt-ltb, ne_eqb, eq-eqb}
@@ -31,7 +31,7 @@ not_leds : (b : ℕ) → BeginsNoCommand b → (b == 0x60) ≡ false
 not_leds b h =
     ne_eqb b 0x60 (λ e. h (Leds []) (behind_code (Leds [])) (ap (λ (x : ℕ). x ∷ behind_code (Leds [])) (sym e)))
 
--- the word that a list begins with has this length
+-- the frame that a list begins with has this length
 encoding_length : (c : CommandContent) (x : List ℕ) → word_length (command_encoding c ++ x) ≡ length
     (command_encoding c)
 encoding_length (ClockMessage message) x = rw (le-ltb (length message.payload + 3) 3 (omega arith))
@@ -39,7 +39,7 @@ encoding_length (ClockMessage message) x = rw (le-ltb (length message.payload + 
 encoding_length (Leds leds) x = omega arith
 encoding_length _ x = refl
 
--- a word with anything after it reports its own length
+-- a frame with anything after it reports its own length
 pub form_length : (e : EventContent) (w x : List ℕ) → HasForm e w → word_length (w ++ x) ≡ length w
 form_length (Read c) w x h = subst (λ (v : List ℕ). word_length (v ++ x) ≡ length v) (sym h) (encoding_length c x)
 form_length BadSize w x (size, small, is) = subst (λ (v : List ℕ). word_length (v ++ x) ≡ length v) (sym is)
@@ -110,7 +110,7 @@ end_bad_long : (inner : List ℕ) (x : ℕ) (size : ℕ) → 0 < length inner �
 end_bad_long [] x size some h = absurd (omega arith)
 end_bad_long (id ∷ p) x size some h = end_bad id p x h
 
--- a word reports its event
+-- a frame reports its event
 pub form_event : (e : EventContent) (w : List ℕ) → HasForm e w → event_of w ≡ e
 form_event (Read c) w h = ap event_of h ∙ event_of_encoding c
 form_event BadSize w (size, small, is) = ap event_of is
@@ -120,18 +120,18 @@ form_event BadEnd w (size, inner, final, long, other, some, is) =
 form_event (Stray b) w (none, is) =
     ap event_of is ∙ rw (not_clock b none, not_leds b none) (stray_byte (bare_command b) b refl none)
 
--- Two lists that begin alike begin with the same word.
+-- Two lists that begin alike begin with the same frame.
 pub record SameWord (e f : EventContent) (w v x y : List ℕ) : Type 0 where
   pub event : e ≡ f
   pub word : w ≡ v
   pub after : x ≡ y
 
--- words of one length that begin the same bytes are the same
+-- frames of one length that begin the same bytes are the same
 same_prefix : (w v x y : List ℕ) → length w ≡ length v → w ++ x ≡ v ++ y → w ≡ v
 same_prefix w v x y h is = sym (take_at w x (length w) refl)
     ∙ (ap (take (length w)) is ∙ take_at v y (length w) (sym h))
 
--- words that begin the same bytes are the same
+-- frames that begin the same bytes are the same
 pub same_word : (e f : EventContent) (w v x y : List ℕ) → HasForm e w → HasForm f v → w ++ x ≡ v ++ y
     → SameWord e f w v x y
 same_word e f w v x y h k is =
@@ -143,13 +143,13 @@ same_word e f w v x y h k is =
       after = append_cancel_left w x y (is ∙ ap (λ u. u ++ y) (sym word));
     }
 
--- the word of one byte, by the command that it is the code of
+-- the frame of one byte, by the command that it is the code of
 word_of_byte : (found : Option Command) (b : ℕ) → bare_command b ≡ found → b ≢ 0x2b → b ≢ 0x60 → (e : EventContent)
     × HasForm e (b ∷ [])
 word_of_byte (Some each) b e not_clock not_leds = (Read (command_content each), bare_form b each e)
 word_of_byte None b e not_clock not_leds = (Stray b, (no_command b e not_clock not_leds, refl))
 
--- a byte that begins no longer word is a word itself
+-- a byte that begins no longer frame is a frame itself
 pub byte_word : (b : ℕ) → b ≢ 0x2b → b ≢ 0x60 → (e : EventContent) × HasForm e (b ∷ [])
 byte_word b c l = word_of_byte (bare_command b) b refl c l
 
@@ -190,7 +190,7 @@ ends_of (x ∷ []) h = absurd (omega arith)
 ends_of (x ∷ y ∷ ys) h = let more = final_of y ys in
     record { id = x; between = more.0; final = more.1; is = ap (λ zs. x ∷ zs) more.2 }
 
--- a list that begins with a word
+-- a list that begins with a frame
 pub record Begins (s : List ℕ) : Type 0 where
   pub event : EventContent
   pub word : List ℕ
@@ -220,7 +220,7 @@ whole_body size rest large h =
       is = ap (λ zs. 0x2b ∷ size ∷ 3 ∷ zs) (sym (take-append-drop (size - 1) rest));
     }
 
--- bytes as long as a clock message of a large size begin with a word
+-- bytes as long as a clock message of a large size begin with a frame
 body_begins : (size : ℕ) (rest : List ℕ) → 3 ≤ size → body_length size rest ≤ length rest + 2
     → Begins (0x2b ∷ size ∷ rest)
 body_begins size [] large h = absurd (omega arith)
@@ -237,7 +237,7 @@ body_begins size (third ∷ rest) large h = elim (cases_eq third 3) [
   }
 ]
 
--- bytes as long as what begins as a clock message begin with a word
+-- bytes as long as what begins as a clock message begin with a frame
 clock_begins : (rest : List ℕ) → word_length (0x2b ∷ rest) ≤ length rest + 1 → Begins (0x2b ∷ rest)
 clock_begins [] h = absurd (omega arith)
 clock_begins (size ∷ rest) h = elim (cases_lt size 3) [
@@ -259,7 +259,7 @@ led_begins (size ∷ rest) h =
       is = ap (λ zs. 0x60 ∷ size ∷ zs) (sym (take-append-drop size rest));
     }
 
--- a list as long as its word begins with it
+-- a list as long as its frame begins with it
 pub begins : (s : List ℕ) → word_length s ≤ length s → Begins s
 begins [] h = absurd (omega arith)
 begins (b ∷ rest) h = elim (cases_eq b 0x2b) [

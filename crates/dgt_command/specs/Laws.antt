@@ -1,11 +1,11 @@
--- What holds of words and of how bytes divide into them.
+-- What holds of frames and of how bytes divide into them.
 use Rattle.std.specs.Prelude.{◌≡◌, ℕ, ◌<◌, ◌≤◌, List, [], ◌++◌, length, map, replicate}
 use Rattle.std.specs.List.{flat_map, AllByRecursion}
 use Rattle.dgt_command.specs.Content.{CommandContent, EventContent, Read}
 use Rattle.dgt_command.specs.Encoding.{AreBytes, command_encoding, EncodesCommand, command_in}
 use Rattle.dgt_command.specs.Words.{IsWord, IsPartial, Divides, Word, AreWords, IsNoiseList}
 
--- each list of bytes divides into words and a rest, and any two divisions of it are the same
+-- each list of bytes divides into frames and a rest, and any two divisions of it are the same
 abbrev pub EachDividesOnce : Type 0
 EachDividesOnce =
     ((bytes : List ℕ) → AreBytes bytes →
@@ -14,7 +14,7 @@ EachDividesOnce =
     Divides bytes events rest → Divides bytes others remainder →
     (events ≡ others) × (rest ≡ remainder))
 
--- each list of bytes is words and a rest, and no other words and no other rest
+-- each list of bytes is frames and a rest, and no other frames and no other rest
 abbrev pub EachHasItsWords : Type 0
 EachHasItsWords =
     ((bytes : List ℕ) → AreBytes bytes →
@@ -23,14 +23,14 @@ EachHasItsWords =
     AreWords bytes words rest → AreWords bytes others remainder →
     (words ≡ others) × (rest ≡ remainder))
 
--- a word that begins with a word is that word, and has the same event
+-- a frame that begins with a frame is that frame, and has the same event
 abbrev pub NoWordBeginsAnother : Type 0
 NoWordBeginsAnother =
     (event other : EventContent) (word longer more : List ℕ) →
     IsWord event word → IsWord other longer → longer ≡ word ++ more →
     (event ≡ other) × (more ≡ [])
 
--- no part of a word begins with a word
+-- no part of a frame begins with a frame
 abbrev pub NoWordBeginsAPart : Type 0
 NoWordBeginsAPart =
     (event : EventContent) (word more : List ℕ) → IsWord event word → ¬ (IsPartial (word ++ more))
@@ -63,7 +63,7 @@ PrefixesDivideFirst =
     Divides prefix events rest → Divides (prefix ++ more) all last →
     (others : List EventContent) × (all ≡ events ++ others) × Divides (rest ++ more) others last
 
--- a word has at least one byte, and at most 257
+-- a frame has at least one byte, and at most 257
 abbrev pub WordsAreShort : Type 0
 WordsAreShort =
     (event : EventContent) (word : List ℕ) →

@@ -1,4 +1,4 @@
--- The words of the line from the host to the board, and how a list of bytes divides into them.
+-- The frames of the line from the host to the board, and how a list of bytes divides into them.
 use Rattle.std.specs.Prelude.{◌≡◌, ◌≢◌, ℕ, ◌+◌, ◌<◌, ◌≤◌, List, [], ◌∷◌, ◌++◌, length, flat_map}
 use Rattle.std.specs.List.{AllByRecursion}
 use Rattle.dgt_command.specs.Content.{CommandContent, ClockMessage, Leds, EventContent, Read, BadSize, BadStart, BadEnd, Stray}
@@ -24,18 +24,18 @@ pub record IsWord (event : EventContent) (word : List ℕ) : Type 0 where
   pub form : HasForm event word
   pub are_bytes : AreBytes word
 
--- some event has this word
+-- some event has this frame
 abbrev pub IsWholeWord : List ℕ → Type 0
 IsWholeWord word = (event : EventContent) × IsWord event word
 
--- a proper prefix of some word
+-- a proper prefix of some frame
 pub record IsPartial (rest : List ℕ) : Type 0 where
   pub event : EventContent
   pub next : ℕ
   pub more : List ℕ
   pub word : IsWord event (rest ++ next ∷ more)
 
--- the bytes are words of these events in a row, and then a proper prefix of a word
+-- the bytes are frames of these events in a row, and then a proper prefix of a frame
 abbrev pub Divides : List ℕ → List EventContent → List ℕ → Type 0
 Divides bytes [] rest = (bytes ≡ rest) × IsPartial rest
 Divides bytes (event ∷ events) rest =
@@ -50,7 +50,7 @@ pub record Word : Type 0 where
 abbrev pub word_bytes : List Word → List ℕ
 word_bytes words = flat_map (λ word. word.bytes) words
 
--- the bytes are these words in a row, and then a proper prefix of a word
+-- the bytes are these frames in a row, and then a proper prefix of a frame
 pub record AreWords (bytes : List ℕ) (words : List Word) (rest : List ℕ) : Type 0 where
   pub each : AllByRecursion (λ word. IsWord word.event word.bytes) words
   pub whole : bytes ≡ word_bytes words ++ rest

@@ -48,6 +48,6 @@ pub enum CommandEvent<'a> {
     BadStart,
     /// The last byte of a clock message isn't 00.
     BadEnd,
-    /// A byte outside a word that begins no command.
+    /// A byte outside a frame that begins no command.
     Stray(u8),
 }

@@ -16,7 +16,7 @@ use std::marker::Model;
 pub struct CommandFed<'a> {
     /// How many bytes of the chunk were used.
     pub used: usize,
-    /// The event of the word that the last of them completed, if they completed one.
+    /// The event of the frame that the last of them completed, if they completed one.
     pub event: Option<CommandEvent<'a>>,
 }
 
@@ -75,7 +75,7 @@ impl CommandDecoder {
         CommandFed { used, event }
     }
 
-    /// How many bytes are held of a word that isn't finished: fewer than [`MAX_WORD`].
+    /// How many bytes are held of a frame that isn't finished: fewer than [`MAX_WORD`].
     pub fn partial(&self) -> usize
         ensures length { result ≡ length self.now }
         ensures unfinished { IsPartial self.now }

@@ -1,4 +1,4 @@
-//! The words of the line, one by one, as their bytes come.
+//! The frames of the line, one by one, as their bytes come.
 
 ghost use Rattle.std.specs.Prelude.{◌≡◌, ◌≢◌, ◌+◌, ◌<◌, ◌≤◌, [], ◌++◌, length, take, true, false, Some};
 ghost use Rattle.std.specs.Prelude.{IsTrue, IfSome, IfNone, MatchOption, OnSome, is_some};
@@ -15,10 +15,10 @@ use crate::viewing::view_command;
 use dgt_values::Kept;
 use std::marker::Model;
 
-/// The most bytes of a word: a clock message or an LED frame with a size of 255.
+/// The most bytes of a frame: a clock message or an LED frame with a size of 255.
 pub const MAX_WORD: usize = 257;
 
-/// What the last byte of a word made known, without what the word carries: [`WordFramer::event`]
+/// What the last byte of a frame made known, without what the frame carries: [`WordFramer::event`]
 /// lends that.
 #[derive(Clone, Copy, Debug, PartialEq, Eq)]
 pub enum FoundWord {
@@ -30,7 +30,7 @@ pub enum FoundWord {
     BadStart,
     /// The last byte of a clock message isn't 00.
     BadEnd,
-    /// A byte outside a word that begins no command.
+    /// A byte outside a frame that begins no command.
     Stray(u8),
 }
 
@@ -39,18 +39,18 @@ pub enum FoundWord {
 pub struct AdvancedWord {
     /// How many bytes of the chunk were used.
     pub used: usize,
-    /// What the last of them made known, if they completed a word.
+    /// What the last of them made known, if they completed a frame.
     pub found: Option<FoundWord>,
 }
 
-/// Keeps the bytes of a word that isn't finished yet, or of the one that has just become whole: at
+/// Keeps the bytes of a frame that isn't finished yet, or of the one that has just become whole: at
 /// most [`MAX_WORD`].
 ///
 /// It reads as a [`CommandDecoder`](crate::CommandDecoder) does, in two steps: `advance` answers
 /// what was found, owned, and `event` lends it, as often as it is asked before the next `advance`.
 /// So a type that owns it can look at an event, write its own state, and then lend the event.
 ///
-/// Contracts see the bytes kept (`word`) and whether they are a whole word (`is_whole`). The rest,
+/// Contracts see the bytes kept (`word`) and whether they are a whole frame (`is_whole`). The rest,
 /// of which the next bytes are read on, is the bytes kept if they aren't whole, and else empty
 /// (`rest_of`).
 #[derive(Drop)]
@@ -71,7 +71,7 @@ impl Model for WordFramer {
     ghost invariant = { λ framer. IsPartial (if framer.is_whole then [] else framer.word) };
 }
 
-// Adds bytes of the chunk to a part of a word, up to the one that completes it: how many, and
+// Adds bytes of the chunk to a part of a frame, up to the one that completes it: how many, and
 // whether one did.
 #[inline(never)]
 fn add_each(word: &mut Kept<MAX_WORD>, chunk: &[u8]) -> (usize, bool)
@@ -87,7 +87,7 @@ fn add_each(word: &mut Kept<MAX_WORD>, chunk: &[u8]) -> (usize, bool)
     (chunk.len(), false)
 }
 
-// The same. A word that begins with the chunk, and is whole in it, is copied at once.
+// The same. A frame that begins with the chunk, and is whole in it, is copied at once.
 #[inline(always)]
 fn add_bytes(word: &mut Kept<MAX_WORD>, chunk: &[u8]) -> (usize, bool)
     requires { IsPartial word.old }
@@ -101,7 +101,7 @@ fn add_bytes(word: &mut Kept<MAX_WORD>, chunk: &[u8]) -> (usize, bool)
     (length, true)
 }
 
-// Whether a whole word is a command, and no fault.
+// Whether a whole frame is a command, and no fault.
 fn is_command(word: &[u8]) -> bool
     requires { IsWholeWord word.now }
     ensures command { IsTrue result → IsEncoding word.now }
@@ -144,7 +144,7 @@ impl WordFramer {
         }
     }
 
-    /// How many bytes are kept of a word that isn't finished: fewer than [`MAX_WORD`].
+    /// How many bytes are kept of a frame that isn't finished: fewer than [`MAX_WORD`].
     pub fn partial(&self) -> usize
         ensures length { result ≡ length (rest_of self.now) }
         ensures unfinished { IsPartial (rest_of self.now) }
@@ -195,7 +195,7 @@ impl WordFramer {
         AdvancedWord { used, found }
     }
 
-    /// The event of what was found, or `None` if a command was found and the word kept is none.
+    /// The event of what was found, or `None` if a command was found and the frame kept is none.
     /// One that `advance` has just found is kept until the next byte.
     #[inline(never)]
     pub fn event(&self, found: FoundWord) -> Option<CommandEvent<'_>>

@@ -1,4 +1,4 @@
-//! What holds of commands, of the words on the line and of how bytes divide into them, whoever
+//! What holds of commands, of the frames on the line and of how bytes divide into them, whoever
 //! reads or writes them.
 
 ghost use Rattle.std.specs.Prelude.{◌≡◌, ◌↔◌, ◌∷◌, ◌++◌, ℕ, List, [], None, Some, map, replicate};
@@ -65,19 +65,19 @@ pub fn a_number_has_one_id()
         → (id_with number ≡ Some known) ↔ (number ≡ id_number known) }
 {}
 
-/// One division: each list of bytes divides into words and a rest that some word extends, and in
+/// One division: each list of bytes divides into frames and a rest that some frame extends, and in
 /// only one way.
 pub fn one_division()
     ensures { EachDividesOnce }
 {}
 
-/// One list of words: each list of bytes is words in a row and a rest that some word extends, and
-/// in only one way.
+/// One list of frames: each list of bytes is frames in a row and a rest that some frame extends,
+/// and in only one way.
 pub fn words_of_bytes()
     ensures { EachHasItsWords }
 {}
 
-/// No word is a proper prefix of another, and no word has two events.
+/// No frame is a proper prefix of another, and no frame has two events.
 pub fn no_word_begins_another()
     ensures { NoWordBeginsAnother }
 {}
@@ -87,7 +87,7 @@ pub fn commands_are_read_back()
     ensures { CommandsAreReadBack }
 {}
 
-/// Zeros settle the reader: any part of a word and 255 zeros are clock messages, LED frames and
+/// Zeros settle the reader: any part of a frame and 255 zeros are clock messages, LED frames and
 /// faults, and leave no rest.
 pub fn zeros_settle_the_reader()
     ensures { ZerosSettleTheReader }
@@ -115,7 +115,7 @@ pub fn parts_of_words()
         → Divides bytes events rest → IsPartial rest }
 {}
 
-/// Each word has 1 to 257 bytes.
+/// Each frame has 1 to 257 bytes.
 pub fn words_are_short()
     ensures { WordsAreShort }
 {}

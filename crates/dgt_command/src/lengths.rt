@@ -1,4 +1,4 @@
-//! How long the words of the line are.
+//! How long the frames of the line are.
 
 ghost use Rattle.std.specs.Prelude.{◌≡◌, ◌-◌, length, take, false, IsTrue};
 ghost use Rattle.dgt_command.specs.Lengths.{word_length};
@@ -6,7 +6,7 @@ ghost use Rattle.dgt_command.specs.Words.{IsPartial, IsWholeWord};
 
 use crate::codes::{CLOCK_MESSAGE, LEDS, START};
 
-// Whether bytes that are a part of a word without the last are a word with it.
+// Whether bytes that are a part of a frame without the last are a frame with it.
 pub(crate) fn is_whole(bytes: &[u8]) -> bool
     requires { IsPartial (take (length bytes.now - 1) bytes.now) }
     ensures whole { IsTrue result → IsWholeWord bytes.now }

@@ -86,7 +86,7 @@ cut_bytes before bytes n within =
     (sym (take-append-drop n bytes) ∙ ap (λ (l : List ℕ). take n bytes ++ l) (drop-cons bytes n 0 within))
     ∙ sym (append_assoc before (take n bytes) (get_or bytes n 0 ∷ drop (suc n) bytes))
 
--- a proper prefix of a word
+-- a proper prefix of a frame
 word_prefix : (event : EventContent) (before bytes : List ℕ) (n : ℕ) → n < length bytes → IsWord event (before ++ bytes)
     → IsPartial (before ++ take n bytes)
 word_prefix event before bytes n within word =
@@ -111,7 +111,7 @@ partial_prefix before bytes n within part =
           part.word;
     }
 
--- with bytes that end no word a board owes no more
+-- with bytes that end no frame a board owes no more
 stays : (board : BoardView) (bytes : List ℕ) → length board.state.owed < 8 → IsPartial (board.partial ++ bytes)
     → (between : BoardView) × HasTaken board bytes between × (is_full between.state ≡ false)
 stays board bytes room part = (
@@ -121,7 +121,7 @@ stays board bytes room part = (
       (length board.state.owed) room,
 )
 
--- bytes of which only the last may end a word
+-- bytes of which only the last may end a frame
 prefix_of_word : {E : Type 0} (content : E → EventContent) (before bytes chunk : List ℕ) (used : ℕ) (event : Option E)
     → take used chunk ≡ take used bytes
     → IfSome event (λ e. IsWord (content e) (before ++ take used chunk)) → IfNone event

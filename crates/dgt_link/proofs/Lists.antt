@@ -35,11 +35,11 @@ all_replicate P (suc count) x is = (is, all_replicate P count x is)
 
 -- ---- prefixes
 
--- some of the word is after the bytes
+-- some of the frame is after the bytes
 abbrev pub IsShorter : List ℕ → List ℕ → Type 0
 IsShorter bytes word = (next : ℕ) × (more : List ℕ) × (word ≡ bytes ++ next ∷ more)
 
--- the bytes are the word and more, which is the beginning of what follows the word
+-- the bytes are the frame and more, which is the beginning of what follows the frame
 abbrev pub Reaches : List ℕ → List ℕ → List ℕ → List ℕ → Type 0
 Reaches bytes after word rest = (more : List ℕ) × (bytes ≡ word ++ more) × (rest ≡ more ++ after)
 

@@ -50,7 +50,7 @@ module _ (short : WordsAreShort) (within : NoWordBeginsAPart) where
       let more = few_events events after rest divides in
       rw (e, length-append word after) (omega (arith, some, more))
 
-  -- bytes after a part of a word make at most as many events as they are
+  -- bytes after a part of a frame make at most as many events as they are
   pub few_taken : (partial bytes rest : List ℕ) (events : List EventContent) → IsPartial partial
       → Divides (partial ++ bytes) events rest → length events ≤ length bytes
   few_taken partial bytes rest [] is divides = omega arith
