@@ -20,24 +20,6 @@ abbrev pub IsRead : Type 0
 IsRead = (code : ℕ) (body : List ℕ) (said : Content) → code < 128 → IsCarried body
     → (reading code body ≡ Ok said) ↔ Fits said code body
 
--- five bytes with the code and the total of a field update, a square and a piece, are a whole message
-pub field_whole : (bytes : List ℕ) → length bytes ≡ 5 → slice_index bytes 0 ≡ 142 → slice_index bytes 1 ≡ 0
-    → slice_index bytes 2 ≡ 5 → slice_index bytes 3 < 64 → slice_index bytes 4 < 16 → IsWholeMessage bytes
-field_whole (a ∷ b ∷ c ∷ s ∷ p ∷ []) five code high low square piece =
-    record {
-      first = omega (arith, code);
-      later = All-from_recursion (λ byte. byte < 128) (b ∷ c ∷ s ∷ p ∷ [])
-          (omega (arith, high), (omega (arith, low), (omega (arith, square), (omega (arith, piece), tt))));
-      long = omega arith;
-      whole = omega (arith, high, low);
-    }
-field_whole [] five code high low square piece = absurd (omega (arith, five))
-field_whole (a ∷ []) five code high low square piece = absurd (omega (arith, five))
-field_whole (a ∷ b ∷ []) five code high low square piece = absurd (omega (arith, five))
-field_whole (a ∷ b ∷ c ∷ []) five code high low square piece = absurd (omega (arith, five))
-field_whole (a ∷ b ∷ c ∷ s ∷ []) five code high low square piece = absurd (omega (arith, five))
-field_whole (a ∷ b ∷ c ∷ s ∷ p ∷ d ∷ rest) five code high low square piece = absurd (omega (arith, five))
-
 -- the reading of a body of two bytes that are a square and the code of a piece
 field_read : IsRead → (square : Square) (piece : Piece) (s p : ℕ) → s < 64 → p < 128 → square_number square ≡ s
     → piece_code piece ≡ p

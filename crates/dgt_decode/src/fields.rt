@@ -6,14 +6,11 @@ ghost use Rattle.dgt_message.specs.Content.Content.{field};
 ghost use Rattle.dgt_decode.specs.Grammar.{Message, message_event};
 ghost use Rattle.dgt_decode.specs.Feeding.{IsWholeMessage};
 
-use crate::header::FIELD;
+use crate::header::{FIELD, begins_with_field};
 use dgt_values::{Piece, Square};
 
 // The first byte of a field update.
 const FIELD_BYTE: u8 = 0x8e;
-
-// The third byte of a field update: its total, of which the second has the multiples of 128.
-const FIELD_LOW: u8 = 5;
 
 /// The square and the piece of a field update, if these bytes are one whole.
 ///
@@ -30,7 +27,7 @@ pub fn field_update(bytes: &[u8]) -> Option<(Square, Piece)>
         × (message_event bytes.now ≡ Message (field (square_number reported.0) reported.1))) }
 {
     dgt_message::laws::reading_is_exact();
-    if bytes.len() != FIELD || bytes[0] != FIELD_BYTE || bytes[1] != 0 || bytes[2] != FIELD_LOW {
+    if bytes.len() != FIELD || bytes[0] != FIELD_BYTE || !begins_with_field(bytes) {
         return None;
     }
     match (Square::from_index(bytes[3]), Piece::from_code(bytes[4])) {

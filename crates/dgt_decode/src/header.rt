@@ -1,6 +1,6 @@
 //! The header of a message: three bytes.
 
-ghost use Rattle.std.specs.Prelude.{◌≡◌, ◌≤◌, true, length, take, IfSome};
+ghost use Rattle.std.specs.Prelude.{◌≡◌, ◌↔◌, ◌≤◌, true, length, take, IfSome};
 ghost use Rattle.dgt_decode.specs.Feeding.{IsWholeMessage};
 ghost use Rattle.dgt_decode.specs.Taking.{Begins};
 
@@ -16,7 +16,8 @@ pub const FIELD: usize = 5;
 /// Whether a whole message as long as a field stands at the front of these bytes.
 #[inline(always)]
 pub fn begins_with_field(bytes: &[u8]) -> bool
-    ensures { result ≡ true → (FIELD ≤ length bytes.now) × IsWholeMessage (take FIELD bytes.now) }
+    ensures { (result ≡ true)
+        ↔ (FIELD ≤ length bytes.now) × IsWholeMessage (take FIELD bytes.now) }
 {
     let [first, 0, 5, square, piece, ..] = bytes else {
         return false;

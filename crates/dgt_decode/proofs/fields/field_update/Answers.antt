@@ -1,34 +1,33 @@
-use Rattle.std.proofs.Common.{arith}
-use Rattle.dgt_message.proofs.Codes.{piece_code-below}
-use Rattle.dgt_decode.proofs.FieldLemmas.{field_reported, field_whole, only_field}
+use Rattle.std.proofs.Common.{arith, subst, sym}
+use Rattle.std.proofs.lemmas.List.{take_all}
+use Rattle.dgt_decode.specs.Feeding.{IsWholeMessage}
+use Rattle.dgt_decode.proofs.FieldLemmas.{field_reported, only_field}
 use Rattle.dgt_decode.proofs.fields.field_update.Goals as goal
-use Rattle.dgt_decode.proofs.fields.field_update.Goals.{then-bytes-ne-FIELD-via-then-bytes-ne-FIELD, then-bytes-ne-FIELD-via-else-bytes-ne-FIELD+then-bytes, then-bytes-ne-FIELD-via-else-bytes-ne-FIELD+else-bytes+then-bytes-ne0, then-bytes-ne-FIELD-via-else-bytes-ne-FIELD+else-bytes+else-bytes-ne0+then-bytes-ne-FIELD_LOW}
+use Rattle.dgt_decode.proofs.fields.field_update.Goals.{then-bytes-ne-FIELD-via-then-bytes-ne-FIELD, then-bytes-ne-FIELD-via-else-bytes-ne-FIELD+then-bytes, then-bytes-ne-FIELD-via-else-bytes-ne-FIELD+else-bytes+then-not-begins_with_field}
 
 pub returns-in-Ok-Ok : goal.returns-in-Ok-Ok
 returns-in-Ok-Ok c =
     let index = rw c.in-Ok-Ok.is-0 at c.from_index.ensures in
     let five = c.if-bytes-ne-FIELD.false in
-    let code = c.if-bytes.false in
-    let piece = c.in-Ok-Ok.ensures in
-    let whole = field_whole c.args.bytes.now (omega (arith, five)) (omega (arith, code))
-    (omega (arith, c.if-bytes-ne0.false)) (omega (arith, c.if-bytes-ne-FIELD_LOW.false)) index.1
-    (omega (arith, piece, piece_code-below c.in-Ok-Ok.piece)) in (
+    let first = c.begins_with_field.ensures.0 c.if-not-begins_with_field.false in
+    let whole = subst IsWholeMessage (take_all 5 c.args.bytes.now (omega (arith, five))) first.1 in (
       whole,
       field_reported c.reading_is_exact.ensures.message c.args.bytes.now c.in-Ok-Ok.square c.in-Ok-Ok.piece whole.later
-          (omega (arith, five)) (omega (arith, code)) index.1 index.0 piece,
+          (omega (arith, five)) (omega (arith, c.if-bytes.false)) index.1 index.0 c.in-Ok-Ok.ensures,
     )
 
 pub returns-then-bytes-ne-FIELD : goal.returns-then-bytes-ne-FIELD
 returns-then-bytes-ne-FIELD c = λ square piece whole e.
-    let reported = only_field c.reading_is_exact.ensures.message c.args.bytes.now square piece
-    (omega (arith, c.type_inv.bytes 0)) whole e in
+    let bytes = c.args.bytes.now in
+    let reported = only_field c.reading_is_exact.ensures.message bytes square piece (omega (arith, c.type_inv.bytes 0)) whole
+    e in
     elim c.then-bytes-ne-FIELD.branch [
       | then-bytes-ne-FIELD-via-then-bytes-ne-FIELD w ↦ omega (arith, w.if-bytes-ne-FIELD.true, reported.1)
       | then-bytes-ne-FIELD-via-else-bytes-ne-FIELD+then-bytes w ↦ omega (arith, w.if-bytes.true, reported.0)
-      | then-bytes-ne-FIELD-via-else-bytes-ne-FIELD+else-bytes+then-bytes-ne0 w ↦
-          omega (arith, w.if-bytes-ne0.true, reported.1, whole.whole)
-      | then-bytes-ne-FIELD-via-else-bytes-ne-FIELD+else-bytes+else-bytes-ne0+then-bytes-ne-FIELD_LOW w ↦
-          omega (arith, w.if-bytes-ne-FIELD_LOW.true, reported.1, whole.whole, w.if-bytes-ne0.false)
+      | then-bytes-ne-FIELD-via-else-bytes-ne-FIELD+else-bytes+then-not-begins_with_field w ↦
+          let same = take_all 5 bytes (omega (arith, reported.1)) in
+          let begins = w.begins_with_field.ensures.1 (omega (arith, reported.1), subst IsWholeMessage (sym same) whole) in
+          cc (begins, w.if-not-begins_with_field.true)
     ]
 
 pub returns-in_default : goal.returns-in_default

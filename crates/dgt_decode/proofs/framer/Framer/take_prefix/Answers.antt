@@ -10,7 +10,7 @@ returns-then-rest-lt-TOP_BIT c =
 
 pub returns : goal.returns
 returns c =
-    let field = c.begins_with_field.ensures c.if-not-begins_with_field.false in
+    let field = c.begins_with_field.ensures.0 c.if-not-begins_with_field.false in
     rw c.set_prefix.ensures
     (frames-whole c.args.self.now c.args.rest.now 5 (c.is_between.ensures c.if-not-is_between.false) field.0
     field.1)
