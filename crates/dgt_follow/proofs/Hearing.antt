@@ -2,7 +2,7 @@
 use Rattle.std.proofs.Common.{◌≡◌, ◌+◌, Option, Some, None, Bool, is_some, option_map, refl, sym, ap, ◌∙◌, ℕ, List, [], ◌∷◌, ◌++◌, append_assoc, append-nil, length, ◌-◌, take, drop, rules}
 use Rattle.std.proofs.Math.Seq.{take-add}
 use Rattle.std.proofs.lemmas.List.{take_all}
-use Rattle.dgt_decode.specs.Grammar.{Event, Message, Refused, Cut, BadLength, Stray, Placed, events, events_behind, unfinished_message}
+use Rattle.dgt_decode.specs.Grammar.{Event, Message, Placed, events, events_behind, unfinished_message}
 use Rattle.dgt_decode.specs.Feeding.{FirstEvent, at_place_if_any}
 use Rattle.dgt_decode.specs.Laws.{EventsAppend, UnfinishedAppend}
 use Rattle.dgt_values.specs.declared.kinds.Kind.{Kind}
@@ -28,20 +28,19 @@ follower_after_event-unread : (f : FollowerView) (now : ℕ) (unread : List ℕ)
     → follower_after_event (with_unread f unread) now event
     ≡ with_unread (follower_after_event f now event) unread
 follower_after_event-unread f now unread (Message said) = refl
-follower_after_event-unread f now unread (Refused code fault) = refl
-follower_after_event-unread f now unread (Cut have) = refl
-follower_after_event-unread f now unread BadLength = refl
-follower_after_event-unread f now unread (Stray byte) = refl
+follower_after_event-unread f now unread _ = refl
 
--- nor do the bytes that were unread before
-follower_after_events-unread : (f : FollowerView) (now : ℕ) (before after : List ℕ) (xs : List Placed)
-    → with_unread (follower_after_events (with_unread f before) now xs) after
-    ≡ with_unread (follower_after_events f now xs) after
-follower_after_events-unread f now before after [] = refl
-follower_after_events-unread f now before after (x ∷ xs) =
-    ap (λ (g : FollowerView). with_unread (follower_after_events g now xs) after)
-    (follower_after_event-unread f now before x.event)
-    ∙ follower_after_events-unread (follower_after_event f now x.event) now before after xs
+-- nor does a part that is put back after them, and that none of them reads
+follower_after_events-part : {X : Type 0} (put : FollowerView → X → FollowerView)
+    → ((f : FollowerView) (first last : X) → put (put f first) last ≡ put f last)
+    → ((f : FollowerView) (now : ℕ) (x : X) (event : Event)
+    → follower_after_event (put f x) now event ≡ put (follower_after_event f now event) x)
+    → (f : FollowerView) (now : ℕ) (before after : X) (xs : List Placed)
+    → put (follower_after_events (put f before) now xs) after ≡ put (follower_after_events f now xs) after
+follower_after_events-part put last same f now before after [] = last f before after
+follower_after_events-part put last same f now before after (x ∷ xs) =
+    ap (λ (g : FollowerView). put (follower_after_events g now xs) after) (same f now before x.event)
+    ∙ follower_after_events-part put last same (follower_after_event f now x.event) now before after xs
 
 -- the events of two chunks, one after the other
 both : EventsAppend → (f : FollowerView) (now : ℕ) (s more : List ℕ)
@@ -60,7 +59,8 @@ in_two : EventsAppend → UnfinishedAppend → (f : FollowerView) (now : ℕ) (s
     (events (unfinished_message s ++ more))) (unfinished_message (unfinished_message s ++ more))
     ≡ with_unread (follower_after_events f now (events whole)) (unfinished_message whole)
 in_two later still f now s more whole e =
-    follower_after_events-unread (follower_after_events f now (events s)) now (unfinished_message s)
+    follower_after_events-part with_unread (λ f first last. refl) follower_after_event-unread
+    (follower_after_events f now (events s)) now (unfinished_message s)
     (unfinished_message (unfinished_message s ++ more)) (events (unfinished_message s ++ more))
     ∙ ap (λ (g : FollowerView). with_unread g (unfinished_message (unfinished_message s ++ more)))
     (both later f now s more)
@@ -74,26 +74,15 @@ follower_after_event-unfinished : (f : FollowerView) (now : ℕ) (unfinished : O
     → follower_after_event (with_unfinished f unfinished) now event
     ≡ with_unfinished (follower_after_event f now event) unfinished
 follower_after_event-unfinished f now unfinished (Message said) = refl
-follower_after_event-unfinished f now unfinished (Refused code fault) = refl
-follower_after_event-unfinished f now unfinished (Cut have) = refl
-follower_after_event-unfinished f now unfinished BadLength = refl
-follower_after_event-unfinished f now unfinished (Stray byte) = refl
-
-follower_after_events-unfinished : (f : FollowerView) (now : ℕ) (before after : Option ℕ) (xs : List Placed)
-    → with_unfinished (follower_after_events (with_unfinished f before) now xs) after
-    ≡ with_unfinished (follower_after_events f now xs) after
-follower_after_events-unfinished f now before after [] = refl
-follower_after_events-unfinished f now before after (x ∷ xs) =
-    ap (λ (g : FollowerView). with_unfinished (follower_after_events g now xs) after)
-    (follower_after_event-unfinished f now before x.event)
-    ∙ follower_after_events-unfinished (follower_after_event f now x.event) now before after xs
+follower_after_event-unfinished f now unfinished _ = refl
 
 hearing-unfinished : (f : FollowerView) (now : ℕ) (before after : Option ℕ) (bytes : List ℕ)
     → with_unfinished (follower_hearing (with_unfinished f before) now bytes) after
     ≡ with_unfinished (follower_hearing f now bytes) after
 hearing-unfinished f now before after bytes =
     ap (λ (g : FollowerView). with_unread g (unfinished_message (f.host.unread ++ bytes)))
-    (follower_after_events-unfinished f now before after (events (f.host.unread ++ bytes)))
+    (follower_after_events-part with_unfinished (λ f first last. refl) follower_after_event-unfinished
+    f now before after (events (f.host.unread ++ bytes)))
 
 any_bytes : (before other : Option ℕ) (now a b : ℕ) (bytes more unread : List ℕ)
     → unfinished_by before now (a ∷ bytes) unread ≡ unfinished_by other now (b ∷ more) unread
