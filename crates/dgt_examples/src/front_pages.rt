@@ -12,6 +12,7 @@ pub mod putting;
 pub mod reporting;
 pub mod requesting;
 pub mod settling;
+pub mod storing;
 pub mod taking_turns;
 #[cfg(test)]
 mod tests;

@@ -68,6 +68,7 @@ macro_rules! generated {
 generated! {
     values "generated/values/mod.rs",
     message "generated/message/mod.rs",
+    stored "generated/stored/mod.rs",
     decode "generated/decode/mod.rs",
     command "generated/command/mod.rs",
     board "generated/board/mod.rs",

@@ -1,6 +1,6 @@
 use super::{
     finding, greeting, helping, listing, monitoring, moving, playing, printing, putting, reporting,
-    requesting, settling, taking_turns,
+    requesting, settling, storing, taking_turns,
 };
 use crate::tests::{CAME, DUMP, GONE, board};
 use dgt_board::{Identity, simulated_clock};
@@ -43,6 +43,9 @@ fn bytes_of_a_board_and_a_host(rt: HostRuntime) -> Result<(), Fail> {
     expect(&rt, finding::ends_dump(&mut decoder, &DUMP[66..]));
     expect(&rt, requesting::request_dump(&[0x44, 0x42]));
     expect(&rt, !requesting::request_dump(&[0x44]));
+    expect(&rt, storing::begins_with_a_lift(&[0x40, 0x34, 0x41, 0x24]));
+    expect(&rt, !storing::begins_with_a_lift(&[0x41, 0x24]));
+    expect(&rt, !storing::begins_with_a_lift(&[0x40]));
     Ok(())
 }
 
