@@ -154,6 +154,10 @@ def changes(dgt, line):
         line.put(("e4", "P"))
         no_more("no change", board)
         board.write(board.follower.send(dgt.Ask.CLOCK))
+        wanted("a clock without a reading", line.board.clock, dgt.Times())
+        no_more("its report", board)
+        line.board.hand_clock(dgt.Times(dgt.Time(1)))
+        board.write(board.follower.send(dgt.Ask.CLOCK))
         view = board.wait(time.monotonic() + SECONDS)
         wanted("the clock", view and view.clock, line.board.clock)
         line.put(("e4", "."))
@@ -235,10 +239,11 @@ def clock_heals(dgt, line):
         no_more("after a reading was lost", board)
         view = expect("after the next asking", board, *[(START, False, None)] * 2)
         wanted("its clock", view.clock, late)
-        line.send([bytes.fromhex("8d000a017f0304050601")])
-        for right in (None, late):
-            view = expect("no digits, and digits again", board, (START, False, None))
-            wanted("its clock", view.clock, right)
+        for reading in ("017f0304050601", "00000000000000"):
+            line.send([bytes.fromhex("8d000a" + reading)])
+            for right in (None, late):
+                view = expect("no reading, and one again", board, (START, False, None))
+                wanted("its clock", view.clock, right)
         line.unplug()
         wanted("its clock", expect("gone", board, (START, True, GONE)).clock, late)
         line.plug()

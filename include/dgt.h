@@ -727,8 +727,9 @@ bool dgt_follower_picture(dgt_follower *follower, uint8_t pieces[64])
 bool dgt_follower_placement(dgt_follower *follower, char text[DGT_PLACEMENT_ROOM])
     DGT_MUST_USE_ DGT_NONNULL_(1, 2) DGT_WRITES_(2);
 
-/* What the board reported last of its clock. It is unknown while the clock shows no digits: from a
- * report that was refused for that to the next that can be read. */
+/* What the board reported last of its clock. It is unknown while that has no reading: if the clock
+ * shows no digits, so that the report was refused, or if all its bytes are zero, as before its
+ * first reading. */
 void dgt_follower_clock(dgt_follower *follower, dgt_clock *clock) DGT_NONNULL_(1, 2) DGT_WRITES_(2);
 
 /* How many bytes were heard of a message that is not finished: at most 16382. */

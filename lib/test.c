@@ -417,6 +417,12 @@ static void follower(void) {
     dgt_follower_hear_all(follower, 5260, BYTES(0x8d, 0, 10, 1, 2, 3, 4, 5, 6, 9));
     dgt_follower_clock(follower, &clock);
     CHECK(clock.kind == DGT_CLOCK_TIMES && clock.second.minutes == 5);
+    dgt_follower_hear_all(follower, 5260, BYTES(0x8d, 0, 10, 0, 0, 0, 0, 0, 0, 0));
+    dgt_follower_clock(follower, &clock);
+    CHECK(clock.kind == DGT_CLOCK_UNKNOWN && !dgt_follower_in_doubt(follower));
+    dgt_follower_hear_all(follower, 5260, BYTES(0x8d, 0, 10, 0, 0, 0, 0, 0, 0, 1));
+    dgt_follower_clock(follower, &clock);
+    CHECK(clock.kind == DGT_CLOCK_TIMES && clock.status == 1);
 
     dgt_follower_line_lost(follower);
     CHECK(!dgt_follower_picture(follower, pieces) && !dgt_follower_in_doubt(follower));

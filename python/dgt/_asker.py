@@ -77,7 +77,8 @@ class Asker(Handle, ClockCommands[bytes]):
     @property
     def clock(self) -> Clock | None:
         """The last report of the board's clock, or `None` before the first. That of a follower is
-        also `None` from a report that shows no digits on, until the next."""
+        also `None` from a report without a reading on, until the next: the clock shows no digits,
+        or sends zeros alone."""
         told = ClockStruct()
         self._call(self._of("clock"), byref(told))
         return read_clock(told) if told.kind else None

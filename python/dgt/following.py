@@ -22,7 +22,7 @@ from .commands import ClockId, Leds
 from .errors import BadValue, Closed
 from .events import Event, Fault, Refused
 from .follower import Follower
-from .values import Clock, Position
+from .values import Clock, Position, Times
 
 if TYPE_CHECKING:
     from asyncio import StreamReader, StreamWriter, Task
@@ -51,8 +51,8 @@ class BoardView:
     picture: Position | None = None
     """What stands on the squares, or `None` before the first report of it."""
     clock: Clock | None = None
-    """The last report of the board's clock, or `None` before the first, and while the clock shows
-    no digits, as while it is set."""
+    """The last report of the board's clock, or `None` before the first, and while the clock has no
+    reading: it shows no digits, as while it is set, or sends zeros."""
     in_doubt: bool = False
     """Whether the picture may be wrong: the line lost or altered bytes, or the board is away. It
     may be wrong until the board reports all squares again."""
@@ -120,7 +120,8 @@ class _Steps:
             self.follower.line_disturbed()
         for event in self.follower.hear_each(chunk, now):
             events.append(event)
-            self._note(isinstance(event, Refused) and event.fault == Fault.BAD_READING)
+            is_refused = isinstance(event, Refused) and event.fault == Fault.BAD_READING
+            self._note(is_refused or event == Times())
         if self.is_disturbed:
             self.follower.line_disturbed()
             self._note()
@@ -148,11 +149,11 @@ class _Steps:
         heard = self.follower.last_heard
         return self._asked_before > (float("-inf") if heard is None else heard)
 
-    def _note(self, is_clock_unreadable: bool = False) -> None:
+    def _note(self, has_no_reading: bool = False) -> None:
         """Notes what has changed. The last clock stays known while the line is away, but not once
-        the board has a clock that shows no digits."""
+        the board has a clock without a reading."""
         old, picture, clock = self.view, self.follower.picture, self.follower.clock
-        clock = clock or (None if is_clock_unreadable else old.clock)
+        clock = clock or (None if has_no_reading else old.clock)
         away = self._missing or (_SILENT if self._is_silent() else None)
         is_old = picture is None and old.picture is not None
         view = BoardView(old.picture if is_old else picture, clock,

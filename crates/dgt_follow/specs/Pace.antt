@@ -1,6 +1,7 @@
 -- When a follower asks its board, and what: what it counts and what it notes of the messages.
-use Rattle.std.specs.Prelude.{◌≡◌, ℕ, ◌+◌, ◌-◌, ◌/◌, ◌^◌, max, min, nat_le, nat_lt, List, [], ◌∷◌, ◌++◌, Option, Some, None, is_some, Bool, false, true, not, ◌&&◌, ◌||◌, if◌then◌else◌}
+use Rattle.std.specs.Prelude.{◌≡◌, ℕ, ◌+◌, ◌-◌, ◌/◌, ◌^◌, ◌==◌, max, min, nat_le, nat_lt, List, [], ◌∷◌, ◌++◌, Option, Some, None, is_some, Bool, false, true, not, ◌&&◌, ◌||◌, if◌then◌else◌}
 use Rattle.dgt_values.specs.declared.kinds.Kind.{Kind}
+use Rattle.dgt_message.specs.Clock.{Time, Times}
 use Rattle.dgt_message.specs.Content.{Content, answered_kind}
 use Rattle.dgt_command.specs.Content.{CommandContent}
 use Rattle.dgt_command.specs.Encoding.{command_encoding}
@@ -40,7 +41,7 @@ pub record PaceView : Type 0 where
   pub confirmed : Bool
   pub changed : Option ℕ  -- when a message last changed the picture
   pub serial : Option (List ℕ)  -- the serial number that was reported last
-  pub unreadable : Bool  -- whether the clock was unreadable when it was last reported
+  pub unreadable : Bool  -- whether the last report of the clock had no reading
 
 -- A pace that has asked nothing and noted nothing. A period is a second at least: a new beginning
 -- and its dump take a third of that on the line.
@@ -123,10 +124,17 @@ abbrev pub serial_by : Option (List ℕ) → Event → Option (List ℕ)
 serial_by before (Message (Content.serial digits)) = Some digits
 serial_by before _ = before
 
--- the last report of the clock was refused for a digit
+-- A clock that has no reading yet sends nothing but zeros.
+abbrev pub is_zero : Time → Bool
+is_zero t = (t.hours == 0 && t.minutes == 0) && (t.seconds == 0 && t.flags == 0)
+
+abbrev pub is_blank : Times → Bool
+is_blank t = (is_zero t.first && is_zero t.second) && t.status == 0
+
+-- the last report of the clock was refused for a digit, or says nothing
 abbrev pub unreadable_by : Bool → Event → Bool
 unreadable_by before (Refused code (BadReading at)) = true
-unreadable_by before (Message (Content.times readings)) = false
+unreadable_by before (Message (Content.times readings)) = is_blank readings
 unreadable_by before (Message (Content.no_clock absence)) = false
 unreadable_by before _ = before
 

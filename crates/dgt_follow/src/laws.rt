@@ -1,10 +1,10 @@
 //! What holds of a follower whatever it hears. Nothing here runs: each function stands for the
 //! facts that its contract states.
 
-ghost use Rattle.std.specs.Prelude.{◌≡◌, ◌≤◌, ◌∷◌, ◌++◌, ℕ, Bool, List, [], Option, None, Ok, Some, length, replicate, false, true};
+ghost use Rattle.std.specs.Prelude.{◌≡◌, ◌≤◌, ◌↔◌, ◌∷◌, ◌++◌, IsTrue, ℕ, Bool, List, [], Option, None, Ok, Some, length, replicate, false, true};
 ghost use Rattle.dgt_values.specs.declared.kinds.Kind.{Kind};
 ghost use Rattle.dgt_values.specs.declared.pieces.Piece.{Piece};
-ghost use Rattle.dgt_message.specs.Clock.{Absence, Times as BothTimes};
+ghost use Rattle.dgt_message.specs.Clock.{Absence, Time, Times as BothTimes, time_of, times_of};
 ghost use Rattle.dgt_message.specs.Content.{Content};
 ghost use Rattle.dgt_message.specs.declared.viewing.BodyFault.{BodyFault};
 ghost use Rattle.dgt_decode.specs.Grammar.{Event};
@@ -13,7 +13,7 @@ ghost use Rattle.dgt_host.specs.Host.{HostView, Request, Sends, host_after};
 ghost use Rattle.dgt_host.specs.Confirmed.{changes, repeats};
 ghost use Rattle.dgt_follow.specs.Calls.{Call, ConfirmedOverCalls, OneStretchIsSeen, bytes_heard, follower_after_call, follower_after_calls};
 ghost use Rattle.dgt_follow.specs.Follower.{Asks, AskingsConfirmNothing, ConfirmedAsHeard, DisturbedIsAskedAnew, FollowedInChunks, FollowerView, OverdueIsAskedAnew, OverdueIsDoubt, SureStaysSure, asking_of, clock_known, follower_after, following};
-ghost use Rattle.dgt_follow.specs.Pace.{KeepsCount, PaceView, asking, asking_bytes, is_overdue, is_stuck, new_pace, next_due, pace_after_asking, pace_after_event, pace_at, unfinished_by};
+ghost use Rattle.dgt_follow.specs.Pace.{KeepsCount, PaceView, asking, asking_bytes, is_blank, is_overdue, is_stuck, new_pace, next_due, pace_after_asking, pace_after_event, pace_at, unfinished_by};
 ghost use Rattle.dgt_follow.specs.declared.asking.Asking.{Asking};
 ghost use Rattle.dgt_follow.specs.declared.asking.UpdateMode.{UpdateMode};
 
@@ -435,7 +435,7 @@ pub fn what_confirms()
 {}
 
 /// A serial number that is reported is known, whatever else is heard. The clock is unknown while it
-/// is unreadable, until a report of it can be read.
+/// is unreadable, until a report of it can be read that isn't all zeros.
 pub fn what_is_known()
     ensures serial { (pace : PaceView) (now : ℕ) (digits : List ℕ) (awaited : List Kind)
         (picture : Option (List Piece)) →
@@ -446,7 +446,10 @@ pub fn what_is_known()
         (Event.Message (Content.field square piece))).serial ≡ pace.serial }
     ensures readable { (pace : PaceView) (now : ℕ) (readings : BothTimes) (awaited : List Kind)
         (picture : Option (List Piece)) → (pace_after_event pace now awaited picture
-        (Event.Message (Content.times readings))).unreadable ≡ false }
+        (Event.Message (Content.times readings))).unreadable ≡ is_blank readings }
+    ensures blank { (first second : Time) (status : ℕ) →
+        let zero = time_of 0 0 0 0 in IsTrue (is_blank (times_of first second status))
+        ↔ (first ≡ zero) × (second ≡ zero) × (status ≡ 0) }
     ensures absent { (pace : PaceView) (now : ℕ) (absence : Absence) (awaited : List Kind)
         (picture : Option (List Piece)) → (pace_after_event pace now awaited picture
         (Event.Message (Content.no_clock absence))).unreadable ≡ false }

@@ -3,13 +3,14 @@
 ghost use Rattle.std.specs.Prelude.{◌≡◌, ◌↔◌, Option, is_some, if◌then◌else◌, ◌&&◌, ◌||◌, not, List, Some, IsTrue};
 ghost use Rattle.dgt_values.specs.declared.kinds.Kind.{Kind};
 ghost use Rattle.dgt_values.specs.declared.pieces.Piece.{Piece};
+ghost use Rattle.dgt_message.specs.Content.{time_seen, times_seen};
 ghost use Rattle.dgt_decode.specs.Feeding.{event_content};
 ghost use Rattle.dgt_host.specs.Confirmed.{changes_by};
 ghost use Rattle.dgt_host.specs.Host.{IsUnasked};
-ghost use Rattle.dgt_follow.specs.Pace.{confirmed_by, disturbs, heard_at, is_answer, serial_by, unreadable_by};
+ghost use Rattle.dgt_follow.specs.Pace.{confirmed_by, disturbs, heard_at, is_answer, is_blank as blank_times, is_zero as zero_time, serial_by, unreadable_by};
 
 use dgt_host::{Event, Message};
-use dgt_message::{BodyFault, serial_bytes};
+use dgt_message::{BodyFault, Reading, Times, serial_bytes};
 
 /// What a host said of an event: whether it was a message that wasn't asked for, whether it changed
 /// a picture that was known, and whether one was known before it.
@@ -114,12 +115,27 @@ pub(crate) fn last_serial(before: Option<[u8; 5]>, event: &Event<'_>) -> Option<
     }
 }
 
-/// Whether the clock was unreadable when it was last reported, after an event.
+fn is_zero(time: Reading) -> bool
+    ensures { result ≡ zero_time (time_seen time) }
+{
+    time.hours() == 0 && time.minutes() == 0 && time.seconds() == 0 && time.flags() == 0
+}
+
+// Whether a report of the clock has nothing but zeros.
+fn is_blank(times: Times) -> bool
+    ensures { result ≡ blank_times (times_seen times) }
+{
+    let status = times.status().code().get();
+    is_zero(times.first()) && is_zero(times.second()) && status == 0
+}
+
+/// Whether the last report of the clock had no reading, after an event.
 pub(crate) fn is_unreadable(before: bool, event: &Event<'_>) -> bool
     ensures { result ≡ unreadable_by before (event_content event.now) }
 {
     match event {
-        Event::Message(Message::Times(_) | Message::NoClock(_)) => false,
+        Event::Message(Message::Times(times)) => is_blank(*times),
+        Event::Message(Message::NoClock(_)) => false,
         Event::Refused {
             fault: BodyFault::BadReading { .. },
             ..

@@ -473,7 +473,7 @@ impl Pace {
         self.serial
     }
 
-    /// Whether the clock was unreadable when it was last reported.
+    /// Whether the last report of the clock had no reading.
     pub fn clock_is_unreadable(&self) -> bool
         ensures { result ≡ self.now.unreadable }
     {

@@ -48,7 +48,7 @@ pub struct BoardView {
     /// What stands on the squares, or `None` before the first report of it.
     pub picture: Option<Position>,
     /// The last report of the board's clock, or `None` before the first, and while the clock shows
-    /// no digits, as while it is set.
+    /// no digits, as while it is set, or sends zeros alone.
     pub clock: Option<Clock>,
     /// Whether the picture may be wrong: the line lost or altered bytes, or the board is away. It
     /// may be wrong until the board reports all squares again.
@@ -224,7 +224,7 @@ impl<Open: FnMut() -> io::Result<Stream>, Stream: Read + Write> Views<Open, Stre
         let is_old = picture.is_none() && self.view.picture.is_some();
         let clock = match (self.follower.clock(), self.follower.host().clock()) {
             (None, None) => self.view.clock,
-            (clock, _) => clock.copied(), // None while it shows no digits
+            (clock, _) => clock.copied(), // None while it has no reading
         };
         let view = BoardView {
             picture: picture.or(self.view.picture),
