@@ -8,6 +8,10 @@ static dgt_follower *follower;
 static model_follower model;
 static uint64_t now;
 
+#define SEND(name, ...) dgt_follower_##name(follower, __VA_ARGS__)
+#define MODEL &model.host
+#include "sends.h"
+
 static void check_hear(const uint8_t *bytes, size_t n, size_t used, const dgt_event *right,
                        const uint8_t *right_body) {
     size_t room = input_room(DGT_MAX_BODY);
@@ -44,12 +48,6 @@ static void hear_dump(bool by_events) {
     hear((chunk){dump, 67}, by_events);
 }
 
-static void check_sent(dgt_sent sent, dgt_sent right, const uint8_t *out, size_t room,
-                       const model_sending *sending) {
-    CHECK(sent.status == right.status && sent.bytes == right.bytes);
-    check_written(out, room, sending->bytes, sent.status == DGT_SENT ? sent.bytes : 0);
-}
-
 static void ask(size_t room) {
     model_sending asking;
     uint8_t *out = guarded(OUT, room);
@@ -57,51 +55,8 @@ static void ask(size_t room) {
     check_sent(sent, model_ask(&model, now, room, &asking), out, room, &asking);
 }
 
-static dgt_sent send_by_meaning(const model_clock_call *it, uint8_t *out, size_t n) {
-    switch (it->id) {
-    case DGT_ID_DISPLAY:
-        return dgt_follower_send_display(follower, it->text, it->one, it->other, out, n);
-    case DGT_ID_ICONS: return dgt_follower_send_icons(follower, it->icons, it->icons_n, out, n);
-    case DGT_ID_END: return dgt_follower_send_end(follower, out, n);
-    case DGT_ID_BUTTON: return dgt_follower_send_button(follower, out, n);
-    case DGT_ID_VERSION: return dgt_follower_send_clock_version(follower, out, n);
-    case DGT_ID_SET_AND_RUN:
-        return dgt_follower_send_set_and_run(follower, it->left, it->right, it->one, out, n);
-    case DGT_ID_BEEP: return dgt_follower_send_beep(follower, it->one, out, n);
-    default: return dgt_follower_send_text(follower, it->text, it->one, out, n);
-    }
-}
-
-static void send_clock_call(void) {
-    size_t room = input_room(DGT_MAX_WORD + 3);
-    uint8_t *out = guarded(OUT, room);
-    model_clock_call call = any_clock_call();
-    model_sending sending = model_called(&call);
-    dgt_sent sent = send_by_meaning(&call, out, room);
-    check_sent(sent, model_send(&model.host, &sending, room), out, room, &sending);
-}
-
-static void send(uint8_t how) {
-    size_t room = input_room(DGT_MAX_WORD + 3);
-    uint8_t *out = guarded(OUT, room), code = input_byte();
-    chunk payload = input_chunk();
-    model_sending sending;
-    dgt_sent sent;
-    if (how == 0) {
-        sending = model_command(code);
-        sent = dgt_follower_send(follower, code, out, room);
-    } else if (how == 1) {
-        sending = model_clock_message(code, payload.bytes, payload.n);
-        sent = dgt_follower_send_clock(follower, code, payload.bytes, payload.n, out, room);
-    } else {
-        sending = model_leds(payload.bytes, payload.n);
-        sent = dgt_follower_send_leds(follower, payload.bytes, payload.n, out, room);
-    }
-    check_sent(sent, model_send(&model.host, &sending, room), out, room, &sending);
-}
-
 static void send_to_clock_or_leds(uint8_t how) {
-    if (how < 2) send(1 + how);
+    if (how < 2) send_code(1 + how, input_chunk);
     else send_clock_call();
 }
 
@@ -205,7 +160,7 @@ int LLVMFuzzerTestOneInput(const uint8_t *data, size_t n) {
         else if (act < 6) hear_dump(act % 2 == 0);
         else if (act < 9) ask(DGT_MAX_ASKING);
         else if (act == 9) ask(input_room(DGT_MAX_ASKING + 3));
-        else if (act == 10) send(0);
+        else if (act == 10) send_code(0, input_chunk);
         else if (act == 11) send_to_clock_or_leds(input_byte() % 4);
         else if (act == 12) pass_time();
         else if (act == 13) set_mode();

@@ -9,6 +9,10 @@ static model_host model;
 static dgt_event right;
 static uint8_t right_body[DGT_MAX_BODY];
 
+#define SEND(name, ...) dgt_host_##name(host, __VA_ARGS__)
+#define MODEL &model
+#include "sends.h"
+
 /* ---- What it hears. */
 
 static size_t hear(const uint8_t *bytes, size_t n) {
@@ -57,56 +61,12 @@ static chunk any_payload(void) {
     return (chunk){bytes, n};
 }
 
-static dgt_sent send_by_meaning(const model_clock_call *it, uint8_t *out, size_t n) {
-    switch (it->id) {
-    case DGT_ID_DISPLAY:
-        return dgt_host_send_display(host, it->text, it->one, it->other, out, n);
-    case DGT_ID_ICONS: return dgt_host_send_icons(host, it->icons, it->icons_n, out, n);
-    case DGT_ID_END: return dgt_host_send_end(host, out, n);
-    case DGT_ID_BUTTON: return dgt_host_send_button(host, out, n);
-    case DGT_ID_VERSION: return dgt_host_send_clock_version(host, out, n);
-    case DGT_ID_SET_AND_RUN:
-        return dgt_host_send_set_and_run(host, it->left, it->right, it->one, out, n);
-    case DGT_ID_BEEP: return dgt_host_send_beep(host, it->one, out, n);
-    default: return dgt_host_send_text(host, it->text, it->one, out, n);
-    }
-}
-
-static void send_clock_call(void) {
+static void send_follow(bool is_restart) {
     size_t room = input_room(DGT_MAX_WORD + 3);
     uint8_t *out = guarded(OUT, room);
-    model_clock_call call = any_clock_call();
-    model_sending sending = model_called(&call);
-    dgt_sent sent = send_by_meaning(&call, out, room), wanted = model_send(&model, &sending, room);
-    CHECK(sent.status == wanted.status && sent.bytes == wanted.bytes);
-    check_written(out, room, sending.bytes, sent.status == DGT_SENT ? sent.bytes : 0);
-}
-
-static void send(uint8_t how) {
-    size_t room = input_room(DGT_MAX_WORD + 3);
-    uint8_t *out = guarded(OUT, room), code = input_byte();
-    chunk payload = any_payload();
-    model_sending sending;
-    dgt_sent sent;
-    if (how == 0) {
-        sending = model_command(code);
-        sent = dgt_host_send(host, code, out, room);
-    } else if (how == 1) {
-        sending = model_clock_message(code, payload.bytes, payload.n);
-        sent = dgt_host_send_clock(host, code, payload.bytes, payload.n, out, room);
-    } else if (how == 2) {
-        sending = model_leds(payload.bytes, payload.n);
-        sent = dgt_host_send_leds(host, payload.bytes, payload.n, out, room);
-    } else if (how == 3) {
-        sending = model_follow(0);
-        sent = dgt_host_follow(host, out, room);
-    } else {
-        sending = model_follow(DGT_RESTART_LENGTH - 2);
-        sent = dgt_host_restart(host, out, room);
-    }
-    dgt_sent wanted = model_send(&model, &sending, room);
-    CHECK(sent.status == wanted.status && sent.bytes == wanted.bytes);
-    check_written(out, room, sending.bytes, sent.status == DGT_SENT ? sent.bytes : 0);
+    model_sending sending = model_follow(is_restart ? DGT_RESTART_LENGTH - 2 : 0);
+    dgt_sent sent = is_restart ? SEND(restart, out, room) : SEND(follow, out, room);
+    check_sent(sent, model_send(&model, &sending, room), out, room, &sending);
 }
 
 /* ---- What it knows. */
@@ -141,8 +101,10 @@ int LLVMFuzzerTestOneInput(const uint8_t *data, size_t n) {
         uint8_t act = input_byte() % 16;
         if (act < 8) {
             hear_chunk(act % 2 == 0);
+        } else if (act < 11) {
+            send_code(act - 8, any_payload);
         } else if (act < 13) {
-            send(act - 8);
+            send_follow(act == 12);
         } else if (act == 13) {
             send_clock_call();
         } else if (act == 14) {

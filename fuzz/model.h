@@ -48,7 +48,7 @@ void check_same_command(const dgt_command *got, const dgt_command *right);
 
 /* The bytes of the message that an event says, 0 if it says none. */
 size_t model_encode(const dgt_event *said, const uint8_t *body, size_t body_len,
-                    uint8_t bytes[DGT_MAX_BODY + 3]);
+                    uint8_t *bytes);
 
 /* As dgt_view_message. */
 bool model_view(uint8_t code, const uint8_t *body, size_t body_len, dgt_event *event);

@@ -143,69 +143,51 @@ dgt_taken model_take(model_board *board, const uint8_t *bytes, size_t n, dgt_com
 
 /* ---- What it sends. */
 
-static size_t write_message(uint8_t *message, uint8_t code, const uint8_t *body, size_t n) {
-    message[0] = 0x80 | code;
-    message[1] = (uint8_t)((n + 3) >> 7);
-    message[2] = (n + 3) & 0x7f;
-    memcpy(message + 3, body, n);
-    return n + 3;
+static dgt_event said_clock(const model_board *board) {
+    bool is_absent = board->clock.kind == DGT_CLOCK_NONE;
+    return (dgt_event){.kind = is_absent ? DGT_EVENT_NO_CLOCK : DGT_EVENT_TIMES,
+                       .clock = board->clock};
 }
 
-static uint8_t to_decimal(uint8_t number) { return (uint8_t)(number / 10 << 4 | number % 10); }
-
-static void write_time(uint8_t *body, dgt_time time) {
-    body[0] = (uint8_t)(time.flags << 4 | time.hours);
-    body[1] = to_decimal(time.minutes);
-    body[2] = to_decimal(time.seconds);
-}
-
-static size_t write_clock(uint8_t *message, const dgt_clock *clock) {
-    uint8_t body[7];
-    if (clock->kind == DGT_CLOCK_NONE) {
-        memcpy(body, clock->raw, 6);
-    } else {
-        write_time(body, clock->first);
-        write_time(body + 3, clock->second);
-    }
-    body[6] = clock->status;
-    return write_message(message, 0x0d, body, 7);
-}
-
-/* 10, the id, the version or 0, and 00. */
-static size_t write_acknowledgement(uint8_t *message, uint8_t ack1, uint8_t ack2) {
-    const uint8_t body[7] = {
-        (uint8_t)(0x0a | (ack2 & 0x80) >> 3), 0x10, ack1 & 0x7f,
-        (uint8_t)(0x0a | (ack1 & 0x80) >> 2), ack2 & 0x7f, 0x00, 0x00,
-    };
-    return write_message(message, 0x0d, body, 7);
-}
-
-static size_t write_reply(uint8_t *message, const model_board *board, const model_reply *reply) {
+/* The first reply that is owed. An acknowledgement is 10, the id, the version or 0, and 00. */
+static dgt_event said_reply(const model_board *board, const dgt_body **carried) {
+    const model_reply *reply = &board->owed[0];
     const dgt_identity *own = &board->identity;
-    const uint8_t numbers[2] = {own->main_number, own->sub_number};
+    dgt_event said = {.kind = DGT_EVENT_ACK, .ack = {0x10, reply->id, reply->version, 0}};
+    said.main_number = own->main_number, said.sub_number = own->sub_number;
+    memcpy(said.serial, own->serial, 5), memcpy(said.pieces, board->squares, 64);
     switch (reply->code) {
-    case DGT_SEND_DUMP: return write_message(message, 0x06, board->squares, 64);
-    case DGT_SEND_CLOCK: return write_clock(message, &board->clock);
-    case DGT_SEND_SERIAL: return write_message(message, 0x11, own->serial, 5);
-    case DGT_SEND_VERSION: return write_message(message, 0x13, numbers, 2);
-    case DGT_SEND_TRADEMARK:
-        return write_message(message, 0x12, own->trademark.bytes, own->trademark.len);
-    case DGT_SEND_BATTERY:
-        return write_message(message, 0x20, own->battery.bytes, own->battery.len);
+    case DGT_SEND_CLOCK: return said_clock(board);
+    case DGT_SEND_DUMP: said.kind = DGT_EVENT_DUMP; break;
+    case DGT_SEND_SERIAL: said.kind = DGT_EVENT_SERIAL; break;
+    case DGT_SEND_VERSION: said.kind = DGT_EVENT_VERSION; break;
+    case DGT_SEND_TRADEMARK: said.kind = DGT_EVENT_TRADEMARK, *carried = &own->trademark; break;
+    case DGT_SEND_BATTERY: said.kind = DGT_EVENT_BATTERY, *carried = &own->battery; break;
     case DGT_SEND_LONG_SERIAL:
-        return write_message(message, 0x22, own->long_serial.bytes, own->long_serial.len);
-    default: return write_acknowledgement(message, reply->id, reply->version);
+        said.kind = DGT_EVENT_LONG_SERIAL, *carried = &own->long_serial;
+        break;
+    default: break;
     }
+    return said;
+}
+
+/* The first square that has to be reported, or 64. */
+static uint8_t changed_square(const model_board *board) {
+    uint8_t square = board->mode == DGT_MODE_IDLE ? 64 : 0;
+    while (square < 64 && board->squares[square] == board->reported[square]) square++;
+    return square;
 }
 
 size_t model_next(const model_board *board, uint8_t message[DGT_MAX_SENT]) {
-    if (board->owed_n > 0) return write_reply(message, board, &board->owed[0]);
-    for (uint8_t square = 0; square < 64 && board->mode != DGT_MODE_IDLE; square++)
-        if (board->squares[square] != board->reported[square]) {
-            const uint8_t body[2] = {square, board->squares[square]};
-            return write_message(message, 0x0e, body, 2);
-        }
-    return board->owes_times ? write_clock(message, &board->clock) : 0;
+    static const dgt_body none;
+    const dgt_body *carried = &none;
+    uint8_t square = changed_square(board);
+    dgt_event said = {.kind = DGT_EVENT_NONE};
+    if (board->owed_n > 0) said = said_reply(board, &carried);
+    else if (square < 64)
+        said.kind = DGT_EVENT_FIELD, said.square = square, said.piece = board->squares[square];
+    else if (board->owes_times) said = said_clock(board);
+    return model_encode(&said, carried->bytes, carried->len, message);
 }
 
 void model_sent(model_board *board, const uint8_t *message, size_t n) {

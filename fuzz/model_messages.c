@@ -78,7 +78,7 @@ static bool is_right_clock(const dgt_event *said) {
 }
 
 size_t model_encode(const dgt_event *said, const uint8_t *body, size_t body_len,
-                    uint8_t bytes[DGT_MAX_BODY + 3]) {
+                    uint8_t *bytes) {
     uint8_t own[64];
     size_t n = SIZE_MAX; /* until the body is of the message itself */
     dgt_event read;
