@@ -4,7 +4,6 @@ The board is one of the package, as in checks/ports.py. The line between them ma
 bytes either way.
 """
 
-import contextlib
 import os
 import pathlib
 import random
@@ -149,9 +148,7 @@ class Line(ports.Line):
         self.send(self.board.answers(self.alter(asked)))
 
     def send(self, messages):
-        sent = b"".join(self.alter(self.spoil(message)) for message in messages)
-        with contextlib.suppress(BlockingIOError):  # the port is full, and the bytes are lost
-            os.write(self.ends[0], sent)
+        self.transmit(b"".join(self.alter(self.spoil(message)) for message in messages))
 
 
 class Hands:

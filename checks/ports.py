@@ -11,7 +11,6 @@ import errno
 import fcntl
 import os
 import pathlib
-import pty
 import select
 import signal
 import socket
@@ -22,10 +21,12 @@ import tempfile
 import termios
 import threading
 import time
-import tty
 
 import late
 from wrong import Wrong, wanted
+
+sys.path.append(str(pathlib.Path(__file__).resolve().parent.parent / "examples" / "trial"))
+import boards
 
 START = "rnbqkbnr/pppppppp/8/8/8/8/PPPPPPPP/RNBQKBNR"
 LIFTED = "rnbqkbnr/pppppppp/8/8/8/8/PPPP1PPP/RNBQKBNR"
@@ -41,37 +42,23 @@ TIOCGEXCL = 0x80045440  # of Linux: whether later openers are refused; termios d
 LATE = 5.0
 
 
-class Line:
+class Line(boards.Port):
     """A board at the other end of a pseudo-terminal. `spoil` is what the line makes of each
     message; `asked` has when something was asked, and what."""
 
-    def __init__(self, dgt, folder):
-        self.board, self.path = dgt.Board(), pathlib.Path(folder, "port")
-        self.spoil, self.is_on, self.asked = bytes, True, []
-        self.lock, self.ends = threading.RLock(), ()
+    def __init__(self, dgt, folder, is_raw=True):
+        super().__init__(pathlib.Path(folder, "port"), is_raw)
+        self.board, self.spoil, self.is_on, self.asked = dgt.Board(), bytes, True, []
         self.wake, self.woken = os.pipe()
         self.plug()
         self.thread = threading.Thread(target=self.serve, daemon=True)
         self.thread.start()
 
     def plug(self):
-        """The port comes."""
         with self.lock:
-            board, port = pty.openpty()
-            tty.setraw(port)
-            os.set_blocking(board, False)
             self.board.line_lost()
-            self.ends = board, port
-            self.path.symlink_to(os.ttyname(port))
+            super().plug()
         os.write(self.woken, b"w")
-
-    def unplug(self):
-        """The port goes."""
-        with self.lock:
-            self.path.unlink()
-            for end in self.ends:
-                os.close(end)
-            self.ends = ()
 
     def serve(self):
         """Answers the host until the line is closed."""
@@ -92,7 +79,7 @@ class Line:
 
     def send(self, messages):
         if sent := b"".join(map(self.spoil, messages)):
-            os.write(self.ends[0], sent)
+            self.transmit(sent)
 
     def put(self, *changes):
         """Puts pieces on squares, and sends all changes at once."""
@@ -109,6 +96,14 @@ class Line:
             self.unplug()
         os.close(self.wake)
         os.close(self.woken)
+
+
+@contextlib.contextmanager
+def a_line(dgt, **how):
+    """A board on a line, whose port is in a folder of its own."""
+    with tempfile.TemporaryDirectory() as folder:
+        with contextlib.closing(Line(dgt, folder, **how)) as line:
+            yield line
 
 
 def see(view):
@@ -784,14 +779,11 @@ CASES = [changes, lights, asks_when_due, heals, confirms, clock_heals, noise, lo
 
 def try_case(dgt, case):
     """Says what is wrong in a case, if anything."""
-    with tempfile.TemporaryDirectory() as folder:
-        line = Line(dgt, folder)
-        try:
+    try:
+        with a_line(dgt) as line:
             case(dgt, line)
-        except (Wrong, OSError, dgt.DgtError) as wrong:
-            return str(wrong) or repr(wrong)
-        finally:
-            line.close()
+    except (Wrong, OSError, dgt.DgtError) as wrong:
+        return str(wrong) or repr(wrong)
     return None
 
 

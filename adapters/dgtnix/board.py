@@ -24,13 +24,14 @@ and ignores it.
 """
 
 import argparse
+import importlib
 import os
 import pathlib
 import select
 import signal
 import sys
 import time
-import tty
+from typing import Any
 
 # First, so that --help needs no library.
 parser = argparse.ArgumentParser(
@@ -41,60 +42,31 @@ parser = argparse.ArgumentParser(
 parser.add_argument("link", metavar="LINK", help="the name by which a host opens the board")
 words = parser.parse_args()
 
-sys.path.insert(0, str(pathlib.Path(__file__).resolve().parents[2] / "python"))
+ROOT = pathlib.Path(__file__).resolve().parents[2]
+sys.path[:0] = [str(ROOT / "python"), str(ROOT / "examples" / "trial")]
 try:
     import dgt
 except ImportError as missing:
     sys.exit(f"board.py: {missing}")
+boards: Any = importlib.import_module("boards")
 
 SQUARES = {0x86, 0x8E}  # how the messages begin that report squares: all of them, and one
 
 
-class Port:
-    """The board's end of a pseudo-terminal, and the link by which a host finds the other end."""
-
-    def __init__(self, link: str) -> None:
-        self.link = link
-        self.end: int | None = None
-        self.other: int | None = None
-
-    def plug(self) -> None:
-        if self.end is not None:
-            return
-        try:
-            self.end, self.other = os.openpty()
-        except OSError as refused:
-            sys.exit(f"board.py: no pseudo-terminal: {refused.strerror}")
-        tty.setraw(self.other)
-        # Bytes that nobody reads are lost on a line, and don't stop the board.
-        os.set_blocking(self.end, False)
-        try:
-            os.symlink(os.ttyname(self.other), self.link)
-        except OSError as refused:
-            why = f"{refused.strerror} (LINK is a new name in a folder of yours)"
-            sys.exit(f"board.py: {self.link}: {why}")
-
-    def unplug(self) -> None:
-        if self.end is None or self.other is None:
-            return
-        time.sleep(0.05)  # what was sent is read first
-        pathlib.Path(self.link).unlink(missing_ok=True)
-        os.close(self.end)
-        os.close(self.other)
-        self.end = self.other = None
-
-    def write(self, message: bytes) -> None:
-        try:
-            if self.end is not None:
-                os.write(self.end, message)
-        except BlockingIOError:
-            pass
+def plug(port: Any) -> None:
+    """Plugs the port in, or says why it can't be."""
+    try:
+        if not port.ends:
+            port.plug()
+    except OSError as refused:
+        why = f"{refused.strerror} (LINK is a new name in a folder of yours)"
+        sys.exit(f"board.py: {port.path}: {why}" if refused.strerror else f"board.py: {refused}")
 
 
 class Hands:
     """The board, and what is done to it."""
 
-    def __init__(self, port: Port) -> None:
+    def __init__(self, port: Any) -> None:
         self.port, self.board = port, dgt.Board()
         self.is_mute = self.is_curt = self.is_cut = self.is_lost = False
 
@@ -104,14 +76,18 @@ class Hands:
         if self.is_lost:
             self.is_lost = False
             return
-        self.port.write(message[: len(message) // 2] if self.is_cut else message)
+        self.write(message[: len(message) // 2] if self.is_cut else message)
         if self.is_cut:
             self.is_cut = False
             self.unplug()
 
-    def hear(self, end: int) -> None:
-        """Takes what the host asks for at the board's end, and answers."""
-        asked = os.read(end, 4096)
+    def write(self, data: bytes) -> None:
+        if self.port.ends:
+            self.port.transmit(data)
+
+    def hear(self) -> None:
+        """Takes what the host asks for, and answers."""
+        asked = os.read(self.port.ends[0], 4096)
         for command in asked.replace(b"\0", b""):
             print(f"asked {command:02x}", flush=True)
         for message in self.board.answers(asked):
@@ -132,7 +108,9 @@ class Hands:
         self.put(end, position[start])
 
     def unplug(self) -> None:
-        self.port.unplug()
+        if self.port.ends:
+            time.sleep(0.05)  # what was sent is read first
+            self.port.unplug()
         self.board.line_lost()
 
     def obey(self, step: str) -> None:
@@ -141,13 +119,13 @@ class Hands:
                 for square, piece in zip(dgt.SQUARES, reversed(dgt.Position.start())):
                     self.put(square, piece)
             case ["raw", text]:
-                self.port.write(bytes.fromhex(text))
+                self.write(bytes.fromhex(text))
             case ["gone"]:
                 self.unplug()
             case ["half"]:
                 self.is_cut = True
             case ["back"]:
-                self.port.plug()
+                plug(self.port)
             case ["off"]:
                 self.board.line_lost()
             case ["lose"]:
@@ -167,20 +145,20 @@ class Hands:
 def main() -> None:
     for ending in (signal.SIGINT, signal.SIGPIPE):
         signal.signal(ending, signal.SIG_DFL)
-    port = Port(words.link)
+    port = boards.Port(words.link)
     hands, waiting = Hands(port), b""
-    port.plug()
+    plug(port)
     print("ready", flush=True)
     while True:
-        ready = select.select([0] if port.end is None else [0, port.end], [], [])[0]
-        if port.end is not None and port.end in ready:
-            hands.hear(port.end)
+        ready = select.select([0, *port.ends[:1]], [], [])[0]
+        if port.ends and port.ends[0] in ready:
+            hands.hear()
         if 0 in ready:
             data = os.read(0, 4096)
             *steps, waiting = (waiting + data).split(b"\n")
             for step in steps:
                 if step == b"quit":
-                    return port.unplug()
+                    return hands.unplug()
                 if not step.strip():
                     continue
                 try:
@@ -189,7 +167,7 @@ def main() -> None:
                     print(f"board.py: {step!r}: {wrong}", file=sys.stderr, flush=True)
                 print("ready", flush=True)
             if not data:
-                return port.unplug()
+                return hands.unplug()
 
 
 if __name__ == "__main__":

@@ -1,5 +1,6 @@
 """Simulated DGT boards on pseudo-terminals: each has a path in place of its serial port."""
 
+import contextlib
 import os
 import pathlib
 import pty
@@ -45,32 +46,23 @@ def clock_message(left, right, status):
     return bytes([0x8D, 0, 10, *sides[0], *sides[1], status])
 
 
-class Board:
-    """A board: it answers the byte 42 by all its squares, 41 by its clock and 45 by its serial
-    number, five digits, if it has one. It sends each change of a square once 44 or 4b came, and
-    after 4b each one of its clock, too."""
+class Port:
+    """The board's end of a pseudo-terminal, and the path by which a host finds the other end.
+    Unless it `is_raw`, it is for the host to set it up."""
 
-    def __init__(self, path, serial=None):
-        self.path, self.serial = pathlib.Path(path), serial
-        self.codes = bytearray(START)
-        self.clock = (0, 0, ABSENT)
-        self.lock = threading.Lock()
-        self.said = []  # of each message: the bytes so far, the time, and where the pieces stand
-        self.moves = 0
-        self.is_on = True
-        self.ends = ()
-        self.plug()
+    def __init__(self, path, is_raw=True):
+        self.path, self.is_raw = pathlib.Path(path), is_raw
+        self.lock, self.ends = threading.RLock(), ()
 
     def plug(self):
         """The port comes."""
         master, port = pty.openpty()
-        # As a serial port that is no terminal: what is sent to it isn't sent back.
-        tty.setraw(port)
+        if self.is_raw:  # as a serial port that is no terminal: what is sent to it isn't sent back
+            tty.setraw(port)
         # If no host reads, what the board sends is lost, and the board goes on.
         os.set_blocking(master, False)
         with self.lock:
-            self.ends, self.count, self.tells, self.tells_clock = (master, port), 0, False, False
-        self.path.unlink(missing_ok=True)
+            self.ends = master, port
         self.path.symlink_to(os.ttyname(port))
 
     def unplug(self):
@@ -81,22 +73,43 @@ class Board:
                 os.close(end)
             self.ends = ()
 
+    def transmit(self, sent):
+        """Sends these bytes, or loses them if the port's buffer is full."""
+        with contextlib.suppress(BlockingIOError):
+            os.write(self.ends[0], sent)
+
+
+class Board(Port):
+    """A board: it answers the byte 42 by all its squares, 41 by its clock and 45 by its serial
+    number, five digits, if it has one. It sends each change of a square once 44 or 4b came, and
+    after 4b each one of its clock, too."""
+
+    def __init__(self, path, serial=None):
+        super().__init__(path)
+        self.serial = serial
+        self.codes = bytearray(START)
+        self.clock = (0, 0, ABSENT)
+        self.said = []  # of each message: the bytes so far, the time, and where the pieces stand
+        self.moves = 0
+        self.is_on = True
+        self.plug()
+
+    def plug(self):
+        with self.lock:
+            self.count, self.tells, self.tells_clock = 0, False, False
+            self.path.unlink(missing_ok=True)
+            super().plug()
+
     def write(self, message):
         self.count += len(message)
         self.said.append((self.count, time.time(), placement(self.codes)))
-        self.send(message)
-
-    def send(self, sent):
-        try:
-            os.write(self.ends[0], sent)
-        except BlockingIOError:
-            pass  # nobody reads, and the port's buffer is full
+        self.transmit(message)
 
     def garble(self, noise):
         """Any bytes in place of messages, a few at a time."""
         for at in range(0, len(noise), 512):
             with self.lock:
-                self.send(noise[at : at + 512])
+                self.transmit(noise[at : at + 512])
             time.sleep(0.01)
 
     def put(self, name, code):
