@@ -1,6 +1,6 @@
 """What checks/wrong_bodies and checks/definitions share: edits of a crate that the prover has to
-refuse, copies of crates to try them in, and what rt check prints of these. A model's edits are
-read for checks/c_library, too. As a program it makes such a copy: `altering.py CRATE FOLDER`."""
+refuse, copies of crates to try them in, and what rt check prints of these. As a program it makes
+such a copy: `altering.py CRATE FOLDER`."""
 
 import contextlib
 import dataclasses

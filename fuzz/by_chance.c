@@ -1,8 +1,9 @@
 /* Runs a harness without libFuzzer, which clang lacks for some processors: on the first inputs, and
  * then on parts of two of them, joined and altered by chance. Its words are seconds, a seed and the
- * files of the first inputs. It prints how many inputs it tried, and at a fault the input. */
+ * file of the first inputs. It prints how many inputs it tried, and at a fault the input. */
 #define _DEFAULT_SOURCE
 #include <signal.h>
+#include <stdbool.h>
 #include <stdint.h>
 #include <stdio.h>
 #include <stdlib.h>
@@ -45,21 +46,32 @@ static void show_input(int number) {
     raise(number);
 }
 
+/* Reads the inputs of a file. Each is in hexadecimal digits, after a line of comment. */
+static bool read_known(const char *name) {
+    static char line[2 * MOST + 2];
+    FILE *file = fopen(name, "r");
+    while (file && fgets(line, sizeof line, file)) {
+        if (line[0] == '#' && files++ == FILES) return false;
+        if (files == 0) return false;
+        uint8_t *input = known[files - 1];
+        size_t *have = &length[files - 1];
+        const char *at = line;
+        for (; *have < MOST && sscanf(at, "%2hhx", &input[*have]) == 1; at += 2) ++*have;
+    }
+    return file && fclose(file) == 0 && files > 0;
+}
+
 int main(int count, char **words) {
-    if (count < 4 || count - 3 > FILES) return 2;
+    if (count != 4 || !read_known(words[3])) return 2;
     time_t end = time(NULL) + atoi(words[1]);
     state = strtoull(words[2], NULL, 10) * 0x9e3779b97f4a7c15u | 1;
     signal(SIGABRT, show_input);
     signal(SIGSEGV, show_input);
-    for (; files < (size_t)count - 3; files++) {
-        FILE *file = fopen(words[files + 3], "rb");
-        if (!file) return 2;
-        n = length[files] = fread(known[files], 1, MOST, file);
-        fclose(file);
-        memcpy(data, known[files], n);
+    uint64_t tried = 0;
+    for (; tried < files; tried++) {
+        memcpy(data, known[tried], n = length[tried]);
         LLVMFuzzerTestOneInput(data, n);
     }
-    uint64_t tried = files;
     for (; tried % 64 != 0 || time(NULL) < end; tried++) {
         make_input();
         LLVMFuzzerTestOneInput(data, n);
