@@ -78,9 +78,12 @@ static void set_wish(uint8_t which) {
     bool wish = which % 2 == 0;
     if (which < 2) dgt_follower_set_confirm(follower, model.confirms = wish);
     else if (which < 4) dgt_follower_set_identify(follower, model.identifies = wish);
-    else {
+    else if (which == 4) {
         dgt_follower_ask_now(follower);
         model.is_wanted = true;
+    } else {
+        dgt_follower_line_disturbed(follower);
+        model_follower_line_disturbed(&model);
     }
 }
 
@@ -166,7 +169,7 @@ int LLVMFuzzerTestOneInput(const uint8_t *data, size_t n) {
         else if (act == 13) set_mode();
         else if (act == 14) start();
         else if (act == 15) lose_line();
-        else if (act < 18) set_wish(input_byte() % 5);
+        else if (act < 18) set_wish(input_byte() % 6);
         else wait_until_due();
         look();
     }

@@ -122,8 +122,9 @@ typedef struct model_follower {
     bool is_settling, is_doubtful, is_confirmed, is_unreadable;
 } model_follower;
 
-/* As dgt_follower_start, and dgt_follower_line_lost. */
+/* As dgt_follower_start, dgt_follower_line_disturbed and dgt_follower_line_lost. */
 void model_follower_start(model_follower *follower, uint64_t period, uint32_t patience);
+void model_follower_line_disturbed(model_follower *follower);
 void model_follower_line_lost(model_follower *follower);
 
 /* As dgt_follower_hear, with the whole body. */

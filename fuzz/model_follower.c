@@ -30,6 +30,16 @@ void model_follower_line_lost(model_follower *follower) {
 
 /* ---- What it hears. */
 
+static void doubt(model_follower *follower) {
+    follower->is_doubtful = true;
+    follower->is_confirmed = false;
+}
+
+void model_follower_line_disturbed(model_follower *follower) {
+    follower->is_disturbed = true;
+    doubt(follower);
+}
+
 static bool is_message(const dgt_event *event) {
     return event->kind >= DGT_EVENT_DUMP && event->kind <= DGT_EVENT_OTHER;
 }
@@ -55,13 +65,19 @@ static bool confirms(const model_follower *follower, const dgt_event *event, boo
     return follower->is_confirmed;
 }
 
+/* A clock that has no reading yet. */
+static bool is_blank(const dgt_clock *clock) {
+    static const dgt_clock blank = {.kind = DGT_CLOCK_TIMES};
+    return memcmp(clock, &blank, sizeof blank) == 0;
+}
+
 static void note_content(model_follower *follower, const dgt_event *event) {
     switch (event->kind) {
     case DGT_EVENT_SERIAL:
         follower->has_serial = true;
         memcpy(follower->serial, event->serial, sizeof follower->serial);
         break;
-    case DGT_EVENT_TIMES:
+    case DGT_EVENT_TIMES: follower->is_unreadable = is_blank(&event->clock); break;
     case DGT_EVENT_NO_CLOCK: follower->is_unreadable = false; break;
     default:
         if (is_unreadable(event)) follower->is_unreadable = true;
@@ -203,11 +219,6 @@ static model_sending sending_of(const model_follower *follower, asking asking) {
     if (asking == HEARTBEAT) sending.bytes[sending.n++] = DGT_SEND_DUMP;
     if (follower->mode != DGT_MODE_UPDATE_BOARD) sending.bytes[sending.n++] = DGT_SEND_CLOCK;
     return sending;
-}
-
-static void doubt(model_follower *follower) {
-    follower->is_doubtful = true;
-    follower->is_confirmed = false;
 }
 
 /* Notes what is late by now: an answer, or the rest of a message. */
