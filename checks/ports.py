@@ -33,7 +33,8 @@ LIFTED = "rnbqkbnr/pppppppp/8/8/8/8/PPPP1PPP/RNBQKBNR"
 BOTH = "rnbqkbnr/pppppppp/8/8/4P3/8/PPPPPPPP/RNBQKBNR"
 PUT = "rnbqkbnr/pppppppp/8/8/4P3/8/PPPP1PPP/RNBQKBNR"
 GONE = "the port has gone; it is looked for every two seconds"
-SILENT = "the board doesn't answer"
+SILENT = "the board doesn't answer (switch it off and on; dgt-doctor finds out more)"
+DRAUGHTS = "the board doesn't report 64 squares (is it for draughts? dgt-doctor finds out more)"
 CLOSED = "the line was closed"
 NO_PORT = "no such port (plug the board in; /dev/serial/by-id lists the ports)"
 SECONDS = 20
@@ -108,7 +109,7 @@ def a_line(dgt, **how):
 
 def see(view):
     """What a view says, but for its clock and its bytes."""
-    wanted("whether it is silent", view.silent, view.away == SILENT)
+    wanted("whether it is silent", view.silent, view.away in (SILENT, DRAUGHTS))
     return view.picture and view.picture.placement, view.in_doubt, view.away
 
 
@@ -317,6 +318,15 @@ def silence(dgt, line):
         expect_at_last("off again", board, (START, True, SILENT))
         line.is_on = True
         expect_at_last("on again", board, (LIFTED, False, None))
+
+
+def of_draughts(dgt, line):
+    """A board whose reports have 100 squares, and then one of 64."""
+    line.spoil = lambda message: b"\x86\x00\x67" + bytes(100)
+    with dgt.follow(line.path, 1.0) as board:
+        expect_at_last("100 squares", board, (None, True, DRAUGHTS))
+        line.spoil = bytes
+        expect_at_last("64 squares", board, (START, False, None))
 
 
 def goes_and_comes(dgt, line):
@@ -772,7 +782,7 @@ def streams(dgt, line):
 
 
 CASES = [changes, lights, asks_when_due, heals, confirms, clock_heals, noise, loses_an_end,
-         counts_faults, silence, goes_and_comes, comes_late, faults, closing, leaving,
+         counts_faults, silence, of_draughts, goes_and_comes, comes_late, faults, closing, leaving,
          closing_elsewhere, settings, waits, wakes, takes_nothing, handed, handed_fails, streams,
          slow_streams]
 

@@ -20,7 +20,7 @@ from .board import Mode
 from .clock_commands import ClockCommands
 from .commands import ClockId, Leds
 from .errors import BadValue, Closed
-from .events import Event, Fault, Refused
+from .events import Dump, Event, Fault, Refused
 from .follower import Follower
 from .values import Clock, Position, Times
 
@@ -33,11 +33,14 @@ _LOOK = 2.0
 _LONGEST = 3600.0
 """For how many seconds one call sleeps at most."""
 _GONE = "the port has gone; it is looked for every two seconds"
-_SILENT = "the board doesn't answer"
+_SILENT = "the board doesn't answer (switch it off and on; dgt-doctor finds out more)"
+_OTHER_SIZE = "the board doesn't report 64 squares (is it for draughts? dgt-doctor finds out more)"
 _CLOSED = "the line was closed"
 _GOES = (errno.ENOENT, errno.ENXIO, errno.ENODEV, errno.EIO)
 """The faults of a port that was there and has gone."""
 _CHUNK = 4096
+_DUMP = 0x06
+"""The code of a report of all squares."""
 _STALE = 1.0
 """A view that has waited for longer is left out if there is a newer one, in seconds."""
 _MOST_UNSENT = 1000
@@ -68,8 +71,8 @@ class BoardView:
 
     @property
     def silent(self) -> bool:
-        """Whether the port is there, and the board doesn't answer."""
-        return self.away == _SILENT
+        """Whether the port is there, and the board doesn't answer as a chess board does."""
+        return self.away in (_SILENT, _OTHER_SIZE)
 
 
 class SerialLine(Protocol):
@@ -100,6 +103,7 @@ class _Steps:
         self.view = BoardView()
         self.changes: deque[BoardView] = deque()
         self._missing: str | None = None
+        self._refusals = 0  # reports of all squares that had another size, one after another
         self.is_disturbed = False
         """Whether the line has just lost or altered bytes, as whoever reads it has found out."""
         self.asked_at = self._asked_before = float("-inf")
@@ -120,6 +124,10 @@ class _Steps:
             self.follower.line_disturbed()
         for event in self.follower.hear_each(chunk, now):
             events.append(event)
+            if isinstance(event, Dump):
+                self._refusals = 0
+            elif isinstance(event, Refused) and event.fault == Fault.WRONG_SIZE:
+                self._refusals += event.code == _DUMP
             is_refused = isinstance(event, Refused) and event.fault == Fault.BAD_READING
             self._note(is_refused or event == Times())
         if self.is_disturbed:
@@ -136,6 +144,7 @@ class _Steps:
     def lose(self, why: str) -> None:
         """Notes that the line is away. What is known stays known, and is in doubt."""
         self.follower.line_lost()
+        self._refusals = 0
         self._missing, self.asked_at, self._asked_before = why, float("-inf"), float("-inf")
         self._note()
 
@@ -154,7 +163,8 @@ class _Steps:
         the board has a clock without a reading."""
         old, picture, clock = self.view, self.follower.picture, self.follower.clock
         clock = clock or (None if has_no_reading else old.clock)
-        away = self._missing or (_SILENT if self._is_silent() else None)
+        away = self._missing or (_OTHER_SIZE if self._refusals > 1 and picture is None
+                                 else _SILENT if self._is_silent() else None)
         is_old = picture is None and old.picture is not None
         view = BoardView(old.picture if is_old else picture, clock,
                          self.follower.in_doubt or away is not None or is_old,

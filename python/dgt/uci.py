@@ -55,7 +55,7 @@ _WORDS = ("uci", "isready", "setoption", "ucinewgame", "position", "go", "stop",
 _NO_MOVE = "0000"
 _OWN_WORDS = {
     _port._ADVICE[errno.EACCES]: "this user may not open it (join the group dialout)",
-    **{text: text for text in (following._GONE, following._SILENT)},
+    **{text: text for text in (following._GONE, following._SILENT, following._OTHER_SIZE)},
     **{text: text for number, text in _port._ADVICE.items() if number != errno.EACCES},
 }
 """What is said of a board that is away. xboard ends an engine that prints a text of the system such
