@@ -348,11 +348,14 @@ class Following(Uncopied, ClockCommands[None]):
     def _hear(self, chunk: bytes, now: float) -> None:
         self._steps.hear(chunk, now)
 
+    def _open(self) -> Port:
+        return Port(self._name, self._closing)
+
     def _look(self, is_first: bool = False) -> None:
         """Opens the port if it is there. At the first time this may be an `OSError`."""
         self._look_at = time.monotonic() + _LOOK
         try:
-            self._line = Port(self._name, self._closing)
+            self._line = self._open()
         except OSError as fault:
             if is_first and (not self._waits or fault.errno == errno.ENOTTY):
                 raise

@@ -1,0 +1,120 @@
+"""Plays a session that dgt-record or dgt-doctor has written.
+
+It prints the name of a pseudo-terminal, for a program to open in place of a
+board's port. The session begins once the program has sent its first bytes. What
+the board said then comes byte for byte, in its time. A report of all squares
+waits until the program has asked for it, for a second at most: so a program
+that asks as the recorded one did finds each answer after its question.
+
+It ends once the program has read all.
+
+Exit status: 0, or 1 if the file is no session, or one that was cut off.
+"""
+
+from __future__ import annotations
+
+import argparse
+import contextlib
+import os
+import pty
+import select
+import sys
+import time
+import tty
+
+from ._session import BadSession, Entry, read_session
+from .commands import Ask, Asked
+from .decoder import CommandDecoder, Decoder
+from .events import Dump
+
+_PATIENCE = 1.0
+"""For how many seconds a report of all squares waits for the program's question."""
+_READ_WAIT = 10.0
+"""For how many seconds the program may leave the last bytes unread."""
+
+
+class _Player:
+    """Plays a session on a pseudo-terminal."""
+
+    def __init__(self, line: int) -> None:
+        self._line, self._unsent = line, b""
+        self._words, self._asked = CommandDecoder(), 0
+        self._events, self._answered = Decoder(), 0
+
+    def _turn(self, seconds: float) -> None:
+        """Reads what the program sends, and sends what it takes, within this time."""
+        poll = select.poll()
+        poll.register(self._line, select.POLLIN | (select.POLLOUT if self._unsent else 0))
+        poll.poll(1000 * max(0.0, seconds))
+        with contextlib.suppress(BlockingIOError):
+            words = self._words.feed(os.read(self._line, 4096))
+            self._asked += words.count(Asked(Ask.DUMP))
+        with contextlib.suppress(BlockingIOError):
+            self._unsent = self._unsent[os.write(self._line, self._unsent):]
+
+    def wait_until(self, until: float, count: int = 0) -> None:
+        """Waits until a time, or until the program has asked for all squares this often."""
+        while (now := time.monotonic()) < until and not 0 < count <= self._asked:
+            self._turn(until - now)
+
+    def play(self, entries: list[Entry], speed: float) -> None:
+        """Plays what the board said, at the recorded times divided by `speed`."""
+        first = next((each.seconds for each in entries if each.mark == ">"), 0.0)
+        poll = select.poll()
+        poll.register(self._line, select.POLLIN)
+        poll.poll()
+        begun = time.monotonic()
+        for entry in entries:
+            if entry.mark != "<":
+                continue
+            due = begun + max(0.0, entry.seconds - first) / speed
+            self.wait_until(due)
+            if reports := sum(isinstance(each, Dump) for each in self._events.feed(entry.chunk)):
+                self._answered += reports
+                self.wait_until(due + _PATIENCE, self._answered)
+            self._unsent += entry.chunk
+            self._turn(0.0)
+
+    def finish(self, terminal: int) -> bool:
+        """Waits until the program has read all. Returns whether it has."""
+        end = time.monotonic() + _READ_WAIT
+        while self._unsent or select.select([terminal], [], [], 0.0)[0]:
+            if time.monotonic() > end:
+                return False
+            self.wait_until(time.monotonic() + 0.05)
+        return True
+
+
+def _speed(text: str) -> float:
+    with contextlib.suppress(ValueError):
+        if 0.001 <= (speed := float(text)) <= 1_000_000:
+            return speed
+    raise argparse.ArgumentTypeError(f"not 0.001 to 1000000: {text!r}")
+
+
+def main(arguments: list[str] | None = None) -> None:
+    """Runs the program `dgt-replay` with these arguments, or those of the process."""
+    parser = argparse.ArgumentParser(
+        prog="dgt-replay", description=__doc__, allow_abbrev=False,
+        formatter_class=argparse.RawDescriptionHelpFormatter)
+    parser.add_argument("file", help="the session")
+    parser.add_argument("--speed", type=_speed, default=1.0, metavar="TIMES",
+                        help="how many times as fast as it was recorded (%(default)s)")
+    words = parser.parse_args(arguments)
+    try:
+        with open(words.file, encoding="utf-8", errors="replace") as file:
+            entries, is_whole = read_session(file.read())
+    except (OSError, BadSession) as wrong:
+        why = wrong.strerror if isinstance(wrong, OSError) else wrong
+        raise SystemExit(f"dgt-replay: {words.file}: {why}") from None
+    line, terminal = pty.openpty()
+    tty.setraw(terminal)  # as a line is: what is sent isn't sent back
+    os.set_blocking(line, False)
+    print(os.ttyname(terminal), flush=True)
+    player = _Player(line)
+    with contextlib.suppress(KeyboardInterrupt):
+        player.play(entries, words.speed)
+        if not player.finish(terminal):
+            sys.exit("dgt-replay: the program hasn't read all")
+    if not is_whole:
+        sys.exit(f"dgt-replay: {words.file}: the session was cut off: its end is missing")
