@@ -1,0 +1,229 @@
+"""A board that dgt-doctor examines, and the person at it."""
+
+from __future__ import annotations
+
+import contextlib
+import os
+import time
+from collections import deque
+
+from ._findings import FINDINGS
+from ._session import FAULTS, RecordedPort, Recorder
+from .commands import Ask, ClockId
+from .events import Ack, Dump, Event, Fault, Field, Other, Refused
+from .following import _DUMP, _has_input
+from .host import Host
+
+PATIENCE = 4.0
+"""For how many seconds an answer is awaited."""
+LATE = 1.0
+"""An answer after this number of seconds is late, as a follower has it."""
+LOOK = 0.5
+"""How often a port that has gone is looked for, in seconds."""
+LONGEST = 3600.0
+_DRAUGHTS = 103
+_DONE = 0x10
+
+
+class Stopped(Exception):
+    """The person wants no more."""
+
+
+class Person:
+    """Whoever sits at the board, by standard input and output."""
+
+    def __init__(self) -> None:
+        self._rest = b""
+
+    def say(self, text: str) -> None:
+        """Prints a line. If nobody reads it, the report has it."""
+        with contextlib.suppress(OSError):
+            print(text, flush=True)
+
+    def typed(self, seconds: float = 0.0) -> str | None:
+        """Returns a line that was typed, or is within this time. `Stopped` for `q`, and at the end
+        of the input."""
+        if b"\n" not in self._rest and _has_input(0, seconds):
+            self._rest += os.read(0, 4096) or b"q\n"
+        line, end, rest = self._rest.partition(b"\n")
+        if not end:
+            return None
+        self._rest = rest
+        if line.strip().lower() == b"q":
+            raise Stopped
+        return line.decode(errors="replace").strip().lower()
+
+    def forget(self) -> None:
+        """Forgets what was typed by now."""
+        while self.typed() is not None:
+            pass
+
+
+class Examination:
+    """A board on a port, what it has sent, and what was found."""
+
+    def __init__(self, name: str, recorder: Recorder, person: Person, stop: int) -> None:
+        """It raises `Stopped` once the descriptor `stop` has something to read. `OSError` if the
+        port can't be opened."""
+        self.name, self.person, self.host, self.mode = name, person, Host(), Ask.UPDATE_BOARD
+        self.findings, self.held = dict[str, str](), dict[str, tuple[bool, str]]()
+        self.facts, self.delays = dict[str, str](), dict[str, list[float]]()
+        self.fields = list[tuple[str, str]]()
+        """The squares that were reported, since it was cleared."""
+        self._has_missed = self._has_recovered = False
+        self._raw, self._queue = b"", deque[Event]()
+        self.recorder, self._stop = recorder, stop
+        self._port: RecordedPort | None = RecordedPort(name, stop, recorder)
+
+    def find(self, name: str, detail: str = "") -> None:
+        """Notes a finding, once."""
+        if name not in self.findings:
+            self.findings[name] = f" ({detail})" if detail else ""
+            self.person.say(f"found: {name}{self.findings[name]}: {FINDINGS[name]}")
+
+    def hold(self, statement: str, holds: bool, detail: str = "") -> None:
+        """Notes whether a statement held. One that failed once didn't."""
+        if self.held.get(statement, (True, ""))[0]:
+            self.held[statement] = holds, f" ({detail})" if detail else ""
+
+    def miss(self) -> None:
+        """Notes that the board didn't report a change, and asks it for changes again."""
+        self._has_missed = True
+        self.set_mode(self.mode)
+        self.dump()  # so that it has taken that
+
+    def judge(self) -> None:
+        """Notes what only the end shows."""
+        self.hold("faults", True)
+        if self._has_missed:
+            self.find("mode lost" if self._has_recovered else "no updates")
+        if failed := [name for name, fact in self.facts.items() if fact.startswith("failed: ")]:
+            self.find("failed steps", "; ".join(failed))
+
+    # ---- The line
+
+    def write(self, chunk: bytes) -> None:
+        """Sends bytes to the board. If the port has gone, `hear` finds it."""
+        if self._port is not None:
+            self._port.write(chunk)
+
+    def set_mode(self, mode: Ask) -> None:
+        """Asks the board for changes, or for none."""
+        self.mode = mode
+        self.write(self.host.send(mode))
+
+    def hear(self, until: float, wakes: int | None = None) -> Event | None:
+        """Returns the next event, or `None` if there was none until a time, or until `wakes` has
+        something to read. `OSError` if the port has gone."""
+        while not self._queue:
+            if self._port is None:
+                raise OSError("the port has gone")
+            try:
+                chunk = self._port.exchange(max(0.0, until - time.monotonic()), wakes)
+            except OSError:
+                self._port.close()
+                self._port = None
+                raise
+            self._check_stop()
+            self._raw = (self._raw + chunk)[-20000:]
+            for event in self.host.hear(chunk):
+                self._note(event)
+                self._queue.append(event)
+            is_over = time.monotonic() >= until or (wakes is not None and _has_input(wakes, 0.0))
+            if not self._queue and is_over:
+                return None
+        return self._queue.popleft()
+
+    @property
+    def has_more(self) -> bool:
+        """Whether events have come that `hear` hasn't returned yet."""
+        return bool(self._queue)
+
+    def open(self) -> bool:
+        """Opens the port again, if it has gone and is there. Returns whether it is open."""
+        self._check_stop()
+        with contextlib.suppress(OSError):
+            if self._port is None:
+                self._port = RecordedPort(self.name, self._stop, self.recorder)
+                self.host.line_lost()
+                self._queue.clear()
+        return self._port is not None
+
+    def _check_stop(self) -> None:
+        if _has_input(self._stop, 0.0):
+            raise Stopped
+
+    def _note(self, event: Event) -> None:
+        """Notes what an event says of the board."""
+        if isinstance(event, Field):
+            self.fields.append((event.square, event.piece))
+            self._has_recovered = self._has_missed
+        elif isinstance(event, Other):
+            self.find("another board's code", f"{event.code | 0x80:02x}")
+        elif isinstance(event, FAULTS):
+            self.hold("faults", False, str(event))
+            self.find(*self._fault(event))
+
+    def _fault(self, event: Event) -> tuple[str, str]:
+        """Returns the finding that a fault is."""
+        if isinstance(event, Refused) and event.fault == Fault.BAD_READING:
+            return "clock unreadable", ""
+        if not isinstance(event, Refused) or event.fault != Fault.WRONG_SIZE or event.code != _DUMP:
+            return "altered bytes", str(event)
+        at = self._raw.rfind(bytes([0x80 | _DUMP]))
+        size = 128 * self._raw[at + 1] + self._raw[at + 2]
+        return "draughts board" if size == _DRAUGHTS else "wrong size of dump", f"{size} bytes"
+
+    # ---- Questions
+
+    def await_event(self, kinds: tuple[type[Event], ...], seconds: float) -> Event | None:
+        """Returns the next event of one of these kinds, or `None` after this time."""
+        until = time.monotonic() + seconds
+        while event := self.hear(until):
+            if isinstance(event, kinds):
+                return event
+            if time.monotonic() >= until:
+                break
+        return None
+
+    def ask(self, question: bytes, kinds: tuple[type[Event], ...], what: str) -> Event | None:
+        """Asks the board, and returns its answer, or `None` if it has none. The time is noted."""
+        self.write(question)
+        asked = time.monotonic()
+        answer = self.await_event(kinds, PATIENCE)
+        if answer is None:
+            self.host.give_up_awaited()
+            return None
+        delay = time.monotonic() - asked
+        self.delays.setdefault(what, []).append(delay)
+        if delay > LATE:
+            self.find("late answers", f"{what} after {delay:.1f} s")
+        return answer
+
+    def dump(self) -> Dump | None:
+        """Asks for all squares, three times if what comes is refused."""
+        for _ in range(3):
+            answer = self.ask(self.host.send(Ask.DUMP), (Dump, Refused), "dump")
+            if not isinstance(answer, Refused):
+                return answer if isinstance(answer, Dump) else None
+        return None
+
+    def begin_anew(self, unfinished: bytes = b"") -> bool:
+        """Sends the new beginning of a follower, after the bytes of an unfinished command. Returns
+        whether the board then reports all squares."""
+        self.host.give_up_awaited()
+        begins = unfinished + self.host.restart()
+        return self.ask(begins, (Dump, Refused), "new beginning") is not None
+
+    def send_clock(self, message: bytes, id: ClockId) -> Ack | None:
+        """Sends a message to the clock, three times at most, until it takes it. Returns what the
+        clock acknowledges then."""
+        for _ in range(3):
+            ack = self.ask(message, (Ack,), f"clock message {id:02x}")
+            if isinstance(ack, Ack) and ack.ack[:2] == bytes([_DONE, id]):
+                self.hold("acks", True)
+                return ack
+            self.await_event((), LOOK)
+        self.hold("acks", False, f"id {id:02x}")
+        self.find("clock refused", f"id {id:02x}")
+        return None

@@ -1,0 +1,54 @@
+"""What dgt-doctor may find, what to do about it, and the statements that it tries."""
+
+FINDINGS = {
+    "silent board": "it answers nothing. Check its power, its cable and the port's name; try "
+    "another USB socket",
+    "bus mode": "it answered nothing until it was switched off and on. So most likely another "
+    "program had left it in bus mode, in which it hears only its bus address. Do the same when a "
+    "program says that the board doesn't answer",
+    "draughts board": "its report of all squares has 103 bytes, as that of a board for draughts "
+    "has, and 67 is that of a chess board. These programs read chess boards only",
+    "wrong size of dump": "its report of all squares hasn't 67 bytes, so no position is known. Put "
+    "this report into a bug report: the board may be of another kind",
+    "late answers": "an answer took more than a second. Programs take it for lost, and ask again. "
+    "Try another cable or socket, without a hub; bring a Bluetooth board closer",
+    "mode lost": "it stopped reporting changes by itself, and did so again once it was asked to. "
+    "It may have lost its power for a moment: check cable and battery",
+    "no updates": "it doesn't report changes by itself, though it was asked to. Programs see a "
+    "move only with the next report of all squares",
+    "clock refused": "a clock is connected, and didn't take a message, tried three times. Switch "
+    "the clock on, and choose its mode for a connected board (see the clock's manual)",
+    "clock unreadable": "a reading of the clock has no digits. A clock sends it while it is being "
+    "set: end that, and start again",
+    "altered bytes": "bytes were lost, altered or inserted on the line. Try another cable or "
+    "socket, without a hub; end other programs that may read this port",
+    "another board's code": "it sends a message of a code that docs/PROTOCOL.md doesn't describe, "
+    "as a newer board or one of another maker may. Put this report into a bug report",
+    "new beginning": "it doesn't answer after zeros in the middle of a command. Programs that lost "
+    "a byte don't get on without its power being switched. Put this report into a bug report",
+    "failed steps": "what the board showed isn't what was done. Each step says what to do",
+    "port gone": "the port has gone in the middle of it. Check the cable, and start again",
+}
+"""What each finding means, and what to do."""
+
+STATEMENTS = {
+    "dump": "42 is answered by all squares, in 67 bytes",
+    "version": "4d is answered by the version",
+    "serial": "45 is answered by the serial number, five bytes",
+    "trademark": "47 is answered by the trademark",
+    "battery": "4c is answered by the battery",
+    "long serial": "55 is answered by the long serial number",
+    "clock": "41 is answered by times, or by the message that no clock is connected",
+    "order": "replies come in the order of the questions",
+    "quiet": "40 and 44 are not answered",
+    "zeros": "255 zeros end an unfinished command, and a request after them is answered",
+    "acks": "the clock acknowledges a message by its id",
+    "fields": "after 44 or 4b each change of a square is sent as a field",
+    "idle": "after 40 no field is sent",
+    "later": "a square that changed in idle mode is sent as a field after 44",
+    "start": "D0 of the clock's status is set while it runs",
+    "lever": "D1 of the clock's status follows the lever",
+    "buttons": "a press of a button is sent as an acknowledgement",
+    "faults": "no byte is stray, and no message is cut or refused",
+}
+"""What docs/PROTOCOL.md says of a board, as far as it is tried."""

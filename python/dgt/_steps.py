@@ -1,0 +1,245 @@
+"""The twelve things that a person does for dgt-doctor, and how each is checked."""
+
+from __future__ import annotations
+
+import contextlib
+import time
+from collections.abc import Callable
+from dataclasses import dataclass
+
+from ._examination import LONGEST, LOOK, Examination
+from .commands import Ask, ClockId
+from .events import Ack, Event, Field
+from .values import SQUARES, Position, Times
+
+_PRESSED = (0x08, 0x88)
+"""The second byte of an acknowledgement that a button causes."""
+_WITH_TEXT = 2
+"""The first main version of a clock that shows text."""
+_NAMED = 6
+"""How many squares are named at most."""
+_NO_ANSWER = "the board doesn't answer"
+
+
+class Skipped(Exception):
+    """The person leaves a step out."""
+
+
+@dataclass(frozen=True, slots=True)
+class Step:
+    """A thing to do."""
+
+    name: str
+    text: str
+    advice: str
+    """What to do if it fails."""
+    do: Callable[[Examination, Step, Position], str]
+    """Has it done, from this position. Returns what failed, or nothing."""
+    changes: str = ""
+    """The changes of squares that have to be reported, as in `e2. e4P`."""
+    needs: str = ""
+    """What has to be on some squares before."""
+    has_clock: bool = False
+    """Whether it needs a clock."""
+    note: Callable[[Event], str] = str
+    """What an event says of it, if anything."""
+    is_typed: bool = False
+    """Whether the person says when it is done."""
+
+
+def _watch(board: Examination, is_done: Callable[[Event], bool]) -> bool:
+    """Shows what comes, until it is done, or a line is typed. Returns whether it is done."""
+    has_seen = False
+    while True:
+        event = board.hear(time.monotonic() + LONGEST, 0)
+        if event is not None:
+            board.person.say(f"  {event}")
+            has_seen = is_done(event) or has_seen
+        if has_seen and not board.has_more:
+            return True
+        if (line := board.person.typed()) is not None:
+            if line == "s":
+                raise Skipped
+            return False
+
+
+def _pairs(text: str) -> list[tuple[str, str]]:
+    return [(word[:2], word[2]) for word in text.split()]
+
+
+def _differences(shown: Position, right: Position) -> str:
+    """Which squares are wrong, if any."""
+    if shown.letters == right.letters[::-1]:
+        return "the board is turned: turn it by half, and put the pieces as before"
+    named = [f"{square} has {shown[square]} in place of {letter}"
+             for square, letter in shown.changes(right).items()]
+    return ", ".join(named[:_NAMED] + ["and so on"] * (len(named) > _NAMED))
+
+
+def _on_board(board: Examination, step: Step, before: Position) -> str:
+    """Pieces are moved. Both the changes and the report of all squares have to show it."""
+    after = dict(zip(SQUARES, before)) | dict(_pairs(step.changes))
+    goal = Position.of_letters("".join(after.values())) if step.changes else Position.start()
+    if not step.changes and before == goal:
+        return ""
+    why = _move(board, step, goal)
+    if why:
+        board.person.forget()
+        board.person.say(f"  {why}. Once more: {step.text}. Press Enter if nothing happens")
+        why = _move(board, step, goal)
+    return why
+
+
+def _move(board: Examination, step: Step, goal: Position) -> str:
+    """Waits until the board shows what was to be done. Returns what is wrong."""
+    must = set(_pairs(step.changes))
+    is_noticed = _watch(board, lambda _: board.host.picture == goal and must <= {*board.fields})
+    dump = board.dump()
+    if dump is None:
+        return _NO_ANSWER
+    if dump.position != goal and is_noticed:
+        board.find("altered bytes", f"changes and report of all squares differ in {step.name}")
+    if dump.position == goal and must:
+        board.hold("fields", is_noticed, "" if is_noticed else step.name)
+        if not is_noticed:
+            board.miss()
+            return "the board didn't report it by itself"
+    return _differences(dump.position, goal)
+
+
+def _in_idle_mode(board: Examination, step: Step, before: Position) -> str:
+    """A knight is lifted while the board was asked to report nothing."""
+    mode, [(square, _)] = board.mode, _pairs(step.needs)
+    board.set_mode(Ask.RESET)
+    board.dump()  # so that it has taken that
+    board.person.say(f"  now lift the knight from {square}, and press Enter")
+    has_come = _watch(board, lambda event: isinstance(event, Field))
+    board.set_mode(mode)
+    comes_later = board.await_event((Field,), 3 * LOOK) is not None
+    lifted = board.dump()
+    if lifted is None or lifted.position[square] != ".":
+        return f"{square} isn't empty"
+    board.hold("idle", not has_come)
+    if not has_come:
+        board.hold("later", comes_later)
+    board.person.say("  now put it back")
+    _watch(board, lambda _: board.host.picture == before)
+    after = board.dump()
+    return _differences(after.position, before) if after else _NO_ANSWER
+
+
+# ---- The clock
+
+
+def _on_clock(board: Examination, step: Step, before: Position) -> str:
+    """The clock shows a text. The person says whether it does."""
+    has_text = int(board.facts.get("clock version", "1").partition(".")[0]) >= _WITH_TEXT
+    shown = "hello" if has_text else "12-34"
+    message = board.host.text(shown, 3) if has_text else board.host.display(shown, 0, 3)
+    if board.send_clock(message, ClockId.TEXT if has_text else ClockId.DISPLAY) is None:
+        return "the clock didn't take it"
+    board.person.say(f"  does it show {shown}? (Enter: yes, n and Enter: no)")
+    while (line := board.person.typed()) is None:
+        board.hear(time.monotonic() + LONGEST, 0)
+    board.send_clock(board.host.end(), ClockId.END)
+    if line == "s":
+        raise Skipped
+    return "it wasn't shown" if line == "n" else ""
+
+
+def _reported(board: Examination, step: Step, before: Position) -> str:
+    """The clock reports two different things, or else what it reports until a line is typed."""
+    noted = dict[str, None]()
+
+    def is_done(event: Event) -> bool:
+        if what := step.note(event):
+            noted[what] = None
+        return len(noted) > 1 and not step.is_typed
+
+    if board.host.clock:
+        is_done(board.host.clock)
+    if not _watch(board, is_done) and not (noted and step.is_typed):
+        return "nothing of it was reported"
+    board.hold(step.name, True, ", ".join(noted))
+    return ""
+
+
+def _running(event: Event) -> str:
+    return str(event) if isinstance(event, Times) and event.running else ""
+
+
+def _lever(event: Event) -> str:
+    return f"{event.lever:d}" if isinstance(event, Times) else ""
+
+
+def _button(event: Event) -> str:
+    return event.ack.hex(" ") if isinstance(event, Ack) and event.ack[1] in _PRESSED else ""
+
+
+# ---- The cable
+
+
+def _away(board: Examination, step: Step, before: Position) -> str:
+    """The board goes, and comes back with the same pieces."""
+    with contextlib.suppress(OSError):
+        while board.dump():
+            board.await_event((), LOOK)
+            if (line := board.person.typed()) is not None:
+                if line == "s":
+                    raise Skipped
+                return "it still answers"
+    board.person.say("  it has gone. Now have it back: plug it in, or switch it on")
+    while not (board.open() and _is_back(board)):
+        if board.person.typed(LOOK) == "s":
+            raise Skipped
+    return _differences(board.host.picture or before, before)
+
+
+def _is_back(board: Examination) -> bool:
+    with contextlib.suppress(OSError):
+        return board.begin_anew()
+    return False
+
+
+_SEND = "put the report into a bug report"
+_CHOOSE = "switch the clock on, and choose its mode for a connected board"
+STEPS = [
+    Step("set up", "set up all pieces for a game", "each piece has its own code: look at the "
+         "squares that are named", _on_board),
+    Step("e4", "play 1. e4", _SEND, _on_board, "e2. e4P", "e2P e4."),
+    Step("lift", "lift the knight from g1, and put it back", _SEND, _on_board, "g1. g1N", "g1N"),
+    Step("slide", "slide the bishop from f1 to c4, without lifting it", _SEND, _on_board,
+         "f1. c4B", "f1B e2. d3. c4."),
+    Step("take", "take the pawn on f7 with the bishop", _SEND, _on_board, "c4. f7B", "c4B f7p"),
+    Step("idle", "wait until the board is asked to report nothing", _SEND, _in_idle_mode,
+         needs="b1N"),
+    Step("text", "look at the clock, which is sent a text", _CHOOSE, _on_clock, has_clock=True),
+    Step("start", "start the clock", _CHOOSE, _reported, has_clock=True, note=_running),
+    Step("lever", "press the lever of the clock", _CHOOSE, _reported, has_clock=True, note=_lever),
+    Step("buttons", "press each button of the clock, and then Enter", "older clocks report none",
+         _reported, has_clock=True, note=_button, is_typed=True),
+    Step("cable", "pull the cable out of the computer", "skip it for a board of Bluetooth", _away),
+    Step("power", "switch the board off", "skip it if the board has no switch", _away),
+]
+"""What a person does, in this order."""
+
+
+def do_step(board: Examination, step: Step, prompt: str) -> str:
+    """Has a thing done, once the board is ready for it. Returns what came of it."""
+    if step.has_clock and "clock" not in board.facts:
+        return "left out: no clock is connected"
+    if step.has_clock:
+        board.set_mode(Ask.UPDATE_NICE)
+    dump = board.dump()
+    if dump is None:
+        return f"left out: {_NO_ANSWER}"
+    if any(dump.position[square] != piece for square, piece in _pairs(step.needs)):
+        return f"left out: the pieces don't stand for it ({step.needs})"
+    board.fields.clear()
+    board.person.forget()
+    board.person.say(prompt)
+    try:
+        why = step.do(board, step, dump.position)
+    except Skipped:
+        return "skipped"
+    return f"failed: {why}; {step.advice}" if why else "done"

@@ -1,0 +1,203 @@
+"""Examines a board: opens its port, asks it everything, and has you do twelve
+things, each of which is checked as it happens.
+
+Set up the pieces, play a move, press the clock, pull the cable, and so on: each
+step says what to do. Press s and Enter to skip one, and q and Enter to end
+early. Without a clock the steps with it are left out.
+
+The report is a text file for a bug report. It has the board's model and
+versions, what was found and what to do about it, which statements of
+docs/PROTOCOL.md held, and the whole session, byte by byte. It has the board's
+serial numbers, too.
+
+Exit status: 0 if nothing was found, and 1 if something was, or if the port
+can't be opened.
+"""
+
+from __future__ import annotations
+
+import argparse
+import errno
+import os
+import platform
+import statistics
+import sys
+import time
+from collections.abc import Iterator
+from typing import TextIO
+
+from ._examination import LONGEST, LOOK, Examination, Person, Stopped
+from ._findings import FINDINGS, STATEMENTS
+from ._session import Recorder
+from ._steps import STEPS, do_step
+from ._version import VERSION
+from .commands import Ask, ClockId
+from .events import Battery, Dump, Event, LongSerial, Serial, Trademark, Version
+from .game import _stopping
+from .serial_ports import ports
+from .values import NoClock, Times
+
+_QUESTIONS: list[tuple[str, Ask, tuple[type[Event], ...]]] = [
+    ("dump", Ask.DUMP, (Dump,)),
+    ("version", Ask.VERSION, (Version,)),
+    ("serial", Ask.SERIAL, (Serial,)),
+    ("trademark", Ask.TRADEMARK, (Trademark,)),
+    ("battery", Ask.BATTERY, (Battery,)),
+    ("long serial", Ask.LONG_SERIAL, (LongSerial,)),
+    ("clock", Ask.CLOCK, (Times, NoClock)),
+]
+_UNFINISHED = bytes([0x2B, 4, 3, ClockId.BEEP])
+"""A beep without its duration, which zeros give, and without its end."""
+_QUIET = 1.0
+"""For how many seconds an answer that shouldn't come is awaited."""
+_HOLDS = {True: "held", False: "did not hold", None: "not tried"}
+_BUSY = (errno.EWOULDBLOCK, errno.EBUSY)
+
+
+# ---- What needs no hands
+
+
+def _is_there(board: Examination) -> bool:
+    """Whether the board answers, at once, after a new beginning, or once it was switched."""
+    if board.dump() or board.findings or board.begin_anew():
+        return True
+    board.person.say("The board doesn't answer. Switch it off and on, or pull its cable and plug "
+                     "it in again; then press Enter (q and Enter: stop)")
+    try:
+        while board.person.typed() is None:
+            board.hear(time.monotonic() + LONGEST, 0)
+    except OSError:
+        while not board.open():
+            board.person.typed(LOOK)
+    is_there = board.begin_anew() or board.begin_anew()
+    board.find("bus mode" if is_there else "silent board")
+    return is_there
+
+
+def _ask_all(board: Examination) -> None:
+    """Asks each question of the protocol, by itself and then all at once."""
+    for what, question, kinds in _QUESTIONS:
+        answer = board.ask(board.host.send(question), kinds, what)
+        board.hold(what, answer is not None)
+        board.person.say(f"{what}: {_shown(answer)}")
+        if answer is not None and not isinstance(answer, NoClock):
+            board.facts[what] = _shown(answer)
+    for mode in (Ask.RESET, Ask.UPDATE_BOARD):
+        board.set_mode(mode)
+        board.hold("quiet", board.await_event((Dump, Version, Serial, Trademark), _QUIET) is None)
+    known = [(question, kinds) for what, question, kinds in _QUESTIONS if what in board.facts]
+    every = tuple(kind for _, kinds in known for kind in kinds)
+    asked = b"".join(board.host.send(question) for question, _ in known)
+    answers = [board.ask(b"" if at else asked, every, "several") for at in range(len(known))]
+    board.hold("order", all(map(isinstance, answers, [kinds for _, kinds in known])))
+
+
+def _shown(answer: Event | None) -> str:
+    """An answer as text: that of its body, if all of that can be printed."""
+    if isinstance(answer, (Trademark, LongSerial, Serial)):
+        body = answer.serial if isinstance(answer, Serial) else answer.body
+        if body.isascii() and (text := body.decode()).isprintable():
+            return text
+    return "no answer" if answer is None else str(answer)
+
+
+def _examine(board: Examination) -> None:
+    """Does all, up to the end or until the person stops."""
+    if not _is_there(board):
+        return
+    _ask_all(board)
+    begins = board.begin_anew(_UNFINISHED)
+    board.hold("zeros", begins)
+    if not begins:
+        board.find("new beginning")
+    if "clock" in board.facts:
+        if ack := board.send_clock(board.host.clock_version(), ClockId.VERSION):
+            board.facts["clock version"] = f"{ack.ack[2] >> 4}.{ack.ack[2] & 15}"
+    if "dump" not in board.facts:
+        return
+    board.set_mode(Ask.UPDATE_BOARD)
+    board.person.say("Now do what each step says (s and Enter: skip it, q and Enter: stop)")
+    for number, step in enumerate(STEPS, 1):
+        name = f"step {number}, {step.name}"
+        board.recorder.note(f"did {name}: {step.text}")
+        prompt = f"step {number} of {len(STEPS)}, {step.name}: {step.text}"
+        board.facts[name] = do_step(board, step, prompt)
+        board.person.say(f"{name}: {board.facts[name]}")
+
+
+# ---- The report
+
+
+def _report(board: Examination, begun: str) -> Iterator[str]:
+    """The lines of the report."""
+    yield f"dgt-doctor {VERSION}, {begun}, {platform.platform()}, Python {sys.version.split()[0]}"
+    path = os.path.realpath(board.name)
+    known = [str(port) for port in ports() if os.path.realpath(port.path) == path]
+    yield f"port: {', '.join(known) or board.name}"
+    yield from (f"found: {name}{detail}: {FINDINGS[name]}"
+                for name, detail in board.findings.items())
+    yield from [] if board.findings else ["found: nothing"]
+    yield from (f"{what}: {fact}" for what, fact in board.facts.items())
+    for name, text in STATEMENTS.items():
+        holds, detail = board.held.get(name, (None, ""))
+        yield f"{_HOLDS[holds]}, {name}{detail}: {text}"
+    for what, delays in board.delays.items():
+        yield (f"time of {what}: {1000 * statistics.median(delays):.0f} ms, "
+               f"at most {1000 * max(delays):.0f} ms, {len(delays)} times")
+
+
+def _write(file: TextIO, lines: list[str]) -> bool:
+    """Writes the report. Prints it if that fails."""
+    text = "".join(lines)
+    try:
+        with file:
+            file.write(text)
+    except OSError as refused:
+        print(f"dgt-doctor: {file.name}: {refused.strerror}; so here it is\n{text}", flush=True)
+        return False
+    return True
+
+
+def _run(name: str, file: TextIO, begun: str) -> bool:
+    """Examines a board, and writes the report. Returns whether nothing was found."""
+    lines, person = list[str](), Person()
+    recorder = Recorder(lines.append)
+    board = Examination(name, recorder, person, _stopping())
+    try:
+        _examine(board)
+    except Stopped:
+        pass
+    except OSError:
+        board.find("port gone")
+    finally:
+        board.judge()
+        recorder.end()
+        report = (f"# {line}\n" for line in _report(board, begun))
+        is_written = _write(file, [lines[0], *report, *lines[1:]])
+    person.say(f"Found: {', '.join(board.findings) or 'nothing'}. The report is {file.name}")
+    return is_written and not board.findings
+
+
+def main(arguments: list[str] | None = None) -> None:
+    """Runs the program `dgt-doctor` with these arguments, or those of the process."""
+    begun = time.strftime("%Y-%m-%d %H:%M:%S UTC", time.gmtime())
+    parser = argparse.ArgumentParser(
+        prog="dgt-doctor", description=__doc__, allow_abbrev=False,
+        formatter_class=argparse.RawDescriptionHelpFormatter)
+    parser.add_argument("port", help="the board's serial port, such as /dev/ttyUSB0")
+    parser.add_argument("--report", metavar="FILE", default=time.strftime(
+        "dgt-doctor-%Y%m%d-%H%M%S.txt"), help="the file that gets the report, a new one; it is "
+        "named by the time if nothing is said")
+    words = parser.parse_args(arguments)
+    what = words.report
+    try:
+        file = open(words.report, "x", encoding="utf-8", errors="backslashreplace")
+        what = words.port
+        is_well = _run(words.port, file, begun)
+    except OSError as refused:
+        if what == words.port and not os.path.getsize(words.report):
+            os.unlink(words.report)
+        is_busy = what == words.port and refused.errno in _BUSY
+        raise SystemExit(f"dgt-doctor: {what}: {'busy port: ' * is_busy}"
+                         f"{refused.strerror}") from None
+    sys.exit(not is_well)
