@@ -1,26 +1,40 @@
 #!/usr/bin/env python3
 """Simulates a board on a pseudo-terminal, to try a host on.
 
-It prints the name of the terminal, which a host opens as a serial line. Then it
-reads what happens on the board from standard input, a line each:
+It prints the name of the terminal, which a host opens as a serial line. If LINK
+is given, it makes that a symbolic link to the terminal. Then it reads what
+happens on the board from standard input, a line each:
 
     e2 .                   takes off what stands on e2
     e4 P                   puts a piece on e4 (PRNBKQ white, prnbkq black)
+    e2e4                   moves what stands on e2; a piece on e4 is taken off
+    turn                   sets up the pieces of a new game the other way round
     clock 1:00:00 0:59:30  sets the times of the clock's first and second side,
                            and stops it
     clock start            has the clock run: its first side counts down each
                            second, to 0:00:00
     clock stop             stops the clock
     wait 0.5               lets half a second pass; 3600 at most
+    off                    switches the board off and on; the port stays open
+    gone                   unplugs the board
+    back                   plugs it in again, on another terminal
+    half                   sends half of the next message, and unplugs the board
+    lose                   loses the next message on the way
+    raw 8e00               sends these bytes
+    curt                   answers only by all squares from now on
+    mute                   answers nothing from now on
 
 It reports any other line on standard error, and ignores it. The host is
-answered all the time.
+answered all the time. With LINK it also prints which commands it was sent, and
+`ready` at the start and once a line was obeyed.
 
-It ends half a second after its input does, or later if the host hasn't read all
-yet. If that takes over ten seconds, it says so and ends with status 1.
+It ends with its input if LINK is given. Else it ends half a second later, or
+once the host has read all. If that takes over ten seconds, it says so and ends
+with status 1.
 """
 
 import argparse
+import contextlib
 import os
 import pathlib
 import pty
@@ -30,14 +44,16 @@ import signal
 import sys
 import time
 import tty
-from collections.abc import Iterator
+from collections.abc import Iterable, Iterator
 
 # First, so that --help needs no library.
-argparse.ArgumentParser(
+parser = argparse.ArgumentParser(
     description=__doc__,
     formatter_class=argparse.RawDescriptionHelpFormatter,
     allow_abbrev=False,
-).parse_args()
+)
+parser.add_argument("link", metavar="LINK", nargs="?", help="a name by which a host opens the port")
+words = parser.parse_args()
 
 sys.path.insert(0, str(pathlib.Path(__file__).resolve().parent.parent / "python"))
 try:
@@ -47,6 +63,8 @@ except ImportError as missing:
 
 
 RUNNING = 0x01  # the bit of a clock's status
+SQUARES = {0x86, 0x8E}  # how the messages begin that report squares: all of them, and one
+MOVE = re.compile("([a-h][1-8])([a-h][1-8])")
 
 
 class RunningClock:
@@ -96,11 +114,84 @@ def read_time(text: str) -> dgt.Time:
     return dgt.Time(hours, minutes, seconds)
 
 
+class Port:
+    """The board's end of a pseudo-terminal, and the one that a host opens."""
+
+    def __init__(self, link: str | None) -> None:
+        self.link, self.ends = link, list[int]()
+        self.plug()
+
+    def plug(self) -> None:
+        """Makes a terminal if there is none, and prints its name or links to it."""
+        if self.ends:
+            return
+        try:
+            self.ends = [*pty.openpty()]
+        except OSError as refused:
+            raise SystemExit(f"board.py: no pseudo-terminal: {refused.strerror}") from None
+        tty.setraw(self.ends[1])
+        os.set_blocking(self.ends[0], False)
+        name = os.ttyname(self.ends[1])
+        if self.link is None:
+            print(name, flush=True)
+            return
+        try:
+            os.symlink(name, self.link)
+        except OSError as refused:
+            why = f"{refused.strerror} (LINK is a new name in a folder of yours)"
+            raise SystemExit(f"board.py: {self.link}: {why}") from None
+
+    def unplug(self) -> None:
+        if self.ends and self.link is not None:
+            pathlib.Path(self.link).unlink(missing_ok=True)
+        for end in self.ends:
+            os.close(end)
+        self.ends = []
+
+    def write(self, data: bytes) -> None:
+        """Sends these bytes. What nobody reads is lost, as on a line."""
+        if self.ends:
+            with contextlib.suppress(BlockingIOError):
+                os.write(self.ends[0], data)
+
+
 class Simulation:
     """A board and its clock, on one end of a pseudo-terminal."""
 
-    def __init__(self, board: dgt.Board, line: int) -> None:
-        self.board, self.line, self.clock = board, line, RunningClock(board)
+    def __init__(self, board: dgt.Board, port: Port) -> None:
+        self.board, self.port, self.clock = board, port, RunningClock(board)
+        self.faults = set[str]()  # as lines of the input call them
+
+    def say(self, text: str) -> None:
+        """Prints what only a program wants to know that has named a link."""
+        if self.port.link is not None:
+            print(text, flush=True)
+
+    def send(self, messages: Iterable[bytes]) -> None:
+        """Sends messages, or what is left of them."""
+        for message in messages:
+            if "mute" in self.faults or "curt" in self.faults and message[0] not in SQUARES:
+                continue
+            if "lose" in self.faults:
+                self.faults.remove("lose")
+            elif "half" in self.faults:
+                self.faults.remove("half")
+                self.port.write(message[: len(message) // 2])
+                self.unplug()
+            else:
+                self.port.write(message)
+
+    def hear(self) -> None:
+        """Takes what the host asks for, and answers."""
+        asked = os.read(self.port.ends[0], 4096)
+        for command in asked.replace(b"\0", b""):
+            self.say(f"asked {command:02x}")
+        self.send(self.board.answers(asked))
+
+    def unplug(self) -> None:
+        time.sleep(0.05)  # what was sent is read first
+        self.port.unplug()
+        self.board.line_lost()
 
     def serve(self, seconds: float | None, until: tuple[int, ...] = ()) -> None:
         """Sends the host what has changed and answers it: for this number of seconds, or without an
@@ -108,16 +199,15 @@ class Simulation:
         end = None if seconds is None else time.monotonic() + seconds
         while True:
             self.clock.count()
-            for message in self.board.messages():
-                os.write(self.line, message)
+            self.send(self.board.messages())
             now = time.monotonic()
             if end is not None and now >= end:
                 return
             times = [max(0.0, each - now) for each in (end, self.clock.due) if each is not None]
-            ready = select.select([self.line, *until], [], [], min(times, default=None))[0]
-            if self.line in ready:
-                for message in self.board.answers(os.read(self.line, 256)):
-                    os.write(self.line, message)
+            heard = [*self.port.ends[:1], *until]
+            ready = select.select(heard, [], [], min(times, default=None))[0]
+            if self.port.ends and self.port.ends[0] in ready:
+                self.hear()
             if not set(until).isdisjoint(ready):
                 return
 
@@ -134,6 +224,15 @@ class Simulation:
         if rest:
             yield rest.decode(errors="replace")
 
+    def move(self, start: str, end: str) -> None:
+        piece = self.board.position[start]
+        if self.board.position[end] != ".":
+            self.board.change(end, ".")
+            self.serve(0.1)
+        self.board.change(start, ".")
+        self.serve(0.1)
+        self.board.change(end, piece)
+
     def obey(self, happening: str) -> None:
         """Does what a line of the input says. ValueError if it says nothing that can be done."""
         match happening.split():
@@ -149,45 +248,55 @@ class Simulation:
                 self.clock.set(first, second)
             case ["clock", *_]:
                 raise ValueError("no two times after clock, and no start or stop")
+            case ["raw", text]:
+                self.port.write(bytes.fromhex(text))
+            case ["turn"]:
+                for square, piece in zip(dgt.SQUARES, reversed(dgt.Position.start().letters)):
+                    self.board.change(square, piece)
+            case ["off"]:
+                self.board.line_lost()
+            case ["gone"]:
+                self.unplug()
+            case ["back"]:
+                self.port.plug()
+            case ["half" | "lose" | "curt" | "mute" as fault]:
+                self.faults.add(fault)
             case [square, piece]:
                 self.board.change(square, piece)
+            case [word] if move := MOVE.fullmatch(word):
+                self.move(*move.groups())
             case _:
-                raise ValueError("no square and letter, and no clock or wait")
+                raise ValueError("none of the lines that --help lists")
 
-    def finish(self, other_end: int) -> None:
+    def finish(self) -> None:
         """Answers the host until it has read all, for half a second at least. SystemExit if it
         hasn't after ten seconds."""
         latest = time.monotonic() + 10
         self.serve(0.5)
-        while select.select([other_end], [], [], 0)[0]:
+        while select.select(self.port.ends[1:], [], [], 0)[0]:
             if time.monotonic() > latest:
                 raise SystemExit("board.py: the host hasn't read all")
             self.serve(0.05)
 
 
-def open_line() -> tuple[int, int]:
-    """Both ends of a pseudo-terminal: the board's, and the one that a host opens by its name."""
-    try:
-        line, other_end = pty.openpty()
-    except OSError as refused:
-        raise SystemExit(f"board.py: no pseudo-terminal: {refused.strerror}") from None
-    tty.setraw(other_end)
-    return line, other_end
-
-
 def main() -> None:
     for ending in (signal.SIGINT, signal.SIGPIPE):
         signal.signal(ending, signal.SIG_DFL)
-    line, other_end = open_line()
-    print(os.ttyname(other_end), flush=True)
+    port = Port(words.link)
     with dgt.Board() as board:
-        simulation = Simulation(board, line)
+        simulation = Simulation(board, port)
+        simulation.say("ready")
         for happening in simulation.lines():
             try:
                 simulation.obey(happening)
             except ValueError as wrong:
-                print(f"board.py: {happening!r}: {wrong}", file=sys.stderr)
-        simulation.finish(other_end)
+                print(f"board.py: {happening!r}: {wrong}", file=sys.stderr, flush=True)
+            simulation.serve(0)
+            simulation.say("ready")
+        if words.link is None:
+            simulation.finish()
+        else:
+            simulation.unplug()
 
 
 if __name__ == "__main__":
