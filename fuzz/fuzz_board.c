@@ -18,7 +18,7 @@ static size_t take(const uint8_t *bytes, size_t n) {
     dgt_taken wanted = model_take(&model, bytes, n, &right, right_word);
     dgt_taken taken = dgt_board_take(board, bytes, n, command, word, room);
     CHECK(taken.busy == wanted.busy && taken.used == wanted.used);
-    check_same_command(command, &right);
+    CHECK_SAME(command, &right);
     check_written(word, room, right_word, right.word_len);
     return taken.used;
 }
@@ -142,7 +142,7 @@ static void look(void) {
     CHECK(memcmp(pieces, model.squares, 64) == 0);
     dgt_clock *clock = guarded(LOOK, sizeof *clock);
     dgt_board_clock(board, clock);
-    CHECK(memcmp(clock, &model.clock, sizeof *clock) == 0);
+    CHECK_SAME(clock, &model.clock);
     CHECK(dgt_board_mode(board) == model.mode);
     CHECK(dgt_board_owed_len(board) == model.owed_n);
     CHECK(dgt_board_partial(board) == model.reader.n);

@@ -13,7 +13,7 @@ static size_t feed(const uint8_t *bytes, size_t n) {
     dgt_command *command = guarded(EVENTS, sizeof *command);
     size_t used = model_read(&model, bytes, n, &right, right_word);
     CHECK(dgt_command_decoder_feed(reader, bytes, n, command, word, room) == used);
-    check_same_command(command, &right);
+    CHECK_SAME(command, &right);
     check_written(word, room, right_word, right.word_len);
     return used;
 }

@@ -13,7 +13,7 @@ static size_t feed(const uint8_t *bytes, size_t n) {
     dgt_event *event = guarded(EVENTS, sizeof *event);
     size_t used = model_feed(&model, bytes, n, &right, right_body);
     CHECK(dgt_decoder_feed(decoder, bytes, n, event, body, room) == used);
-    check_same_event(event, &right);
+    CHECK_SAME(event, &right);
     check_written(body, room, right_body, right.body_len);
     return used;
 }
@@ -27,7 +27,7 @@ static size_t feed_all(const uint8_t *bytes, size_t n) {
         used += model_feed(&model, bytes + used, n - used, &right, right_body);
         if (right.kind == DGT_EVENT_NONE) break;
         right.place = used; /* in the whole chunk */
-        check_same_event(&events[count++], &right);
+        CHECK_SAME(&events[count++], &right);
     }
     CHECK(told.used == used && told.count == count);
     check_kept(events, count * sizeof *events, capacity * sizeof *events);

@@ -18,7 +18,7 @@ static void check_hear(const uint8_t *bytes, size_t n, size_t used, const dgt_ev
     uint8_t *body = guarded(BODY, room);
     dgt_event *event = guarded(EVENTS, sizeof *event);
     CHECK(dgt_follower_hear(follower, now, bytes, n, event, body, room) == used);
-    check_same_event(event, right);
+    CHECK_SAME(event, right);
     check_written(body, room, right_body, right->body_len);
 }
 
@@ -129,7 +129,7 @@ static void look_at_board(void) {
     dgt_clock *clock = guarded(LOOK, sizeof *clock);
     const dgt_clock unknown = {.kind = DGT_CLOCK_UNKNOWN};
     dgt_follower_clock(follower, clock);
-    CHECK(memcmp(clock, model.is_unreadable ? &unknown : &host->clock, sizeof *clock) == 0);
+    CHECK_SAME(clock, model.is_unreadable ? &unknown : &host->clock);
 
     uint8_t *serial = guarded(LOOK, sizeof model.serial);
     CHECK(dgt_follower_serial(follower, serial) == model.has_serial);

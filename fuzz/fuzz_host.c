@@ -21,7 +21,7 @@ static size_t hear(const uint8_t *bytes, size_t n) {
     dgt_event *event = guarded(EVENTS, sizeof *event);
     size_t used = model_hear(&model, bytes, n, &right, right_body);
     CHECK(dgt_host_hear(host, bytes, n, event, body, room) == used);
-    check_same_event(event, &right);
+    CHECK_SAME(event, &right);
     check_written(body, room, right_body, right.body_len);
     return used;
 }
@@ -35,7 +35,7 @@ static size_t hear_all(const uint8_t *bytes, size_t n) {
         used += model_hear(&model, bytes + used, n - used, &right, right_body);
         if (right.kind == DGT_EVENT_NONE) break;
         right.place = used; /* in the whole chunk */
-        check_same_event(&events[count++], &right);
+        CHECK_SAME(&events[count++], &right);
     }
     CHECK(told.used == used && told.count == count);
     check_kept(events, count * sizeof *events, capacity * sizeof *events);
@@ -84,7 +84,7 @@ static void look(void) {
 
     dgt_clock *clock = guarded(LOOK, sizeof *clock);
     dgt_host_clock(host, clock);
-    CHECK(memcmp(clock, &model.clock, sizeof *clock) == 0);
+    CHECK_SAME(clock, &model.clock);
 
     uint8_t *codes = guarded(LOOK, DGT_MAX_AWAITED);
     CHECK(dgt_host_awaited(host, codes) == model.awaited_n);

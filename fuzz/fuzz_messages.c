@@ -91,7 +91,7 @@ static void view_message(void) {
     dgt_event *event = guarded(EVENTS, sizeof *event), right;
     bool done = dgt_view_message(code, body.bytes, body.n, event);
     CHECK(done == model_view(code, body.bytes, body.n, &right));
-    if (done) check_same_event(event, &right);
+    if (done) CHECK_SAME(event, &right);
     else check_kept(event, 0, sizeof *event);
 }
 
@@ -125,7 +125,7 @@ static void view_command(void) {
     size_t used = model_read(&reader, given.bytes, given.n, &right, word);
     bool is_command = right.kind == DGT_COMMAND && used == given.n;
     CHECK(dgt_view_command(given.bytes, given.n, command) == is_command);
-    if (is_command) check_same_command(command, &right);
+    if (is_command) CHECK_SAME(command, &right);
     else check_kept(command, 0, sizeof *command);
     check_same_chunk(given);
 }

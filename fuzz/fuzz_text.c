@@ -45,13 +45,9 @@ static uint8_t place_in(const char *text, uint8_t byte) {
 }
 
 static void names(uint8_t a, uint8_t b) {
-    static const char shown[] = "0123456789 -";
-    static const uint8_t segments[] = {0x3f, 0x06, 0x5b, 0x4f, 0x66, 0x6d,
-                                       0x7d, 0x07, 0x7f, 0x6f, 0x00, 0x40};
     CHECK(dgt_piece_letter(a) == (a < 16 ? model_letters[a] : 0));
     CHECK(dgt_piece_code(a) == place_in(model_letters, a));
-    uint8_t segment = place_in(shown, a);
-    CHECK(dgt_segment(a) == (segment == DGT_NO_SUCH ? DGT_NO_SUCH : segments[segment]));
+    CHECK(dgt_segment(a) == model_segment(a));
 
     char *name = guarded(LOOK, 3), right[3] = {(char)('a' + a % 8), (char)('8' - a / 8 % 8), '\0'};
     CHECK(dgt_square_name(a, name) == (a < 64));

@@ -4,9 +4,14 @@
 
 #include "dgt.h"
 
+#include <string.h>
+
 /* Stops unless this holds. libFuzzer keeps the input then. */
 #define CHECK(holds) ((holds) ? (void)0 : stop(__FILE__, __LINE__, #holds))
 __attribute__((noreturn)) void stop(const char *file, int line, const char *what);
+
+/* Stops unless two structs of dgt.h are the same. None of them has padding. */
+#define CHECK_SAME(got, right) CHECK(memcmp(got, right, sizeof *(got)) == 0)
 
 /* ---- Choices. Each reads some bytes of the input; after its end each byte is 0. */
 

@@ -13,6 +13,9 @@ extern const char model_letters[];
 /* Writes the placement of a FEN, with a zero at its end. */
 void model_placement(const uint8_t pieces[64], char text[DGT_PLACEMENT_ROOM]);
 
+/* As dgt_segment. */
+uint8_t model_segment(uint8_t character);
+
 /* As dgt_parse_placement. */
 dgt_parsed model_parse_placement(const char *text, size_t n, uint8_t pieces[64]);
 
@@ -27,9 +30,6 @@ typedef struct model_decoder {
 size_t model_feed(model_decoder *decoder, const uint8_t *bytes, size_t n, dgt_event *event,
                   uint8_t body[DGT_MAX_BODY]);
 
-/* Stops unless two events have the same members. */
-void check_same_event(const dgt_event *got, const dgt_event *right);
-
 /* ---- Commands. */
 
 typedef struct model_reader {
@@ -40,9 +40,6 @@ typedef struct model_reader {
 /* As dgt_command_decoder_feed, with the whole word. */
 size_t model_read(model_reader *reader, const uint8_t *bytes, size_t n, dgt_command *command,
                   uint8_t word[DGT_MAX_WORD]);
-
-/* Stops unless two commands have the same members. */
-void check_same_command(const dgt_command *got, const dgt_command *right);
 
 /* ---- Messages and commands by themselves. */
 

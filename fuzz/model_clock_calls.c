@@ -3,16 +3,12 @@
 
 #include <string.h>
 
-static const char shown[] = "0123456789 -";
-static const uint8_t segments[] = {0x3f, 0x06, 0x5b, 0x4f, 0x66, 0x6d,
-                                   0x7d, 0x07, 0x7f, 0x6f, 0x00, 0x40};
-
 /* Characters, mostly of those that the display has, at the place IN. */
 static const uint8_t *any_text(size_t n) {
     uint8_t *text = guarded(IN, n);
     for (size_t i = 0; i < n; i++) {
         uint8_t each = input_byte();
-        text[i] = each < 240 ? (uint8_t)shown[each % 12] : each;
+        text[i] = each < 240 ? (uint8_t)"0123456789 -"[each % 12] : each;
     }
     return text;
 }
@@ -47,12 +43,8 @@ model_clock_call any_clock_call(void) {
 /* The segments of six characters, in the order of the message; false if one has none. */
 static bool write_display(const uint8_t *text, uint8_t *payload) {
     static const size_t order[] = {2, 1, 0, 5, 4, 3};
-    for (size_t i = 0; i < 6; i++) {
-        uint8_t each = text[order[i]];
-        const char *found = each ? strchr(shown, each) : NULL;
-        if (!found) return false;
-        payload[i] = segments[found - shown];
-    }
+    for (size_t i = 0; i < 6; i++)
+        if ((payload[i] = model_segment(text[order[i]])) == DGT_NO_SUCH) return false;
     return true;
 }
 

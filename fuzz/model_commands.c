@@ -1,4 +1,3 @@
-#include "input.h"
 #include "model.h"
 
 #include <string.h>
@@ -40,12 +39,4 @@ size_t model_read(model_reader *reader, const uint8_t *bytes, size_t n, dgt_comm
     }
     reader->n = 0;
     return used;
-}
-
-void check_same_command(const dgt_command *got, const dgt_command *right) {
-    CHECK(got->kind == right->kind);
-    CHECK(got->code == right->code);
-    CHECK(got->id == right->id);
-    CHECK(got->byte == right->byte);
-    CHECK(got->word_len == right->word_len);
 }

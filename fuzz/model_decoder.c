@@ -1,4 +1,3 @@
-#include "input.h"
 #include "model.h"
 
 #include <string.h>
@@ -170,25 +169,4 @@ size_t model_feed(model_decoder *decoder, const uint8_t *bytes, size_t n, dgt_ev
     }
     if (event->kind != DGT_EVENT_NONE) event->place = used;
     return used;
-}
-
-void check_same_event(const dgt_event *got, const dgt_event *right) {
-    CHECK(got->kind == right->kind);
-    CHECK(got->unasked == right->unasked);
-    CHECK(got->code == right->code);
-    CHECK(got->square == right->square);
-    CHECK(got->piece == right->piece);
-    CHECK(got->main_number == right->main_number);
-    CHECK(got->sub_number == right->sub_number);
-    CHECK(got->byte == right->byte);
-    CHECK(got->fault == right->fault);
-    CHECK(got->ack_status == right->ack_status);
-    CHECK(memcmp(got->ack, right->ack, sizeof got->ack) == 0);
-    CHECK(memcmp(got->serial, right->serial, sizeof got->serial) == 0);
-    CHECK(memcmp(&got->clock, &right->clock, sizeof got->clock) == 0);
-    CHECK(memcmp(got->pieces, right->pieces, sizeof got->pieces) == 0);
-    CHECK(got->have == right->have);
-    CHECK(got->at == right->at);
-    CHECK(got->body_len == right->body_len);
-    CHECK(got->place == right->place);
 }

@@ -4,6 +4,14 @@
 
 const char model_letters[] = ".PRNBKQprnbkqXYZ";
 
+uint8_t model_segment(uint8_t character) {
+    static const char shown[] = "0123456789 -";
+    static const uint8_t segments[] = {0x3f, 0x06, 0x5b, 0x4f, 0x66, 0x6d,
+                                       0x7d, 0x07, 0x7f, 0x6f, 0x00, 0x40};
+    const char *found = character ? strchr(shown, character) : NULL;
+    return found ? segments[found - shown] : DGT_NO_SUCH;
+}
+
 /* Writes a rank, and returns the end of what it wrote. */
 static char *write_rank(const uint8_t *pieces, char *text) {
     int empty = 0;
