@@ -6,6 +6,7 @@ adapter for eboard passes too, and random games. The hands that play these slide
 back, answer before the move was put down, and put pieces on wrong squares.
 """
 
+import contextlib
 import pathlib
 import random
 import re
@@ -213,6 +214,61 @@ def check_table(dgt):
         hand.rest(2.5)
         wanted(name, hand.told, ["game", *right.split()])
     return len(cases)
+
+
+# ---- Games that go on from a position
+
+# Moves on the board, the moves after which the game goes on, and whether it goes on with its moves.
+# Then steps of the table, what is reported of them, and the moves at the end.
+GIVEN = [
+    ("e2e4 e7e5", "e2e4 e7e5", True, "g1f3", "g1f3", "e2e4 e7e5 g1f3"),
+    ("", "", True, "e2e4", "e2e4", "e2e4"),
+    # Earlier moves are taken back, also to the position from which it went on.
+    ("e2e4 e7e5", "e2e4 e7e5", True, "e5e7 c7c5", "-e7e5 c7c5", "e2e4 c7c5"),
+    ("e2e4", "e2e4", True, "g8f6 g1f3 f6g8 500 f3g1", "g8f6 g1f3 f6g8 f3g1",
+     "e2e4 g8f6 g1f3 f6g8 f3g1"),
+    ("e2e4", "e2e4", True, "d7d5 b1c3 g8f6 f6g8 c3b1 d5d7", "d7d5 b1c3 g8f6 -g8f6 -b1c3 -d7d5",
+     "e2e4"),
+    # The other side's move isn't on the board yet.
+    ("e2e4", "e2e4 e7e5", True, "a2. a2P 2500", "", "e2e4 e7e5"),
+    ("e2e4", "e2e4 e7e5", True, "e7e5 g1f3", "g1f3", "e2e4 e7e5 g1f3"),
+    ("e2e4", "e2e4 e7e5", True, "g1f3 2500 e7e5", "g1f3", "e2e4 e7e5 g1f3"),
+    ("e2e4", "e2e4 e7e5", True, "c7c5 2500 c5c7 e7e5", "", "e2e4 e7e5"),
+    ("e2e4", "e2e4 e7e5", True, "e7e5 e5e7 c7c5", "-e7e5 c7c5", "e2e4 c7c5"),
+    # Another position begins a game, and nothing else does, not even the first squares.
+    ("e2e4", "d2d4", False, "e4e2 9000 d2d4 d7d5", "game d7d5", "d7d5"),
+    ("e2e4", "d2d4 d7d5", False, "e4e2 d2d4 9000 g8f6 9000 f6g8 d7d5", "game", ""),
+    ("e2e4 e7e5 g1f3", "e2e4", False, "f3g1 9000 e5e7 e7e6", "game e7e6", "e7e6"),
+    ("e2e4", "e2e4", True, "e8. e1. e7k e3K 9000", "", "e2e4"),
+    ("e2e4 e7e5 g1f3 b8c6", "e2e4 e7e5 g1f3 b8c6", True, "c6b8 f3g1 e5e7 e4e2 9000",
+     "-b8c6 -g1f3 -e7e5 -e2e4", ""),
+]
+
+
+def check_given(dgt):
+    """A game goes on from a position, whichever the board shows."""
+    for before, given, goes_on, steps, told, moves in GIVEN:
+        state, hand = dgt.GameState.start(), Hand(dgt, dgt.Position.start().letters)
+        for step in before.split():
+            do(hand, step)
+        for move in given.split():
+            state = state.after(move)
+        for what in (before, f"{before}, once more"):
+            wanted(f"{what}, from {given}", hand.recogniser.go_on(state), goes_on)
+        hand.told.clear()
+        hand.show()
+        for step in steps.split():
+            do(hand, step)
+        what = f"{before}, from {given}, {steps}"
+        wanted(what, (hand.told, hand.recogniser.moves), (told.split(), moves.split()))
+        is_pending = hand.squares != list(hand.recogniser.state.letters) and goes_on
+        wanted(f"what is pending, {what}", hand.recogniser.pending is not None,
+               is_pending and given != before)
+    for wrong in ("", dgt.START_FEN, None):
+        with contextlib.suppress(TypeError):
+            dgt.MoveRecogniser().go_on(wrong)
+            raise Wrong(f"a game goes on from {wrong!r}")
+    return len(GIVEN)
 
 
 # ---- Games made by chance
@@ -430,4 +486,5 @@ def check_games(dgt, seeds):
 def check(dgt, seeds=range(24)):
     """Returns what was checked."""
     positions, cases, moves = check_rules(dgt), check_table(dgt), check_games(dgt, seeds)
-    return f"{positions} positions counted, {cases} cases and {moves} moves of games recognised"
+    return (f"{positions} positions counted, {cases + check_given(dgt)} cases and {moves} moves of "
+            "games recognised")

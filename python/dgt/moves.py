@@ -151,6 +151,7 @@ class MoveRecogniser:
       `set_up`. The first move decides whose turn it was.
     - So does a position that no move leads to after `lose_track`, once it has rested for five
       seconds.
+    - After `go_on` only the position that it names begins a game.
     """
 
     def __init__(self, fen: str | None = None, settle: float = 0.3, set_up: float = _LONG_WAIT
@@ -167,7 +168,7 @@ class MoveRecogniser:
         self._moves: list[tuple[str, GameState]] = []
         self._numbers: dict[str, list[int]] = {}  # after how many moves the board showed this
         self._set_up = self._first is None
-        self._is_lost = False
+        self._is_given = self._is_ahead = self._is_lost = False
         self._shown = ""
         self._changed: set[int] = set()
         self._put: deque[tuple[int, str]] = deque(maxlen=_PUT)
@@ -203,6 +204,11 @@ class MoveRecogniser:
     def unconfirmed(self) -> bool:
         """Whether what the board shows now is to be reported once it is confirmed."""
         return self._due is not None and not self._is_confirmed
+
+    @property
+    def pending(self) -> str | None:
+        """The move that `go_on` has added, until the board has shown it."""
+        return self._moves[-1][0] if self._is_ahead else None
 
     def see(self, position: Position, time: float, confirmed: bool = True) -> list[MoveEvent]:
         """Returns what has happened in the game, now that the board shows a position. What isn't
@@ -263,6 +269,46 @@ class MoveRecogniser:
             self._numbers.setdefault(after.letters, []).append(number)
         self._forget()
 
+    def go_on(self, state: GameState) -> bool:
+        """Has the game go on from a state that somebody else knows, as the server on which it is
+        played. No other position begins a game from then on. Returns whether the game goes on with
+        its moves so far:
+
+        - If it has come to this state, all its moves stay, and may be taken back.
+        - If the state is one move later, that move is added (`pending`). The board shows it later,
+          or together with the answer.
+        - Else its moves are dropped, and a game begins once the board shows the state, also turned.
+
+        What the board shows is looked at with the next `see`. `TypeError` if it is no state.
+
+        >>> recogniser, state = MoveRecogniser(), GameState.start()
+        >>> [begun] = recogniser.see(Position.of_letters(state.letters), 0.0)
+        >>> state = state.after("e2e4")
+        >>> recogniser.go_on(state), recogniser.moves, recogniser.pending
+        (True, ['e2e4'], 'e2e4')
+        >>> recogniser.see(Position.of_letters(state.after("e7e5").letters), 1.0)
+        []
+        >>> [made] = recogniser.wait(recogniser.due)
+        >>> made.move, recogniser.moves, recogniser.pending
+        ('e7e5', ['e2e4', 'e7e5'], None)
+        """
+        last, is_ahead = self._bases([len(self._moves)]), self._is_ahead
+        self._first, self._is_given = checked(state, GameState), True
+        self._forget()
+        self.hold()
+        for base in last:
+            move, after = _replies(base.state).get(state.letters, ("", state))
+            if (base.state.letters, base.state.white) == (state.letters, state.white):
+                self._roots, self._is_ahead = self._roots if self._moves else (state,), is_ahead
+                self._moves[-1:] = [(made, state) for made, _ in self._moves[-1:]]
+                return True
+            if move and after.white == state.white:
+                self._take(_Reading(base.kept, base.root, ((move, state),)))
+                self._is_ahead = True
+                return True
+        self._roots, self._moves, self._numbers = (), [], {}
+        return False
+
     def end_game(self) -> None:
         """Notes that the game is over, as the players have shown by their kings. Before another
         position is set up, both kings have to be taken off again."""
@@ -313,6 +359,8 @@ class MoveRecogniser:
         earlier = self._bases(range(count - 1, max(count - 1 - _REPLACED, -1), -1))
         near = earlier[:0 if self._set_up else 1 if self._is_early() else _REPLACED]
         back = self._bases(self._numbers.get(shown, [])[-1:])
+        if self._is_ahead:  # the board may still show what was before
+            near, back = [], []
         one = [*_extended(told + seen, shown, _one_move), *((base, base) for base in back)]
         find_two = partial(_two_moves, put=self._put)
         two = [*_extended(seen + told, shown, find_two)]
@@ -337,11 +385,12 @@ class MoveRecogniser:
     def _new_game(self, reading: _Reading | None) -> GameState | None:
         """Returns the state in which a game begins, if what is shown begins one."""
         told = self.state
-        for state in filter(None, (self._first, self._start)):
+        for state in filter(None, (self._first, None if self._is_given else self._start)):
             if told and told.letters == self._shown == state.letters:
                 return None
             if self._shown == state.letters:
-                taken_back = reading and (reading.moves or len(self._moves) <= 2)
+                is_near = self._is_given or len(self._moves) <= 2
+                taken_back = reading and (reading.moves or is_near)
                 return None if taken_back else state
             if self._shown[::-1] == state.letters:
                 return state
@@ -350,6 +399,8 @@ class MoveRecogniser:
     def _wait_for_game(self) -> float | None:
         """Returns for how long a position must rest to begin a game, if no move leads to it. `None`
         if it begins none."""
+        if self._is_given:
+            return None
         if self._set_up and not self._is_early():
             return self._set_up_wait if self._roots else _LONG_WAIT
         told = self._bases([len(self._moves)])
@@ -413,7 +464,7 @@ class MoveRecogniser:
     def _forget(self) -> None:
         """What the board shows is what was reported."""
         self._seen.clear()
-        self._set_up = self._is_lost = False
+        self._set_up = self._is_ahead = self._is_lost = False
         self._due = None
 
 
