@@ -55,8 +55,11 @@ class BoardWithClock(Following):
         return views
 
     def tend_clock(self, now: float) -> float | None:
-        """Sends the clock what is due, and returns when there will be something to send."""
-        if self.view.away is None and (message := self.shown_move.take(now)):
+        """Sends the clock what is due, and returns when there will be something to send. Nothing is
+        due while the board is away."""
+        if self.view.away is not None:
+            return None
+        if message := self.shown_move.take(now):
             self.write(self.follower.send_clock(*message))
         return self.shown_move.due
 
