@@ -173,6 +173,15 @@ def lights(dgt, line):
                "600401342400" "600400404000")
 
 
+def identifies(dgt, line):
+    """The serial number comes once all squares have, and stays known while the port is away."""
+    with dgt.follow(line.path, 60, identify=True) as board:
+        view = expect("at first", board, *[(START, False, None)] * 2)
+        wanted("its number", view.serial, "00001")
+        line.unplug()
+        wanted("its number", expect("gone", board, (START, True, GONE)).serial, "00001")
+
+
 def asks_when_due(dgt, line):
     with dgt.follow(line.path, 1.0, patience=3) as board:
         expect("at first", board, (START, False, None))
@@ -781,8 +790,9 @@ def streams(dgt, line):
                              (LIFTED, False, None), (LIFTED, True, CLOSED)])
 
 
-CASES = [changes, lights, asks_when_due, heals, confirms, clock_heals, noise, loses_an_end,
-         counts_faults, silence, of_draughts, goes_and_comes, comes_late, faults, closing, leaving,
+CASES = [changes, lights, identifies, asks_when_due, heals, confirms, clock_heals, noise,
+         loses_an_end, counts_faults, silence, of_draughts, goes_and_comes, comes_late, faults,
+         closing, leaving,
          closing_elsewhere, settings, waits, wakes, takes_nothing, handed, handed_fails, streams,
          slow_streams]
 

@@ -68,6 +68,9 @@ class BoardView:
     when it has just changed. With `confirm` it is soon."""
     bytes_heard: int = field(default=0, compare=False)
     """How many bytes of the board had come by then, since its port was opened."""
+    serial: str | None = None
+    """The last serial number that the board has reported, or `None` before the first. It is asked
+    for if `follow` is called with `identify`."""
 
     @property
     def silent(self) -> bool:
@@ -98,8 +101,9 @@ class _Steps:
     """What following a board comes to, without a line and without a clock. What has changed is
     added to `changes`."""
 
-    def __init__(self, period: float, patience: int, mode: Mode, confirm: bool) -> None:
-        self.follower = Follower(period, patience, mode, confirm=confirm)
+    def __init__(self, period: float, patience: int, mode: Mode, confirm: bool,
+                 identify: bool = False) -> None:
+        self.follower = Follower(period, patience, mode, confirm=confirm, identify=identify)
         self.view = BoardView()
         self.changes: deque[BoardView] = deque()
         self._missing: str | None = None
@@ -166,9 +170,11 @@ class _Steps:
         away = self._missing or (_OTHER_SIZE if self._refusals > 1 and picture is None
                                  else _SILENT if self._is_silent() else None)
         is_old = picture is None and old.picture is not None
+        serial = self.follower.serial
         view = BoardView(old.picture if is_old else picture, clock,
                          self.follower.in_doubt or away is not None or is_old,
-                         away, self.follower.confirmed, self.follower.offset)
+                         away, self.follower.confirmed, self.follower.offset,
+                         old.serial if serial is None else serial.decode("latin-1"))
         if view != old:
             self.view = view
             self.changes.append(view)
@@ -238,9 +244,9 @@ class Following(Uncopied, ClockCommands[None]):
 
     def __init__(self, port: str | os.PathLike[str] | SerialLine, period: float = 10.0, *,
                  patience: int = 6, mode: Mode = Mode.UPDATE_BOARD, confirm: bool = False,
-                 wait_for_port: bool = False) -> None:
+                 wait_for_port: bool = False, identify: bool = False) -> None:
         """As `follow`."""
-        self._steps = _Steps(period, patience, mode, confirm)
+        self._steps = _Steps(period, patience, mode, confirm, identify)
         self._waits, self._was_there, self._look_at = wait_for_port, False, 0.0
         self._is_given = False
         self._is_closed, self._line, self._name = False, None, ""
@@ -404,8 +410,8 @@ class Following(Uncopied, ClockCommands[None]):
 
 
 def follow(port: str | os.PathLike[str] | SerialLine, period: float = 10.0, *, patience: int = 6,
-           mode: Mode = Mode.UPDATE_BOARD, confirm: bool = False, wait_for_port: bool = False
-           ) -> Following:
+           mode: Mode = Mode.UPDATE_BOARD, confirm: bool = False, wait_for_port: bool = False,
+           identify: bool = False) -> Following:
     """Follows a board on a serial port, and yields what is known of it after each change.
 
     >>> with dgt.follow("/dev/ttyUSB0") as board:
@@ -428,10 +434,11 @@ def follow(port: str | os.PathLike[str] | SerialLine, period: float = 10.0, *, p
     All squares are asked for every `period` seconds, so that a change that was lost becomes known.
     `patience` and `mode` are those of `Follower`. A board reports its clock in the modes `UPDATE`
     and `UPDATE_NICE`, and is then asked for a reading of it in each period, too. With `confirm` a
-    picture is also asked for a second after it changed, until it is `BoardView.confirmed`.
-    `BadValue` and `TypeError` as of `Follower`, and `TypeError` if `port` is no port."""
+    picture is also asked for a second after it changed, until it is `BoardView.confirmed`. With
+    `identify` the board is asked for its serial number (`BoardView.serial`). `BadValue` and
+    `TypeError` as of `Follower`, and `TypeError` if `port` is no port."""
     return Following(port, period, patience=patience, mode=mode, confirm=confirm,
-                     wait_for_port=wait_for_port)
+                     wait_for_port=wait_for_port, identify=identify)
 
 
 class _Streams:
