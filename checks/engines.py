@@ -142,6 +142,7 @@ class Line(ports.Line):
                                    message[:at] + byte + message[at:]])
 
     def answer(self, asked):
+        self.asked.append((time.monotonic(), asked))
         for word in self.heard.feed(asked):
             if isinstance(word, self.dgt.ClockMessage):
                 self.clock.append((word.id, word.payload))

@@ -792,9 +792,8 @@ def streams(dgt, line):
 
 CASES = [changes, lights, identifies, asks_when_due, heals, confirms, clock_heals, noise,
          loses_an_end, counts_faults, silence, of_draughts, goes_and_comes, comes_late, faults,
-         closing, leaving,
-         closing_elsewhere, settings, waits, wakes, takes_nothing, handed, handed_fails, streams,
-         slow_streams]
+         closing, leaving, closing_elsewhere, settings, waits, wakes, takes_nothing, handed,
+         handed_fails, streams, slow_streams]
 
 
 def try_case(dgt, case):

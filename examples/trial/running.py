@@ -16,7 +16,6 @@ EXAMPLES = pathlib.Path(__file__).resolve().parent.parent
 PYTHON = "/usr/bin/python3"  # Debian's, which has Debian's modules
 # Debian has the broker in /usr/sbin, and eboard in /usr/games.
 ALIVE = "/usr/sbin:/usr/games:" + os.environ["PATH"]
-MODULE = "import paho.mqtt.client"
 
 
 def absent(packages):
@@ -24,14 +23,24 @@ def absent(packages):
     return [name for name, program in packages.items() if not shutil.which(program, path=ALIVE)]
 
 
+def has_module(name, python=PYTHON):
+    """Whether a Python is here and has this module."""
+    words = [python, "-c", f"import {name}"]
+    return bool(shutil.which(python)) and not subprocess.run(words, capture_output=True).returncode
+
+
 def missing(is_shown=True):
     """The packages of Debian that aren't here, and that the page needs, or else its server."""
     found = absent({"mosquitto": "mosquitto"})
     found += absent({"mosquitto-clients": "mosquitto_pub"}) if is_shown else []
-    quiet = {"stdout": subprocess.DEVNULL, "stderr": subprocess.DEVNULL}
-    if not shutil.which(PYTHON) or subprocess.run([PYTHON, "-c", MODULE], **quiet).returncode:
-        found.append("python3-paho-mqtt")
+    found += [] if has_module("paho.mqtt.client") else ["python3-paho-mqtt"]
     return found + ([] if chromium.find() or not is_shown else ["chromium"])
+
+
+def missing_for_sites():
+    """Those that aren't here, and that a page needs which connects to dgt-livechess."""
+    found = absent({"openssl": "openssl"}) + ([] if chromium.find() else ["chromium"])
+    return found + ([] if has_module("websockets") else ["python3-websockets"])
 
 
 def free_port():

@@ -5,6 +5,7 @@ from __future__ import annotations
 import time
 
 from ._display import Display
+from .board import Mode
 from .events import Ack, Dump
 from .following import BoardView, Following
 
@@ -16,12 +17,14 @@ class BoardWithClock(Following):
     """A board that is followed on a port, and whose picture is confirmed soon. `wait` also returns
     after a dump or an acknowledgement of the clock that changed nothing."""
 
-    def __init__(self, port: str, period: float) -> None:
+    def __init__(self, port: str, period: float, mode: Mode = Mode.UPDATE_BOARD,
+                 identify: bool = False) -> None:
         """`OSError` if the port is a file that is no serial port."""
         self.asked_at = self.confirmed_at = float("-inf")
         """When the last dump that confirmed the picture was asked for, and when it came."""
         self.shown_move = Display()
-        super().__init__(port, period, patience=_PATIENCE, confirm=True, wait_for_port=True)
+        super().__init__(port, period, patience=_PATIENCE, mode=mode, confirm=True,
+                         wait_for_port=True, identify=identify)
 
     def _hear(self, chunk: bytes, now: float) -> None:
         events = self._steps.hear(chunk, now)

@@ -1,0 +1,209 @@
+"""The boards of `dgt-livechess`, and the games that are played on them."""
+
+from __future__ import annotations
+
+import asyncio
+import copy
+import os
+import sys
+import time
+from collections.abc import Iterable
+from typing import Any, Protocol
+
+from .following import BoardView
+from .games import _LONG_DOUBT, _root
+from .moves import GameBegun, MoveEvent, MoveMade, MoveRecogniser
+from .pgn import san
+from .rules import GameState
+from .values import Position, Time, Times
+
+Json = dict[str, Any]
+
+
+class Game:
+    """A game on a board: what a recogniser makes of it, and the moves from now on."""
+
+    def __init__(self, recogniser: MoveRecogniser) -> None:
+        self.recogniser = recogniser
+        self._note()
+
+    def _note(self) -> None:
+        self._given, self._state = self.recogniser.moves, self.recogniser.state
+        self._texts = [""] * len(self._given)
+
+    def set_up(self, state: GameState) -> None:
+        """The game goes on from this state, once the board has shown it."""
+        self.recogniser.go_on(state)
+        self._note()
+
+    @property
+    def moves(self) -> list[str] | None:
+        """The moves since then, in short notation. `None` if the board hasn't shown yet what was
+        set up, or no game has begun. Earlier moves may be taken back and made again."""
+        if self.recogniser.state is None:
+            return None
+        return self._texts[len(os.path.commonprefix([self._given, self.recogniser.moves])):]
+
+    def see(self, view: BoardView, now: float) -> None:
+        """Notes what the board shows."""
+        if view.in_doubt or view.picture is None:
+            self.recogniser.hold()
+        else:
+            self._take(self.recogniser.see(view.picture, now, view.confirmed))
+
+    def wait(self, now: float) -> None:
+        """Notes that the board shows until this time what it showed last."""
+        self._take(self.recogniser.wait(now))
+
+    def _take(self, events: list[MoveEvent]) -> None:
+        for event in events:
+            if isinstance(event, GameBegun):
+                self._given, self._texts = [], []
+            elif isinstance(event, MoveMade):
+                assert self._state is not None
+                before = self._state if self._texts else _root(self._state, event)
+                self._texts.append(san(before, event.move))
+            else:
+                self._texts.pop()
+            self._state = event.state
+
+
+class Watcher(Protocol):
+    """What looks at a board after each change, and has a game there."""
+
+    game: Game
+
+    def look(self) -> None:
+        """The board has changed, or it may have."""
+
+
+class Board:
+    """A board that clients may watch. It is for a loop of asyncio."""
+
+    def __init__(self, name: str, source: str) -> None:
+        self.name, self.source = name, source
+        self.view = BoardView()
+        self.own = Game(MoveRecogniser())
+        """The game that is recognised without a client."""
+        self.watchers: list[Watcher] = []
+        self._clock_at, self._doubted_at, self._said = 0.0, float("-inf"), ""
+        self._timer: asyncio.TimerHandle | None = None
+
+    @property
+    def serial(self) -> str:
+        """The board's own number, or its name."""
+        return self.view.serial or self.name
+
+    @property
+    def games(self) -> list[Game]:
+        """The games that are recognised on it."""
+        return [self.own, *(watcher.game for watcher in self.watchers)]
+
+    @property
+    def pending(self) -> tuple[str, bool] | None:
+        """A move that clients have set up and the board hasn't shown yet, and whether the board is
+        turned."""
+        return next(((move, game.recogniser.turned) for game in self.games
+                     if (move := game.recogniser.pending)), None)
+
+    def new_game(self) -> Game:
+        """Returns a game for a client, which goes on from what is known of the board."""
+        return Game(copy.copy(self.own.recogniser))
+
+    def set_up(self, game: Game, state: GameState) -> None:
+        """Has a game go on from this state."""
+        game.set_up(state)
+        game.see(self.view, time.monotonic())
+
+    # ---- What is known of it
+
+    def see(self, view: BoardView) -> None:
+        """Notes what is known from now on."""
+        now = time.monotonic()
+        if view.clock != self.view.clock:
+            self._clock_at = time.time()
+        self.view = view
+        if view.in_doubt or view.picture is None:
+            self._doubted_at = float("-inf") if view.away else min(self._doubted_at, now)
+        else:
+            if now >= self._doubted_at + _LONG_DOUBT:
+                self.own.recogniser.lose_track()
+            self._doubted_at = float("inf")
+        for game in self.games:
+            game.see(view, now)
+        if view.away or view.picture:
+            self._say(view.away or f"following the board {self.serial}")
+
+    def _say(self, text: str) -> None:
+        """Prints how it is, if that is new."""
+        if text != self._said:
+            say(f"{self.source}: {text}")
+        self._said = text
+
+    def turn(self) -> None:
+        """Does what is due, has each watcher look, and comes back when something will be due."""
+        now = time.monotonic()
+        for game in self.games:
+            game.wait(now)
+        for watcher in self.watchers.copy():
+            watcher.look()
+        self._turn_at(self._dues())
+
+    def _dues(self) -> Iterable[float | None]:
+        """Returns the times at which something is due."""
+        return [game.recogniser.due for game in self.games]
+
+    def _turn_at(self, dues: Iterable[float | None]) -> None:
+        if self._timer is not None:
+            self._timer.cancel()
+        due = min((each for each in dues if each is not None), default=None)
+        self._timer = None if due is None else asyncio.get_running_loop().call_at(due, self.turn)
+
+    def close(self) -> None:
+        """Ends it."""
+        self._turn_at([])
+
+    # ---- What clients are sent
+
+    def shown(self, game: Game) -> str | None:
+        """Returns the placement of the pieces, as White sees the board."""
+        if self.view.picture is None:
+            return None
+        letters = self.view.picture.letters
+        return str(Position.of_letters(letters[::-1] if game.recogniser.turned else letters))
+
+    @property
+    def clock(self) -> Json | None:
+        """The clock, if there is one. The side that it reports first is taken for White's."""
+        clock = self.view.clock
+        if not isinstance(clock, Times):
+            return None
+        return {"white": _seconds(clock.first), "black": _seconds(clock.second),
+                "run": clock.white_turn if clock.running else None,
+                "time": round(1000 * self._clock_at)}
+
+    def listed(self) -> Json:
+        """What the list of boards says of it."""
+        view = self.view
+        state = ("NOTRESPONDING" if view.silent else "INACTIVE" if view.away or not view.picture
+                 else "DELAYED" if view.in_doubt else "ACTIVE")
+        return {"source": self.source, "state": state, "battery": None, "comment": None,
+                "board": self.shown(self.own), "flipped": self.own.recogniser.turned,
+                "clock": self.clock}
+
+    def event(self, game: Game) -> Json:
+        """What a feed says of it, and of a game on it."""
+        shown, state, moves = self.shown(game), game.recogniser.state, game.moves
+        match = state is not None and str(Position.of_letters(state.letters)) == shown
+        event = {"flipped": game.recogniser.turned, "board": shown, "clock": self.clock,
+                 "match": match}
+        return {**event, **({} if moves is None else {"san": moves})}
+
+
+def _seconds(time: Time) -> int:
+    return 3600 * time.hours + 60 * time.minutes + time.seconds
+
+
+def say(text: str) -> None:
+    """Prints a line on standard error."""
+    print(f"dgt-livechess: {text}", file=sys.stderr, flush=True)

@@ -1,0 +1,117 @@
+"""The boards of `dgt-livechess` that `dgt-broadcast` publishes to a broker."""
+
+from __future__ import annotations
+
+import asyncio
+import contextlib
+import importlib
+import os
+import re
+import sys
+from typing import Any
+
+from . import following
+from ._live_boards import Board, say
+from .errors import BadValue
+from .following import BoardView
+from .values import Clock, NoClock, Position, Time, Times
+
+_MOST_BOARDS = 1024
+_MOST_BYTES = 500
+"""How long a message may be."""
+_TOPICS = [("boards/+/state", 1), ("boards/+/confirmed", 1), ("boards/+", 1), ("boards/+/clock", 1)]
+"""What is subscribed to. A new subscriber gets the last message of each, in this order."""
+_AWAY = {"silent": following._SILENT, "gone": following._GONE,
+         "ended": "nobody publishes the board any more"}
+_CLOCK = re.compile(r"clock (\d+):(\d+):(\d+) (\d+):(\d+):(\d+) (running|stopped) (\S+)( low)?")
+_TURNS = {"white": 0x10, "black": 0x08}
+
+
+def read_clock(text: str) -> Clock:
+    """Returns what a clock shows, of a text such as `clock 1:30:00 1:29:55 running white`, or else
+    `NoClock`. `BadValue` if a number is too great."""
+    if not (found := _CLOCK.fullmatch(text)):
+        return NoClock()
+    times = [int(each) for each in found.groups()[:6]]
+    return Times(Time(*times[:3]), Time(*times[3:]),
+                 (found[7] == "running") | _TURNS.get(found[8], 0))
+
+
+class BrokerBoard(Board):
+    """A board that is published. Its name there stands for its serial number."""
+
+    def __init__(self, name: str) -> None:
+        super().__init__(name, f"boards/{name}")
+        self._texts = dict.fromkeys(("", "confirmed", "clock", "state"), "")
+
+    def note(self, topic: str, text: str) -> None:
+        """Notes a message of one of its topics, without the count of bytes before it. `BadValue` if
+        it has no meaning there."""
+        texts = {**self._texts, topic: text}
+        picture = Position.parse(texts[""]) if texts[""] else None
+        view = BoardView(picture, read_clock(texts["clock"]), texts["state"] != "following",
+                         _AWAY.get(texts["state"]), texts["confirmed"] == texts[""])
+        self._texts = texts
+        self.see(view)
+        self.turn()
+
+
+class Broker:
+    """Hears a broker in a thread of its own, and hands the loop what it says. It is connected
+    again if it goes."""
+
+    def __init__(self, boards: list[Board], host: str, port: int, user: str | None) -> None:
+        """`SystemExit` if a module is missing."""
+        try:
+            mqtt: Any = importlib.import_module("paho.mqtt.client")
+        except ImportError:
+            sys.exit("dgt-livechess: no module paho.mqtt (install Debian's python3-paho-mqtt)")
+        self._boards, self._known = boards, dict[str, BrokerBoard]()
+        self._place, self._said, call = f"{host} port {port}", "", self._call
+        versions = getattr(mqtt, "CallbackAPIVersion", None)
+        client = mqtt.Client(*([versions.VERSION2] if versions else []))
+        client.suppress_exceptions = True  # one of a callback would end the thread
+        client.reconnect_delay_set(1, 2)
+        client.on_connect = lambda _client, _data, _flags, refused, *_: call(
+            self._connected, client, "" if refused == 0 else str(refused))
+        client.on_connect_fail = lambda *_: call(self._say, "doesn't answer (start it)")
+        client.on_disconnect = lambda *_: call(self._lose)
+        client.on_message = lambda _client, _data, message: call(
+            self._hear, message.topic, message.payload)
+        if user:
+            client.username_pw_set(user, os.environ.get("MQTT_PASSWORD"))
+        self._loop = asyncio.get_running_loop()
+        client.connect_async(host, port)
+        client.loop_start()
+
+    def _call(self, function: Any, *words: Any) -> None:
+        with contextlib.suppress(RuntimeError):  # the loop has ended
+            self._loop.call_soon_threadsafe(function, *words)
+
+    def _say(self, text: str) -> None:
+        """Prints how the broker is, if that is new."""
+        if text != self._said:
+            say(f"the broker at {self._place} {text}")
+        self._said = text
+
+    def _connected(self, client: Any, refused: str) -> None:
+        self._say(f"refuses: {refused} (see --user)" if refused else "is there")
+        client.subscribe(_TOPICS)
+
+    def _lose(self) -> None:
+        if self._said == "is there":
+            self._say("has gone; it is tried again until it answers")
+        for board in self._known.values():
+            board.note("state", "gone")  # it says what it is once it is back
+
+    def _hear(self, topic: str, payload: bytes) -> None:
+        _, name, *below = topic.split("/")
+        if len(payload) > _MOST_BYTES or (name not in self._known
+                                          and len(self._known) >= _MOST_BOARDS):
+            return
+        if name not in self._known:
+            self._known[name] = BrokerBoard(name)
+            self._boards.append(self._known[name])
+        text = re.sub(r"^\d+ ", "", payload.decode("ascii", "replace"))
+        with contextlib.suppress(BadValue):
+            self._known[name].note("".join(below), text)

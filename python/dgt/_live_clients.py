@@ -1,0 +1,167 @@
+"""The clients of `dgt-livechess`, and the messages that they and the server exchange."""
+
+from __future__ import annotations
+
+import asyncio
+import contextlib
+import importlib
+import json
+import time
+from typing import Any
+
+from ._live_boards import Board, Game, Json
+from .errors import BadFen
+from .rules import GameState
+
+_MOST_FEEDS, _MOST_WAITING = 8, 256
+_MOST_ID = 100
+"""How many characters an id has at most."""
+TRY_LATER = 1013
+"""The code with which a connection is closed that is one too many, or reads nothing."""
+
+
+class Refused(Exception):
+    """A call can't be done."""
+
+
+class Feed:
+    """What a client is sent of a board."""
+
+    def __init__(self, client: Client, number: int | str, serial: str, board: Board) -> None:
+        self.number, self.serial, self.board = number, serial, board
+        self.game: Game = board.new_game()
+        self._client = client
+        self._last: Json = {}
+
+    def look(self) -> None:
+        """Sends what is known of the board, if that is new."""
+        event = {"serialnr": self.serial, **self.board.event(self.game)}
+        if event != self._last:
+            self._last = event
+            self._client.send("feed", self.number, event)
+
+    def set_up(self, state: GameState) -> None:
+        """The game goes on from this state. What is known then is sent in any case."""
+        self.board.set_up(self.game, state)
+        self._last = {}
+
+    def close(self) -> None:
+        """Nothing more is sent."""
+        self.board.watchers.remove(self)
+
+
+class Client:
+    """A connection."""
+
+    def __init__(self, boards: list[Board], socket: Any) -> None:
+        self._boards, self._socket = boards, socket
+        self._feeds = dict[int | str, Feed]()
+        self._waiting = asyncio.Queue[str](_MOST_WAITING)
+        self._closing: asyncio.Task[None] | None = None
+
+    def send(self, response: str, number: object, param: object) -> None:
+        """Has a message sent. If too many wait already, the client doesn't read, and is left."""
+        message = {"response": response, "id": number, "param": param,
+                   "time": round(1000 * time.time())}
+        try:
+            self._waiting.put_nowait(json.dumps(message))
+        except asyncio.QueueFull:
+            self.close_feeds()
+            if self._closing is None:
+                self._closing = asyncio.create_task(
+                    self._socket.close(TRY_LATER, "too many messages wait"))
+
+    def close_feeds(self) -> None:
+        """Nothing is sent of boards any more."""
+        while self._feeds:
+            self._feeds.popitem()[1].close()
+
+    async def serve(self) -> None:
+        """Answers the client until it goes."""
+        sending = asyncio.create_task(self._send_all())
+        try:
+            async for text in self._socket:
+                self._hear(text)
+        finally:
+            sending.cancel()
+            self.close_feeds()
+            if self._closing is not None:
+                await self._closing
+
+    async def _send_all(self) -> None:
+        with contextlib.suppress(importlib.import_module("websockets").ConnectionClosed):
+            while True:
+                await self._socket.send(await self._waiting.get())
+
+    def _hear(self, text: str | bytes) -> None:
+        """Does what a message asks for."""
+        number = None
+        try:
+            asked = json.loads(text)
+            number = _read_id(asked.get("id"))
+            answer = self._call(asked.get("call"), asked.get("param") or {})
+        except (ValueError, AttributeError, TypeError, KeyError, RecursionError):
+            self.send("error", number, "not understood")
+        except Refused as why:
+            self.send("error", number, str(why)[:200])
+        else:
+            self.send("call", number, answer)
+            for board in {feed.board for feed in self._feeds.values()}:
+                board.turn()
+
+    def _call(self, call: object, param: Json) -> object:
+        match call:
+            case "eboards":
+                return [{"serialnr": serial, **board.listed()}
+                        for serial, board in self._named().items()]
+            case "subscribe":
+                self._subscribe(_read_id(param["id"]), param["feed"], param.get("param") or {})
+            case "unsubscribe":
+                self._feed(param).close()
+                del self._feeds[param["id"]]
+            case "call":
+                self._set_up(self._feed(param), param["method"], param.get("param") or {})
+            case _:
+                raise Refused(f"no call {call!r}")
+        return None
+
+    def _named(self) -> dict[str, Board]:
+        """Returns the boards by their numbers, first those that are there: clients may take the
+        first. If two have the same number, the second has its source in place of it."""
+        named = dict[str, Board]()
+        for board in sorted(self._boards, key=lambda each: bool(each.view.away)):
+            named[board.source if board.serial in named else board.serial] = board
+        return named
+
+    def _subscribe(self, number: int | str | None, feed: object, param: Json) -> None:
+        serial, named = param.get("serialnr"), self._named()
+        if feed != "eboardevent":
+            raise Refused(f"no feed {feed!r}")
+        if number is None or number in self._feeds or len(self._feeds) >= _MOST_FEEDS:
+            raise Refused(f"no id, the id of another feed, or more than {_MOST_FEEDS} feeds")
+        board = named.get(str(serial)) or next(
+            (each for each in self._boards if serial in (each.name, each.source)), None)
+        if board is None:
+            raise Refused(f"no board {serial!r}")
+        self._feeds[number] = Feed(self, number, str(serial), board)
+        board.watchers.append(self._feeds[number])
+
+    def _feed(self, param: Json) -> Feed:
+        if (feed := self._feeds.get(param["id"])) is None:
+            raise Refused(f"no feed of id {param['id']!r}")
+        return feed
+
+    def _set_up(self, feed: Feed, method: object, param: Json) -> None:
+        if method != "setup":
+            raise Refused(f"no method {method!r}")
+        try:
+            feed.set_up(GameState.parse(param["fen"]))
+        except BadFen as wrong:
+            raise Refused(str(wrong)) from None
+
+
+def _read_id(held: object) -> int | str | None:
+    """Returns an id. `Refused` if it is none."""
+    if held is None or isinstance(held, (int, str)) and len(str(held)) <= _MOST_ID:
+        return held
+    raise Refused("an id is a number or a short text")

@@ -1,0 +1,107 @@
+"""The boards of `dgt-livechess` on serial ports."""
+
+from __future__ import annotations
+
+import asyncio
+import contextlib
+import os
+import time
+from collections.abc import Iterable
+
+from ._board_line import BoardLine
+from ._live_boards import Board, say
+from .board import Mode
+from .serial_ports import SerialPort, ports
+from .values import SQUARES, Position, square_number
+
+_PERIOD = 2.0
+"""How often a board is asked for all squares and its clock, in seconds."""
+_LOOK = 2.0
+"""How often ports are looked for, in seconds."""
+_AT_ONCE = 64
+"""How many changes of a board are taken before others have their turn."""
+
+
+class PortBoard(Board):
+    """A board on a serial port. Its clock and its lights may show the other side's move."""
+
+    def __init__(self, port: str, has_clock: bool, has_lights: bool) -> None:
+        """`OSError` if the port is a file that is no serial port."""
+        super().__init__(os.path.basename(port), port)
+        self._has_clock, self._has_lights = has_clock, has_lights
+        self._line = BoardLine(port, _PERIOD, Mode.UPDATE_NICE, identify=True)
+        self._descriptor: int | None = None
+        self._asked: Position | None = None
+        self._pending: tuple[str, bool] | None = None
+        self._is_late = False
+        self.turn()
+
+    def turn(self) -> None:
+        now, self._is_late = time.monotonic(), True
+        for _ in range(_AT_ONCE):
+            if (view := self._line.wait(now)) is None:
+                self._is_late = False
+                break
+            self.see(view)
+        self._watch(self._line.descriptor)
+        is_unconfirmed = any(game.recogniser.unconfirmed for game in self.games)
+        if is_unconfirmed and self.view.picture != self._asked:
+            self._asked = self.view.picture
+            self._line.follower.ask_now()
+        super().turn()
+
+    def _dues(self) -> Iterable[float | None]:
+        now = time.monotonic()
+        if (pending := self.pending) != self._pending:
+            self._pending = pending
+            self._show(pending)
+        late = now if self._is_late else None
+        return [*super()._dues(), late, self._line.due_at, self._line.tend_clock(now)]
+
+    def _show(self, pending: tuple[str, bool] | None) -> None:
+        """Shows a move, or no move any more."""
+        move, is_turned = pending or ("", False)
+        if self._has_clock and move:
+            self._line.shown_move.show(move)
+        elif self._has_clock:
+            self._line.shown_move.end()
+        if self._has_lights:
+            squares = [move[:2], move[2:4]] if move else []
+            self._line.leds(*(SQUARES[63 - square_number(each)] if is_turned else each
+                              for each in squares))
+
+    def _watch(self, descriptor: int | None) -> None:
+        """Has the loop call `turn` once the board says something. The port may be another one."""
+        loop = asyncio.get_running_loop()
+        if self._descriptor is not None and self._descriptor != descriptor:
+            loop.remove_reader(self._descriptor)
+        if descriptor is not None:
+            loop.add_reader(descriptor, self.turn)
+        self._descriptor = descriptor
+
+    def close(self) -> None:
+        self._watch(None)
+        super().close()
+        self._line.close()
+
+
+def is_likely(port: SerialPort) -> bool:
+    """Returns whether a port is likely a board's, by its USB device: it names DGT, or is FTDI's
+    converter, as the boards' rule of udev has it."""
+    return port.usb_id == "0403:6001" or any(
+        "DGT" in name for name in (port.vendor, port.product) if name)
+
+
+async def look_for_ports(boards: list[Board], has_clock: bool, has_lights: bool) -> None:
+    """Follows each port that is likely a board's, also one that comes later."""
+    known, is_said = set[str](), False
+    while True:
+        for port in ports():
+            if port.path not in known and is_likely(port):
+                known.add(port.path)
+                with contextlib.suppress(OSError):  # it is no serial port
+                    boards.append(PortBoard(port.path, has_clock, has_lights))
+        if not known and not is_said:
+            say("no board yet (plug it in, or name its port: `python3 -m dgt ports` lists them)")
+            is_said = True
+        await asyncio.sleep(_LOOK)

@@ -1,0 +1,153 @@
+"""Boards for lichess.org and other sites and programs that know LiveChess.
+
+This program speaks as LiveChess does, the program of the boards' maker: on this
+machine it has a WebSocket, ws://localhost:1982/api/v1.0. A site such as
+https://lichess.org/dgt connects to it, and gets each move that is made on the
+board. LICHESS.md is a guide for players.
+
+Without a PORT it follows each serial port that is likely a board's by its USB
+device, also one that is plugged in later. With --broker it hears the boards
+that dgt-broadcast publishes, so that dgt-page and others have them, too.
+
+A move is sent once it has rested and the board has confirmed it, and the list
+of moves gets shorter if one is taken back. A position that a client sets up
+goes on from the moves so far, or else begins a game once the board shows it.
+
+Only pages of https://lichess.org may connect, and programs that aren't pages.
+
+At most there are 32 clients with 8 feeds each, and 256 messages that wait for a
+client to read them. A message of a client has 65536 bytes at most.
+"""
+
+from __future__ import annotations
+
+import argparse
+import asyncio
+import contextlib
+import importlib
+import logging
+import signal
+import sys
+from collections.abc import Sequence
+from typing import Any
+
+from ._live_boards import Board, say
+from ._live_broker import Broker
+from ._live_clients import TRY_LATER, Client
+from ._live_ports import PortBoard, look_for_ports
+
+_PATH, _PORT = "/api/v1.0", 1982
+_ORIGINS = ("https://lichess.org", None)
+"""The sites that may connect: a page of any site could. `None` is a program that names none."""
+_MOST_CLIENTS, _MOST_BYTES, _MOST_SENT = 32, 1 << 16, 16
+_NO_SUCH_PATH = 1008
+_LAST_WAIT = 3.0
+"""For how many seconds clients may take leave at the end."""
+
+
+class Server:
+    """The WebSocket, and the boards."""
+
+    def __init__(self, words: argparse.Namespace) -> None:
+        """`SystemExit` if something is missing or wrong."""
+        self._words, self._boards, self._count = words, list[Board](), 0
+        try:
+            self._websockets: Any = importlib.import_module("websockets")
+        except ImportError:
+            sys.exit("dgt-livechess: no module websockets (install Debian's python3-websockets)")
+
+    async def run(self) -> None:
+        """Serves until a signal comes. `SystemExit` if the port can't be had."""
+        words, stop, loop = self._words, asyncio.Event(), asyncio.get_running_loop()
+        for number in (signal.SIGINT, signal.SIGTERM, signal.SIGHUP):
+            if signal.getsignal(number) is not signal.SIG_IGN:
+                loop.add_signal_handler(number, stop.set)
+        try:
+            server = await self._websockets.serve(
+                self._visit, "localhost", words.port, origins=[*_ORIGINS, *words.origin],
+                max_size=_MOST_BYTES, max_queue=_MOST_SENT, compression=None, close_timeout=2)
+        except OSError as fault:
+            sys.exit(f"dgt-livechess: port {words.port}: {fault} (end LiveChess and other programs "
+                     "that have it, or see --port)")
+        say(f"ws://localhost:{words.port}{_PATH} (Ctrl-C ends it)")
+        looking = self._follow()
+        await stop.wait()
+        if looking is not None:
+            looking.cancel()
+        server.close()
+        with contextlib.suppress(TimeoutError):
+            await asyncio.wait_for(server.wait_closed(), _LAST_WAIT)
+        for board in self._boards:
+            board.close()
+
+    def _follow(self) -> asyncio.Task[None] | None:
+        """Begins to follow the boards. Returns what looks for more of them."""
+        words, shows = self._words, (self._words.clock, self._words.leds)
+        if words.broker:
+            Broker(self._boards, words.broker, words.broker_port, words.user)
+        elif not words.ports:
+            return asyncio.create_task(look_for_ports(self._boards, *shows))
+        for port in words.ports:
+            try:
+                self._boards.append(PortBoard(port, *shows))
+            except OSError as fault:
+                sys.exit(f"dgt-livechess: {port}: {fault.strerror}")
+        return None
+
+    async def _visit(self, socket: Any) -> None:
+        """Serves a client."""
+        request = getattr(socket, "request", socket)  # of the module from version 13 on
+        headers = getattr(request, "headers", None) or socket.request_headers
+        if request.path.rstrip("/") != _PATH:
+            await socket.close(_NO_SUCH_PATH, f"the path is {_PATH}")
+        elif self._count >= _MOST_CLIENTS:
+            await socket.close(TRY_LATER, f"{_MOST_CLIENTS} clients are connected")
+        else:
+            who = headers.get("Origin") or "a program"
+            say(f"{who} is connected")
+            self._count += 1
+            try:
+                await Client(self._boards, socket).serve()
+            except self._websockets.ConnectionClosed:
+                pass
+            finally:
+                self._count -= 1
+                say(f"{who} is no longer connected")
+
+
+def _a_port(text: str) -> int:
+    if text.isdecimal() and 0 < int(text) < 65536:
+        return int(text)
+    raise argparse.ArgumentTypeError(f"no number from 1 to 65535: {text!r}")
+
+
+def _read_words(arguments: Sequence[str] | None) -> argparse.Namespace:
+    parser = argparse.ArgumentParser(
+        prog="dgt-livechess", description=__doc__, allow_abbrev=False,
+        formatter_class=argparse.RawDescriptionHelpFormatter)
+    parser.add_argument("ports", nargs="*", metavar="PORT",
+                        help="a board's serial port, such as /dev/ttyUSB0")
+    parser.add_argument("--broker", metavar="HOST",
+                        help="the broker to which dgt-broadcast publishes the boards")
+    parser.add_argument("--broker-port", type=_a_port, default=1883, metavar="PORT",
+                        help="its port (%(default)s)")
+    parser.add_argument("--user", help="a user of the broker; MQTT_PASSWORD has the password")
+    parser.add_argument("--port", type=_a_port, default=_PORT, metavar="PORT",
+                        help="the port of the WebSocket (%(default)s)")
+    parser.add_argument("--origin", action="append", default=[], metavar="ORIGIN",
+                        help="another site that may connect, such as https://example.org")
+    parser.add_argument("--clock", action="store_true",
+                        help="the board's clock shows a move that a client has set up, until it "
+                        "is made on the board")
+    parser.add_argument("--leds", action="store_true", help="so do the lights of the board")
+    words = parser.parse_args(arguments)
+    if words.broker and (words.ports or words.clock or words.leds):
+        parser.error("with --broker there is no PORT, --clock or --leds")
+    return words
+
+
+def main(arguments: Sequence[str] | None = None) -> None:
+    """Runs the program `dgt-livechess` with these arguments, or those of the process."""
+    server = Server(_read_words(arguments))
+    logging.getLogger("websockets").setLevel(logging.CRITICAL)  # what clients do wrong
+    asyncio.run(server.run())
