@@ -116,7 +116,7 @@ held_behind s p =
     all.is ∙ ap (λ (xs : List Placed). xs ++ events_behind (length o) all.early) quiet in
     is ∙ ap (events_behind (length o)) (sym (ap (nearer (length o)) is ∙ nearer-behind (length o) all.early))
 
--- they make the events after all that came
+-- the events of a chunk come after those of all bytes before it
 pub behind : (s p : List ℕ) → events (s ++ p) ≡ events s ++ events_behind (length s)
     (chunk_events (unfinished_message s) p)
 behind s p =

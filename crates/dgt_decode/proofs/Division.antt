@@ -56,7 +56,7 @@ lead-divided prefix parts seven h =
     rw (lead-append prefix (concat parts), lead-seven prefix seven, segments-seven prefix seven, lead-parts parts h)
     (append-nil prefix)
 
--- the segments after a seven-bit prefix are the segments
+-- after a seven-bit prefix, parts that are segments are the segments
 segments-divided : (prefix : List ℕ) (parts : List (List ℕ)) → SevenByRecursion prefix → AllByRecursion IsSegment parts
     → segments (prefix ++ concat parts) ≡ parts
 segments-divided prefix parts seven h =

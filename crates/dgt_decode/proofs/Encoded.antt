@@ -61,7 +61,7 @@ encodings (m ∷ ms) = m.bytes ∷ encodings ms
 lead-before : (g q : List ℕ) → IsAlone g → lead (g ++ q) ≡ []
 lead-before g q alone = rw (lead-append g q, alone.no_lead, alone.one) refl
 
--- if a message begins after them, its segments come after that one
+-- if a message begins after bytes of one segment, its segments come after that one
 segments-before : (g q : List ℕ) → IsAlone g → lead q ≡ [] → segments (g ++ q) ≡ g ∷ segments q
 segments-before g q alone e = rw (segments-append g q, alone.one, e, append-nil g) refl
 

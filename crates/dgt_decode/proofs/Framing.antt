@@ -233,7 +233,7 @@ frames-body state kept b left was body seven =
     frames-after kept b (left - 1) is.0 (omega (arith, is.1)) seven
     (omega (arith, announced_total-append kept (b ∷ []) is.1, is.2, is.3))
 
--- the third byte does, with no body to come, too
+-- what the third byte of a header makes known, also with no body to come
 pub frames-head : (state : FramerState) (kept : List ℕ) (b high low : ℕ) → IsKept state kept → state ≡ Head
     → length kept ≢ 1 → b < 128 → high ≡ slice_index kept 1 → low ≡ b → 3 ≤ 128 * high + low
     → let left = 128 * high + low - 3 in

@@ -63,7 +63,7 @@ module _ {S : Type 0} {W : Sink S} {P : List ℕ → List ℕ → Type 0} (bytes
         → GathersPrefix W (held, held') a b (Ok used) P bytes rest text
     gathers_some q waits = (used, refl, record { more = more; gathers = q; has = has; waits = waits })
 
-    -- they end one, and its line was refused
+    -- they end an event, and its line was refused
     pub gathers_refused : (r : Result ℕ RunFault) (e : RunFault) → IsErrAnd r (λ y. y ≡ e)
         → (e ≡ WriteFailed) × Stopped W a b (held ++ more) → GathersPrefix W (held, held') a b r P bytes rest text
     gathers_refused (Ok x) e k q = absurd k

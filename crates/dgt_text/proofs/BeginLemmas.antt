@@ -52,7 +52,7 @@ begins_whole bytes rest lines whole cut (inl p) =
     within lines whole p.0 rest p.2 cut.each cut.last (sym p.1 ∙ cut.whole)
 begins_whole bytes rest lines whole cut (inr p) = absurd (true≢false (sym p.4))
 
--- at the end they are among all lines
+-- lines with which a script begins are among all its lines
 pub begins_all : (at_end : Bool) (bytes rest : List ℕ) (lines whole : List (List ℕ)) → IsCut bytes whole rest
     → BeginsWith at_end bytes lines → Longer (all_lines whole rest) lines
 begins_all at_end bytes rest lines whole cut (inl p) =

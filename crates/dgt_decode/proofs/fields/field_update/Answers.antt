@@ -19,14 +19,15 @@ returns-in-Ok-Ok c =
 pub returns-then-bytes-ne-FIELD : goal.returns-then-bytes-ne-FIELD
 returns-then-bytes-ne-FIELD c = λ square piece whole e.
     let bytes = c.args.bytes.now in
-    let reported = only_field c.reading_is_exact.ensures.message bytes square piece (omega (arith, c.type_inv.bytes 0)) whole
-    e in
+    let reported = only_field c.reading_is_exact.ensures.message bytes square piece
+    (omega (arith, c.type_inv.bytes 0)) whole e in
     elim c.then-bytes-ne-FIELD.branch [
       | then-bytes-ne-FIELD-via-then-bytes-ne-FIELD w ↦ omega (arith, w.if-bytes-ne-FIELD.true, reported.1)
       | then-bytes-ne-FIELD-via-else-bytes-ne-FIELD+then-bytes w ↦ omega (arith, w.if-bytes.true, reported.0)
       | then-bytes-ne-FIELD-via-else-bytes-ne-FIELD+else-bytes+then-not-begins_with_field w ↦
           let same = take_all 5 bytes (omega (arith, reported.1)) in
-          let begins = w.begins_with_field.ensures.1 (omega (arith, reported.1), subst IsWholeMessage (sym same) whole) in
+          let first = subst IsWholeMessage (sym same) whole in
+          let begins = w.begins_with_field.ensures.1 (omega (arith, reported.1), first) in
           cc (begins, w.if-not-begins_with_field.true)
     ]
 
