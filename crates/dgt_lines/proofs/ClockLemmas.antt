@@ -12,11 +12,10 @@ use Rattle.dgt_decode.specs.Grammar.{Event, Message, Placed, Refused, events}
 use Rattle.dgt_message.specs.Picture.{picture_after}
 use Rattle.dgt_lines.specs.declared.clocks.ShownClock.{ShownClock}
 use Rattle.dgt_lines.specs.declared.clocks.ShownClock.TheVariants.{Hidden, Unknown, Known}
-use Rattle.dgt_lines.specs.declared.doubts.Doubt.{Doubt}
 use Rattle.dgt_lines.specs.declared.doubts.PictureState.{PictureState}
 use Rattle.dgt_lines.specs.Clocks.{clock_text}
 use Rattle.dgt_lines.specs.Pictures.{PlacedPicture, known_at}
-use Rattle.dgt_lines.specs.Reports.{ClockLeavesReports, HiddenClockIsSilent, LastLineIsClock, OtherClocksAreReported, Report, SaysClock, Shows, ShowsClock, clock_after_event, clock_after_events, clock_reports, clocking, clocks_shown, new_state, new_state_with_clock, reports, reports_at, shown_after, state_after_event, state_after_events, without_clock}
+use Rattle.dgt_lines.specs.Reports.{ClockLeavesReports, HiddenClockIsSilent, LastLineIsClock, OtherClocksAreReported, Report, SaysClock, Shows, ShowsClock, clock_after_event, clock_after_events, clock_reports, clocking, clocks_shown, new_state, reports, reports_at, shown_after, state_after_event, state_after_events, without_clock}
 use Rattle.dgt_lines.proofs.DoubtLemmas.{always_hidden}
 use Rattle.dgt_lines.proofs.PictureLemmas.{last_or-append}
 use Rattle.dgt_lines.proofs.ReportLemmas.{of_clock, of_raised, reports-append}
@@ -62,7 +61,7 @@ all_stay before (x ∷ xs) =
     (all_stay after xs ∙ ap (λ s. reports s xs) (one_hidden x.event before))
 
 pub clock_leaves_reports : ClockLeavesReports
-clock_leaves_reports doubt placed = all_stay (new_state_with_clock doubt) placed
+clock_leaves_reports doubts placed = all_stay (new_state doubts true) placed
 
 -- ---- the texts of the clock among the reports
 
@@ -98,7 +97,7 @@ all_silent before (x ∷ xs) h =
     ∙ all_silent after xs (always_hidden before (x ∷ []) h)
 
 pub hidden_clock_is_silent : HiddenClockIsSilent
-hidden_clock_is_silent doubt placed = all_silent (new_state doubt) placed refl
+hidden_clock_is_silent doubts placed = all_silent (new_state doubts false) placed refl
 
 -- ---- the clock that is known
 
@@ -165,37 +164,37 @@ all_last (x ∷ xs) before clock h =
     ∙ all_last xs after heard (one_shown x.event before clock h)
 
 pub last_line_is_clock : LastLineIsClock
-last_line_is_clock doubt bytes = all_last (events bytes) (new_state_with_clock doubt) None refl
+last_line_is_clock doubts bytes = all_last (events bytes) (new_state doubts true) None refl
 
 -- ---- what is reported of one event more
 
 -- the state after events that have nothing before them
-abbrev now : Doubt → List Placed → PictureState
-now doubt earlier = state_after_events (new_state_with_clock doubt) earlier
+abbrev now : Bool → List Placed → PictureState
+now doubts earlier = state_after_events (new_state doubts true) earlier
 
-now_shown : (doubt : Doubt) (earlier : List Placed)
-    → (now doubt earlier).clock ≡ shown_of (clock_after_events None earlier)
-now_shown doubt earlier = all_shown earlier (new_state_with_clock doubt) None refl
+now_shown : (doubts : Bool) (earlier : List Placed)
+    → (now doubts earlier).clock ≡ shown_of (clock_after_events None earlier)
+now_shown doubts earlier = all_shown earlier (new_state doubts true) None refl
 
-one_more : (doubt : Doubt) (earlier : List Placed) (x : Placed) (reported : List Report)
-    → reports_at x.place x.event (now doubt earlier) ≡ reported
-    → clocking doubt (earlier ++ x ∷ []) ≡ clocking doubt earlier ++ reported
-one_more doubt earlier x reported e =
-    reports-append (new_state_with_clock doubt) earlier (x ∷ [])
-    ∙ ap (λ l. clocking doubt earlier ++ l) (append-nil _ ∙ e)
+one_more : (doubts : Bool) (earlier : List Placed) (x : Placed) (reported : List Report)
+    → reports_at x.place x.event (now doubts earlier) ≡ reported
+    → clocking doubts (earlier ++ x ∷ []) ≡ clocking doubts earlier ++ reported
+one_more doubts earlier x reported e =
+    reports-append (new_state doubts true) earlier (x ∷ [])
+    ∙ ap (λ l. clocking doubts earlier ++ l) (append-nil _ ∙ e)
 
 says : (place : ℕ) (clock : ClockState) (before : PictureState)
     → reports_at place (Message (clock_message clock)) before ≡ clock_reports place (clock_text clock) before.clock
 says place (ClockState.times readings) before = refl
 says place (ClockState.no_clock absence) before = refl
 
-clock_at : (doubt : Doubt) (earlier : List Placed) (x : Placed) (clock : ClockState) → SaysClock x clock
-    → reports_at x.place x.event (now doubt earlier) ≡ clock_reports x.place (clock_text clock)
+clock_at : (doubts : Bool) (earlier : List Placed) (x : Placed) (clock : ClockState) → SaysClock x clock
+    → reports_at x.place x.event (now doubts earlier) ≡ clock_reports x.place (clock_text clock)
     (shown_of (clock_after_events None earlier))
-clock_at doubt earlier x clock s =
-    ap (λ e. reports_at x.place e (now doubt earlier)) s
-    ∙ says x.place clock (now doubt earlier)
-    ∙ ap (clock_reports x.place (clock_text clock)) (now_shown doubt earlier)
+clock_at doubts earlier x clock s =
+    ap (λ e. reports_at x.place e (now doubts earlier)) s
+    ∙ says x.place clock (now doubts earlier)
+    ∙ ap (clock_reports x.place (clock_text clock)) (now_shown doubts earlier)
 
 other_text : (place : ℕ) (text last : List ℕ) (same : Bool) → bytes_eq last text ≡ same → (last ≡ text → ⊥)
     → (if same then [] else ShowsClock place text ∷ []) ≡ ShowsClock place text ∷ []
@@ -221,19 +220,19 @@ same_news place text (Some clock) h =
 
 pub other_clocks_are_reported : OtherClocksAreReported
 other_clocks_are_reported = record {
-  other = λ doubt earlier x clock s n.
-      one_more doubt earlier x _
-      (clock_at doubt earlier x clock s
+  other = λ doubts earlier x clock s n.
+      one_more doubts earlier x _
+      (clock_at doubts earlier x clock s
       ∙ other_news x.place (clock_text clock) (clock_after_events None earlier) n);
-  same = λ doubt earlier x clock s h.
-      one_more doubt earlier x _
-      (clock_at doubt earlier x clock s
+  same = λ doubts earlier x clock s h.
+      one_more doubts earlier x _
+      (clock_at doubts earlier x clock s
       ∙ same_news x.place (clock_text clock) (clock_after_events None earlier) h)
       ∙ append-nil _;
-  silent = λ doubt earlier x n.
-      ap clocks_shown (one_more doubt earlier x _ refl)
-      ∙ clocks-append (clocking doubt earlier) (reports_at x.place x.event (now doubt earlier))
-      ∙ ap (λ l. clocks_shown (clocking doubt earlier) ++ l)
-      (one_silent x.place x.event (now doubt earlier) (λ clock e. absurd (n clock e)))
+  silent = λ doubts earlier x n.
+      ap clocks_shown (one_more doubts earlier x _ refl)
+      ∙ clocks-append (clocking doubts earlier) (reports_at x.place x.event (now doubts earlier))
+      ∙ ap (λ l. clocks_shown (clocking doubts earlier) ++ l)
+      (one_silent x.place x.event (now doubts earlier) (λ clock e. absurd (n clock e)))
       ∙ append-nil _;
 }

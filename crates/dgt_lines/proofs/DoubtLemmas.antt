@@ -1,5 +1,5 @@
 -- Which faults are reported, and that the pictures are.
-use Rattle.std.proofs.Common.{◌≡◌, ◌⊎◌, ℕ, List, [], ◌∷◌, ◌++◌, Option, Some, None, refl, sym, ◌∙◌, ap, subst, inl, inr, append-nil, map}
+use Rattle.std.proofs.Common.{◌≡◌, ◌⊎◌, true, false, ℕ, List, [], ◌∷◌, ◌++◌, Option, Some, None, refl, sym, ◌∙◌, ap, subst, inl, inr, append-nil, map}
 use Rattle.std.proofs.lemmas.Grind.{fold-append}
 use Rattle.std.proofs.lemmas.List.{map-append}
 use Rattle.std.specs.List.{AllByRecursion, flat_map}
@@ -65,7 +65,7 @@ shown_are_pictures before (x ∷ xs) =
     ∙ ap (λ l. set ++ l) (shown_are_pictures after xs ∙ ap (λ p. pictures p xs) (one_picture before x.event))
 
 pub doubts_leave_pictures : DoubtsLeavePictures
-doubts_leave_pictures doubt bytes = shown_are_pictures (new_state doubt) (events bytes)
+doubts_leave_pictures doubts clock bytes = shown_are_pictures (new_state doubts clock) (events bytes)
 
 -- ---- a doubt after a message is as before it, or cleared
 
@@ -145,7 +145,7 @@ shown_lines (x ∷ xs) = ap (λ l. picture_line x ++ l) (shown_lines xs)
 
 pub ignored_faults_are_silent : IgnoredFaultsAreSilent
 ignored_faults_are_silent bytes =
-    ap (flat_map report_line) (all_ignored (new_state Ignored) (events bytes) refl refl)
+    ap (flat_map report_line) (all_ignored (new_state false false) (events bytes) refl refl)
     ∙ shown_lines (pictures None (events bytes))
 
 -- ---- a state in which the next fault is reported
@@ -239,7 +239,7 @@ dump_settles pieces _ h = h
 -- ---- it is so after a dump, and no fault since
 
 abbrev start : PictureState
-start = new_state Clear
+start = new_state true false
 
 sure_settled : (xs : List Placed) → IsSure xs → IsSettled (state_after_events start xs)
 sure_settled xs s =

@@ -3,7 +3,7 @@
 -- doubt, up to the next dump. A clock message that is refused for a digit, an unreadable one, is no
 -- fault: it has come whole, and clocks send it while they are set. The clock has a line if its text
 -- is another one than before.
-use Rattle.std.specs.Prelude.{◌≡◌, ◌≢◌, ⊤, ℕ, List, [], ◌∷◌, ◌++◌, fold, map, bytes_eq, codes, if◌then◌else◌, Option, Some, None, option_map}
+use Rattle.std.specs.Prelude.{◌≡◌, ◌≢◌, ⊤, Bool, true, false, ℕ, List, [], ◌∷◌, ◌++◌, fold, map, bytes_eq, codes, if◌then◌else◌, Option, Some, None, option_map}
 use Rattle.std.specs.List.{AllByRecursion, flat_map, last_or}
 use Rattle.dgt_values.specs.declared.pieces.Piece.{Piece}
 use Rattle.dgt_message.specs.Clock.{ClockState}
@@ -25,13 +25,13 @@ use Rattle.dgt_lines.specs.Pictures.{PlacedPicture, known_at, made_by, picture_a
 
 -- ---- The state
 
--- nothing is known, and faults raise doubts or not
-abbrev pub new_state : Doubt → PictureState
-new_state doubt = record { picture = None; doubt = doubt; clock = Hidden }
-
--- nothing is known, and the clock is shown
-abbrev pub new_state_with_clock : Doubt → PictureState
-new_state_with_clock doubt = record { picture = None; doubt = doubt; clock = Unknown }
+-- nothing is known; whether faults raise doubts, and whether the clock is shown
+abbrev pub new_state : Bool → Bool → PictureState
+new_state doubts clock = record {
+  picture = None;
+  doubt = if doubts then Clear else Ignored;
+  clock = if clock then Unknown else Hidden;
+}
 
 -- a dump ends a doubt
 abbrev pub doubt_cleared : Doubt → Doubt
@@ -155,12 +155,8 @@ abbrev pub state_from : PictureState → List ℕ → PictureState
 state_from before bytes = state_after_events before (events bytes)
 
 -- the lines of bytes, with nothing known before
-abbrev pub report_text : Doubt → List ℕ → List ℕ
-report_text doubt bytes = report_lines (new_state doubt) (events bytes)
-
--- the lines of bytes and of the clock, with nothing known before
-abbrev pub report_text_with_clock : Doubt → List ℕ → List ℕ
-report_text_with_clock doubt bytes = report_lines (new_state_with_clock doubt) (events bytes)
+abbrev pub report_text : Bool → Bool → List ℕ → List ℕ
+report_text doubts clock bytes = text_from (new_state doubts clock) bytes
 
 -- ---- What holds of them
 
@@ -170,10 +166,11 @@ pictures_shown [] = []
 pictures_shown (Shows x ∷ more) = x ∷ pictures_shown more
 pictures_shown (_ ∷ more) = pictures_shown more
 
--- without the doubts they are the pictures that the bytes set
+-- without the other lines they are the pictures that the bytes set
 abbrev pub DoubtsLeavePictures : Type 0
 DoubtsLeavePictures =
-    (doubt : Doubt) (bytes : List ℕ) → pictures_shown (reports (new_state doubt) (events bytes))
+    (doubts clock : Bool) (bytes : List ℕ)
+    → pictures_shown (reports (new_state doubts clock) (events bytes))
     ≡ pictures None (events bytes)
 
 -- with doubts or without, the picture after events is the same
@@ -182,9 +179,10 @@ DoubtsKeepThePicture =
     (before : PictureState) (placed : List Placed) → (state_after_events before placed).picture
     ≡ picture_after_events before.picture placed
 
--- if faults raise no doubt, the lines are those of the pictures alone
+-- if faults raise no doubt and the clock is not shown, the lines are those of the pictures alone
 abbrev pub IgnoredFaultsAreSilent : Type 0
-IgnoredFaultsAreSilent = (bytes : List ℕ) → report_text Ignored bytes ≡ pictures_text bytes
+IgnoredFaultsAreSilent =
+    (bytes : List ℕ) → report_text false false bytes ≡ pictures_text bytes
 
 -- an event that is no message, nor an unreadable one of the clock
 abbrev pub IsFault : Event → Type 0
@@ -206,7 +204,7 @@ pub record IsSure (placed : List Placed) : Type 0 where
 
 -- what is reported of events, if nothing was known before and faults raise doubts
 abbrev pub doubting : List Placed → List Report
-doubting placed = reports (new_state Clear) placed
+doubting placed = reports (new_state true false) placed
 
 -- A fault is reported if it is the first one since a dump, and no other is. A message is reported
 -- if it sets the picture. An unreadable clock message isn't.
@@ -240,13 +238,14 @@ clocks_shown (_ ∷ more) = clocks_shown more
 -- without the lines of the clock, they are those if the clock is not shown
 abbrev pub ClockLeavesReports : Type 0
 ClockLeavesReports =
-    (doubt : Doubt) (placed : List Placed) → without_clock
-    (reports (new_state_with_clock doubt) placed) ≡ reports (new_state doubt) placed
+    (doubts : Bool) (placed : List Placed) → without_clock (reports (new_state doubts true) placed)
+    ≡ reports (new_state doubts false) placed
 
 -- if the clock is not shown, it has no line
 abbrev pub HiddenClockIsSilent : Type 0
 HiddenClockIsSilent =
-    (doubt : Doubt) (placed : List Placed) → clocks_shown (reports (new_state doubt) placed) ≡ []
+    (doubts : Bool) (placed : List Placed)
+    → clocks_shown (reports (new_state doubts false) placed) ≡ []
 
 -- the clock after an event: only a message changes it
 abbrev pub clock_after_event : Option ClockState → Event → Option ClockState
@@ -264,13 +263,13 @@ last_clock_text placed = option_map clock_text (clock_after_events None placed)
 -- is unknown there is no such line.
 abbrev pub LastLineIsClock : Type 0
 LastLineIsClock =
-    (doubt : Doubt) (bytes : List ℕ) → last_or None
-    (clocks_shown (reports (new_state_with_clock doubt) (events bytes)))
+    (doubts : Bool) (bytes : List ℕ)
+    → last_or None (clocks_shown (reports (new_state doubts true) (events bytes)))
     ≡ last_clock_text (events bytes)
 
 -- what is reported of events, if nothing was known before and the clock is shown
-abbrev pub clocking : Doubt → List Placed → List Report
-clocking doubt placed = reports (new_state_with_clock doubt) placed
+abbrev pub clocking : Bool → List Placed → List Report
+clocking doubts placed = reports (new_state doubts true) placed
 
 -- the message says this of the clock
 abbrev pub SaysClock : Placed → ClockState → Type 0
@@ -279,13 +278,13 @@ SaysClock x clock = x.event ≡ Message (clock_message clock)
 -- A message of the clock is reported if its text is another one than that of the clock before, or
 -- there was none, and no other is. What is no message of the clock has no line of it.
 pub record OtherClocksAreReported : Type 0 where
-  pub other : (doubt : Doubt) (earlier : List Placed) (x : Placed) (clock : ClockState)
+  pub other : (doubts : Bool) (earlier : List Placed) (x : Placed) (clock : ClockState)
       → SaysClock x clock → last_clock_text earlier ≢ Some (clock_text clock)
-      → clocking doubt (earlier ++ x ∷ [])
-      ≡ clocking doubt earlier ++ ShowsClock x.place (clock_text clock) ∷ []
-  pub same : (doubt : Doubt) (earlier : List Placed) (x : Placed) (clock : ClockState)
+      → clocking doubts (earlier ++ x ∷ [])
+      ≡ clocking doubts earlier ++ ShowsClock x.place (clock_text clock) ∷ []
+  pub same : (doubts : Bool) (earlier : List Placed) (x : Placed) (clock : ClockState)
       → SaysClock x clock → last_clock_text earlier ≡ Some (clock_text clock)
-      → clocking doubt (earlier ++ x ∷ []) ≡ clocking doubt earlier
-  pub silent : (doubt : Doubt) (earlier : List Placed) (x : Placed)
+      → clocking doubts (earlier ++ x ∷ []) ≡ clocking doubts earlier
+  pub silent : (doubts : Bool) (earlier : List Placed) (x : Placed)
       → ((clock : ClockState) → SaysClock x clock → ⊥)
-      → clocks_shown (clocking doubt (earlier ++ x ∷ [])) ≡ clocks_shown (clocking doubt earlier)
+      → clocks_shown (clocking doubts (earlier ++ x ∷ [])) ≡ clocks_shown (clocking doubts earlier)

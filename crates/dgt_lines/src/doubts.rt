@@ -3,7 +3,7 @@
 ghost use Rattle.std.specs.Prelude.{◌≡◌, ℕ, [], ◌∷◌, if◌then◌else◌};
 ghost use Rattle.dgt_message.specs.Content.{clock_seen, content};
 ghost use Rattle.dgt_lines.specs.Clocks.{clock_text};
-ghost use Rattle.dgt_lines.specs.Reports.{Doubts, clock_reports, doubt_cleared, fault_reports, message_reports, new_state, new_state_with_clock, news_at, shown_after, state_after_fault, state_after_message};
+ghost use Rattle.dgt_lines.specs.Reports.{Doubts, clock_reports, doubt_cleared, fault_reports, message_reports, new_state, news_at, shown_after, state_after_fault, state_after_message};
 
 use crate::clocks::ShownClock;
 use crate::pictures::Picture;
@@ -32,6 +32,28 @@ impl Doubt {
     }
 }
 
+/// Which lines [`picture`](crate::picture) writes in addition to placements.
+#[derive(Clone, Copy)]
+pub struct Shown {
+    /// A line if the picture may be wrong: the offset, a space, the word `doubt` and a line feed.
+    ///
+    /// It comes for the first fault since a dump: an event that is no message, which may be all
+    /// that is left of one. The next dump ends the doubt. Before the first dump there is no such
+    /// line. A clock message that is refused for a digit is no fault: it has come whole, and clocks
+    /// send it while they are set.
+    pub doubts: bool,
+
+    /// A line for the board's clock when it changes.
+    ///
+    /// The line is the offset, a space, and the word `clock`. Then come the two times as `1:30:00`,
+    /// the left one first, `running` or `stopped`, and whose turn it is: `white`, `black`, or `-`
+    /// if the clock names neither or both. The word `low` follows if the clock's battery is low.
+    /// The line is `clock none` if no clock is connected. A message of the clock has a line if this
+    /// text is another one than that of the message of the clock before, or if there was none
+    /// before.
+    pub clock: bool,
+}
+
 /// Which line a message has.
 #[derive(Clone, Copy)]
 pub(crate) enum News {
@@ -53,25 +75,22 @@ pub struct PictureState {
 }
 
 impl PictureState {
-    /// Nothing is known yet, and the clock is not shown.
-    pub fn new(doubt: Doubt) -> Self
-        ensures { result ≡ new_state doubt }
+    /// Nothing is known yet.
+    pub fn new(shown: Shown) -> Self
+        ensures { result ≡ new_state shown.doubts shown.clock }
     {
         PictureState {
             picture: None,
-            doubt,
-            clock: ShownClock::Hidden,
-        }
-    }
-
-    /// Nothing is known yet, and the clock is shown.
-    pub fn with_clock(doubt: Doubt) -> Self
-        ensures { result ≡ new_state_with_clock doubt }
-    {
-        PictureState {
-            picture: None,
-            doubt,
-            clock: ShownClock::Unknown,
+            doubt: if shown.doubts {
+                Doubt::Clear
+            } else {
+                Doubt::Ignored
+            },
+            clock: if shown.clock {
+                ShownClock::Unknown
+            } else {
+                ShownClock::Hidden
+            },
         }
     }
 

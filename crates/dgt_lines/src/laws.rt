@@ -1,7 +1,7 @@
 //! What holds of lines, writes and runs as such. Nothing here runs: each function stands for the
 //! facts that its contract states.
 
-ghost use Rattle.std.specs.Prelude.{◌≡◌, ◌≤◌, ◌⊎◌, [], ◌∷◌, ◌++◌, ℕ, List, Ok, Err, Result, Some, false, length, true};
+ghost use Rattle.std.specs.Prelude.{◌≡◌, ◌≤◌, ◌⊎◌, [], ◌∷◌, ◌++◌, ℕ, Bool, List, Ok, Err, Result, Some, false, length, true};
 ghost use Rattle.std.specs.Io.KnownBytes.{IsAtEnd};
 ghost use Rattle.dgt_values.specs.Equality.{CloneIsSame, EqualIsSame};
 ghost use Rattle.dgt_decode.specs.Grammar.{unfinished_message};
@@ -12,15 +12,15 @@ ghost use Rattle.dgt_lines.specs.Device.{IsNewDevice};
 ghost use Rattle.dgt_lines.specs.Lines.{events_after, lines, lines_after, monitor_text, unfinished_line};
 ghost use Rattle.dgt_lines.specs.Marks.{GivesEnd, TookSome};
 ghost use Rattle.dgt_lines.specs.Monitoring.{IsInSink, IsMonitored};
-ghost use Rattle.dgt_lines.specs.Picturing.{IsPictured, IsPicturedWithBoth, IsPicturedWithClock, IsPicturedWithDoubts};
+ghost use Rattle.dgt_lines.specs.Picturing.{IsPictured};
 ghost use Rattle.dgt_lines.specs.RunLaws.{RunsThreeTurns};
 ghost use Rattle.dgt_lines.specs.Turns.{InTurns, Ran, change};
 ghost use Rattle.dgt_lines.specs.Pictures.{LastLineIsPicture, picture_after_events, picture_lines, picture_reported, pictures_text};
-ghost use Rattle.dgt_lines.specs.Reports.{ClockLeavesReports, DoubtsKeepThePicture, DoubtsLeavePictures, FirstFaultsAreReported, HiddenClockIsSilent, IgnoredFaultsAreSilent, LastLineIsClock, OtherClocksAreReported, report_lines, report_text, report_text_with_clock, state_after_events, state_from, text_from};
+ghost use Rattle.dgt_lines.specs.Reports.{ClockLeavesReports, DoubtsKeepThePicture, DoubtsLeavePictures, FirstFaultsAreReported, HiddenClockIsSilent, IgnoredFaultsAreSilent, LastLineIsClock, OtherClocksAreReported, report_lines, report_text, state_after_events, state_from, text_from};
 ghost use Rattle.dgt_lines.specs.Writing.{InARow, Writes};
 ghost use Rattle.dgt_lines.specs.declared.doubts.PictureState.{PictureState};
 
-use crate::doubts::{Doubt, PictureState};
+use crate::doubts::{Doubt, PictureState, Shown};
 use crate::faults::RunFault;
 use crate::std_device::Device;
 use crate::streams::{Failed, Sink, Source};
@@ -47,6 +47,7 @@ pub fn clone_is_same()
     ensures run_fault { CloneIsSame ⟦<RunFault as Clone>⟧ }
     ensures failed { CloneIsSame ⟦<Failed as Clone>⟧ }
     ensures doubt { CloneIsSame ⟦<Doubt as Clone>⟧ }
+    ensures shown { CloneIsSame ⟦<Shown as Clone>⟧ }
 {}
 
 /// What calls write or gather one after another, the sink takes in a row, up to the first refusal.
@@ -172,15 +173,14 @@ pub fn what_monitor_leaves()
 
 /// What a sink has of the bytes that an engine read that shows the board, if it returned `Ok`.
 pub fn what_pictures_leave()
-    ensures picture { (bytes out : List ℕ) → IsPictured {A = Unit {0}} (Ok tt) bytes out
-        → out ≡ pictures_text bytes }
-    ensures doubts { (bytes out : List ℕ) → IsPicturedWithDoubts {A = Unit {0}} (Ok tt) bytes out
-        → out ≡ report_text Doubt.Clear bytes }
-    ensures clock { (bytes out : List ℕ) → IsPicturedWithClock {A = Unit {0}} (Ok tt) bytes out
-        → out ≡ report_text_with_clock Doubt.Ignored bytes }
-    ensures both { (bytes out : List ℕ) → IsPicturedWithBoth {A = Unit {0}} (Ok tt) bytes out
-        → out ≡ report_text_with_clock Doubt.Clear bytes }
-{}
+    ensures picture { (bytes out : List ℕ) →
+        IsPictured {A = Unit {0}} false false (Ok tt) bytes out → out ≡ pictures_text bytes }
+    ensures reports { (doubts clock : Bool) (bytes out : List ℕ) →
+        IsPictured {A = Unit {0}} doubts clock (Ok tt) bytes out
+        → out ≡ report_text doubts clock bytes }
+{
+    doubts_leave_pictures();
+}
 
 /// What a sink has of the bytes that `commands` read is the one text that they have, by its answer
 /// with a last line for what is unfinished or without.

@@ -73,11 +73,8 @@ pub use clocks::ShownClock;
 pub use closing::write_closing;
 pub use command_chunks::COMMANDS_ROOM;
 pub use command_lines::write_command;
-pub use doubts::{Doubt, PictureState};
-pub use engines::{
-    commands, monitor, picture, picture_with_clock, picture_with_doubts,
-    picture_with_doubts_and_clock,
-};
+pub use doubts::{Doubt, PictureState, Shown};
+pub use engines::{commands, monitor, picture};
 pub use faults::RunFault;
 pub use formatting::format_event;
 pub use gathering::{flush, put};

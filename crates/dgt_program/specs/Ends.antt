@@ -1,5 +1,5 @@
 -- How tasks end: what the contracts of tasks say of faults and of runs that end well.
-use Rattle.std.specs.Prelude.{◌≡◌, ◌≢◌, ◌<◌, ◌≤◌, ◌⊎◌, ℕ, Bool, true, false, List, [], length, Result, Ok, Err, IsErr, IsTrue}
+use Rattle.std.specs.Prelude.{◌≡◌, ◌≢◌, ◌<◌, ◌≤◌, ◌⊎◌, ℕ, Bool, List, [], length, Result, Ok, Err, IsErr, IsTrue}
 use Rattle.std.specs.Io.KnownBytes.{Appends}
 use Rattle.hex.specs.Hex.{decode_of}
 use Rattle.dgt_values.specs.declared.pieces.Piece.{Piece}
@@ -13,7 +13,7 @@ use Rattle.dgt_lines.specs.declared.streams.Sink.{Ghosts as Sink}
 use Rattle.dgt_lines.specs.Lines.{monitor_text}
 use Rattle.dgt_lines.specs.Monitoring.{IsMonitored, IsPrefix}
 use Rattle.dgt_lines.specs.Turns.{Change, Ran}
-use Rattle.dgt_text.specs.Simulating.{IsSimulated, Rules, ShowsHealed, ShowsPicture, faulty_rules, plain_rules}
+use Rattle.dgt_text.specs.Simulating.{IsSimulated, Rules}
 use Rattle.dgt_arguments.specs.declared.command_line.Task.{Task}
 use Rattle.dgt_program.specs.declared.fault.Fault.{Fault}
 use Rattle.dgt_program.specs.declared.fault.Fault.TheVariants.{BadHex, BadPlacement, LineTooSmall, OutOfMemory, Run}

@@ -14,7 +14,7 @@ use Rattle.dgt_lines.specs.declared.streams.Sink.{Ghosts as Sink}
 use Rattle.dgt_lines.specs.Commanding.{IsListed}
 use Rattle.dgt_lines.specs.Lines.{lines, monitor_text}
 use Rattle.dgt_lines.specs.Monitoring.{IsMonitored, IsPrefix}
-use Rattle.dgt_lines.specs.Picturing.{IsPictured, IsPicturedWithBoth, IsPicturedWithClock, IsPicturedWithDoubts}
+use Rattle.dgt_lines.specs.Picturing.{IsPictured}
 use Rattle.dgt_lines.specs.Turns.{Change, InTurns, Ran, RunsInTurns, sink_mark_after}
 use Rattle.dgt_lines.specs.Writing.{Writes}
 use Rattle.dgt_text.specs.Serving.{IsServed}
@@ -52,13 +52,6 @@ pub record Runs {S T : Type 0} (R : Source S) (W : Sink T) (source : Change S) (
   pub answer : r ≡ task_answer run
   pub output : Ran R W source sink (InTurns MOST_TURNS run (leaves run))
   pub in_turns : RunsInTurns R W source sink MOST_TURNS run
-
--- what stands in the sink, if `picture` with or without doubts and the clock gave this answer
-abbrev pub IsPicturedWith : Bool → Bool → Result (Unit {0}) RunFault → List ℕ → List ℕ → Type 0
-IsPicturedWith false false = IsPictured
-IsPicturedWith true false = IsPicturedWithDoubts
-IsPicturedWith false true = IsPicturedWithClock
-IsPicturedWith true true = IsPicturedWithBoth
 
 -- ---- tasks that read nothing
 
@@ -151,7 +144,7 @@ Does R W (Help text) source sink r = Untouched source × Prints W sink r (string
 Does R W (Ask bytes) source sink r = Untouched source × Prints W sink r bytes.items
 Does R W (Show word) source sink r = Untouched source × ShowsWord W sink r word.now
 Does R W Monitor source sink r = Runs R W source sink r IsMonitored
-Does R W (Picture doubt clock) source sink r = Runs R W source sink r (IsPicturedWith doubt clock)
+Does R W (Picture doubt clock) source sink r = Runs R W source sink r (IsPictured doubt clock)
 Does R W Commands source sink r = Runs R W source sink r IsListed
 Does R W (Board placement) source sink r =
     OnBoard source sink r placement.now (AnswersFor R W source sink r)

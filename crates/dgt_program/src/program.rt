@@ -7,9 +7,10 @@ ghost use Rattle.dgt_board.specs.Simulated.{simulated_identity, simulated_times}
 ghost use Rattle.dgt_link.specs.View.{new_world};
 ghost use Rattle.dgt_lines.specs.Commanding.{IsListed};
 ghost use Rattle.dgt_lines.specs.Monitoring.{IsMonitored};
+ghost use Rattle.dgt_lines.specs.Picturing.{IsPictured};
 ghost use Rattle.dgt_lines.specs.Turns.{change};
 ghost use Rattle.dgt_text.specs.Simulating.{ShowsHealed, ShowsPicture, faulty_rules, plain_rules};
-ghost use Rattle.dgt_program.specs.Tasks.{AnswersFor, Does, DoesOne, InWorld, IsPicturedWith, OnBoard, PlaysScript, PlaysWith, Prints, Runs, ShowsWord};
+ghost use Rattle.dgt_program.specs.Tasks.{AnswersFor, Does, DoesOne, InWorld, OnBoard, PlaysScript, PlaysWith, Prints, Runs, ShowsWord};
 
 use crate::fault::Fault;
 use dgt_arguments::{Task, read};
@@ -18,8 +19,8 @@ use dgt_lines::laws::writes_in_a_row;
 use dgt_lines::{flush, put};
 use dgt_link::{World, WorldFault};
 use dgt_text::{
-    Bytes, Device, Sink, Source, commands, monitor, picture, picture_with_clock,
-    picture_with_doubts, picture_with_doubts_and_clock, serve, simulate, simulate_faults,
+    Bytes, Device, Shown, Sink, Source, commands, monitor, picture, serve, simulate,
+    simulate_faults,
 };
 use dgt_values::Position;
 use hex::FromHexError;
@@ -130,21 +131,16 @@ fn show_commands<R: Source, W: Sink>(input: &mut R, output: &mut W) -> Result<()
 
 #[inline(never)]
 fn show_picture<R: Source, W: Sink>(
-    doubt: bool,
+    doubts: bool,
     clock: bool,
     input: &mut R,
     output: &mut W,
 ) -> Result<(), Fault>
     ensures { Runs R.Source W.Sink (change input.old input.new) (change output.old output.new)
-        result (IsPicturedWith doubt clock) }
+        result (IsPictured doubts clock) }
 {
-    let shown = match (doubt, clock) {
-        (false, false) => picture(input, output, MOST_TURNS),
-        (true, false) => picture_with_doubts(input, output, MOST_TURNS),
-        (false, true) => picture_with_clock(input, output, MOST_TURNS),
-        (true, true) => picture_with_doubts_and_clock(input, output, MOST_TURNS),
-    };
-    Ok(shown?)
+    let shown = Shown { doubts, clock };
+    Ok(picture(shown, input, output, MOST_TURNS)?)
 }
 
 #[inline(never)]

@@ -29,5 +29,5 @@ pub picture_is_the_hosts : PictureIsTheHosts
 picture_is_the_hosts bytes = (all_events new_host (events bytes)).0
 
 pub last_clock_is_the_hosts : LastLineIsClock → LastClockIsTheHosts
-last_clock_is_the_hosts last doubt bytes =
-    last doubt bytes ∙ ap (option_map clock_text) (sym (all_events new_host (events bytes)).1)
+last_clock_is_the_hosts last doubts bytes =
+    last doubts bytes ∙ ap (option_map clock_text) (sym (all_events new_host (events bytes)).1)

@@ -1,12 +1,11 @@
 -- The picture and the clock that lines show are those of a host that hears the same bytes.
-use Rattle.std.specs.Prelude.{◌≡◌, ℕ, List, None, option_map}
+use Rattle.std.specs.Prelude.{◌≡◌, Bool, true, ℕ, List, None, option_map}
 use Rattle.std.specs.List.{last_or}
 use Rattle.dgt_decode.specs.Grammar.{events}
 use Rattle.dgt_host.specs.Host.{host_after, new_host}
-use Rattle.dgt_lines.specs.declared.doubts.Doubt.{Doubt}
 use Rattle.dgt_lines.specs.Clocks.{clock_text}
 use Rattle.dgt_lines.specs.Pictures.{picture_reported}
-use Rattle.dgt_lines.specs.Reports.{clocks_shown, new_state_with_clock, reports}
+use Rattle.dgt_lines.specs.Reports.{clocks_shown, new_state, reports}
 
 abbrev pub PictureIsTheHosts : Type 0
 PictureIsTheHosts = (bytes : List ℕ) → (host_after new_host bytes).picture ≡ picture_reported bytes
@@ -15,6 +14,6 @@ PictureIsTheHosts = (bytes : List ℕ) → (host_after new_host bytes).picture �
 -- there is no such line.
 abbrev pub LastClockIsTheHosts : Type 0
 LastClockIsTheHosts =
-    (doubt : Doubt) (bytes : List ℕ) → last_or None
-    (clocks_shown (reports (new_state_with_clock doubt) (events bytes)))
+    (doubts : Bool) (bytes : List ℕ)
+    → last_or None (clocks_shown (reports (new_state doubts true) (events bytes)))
     ≡ option_map clock_text (host_after new_host bytes).clock

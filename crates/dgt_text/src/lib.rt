@@ -2,12 +2,11 @@
 //!
 //! [`monitor`] reads what a board sends and writes a line for each event, as soon as its bytes
 //! came, and [`commands`] does the same for what a host sends. [`picture`] reads what a board sends
-//! too, and writes a line with the pieces of the board for each message that sets them;
-//! [`picture_with_doubts`] also writes when these may be wrong, [`picture_with_clock`] what the
-//! clock shows, and [`picture_with_doubts_and_clock`] both. [`serve`] reads commands and writes
-//! what a board answers. [`simulate`] plays a script in a world of a board, a host and the lines
-//! between them, and writes what came of each act. [`simulate_faults`] does the same in a world
-//! whose lines and whose board's power may fail.
+//! too, and writes a line with the pieces of the board for each message that sets them. If
+//! [`Shown`] says so, it also writes when these may be wrong, and what the clock shows. [`serve`]
+//! reads commands and writes what a board answers. [`simulate`] plays a script in a world of a
+//! board, a host and the lines between them, and writes what came of each act. [`simulate_faults`]
+//! does the same in a world whose lines and whose board's power may fail.
 //!
 //! ```rust
 //! use dgt_text::{Bytes, Device, RunFault, monitor};
@@ -33,8 +32,8 @@ mod simulating;
 mod stage;
 
 pub use dgt_lines::{
-    Bytes, Device, Failed, RunFault, Sink, Source, commands, monitor, picture, picture_with_clock,
-    picture_with_doubts, picture_with_doubts_and_clock, write_command, write_event,
+    Bytes, Device, Failed, RunFault, Shown, Sink, Source, commands, monitor, picture,
+    write_command, write_event,
 };
 pub use dgt_script::{LineFault, read_act, read_faulty_act};
 pub use serving::serve;

@@ -1,13 +1,8 @@
+use Rattle.std.proofs.Common.{◌∙◌}
 use Rattle.dgt_lines.proofs.laws.what_pictures_leave.Goals as goal
 
 pub returns-clause-picture : goal.returns-clause-picture
-returns-clause-picture c bytes out is = is
+returns-clause-picture c bytes out is = is ∙ c.doubts_leave_pictures.ensures.ignored bytes
 
-pub returns-clause-doubts : goal.returns-clause-doubts
-returns-clause-doubts c bytes out is = is
-
-pub returns-clause-clock : goal.returns-clause-clock
-returns-clause-clock c bytes out is = is
-
-pub returns-clause-both : goal.returns-clause-both
-returns-clause-both c bytes out is = is
+pub returns-clause-reports : goal.returns-clause-reports
+returns-clause-reports c doubts clock bytes out is = is

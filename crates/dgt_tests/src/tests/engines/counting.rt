@@ -136,7 +136,7 @@ const PLACEMENTS: [(&[u8], u32); 3] = [(&[0x86, 0x00, 0x43], 1), (&[0x01], 64), 
 const COUNTED: [Counted; 12] = [
     // an engine reads 4096 bytes at most
     (Engine::Monitor, &[(&E4_FIELD, 1000)], 9000, 3, 2, 2),
-    (Engine::Picture, &PLACEMENTS, 9000, 4, 3, 3),
+    (Engine::Picture(false, false), &PLACEMENTS, 9000, 4, 3, 3),
     (Engine::Commands, &[(&BEEP, 833)], 9000, 3, 2, 2),
     // a chunk without a line is flushed, too
     (Engine::Monitor, &[(&E4_FIELD, 1)], 1, 10, 1, 5),

@@ -4,8 +4,7 @@ use crate::tests::fixtures::{new_board, world_of};
 use dgt_board::Board;
 use dgt_link::World;
 use dgt_text::{
-    RunFault, Sink, Source, commands, monitor, picture, picture_with_clock, picture_with_doubts,
-    picture_with_doubts_and_clock, serve, simulate, simulate_faults,
+    RunFault, Shown, Sink, Source, commands, monitor, picture, serve, simulate, simulate_faults,
 };
 use std::alloc::Global;
 use std::test::Fail;
@@ -17,10 +16,8 @@ pub type Answer = Result<(), RunFault>;
 #[derive(Clone, Copy)]
 pub enum Engine<'a> {
     Monitor,
-    Picture,
-    PictureWithDoubts,
-    PictureWithClock,
-    PictureWithBoth,
+    /// `picture` with doubts or without, and with the clock or without.
+    Picture(bool, bool),
     Commands,
     /// `serve` for a new board that took these bytes before.
     Serve(&'a [u8]),
@@ -40,10 +37,9 @@ impl<'a> Engine<'a> {
     ) -> Result<Answer, Fail> {
         Ok(match self {
             Engine::Monitor => monitor(source, sink, limit),
-            Engine::Picture => picture(source, sink, limit),
-            Engine::PictureWithDoubts => picture_with_doubts(source, sink, limit),
-            Engine::PictureWithClock => picture_with_clock(source, sink, limit),
-            Engine::PictureWithBoth => picture_with_doubts_and_clock(source, sink, limit),
+            Engine::Picture(doubts, clock) => {
+                picture(Shown { doubts, clock }, source, sink, limit)
+            }
             Engine::Commands => commands(source, sink, limit),
             Engine::Serve(asked) => serve(&mut asked_board(asked)?, source, sink, limit),
             Engine::Simulate => simulate(&mut new_world(alloc)?, source, sink, limit),

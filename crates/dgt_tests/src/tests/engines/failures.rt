@@ -43,7 +43,7 @@ fn a_line_that_is_refused_at_each_byte(rt: HostRuntime) {
 // What reads and writes of std that fail are tried with.
 const TRIED: [(Engine<'static>, &[u8]); 5] = [
     (Engine::Monitor, &E4_FIELD),
-    (Engine::Picture, &START_DUMP),
+    (Engine::Picture(false, false), &START_DUMP),
     (Engine::Commands, &BEEP),
     (Engine::Serve(&[]), &[0x4d]),
     (Engine::Simulate, b"send\n"),
