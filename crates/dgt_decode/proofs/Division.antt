@@ -89,7 +89,7 @@ nil_right [] ys e = e
 nil_right (x ∷ xs) ys e = absurd cc
 
 -- no events after bytes, no events
-nil_raised : (n : ℕ) (xs : List Placed) → events_behind n xs ≡ [] → xs ≡ []
+pub nil_raised : (n : ℕ) (xs : List Placed) → events_behind n xs ≡ [] → xs ≡ []
 nil_raised n [] e = refl
 nil_raised n (x ∷ xs) e = absurd cc
 

@@ -6,7 +6,7 @@ use Rattle.dgt_message.specs.Picture.{picture_after, picture_after_all}
 use Rattle.dgt_message.specs.declared.viewing.BodyFault.TheVariants.{WrongSize, BadPiece, BadSquare, BadReading}
 use Rattle.dgt_decode.specs.Grammar.{Event, Message, Refused, Cut, BadLength, Stray, Placed, events}
 use Rattle.dgt_host.specs.Confirmed.{confirmed_after, confirmed_after_all, message_in, messages}
-use Rattle.dgt_host.proofs.ConfirmedLemmas.{confirms_more}
+use Rattle.dgt_host.proofs.ConfirmedLemmas.{confirms_more, first_of}
 use Rattle.dgt_follow.specs.declared.asking.Asking.{Asking}
 use Rattle.dgt_follow.specs.Pace.{PaceView, confirmed_by, is_overdue, is_unasked, pace_at}
 use Rattle.dgt_follow.specs.Follower.{AskingsConfirmNothing, ConfirmedAsHeard, FollowerView, follower_after_event, follower_after_events}
@@ -72,10 +72,6 @@ heard_events f now (x ∷ xs) =
 pub as_heard : ConfirmedAsHeard
 unfolding Heard
 as_heard follower now bytes = heard_events follower now (events (follower.host.unread ++ bytes))
-
-first_of : (a b : Bool) → (a && b) ≡ true → a ≡ true
-first_of true b e = refl
-first_of false b e = cc
 
 by_now : (pace : PaceView) (now : ℕ) → (pace_at pace now).confirmed ≡ true → pace.confirmed ≡ true
 by_now pace now e = first_of pace.confirmed _ (first_of (pace.confirmed && not (is_overdue pace now)) _ e)

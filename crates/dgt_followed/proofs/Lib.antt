@@ -6,7 +6,6 @@ mod ClockHeals
 mod Heals
 mod HeardRuns
 mod OneByte
-mod Prefixes
 mod Restating
 mod Sent
 mod SoundRuns

@@ -3,7 +3,6 @@ use Rattle.std.proofs.Common.{◌≡◌, ◌≢◌, refl, sym, ℕ, zero, suc, L
 use Rattle.std.specs.List.{AllByRecursion}
 use Rattle.dgt_message.specs.Content.{Content}
 use Rattle.dgt_decode.specs.Grammar.{Event, Message, Placed, events}
-use Rattle.dgt_decode.specs.Laws.{EncodingIsRead, EventsAppend, QuietHeld, UnfinishedAppend}
 use Rattle.dgt_board.specs.State.{BoardState}
 use Rattle.dgt_follow.specs.Follower.{FollowerView, follower_after, follower_after_event, follower_after_events}
 use Rattle.dgt_link.specs.declared.acts.Outcome.{Outcome}
@@ -17,7 +16,8 @@ use Rattle.dgt_link.proofs.Asking.{step_is_other}
 use Rattle.dgt_link.proofs.Counting.{nothing_said}
 use Rattle.dgt_link.proofs.Standing.{prefix_of}
 use Rattle.dgt_followed.specs.Restated.{ActsAtRest, DumpsAtRest, HasNoDoubt, IsAtRest, IsRestatedWorld, RunsAtRest, SendsAtRest, StepAtRest}
-use Rattle.dgt_followed.proofs.Prefixes.{known, said_by_prefix}
+use Rattle.dgt_link.specs.Readers.{Reads}
+use Rattle.dgt_link.proofs.Hearing.{heard_prefix, known}
 use Rattle.dgt_followed.proofs.Restating.{Restates, move_restates, moves_restate}
 use Rattle.dgt_followed.proofs.Undoubted.{FirstIsAwaited, hears_as_the_machine}
 
@@ -126,16 +126,16 @@ module _ (first : FirstIsAwaited)
         step.0 in
         rw event later
 
-    module _ (append : EventsAppend) (still : UnfinishedAppend) (quiet : QuietHeld) (read : EncodingIsRead) where
+    module _ (reads : Reads) where
       pub delivery_is_no_doubt : (world : WorldView) (follower : FollowerView) (now count : ℕ) → IsRestatedWorld world
           → follower.host ≡ world.host → HasNoDoubt follower.pace
           → HasNoDoubt (follower_after follower now (take count world.up.bytes)).pace
       delivery_is_no_doubt world follower now count is same calm =
           let prefix : List ℕ = world.host.unread ++ take count world.up.bytes in
-          let says = said_by_prefix append still quiet read prefix (drop count world.up.bytes) is.state.up
+          let says = heard_prefix reads prefix (drop count world.up.bytes) is.state.up
           (rw (prefix_of world.host.unread world.up.bytes count) at is.stands.up) in
           let heard : HasNoDoubt (follower_after_events follower now (events prefix)).pace
-          = hears_messages says.heard says.left (events prefix) is.state follower now says.known_are is.exact
+          = hears_messages says.heard says.left (events prefix) is.state follower now says.known is.exact
           is.restates says.all (rw same is.stands.picture) (rw same is.stands.awaited) calm in
           let calm_then : HasNoDoubt (follower_after_events follower now
           (events (follower.host.unread ++ take count world.up.bytes))).pace = rw (← same) at heard in

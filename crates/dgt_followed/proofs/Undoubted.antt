@@ -6,7 +6,6 @@ use Rattle.dgt_values.specs.declared.pieces.Piece.{Piece}
 use Rattle.dgt_message.specs.Content.{Content, answered_kind}
 use Rattle.dgt_message.specs.Content.Content.{dump}
 use Rattle.dgt_decode.specs.Grammar.{Message}
-use Rattle.dgt_host.specs.Host.{is_same_kind}
 use Rattle.dgt_host.proofs.ConfirmedLemmas.{unmoved}
 use Rattle.dgt_follow.specs.declared.asking.Asking.{Asking}
 use Rattle.dgt_follow.specs.Follower.{FollowerView, follower_after_event}
@@ -14,16 +13,9 @@ use Rattle.dgt_follow.specs.Pace.{PaceView, contradicts, disturbs, is_answer, is
 use Rattle.dgt_link.specs.Machine.{MachineState, Move, after_move}
 use Rattle.dgt_link.specs.Sound.{IsExact}
 use Rattle.dgt_followed.specs.Restated.{AllRestate, HasNoDoubt}
+use Rattle.dgt_link.proofs.Subsequences.{same_kind_itself}
 
 -- ---- a message that is asked for, and a dump that restates the picture
-
-same_kind : (kind : Kind) → is_same_kind kind kind ≡ true
-same_kind Kind.Dump = refl
-same_kind Kind.Serial = refl
-same_kind Kind.Trademark = refl
-same_kind Kind.Version = refl
-same_kind Kind.Battery = refl
-same_kind Kind.LongSerial = refl
 
 pub restates : (picture : Option (List Piece)) (said : Content) (later : List Content)
     → AllRestate picture (said ∷ later) → contradicts picture said ≡ false
@@ -51,7 +43,7 @@ is_asked first x later said exact up = go (answered_kind said) refl
     go None e = refl
     go (Some kind) e =
         let awaited = first x [] later said kind exact up (All-nil (λ other. answered_kind other ≡ None)) e in
-        rw (awaited.1, same_kind kind) refl
+        rw (awaited.1, same_kind_itself kind) refl
 
 -- ---- the pace
 

@@ -278,6 +278,7 @@ pub fn sound_worlds_raise_no_doubt()
     dgt_decode::laws::unfinished_append();
     dgt_decode::laws::quiet_held();
     dgt_decode::laws::encoding_is_read();
+    dgt_host::laws::places_do_not_matter();
     dgt_command::laws::divisions_append();
     dgt_command::laws::zeros_settle_the_reader();
     dgt_command::laws::parts_of_words();

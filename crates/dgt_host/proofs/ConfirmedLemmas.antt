@@ -16,7 +16,7 @@ use Rattle.dgt_host.specs.Confirmed.{same_pieces, differ, changes, repeats, conf
 
 -- ---- Booleans
 
-first_of : (a b : Bool) → (a && b) ≡ true → a ≡ true
+pub first_of : (a b : Bool) → (a && b) ≡ true → a ≡ true
 first_of true b e = refl
 first_of false b e = cc
 

@@ -1,5 +1,5 @@
 -- What is gathered of a chunk, call after call, until it is written.
-use Rattle.std.proofs.Common.{◌≡◌, ℕ, ◌+◌, ◌-◌, ◌≤◌, List, [], ◌∷◌, ◌++◌, Bool, false, Result, Ok, Err, IsErrAnd, OnOk, refl, ◌∙◌, ap, sym, subst, suc, arith, length, take, drop, append_assoc, append-nil, length-append}
+use Rattle.std.proofs.Common.{◌≡◌, ℕ, ◌+◌, ◌-◌, ◌≤◌, List, [], ◌∷◌, ◌++◌, Bool, false, Result, Ok, Err, IsErrAnd, OnOk, refl, ◌∙◌, ap, sym, subst, arith, length, take, drop, append_assoc, append-nil, length-append}
 use Rattle.std.proofs.lemmas.List.{length-take-le, take-append-drop, take_rest}
 use Rattle.std.proofs.Math.Seq.{take-add}
 use Rattle.dgt_command.specs.Encoding.{AreBytes}
@@ -11,6 +11,7 @@ use Rattle.dgt_lines.specs.Printing.{GathersPrefix, GathersMore, PrintsMore}
 use Rattle.dgt_lines.specs.Writing.{Gathered, Stopped, Writes}
 use Rattle.dgt_lines.proofs.GatherLemmas.{gathered_none, gathered_out, gathers_then, stopped_longer}
 use Rattle.dgt_lines.proofs.Printed.{on_ok}
+use Rattle.dgt_command.proofs.DivisionLemmas.{bytes_right}
 
 -- bytes of a chunk that come after its first i
 pub more_bytes : (bytes chunk : List ℕ) (i n : ℕ)
@@ -30,11 +31,6 @@ pub counted_on : (bytes chunk : List ℕ) (i offset : ℕ) → offset ≡ length
     → offset + i ≡ length (bytes ++ take i chunk)
 counted_on bytes chunk i offset e h =
     omega (arith, e, length-append bytes (take i chunk), length-take-le i chunk h)
-
--- what follows in bytes is bytes
-bytes_right : (xs ys : List ℕ) → AreBytes (xs ++ ys) → AreBytes ys
-bytes_right [] ys h i = h i
-bytes_right (x ∷ xs) ys h i = bytes_right xs ys (λ j. h (suc j)) i
 
 pub later_bytes : (chunk : List ℕ) (i : ℕ) → AreBytes chunk → AreBytes (drop i chunk)
 later_bytes chunk i are =

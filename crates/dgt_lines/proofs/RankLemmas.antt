@@ -1,6 +1,6 @@
 -- The texts of ranks.
 use Prim.Native.Char.{code as ascii}
-use Rattle.std.proofs.Common.{length-append, length-take-le, take-take, true≢false, Bool, ◌≤◌, ◌-◌, ◌&&◌, subst, true, false, slice_index_or, ◌≡◌, ℕ, zero, suc, ◌+◌, ◌*◌, ◌/◌, ◌%◌, ◌<◌, List, [], ◌∷◌, ◌++◌, ◌∙◌, add-one, ap, append_assoc, append-nil, arith, drop, drop-cons, get_or, length, refl, sym, take}
+use Rattle.std.proofs.Common.{length-append, length-take-le, take-take, true≢false, Bool, ◌≤◌, ◌-◌, ◌&&◌, subst, true, false, slice_index_or, ◌≡◌, ℕ, zero, suc, ◌+◌, ◌*◌, ◌/◌, ◌%◌, ◌<◌, List, [], ◌∷◌, ◌++◌, ◌∙◌, ap, append_assoc, append-nil, arith, drop, get_or, length, refl, sym, take}
 use Rattle.std.proofs.lemmas.List.{take_more_set, drop-drop, drop-set-add, drop-set-lt, take-set-le}
 use Rattle.std.proofs.Math.Seq.{take-append_seam}
 use Rattle.std.proofs.lemmas.Bool.{ne_eqb}
@@ -10,6 +10,7 @@ use Rattle.dgt_values.specs.declared.pieces.Piece.{Piece}
 use Rattle.dgt_values.specs.declared.pieces.Piece.TheVariants.{Empty}
 use Rattle.dgt_values.specs.Board.{piece_code, piece_letter}
 use Rattle.dgt_values.specs.Placement.{placement_text, rank_text_after, ranks_text, run_text}
+use Rattle.dgt_values.proofs.Placing.{one_more_empty, one_more_piece}
 
 -- ---- one rank, a piece after another
 
@@ -20,24 +21,6 @@ letters_with = codes "1PRNBKQprnbkqXYZ"
 pub letter_of : (piece : Piece) → piece ≢ Empty → slice_index_or letters_with (piece_code piece) 0 ≡ piece_letter piece
 letter_of Empty h = absurd (h refl)
 letter_of _ h = refl
-
-pub one_more_empty : (rank : List Piece) (i empty : ℕ) → i < length rank → get_or rank i Empty ≡ Empty
-    → rank_text_after empty (drop i rank) ≡ rank_text_after (empty + 1) (drop (i + 1) rank)
-one_more_empty rank i empty h e = rw (add-one i, drop-cons rank i Empty h, e) refl
-
-text_after_piece : (piece : Piece) (empty : ℕ) (pieces : List Piece) → piece ≢ Empty
-    → rank_text_after empty (piece ∷ pieces) ≡ run_text empty ++ piece_letter piece ∷ rank_text_after 0 pieces
-text_after_piece Empty empty pieces h = absurd (h refl)
-text_after_piece _ empty pieces h = refl
-
--- a run of empty squares and a piece after it are written
-pub one_more_piece : (rank : List Piece) (i empty : ℕ) (text prefix : List ℕ) → i < length rank
-    → get_or rank i Empty ≢ Empty → prefix ≡ text ++ run_text empty
-    → (prefix ++ piece_letter (get_or rank i Empty) ∷ []) ++ rank_text_after 0
-    (drop (i + 1) rank) ≡ text ++ rank_text_after empty (drop i rank)
-one_more_piece rank i empty text prefix h ne e =
-    rw (e, add-one i, drop-cons rank i Empty h, text_after_piece (get_or rank i Empty) empty (drop (suc i) rank) ne)
-    (simp append_assoc)
 
 -- what is written of a rank: a prefix, and the digit of the run of empty squares after it, if there is one
 pub record RankSoFar (written : List ℕ) (was_empty : Bool) (last seen : ℕ) (later : List Piece) (whole : List ℕ) :
@@ -125,7 +108,7 @@ module _ (rank : List Piece) (i len last : ℕ) (bytes whole : List ℕ) (inside
         ends = take_more_set bytes len letter room ∙ sym (append-nil (take len bytes ++ letter ∷ []));
         goes_on =
             ap (λ n. (take len bytes ++ n ∷ []) ++ rank_text_after 0 (drop (i + 1) rank)) e
-            ∙ one_more_piece rank i before.empty before.prefix (take len bytes) inside ne before.ends
+            ∙ rw before.ends (sym (one_more_piece rank i before.empty before.prefix inside ne))
             ∙ before.goes_on;
         digit = λ h. absurd (true≢false (sym h));
         no_digit = λ _. refl;

@@ -25,7 +25,7 @@ use Rattle.dgt_link.specs.Step.{Becomes, Step, with_state}
 use Rattle.dgt_link.specs.View.{WorldView, with_bytes, without_first}
 use Rattle.dgt_link.specs.Healing.{AwaitsWhatComes, StandsBehind, StandsBehindAfter}
 use Rattle.dgt_link.proofs.Dividing.{divides_command}
-use Rattle.dgt_link.proofs.Hearing.{heard_prefix, host_after_messages}
+use Rattle.dgt_link.proofs.Hearing.{heard_of, heard_prefix, host_after_messages}
 use Rattle.dgt_link.proofs.Lists.{IsShorter, Reaches, all_append, prefixes, not_empty}
 use Rattle.dgt_link.proofs.AfterMoves.{moves_sound}
 use Rattle.dgt_link.proofs.Sending.{next_is_sent}
@@ -199,7 +199,7 @@ module _ (laws : Grammars) where
       let known = knows_no_more (host_of x) host prefix.heard less in
       let same : host_after_events world.host (events (all_heard world count))
       ≡ host_after_messages host prefix.heard
-      = reported ∙ prefix.host host in (
+      = reported ∙ heard_of (events more) prefix.heard prefix.known host in (
         [],
         moves,
         (length prefix.heard, refl),

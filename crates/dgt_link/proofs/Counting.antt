@@ -43,13 +43,9 @@ use Rattle.dgt_link.proofs.Soundness.{asked_sound, board_sound, move_sound, new_
 use Rattle.dgt_link.proofs.Subsequences.{subsequence_at_end}
 use Rattle.dgt_link.specs.Readers.{Grammars}
 use Rattle.dgt_link.proofs.Standing.{HasRooms, becomes_rooms, same_rooms, taken_state, takes}
+use Rattle.dgt_command.proofs.DivisionLemmas.{bytes_append, bytes_left, bytes_right}
 
 -- ---- bytes
-
-bytes_append : (xs ys : List ℕ) → AreBytes xs → AreBytes ys → AreBytes (xs ++ ys)
-bytes_append [] ys h k i = k i
-bytes_append (x ∷ xs) ys h k zero = h 0
-bytes_append (x ∷ xs) ys h k (suc i) = bytes_append xs ys (λ j. h (suc j)) k i
 
 bytes_drop : (count : ℕ) (xs : List ℕ) → AreBytes xs → AreBytes (drop count xs)
 bytes_drop zero xs h i = h i
@@ -637,15 +633,6 @@ counted_in_turn c world holds turn =
     record { garbage = f.garbage; state = f.state; stands = f.stands; holds = f.awaits turn.in_turn }
 
 -- ---- a world with no fault
-
-bytes_left : (xs ys : List ℕ) → AreBytes (xs ++ ys) → AreBytes xs
-bytes_left [] ys h i = omega arith
-bytes_left (x ∷ xs) ys h zero = h 0
-bytes_left (x ∷ xs) ys h (suc i) = bytes_left xs ys (λ j. h (suc j)) i
-
-bytes_right : (xs ys : List ℕ) → AreBytes (xs ++ ys) → AreBytes ys
-bytes_right [] ys h i = h i
-bytes_right (x ∷ xs) ys h i = bytes_right xs ys (λ j. h (suc j)) i
 
 -- what divides is bytes
 divided_bytes : (bytes : List ℕ) (events : List EventContent) (rest : List ℕ) → Divides bytes events rest

@@ -1,5 +1,5 @@
 -- After faults: once the board has sent a dump, what the host shows was reported, and stood there in this order.
-use Rattle.std.proofs.Common.{◌≡◌, refl, sym, ap, subst, ◌∙◌, inr, ℕ, List, [], ◌∷◌, ◌++◌, Some, None, append_assoc, false}
+use Rattle.std.proofs.Common.{◌≡◌, refl, sym, ap, subst, ◌∙◌, inr, ℕ, List, [], ◌∷◌, ◌++◌, Some, append_assoc, false}
 use Rattle.std.proofs.lemmas.List.{append-nil}
 use Rattle.std.proofs.lemmas.Option.{same_Some}
 use Rattle.std.specs.List.{AllByRecursion, flat_map}

@@ -1,9 +1,5 @@
 -- What the derived `==` says of acts.
-use Rattle.std.proofs.Common.{◌≡◌, ℕ, List, nat_eq, refl, rules}
-use Rattle.std.specs.Prelude.{◌↔◌, IsTrue}
-use Rattle.std.proofs.lemmas.Bool.Decides.{Decides-eqb}
-use Rattle.std.proofs.lemmas.Slice.Eq.{slice_eq-Decides}
-use lib.Pointwise.{pointwise}
+use Rattle.std.proofs.Common.{refl, rules}
 use Rattle.dgt_values.specs.Equality.{EqualIsSameRead, EqualIsSameReadOf}
 use Rattle.dgt_message.specs.Content.{clock_seen}
 use Rattle.dgt_message.specs.contracts.clock.ClockPartialEq.TheImpl as derived_clock
@@ -16,6 +12,7 @@ use Rattle.dgt_link.specs.contracts.acts.ActPartialEq.TheImpl as derived
 use Rattle.dgt_link.specs.contracts.faulty.FaultyActPartialEq.TheImpl as derived_faulty
 use Rattle.dgt_link.specs.declared.faulty.FaultyAct.TheVariants as faulty
 use Rattle.dgt_link.specs.Faults.{FaultyActHasArrays, faulty_content}
+use Rattle.dgt_command.proofs.Equal.{equal_bytes}
 
 module _ (equal_clocks : EqualIsSameRead clock_seen (derived_clock.eq-value).it)
     (equal_commands : EqualIsSameReadOf CommandHasArrays command_content (derived_command.eq-value).it) where
@@ -36,9 +33,6 @@ module _ (equal_clocks : EqualIsSameRead clock_seen (derived_clock.eq-value).it)
   equal_acts _ _ h k = (λ t. cc, λ e. cc)
 
 -- ---- of a world whose lines and whose board may fail
-
-equal_bytes : (xs ys : List ℕ) → IsTrue (pointwise nat_eq xs ys) ↔ (xs ≡ ys)
-equal_bytes xs ys = slice_eq-Decides Decides-eqb xs ys _ refl
 
 module _ (equal : EqualIsSameReadOf ActHasArrays act_content (derived.eq-value).it) where
   pub equal_faulty_acts : EqualIsSameReadOf FaultyActHasArrays faulty_content (derived_faulty.eq-value).it

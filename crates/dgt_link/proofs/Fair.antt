@@ -24,7 +24,7 @@ use Rattle.dgt_link.specs.Step.{Becomes, Runs, Step, done_count, moves_nothing, 
 use Rattle.dgt_link.specs.View.{LineContents, WorldView, overflows}
 use Rattle.dgt_link.proofs.Backlogs.{BacklogFalls, BacklogRises}
 use Rattle.dgt_link.proofs.Lists.{Contains-cons, all_append, nothing_contained}
-use Rattle.dgt_link.proofs.Settling.{by_settling, no_bytes, run_steps}
+use Rattle.dgt_link.proofs.Settling.{by_settling, count_first, no_bytes, run_steps}
 use Rattle.dgt_link.proofs.Taking.{HasSameGame, effects_same_game}
 
 -- each message that the board sends fits into the empty up line, whatever it owes and has reported
@@ -105,11 +105,6 @@ run_split (act ∷ first) later world after (answer ∷ answers) (next, step, ru
       more = rest.more;
     }
 run_split (act ∷ first) later world after [] none = absurd none
-
-count_first : (answer : Outcome) (answers : List Outcome)
-    → done_count (answer ∷ answers) ≡ done_count (answer ∷ []) + done_count answers
-count_first Outcome.Done answers = omega arith
-count_first _ answers = omega arith
 
 count_both : (ones others : List Outcome) → done_count (ones ++ others) ≡ done_count ones + done_count others
 count_both [] others = omega arith

@@ -1,13 +1,15 @@
 -- What a host hears of messages in a row, in whatever parts.
 use Rattle.std.proofs.Common.{◌≡◌, refl, sym, ap, ◌∙◌, ◌⊎◌, inl, inr, ℕ, ◌+◌, ◌-◌, List, [], ◌∷◌, ◌++◌, length}
 use Rattle.std.specs.List.{flat_map}
+use Rattle.std.specs.Prelude.{map}
 use Rattle.dgt_message.specs.Content.{Content, IsMessage}
 use Rattle.dgt_message.specs.Encoding.{encoding}
-use Rattle.dgt_decode.specs.Grammar.{Message, Placed, at_place, events, events_behind, unfinished_message}
+use Rattle.dgt_decode.specs.Grammar.{Event, Message, Placed, at_place, events, events_behind, unfinished_message}
 use Rattle.dgt_host.specs.Host.{HostView, host_after_events, host_after_message}
 use Rattle.dgt_link.specs.Readers.{Reads}
 use Rattle.dgt_link.specs.Stands.{AreEncoded}
 use Rattle.dgt_link.proofs.Lists.{IsShorter, Reaches, prefixes, left_empty, not_empty, right_empty}
+use Rattle.dgt_decode.proofs.Division.{nil_raised}
 
 -- no bytes make no event, and hold nothing
 no_events : events [] ≡ []
@@ -23,12 +25,26 @@ abbrev pub host_after_messages : HostView → List Content → HostView
 host_after_messages host [] = host
 host_after_messages host (message ∷ messages) = host_after_messages (host_after_message host message) messages
 
-nothing_behind : (n : ℕ) (xs : List Placed) → events_behind n xs ≡ [] → xs ≡ []
-nothing_behind n [] h = refl
-nothing_behind n (x ∷ xs) h = cc
-
 tail_same : {X : Type 0} (x y : X) (xs ys : List X) → x ∷ xs ≡ y ∷ ys → xs ≡ ys
 tail_same x y xs ys h = cc
+
+-- the events, wherever they stand
+abbrev pub known : List Placed → List Event
+known xs = map (λ x. x.event) xs
+
+known_behind : (n : ℕ) (xs : List Placed) → known (events_behind n xs) ≡ known xs
+known_behind n [] = refl
+known_behind n (x ∷ xs) = ap (λ (more : List Event). x.event ∷ more) (known_behind n xs)
+
+-- what a host hears of events that are messages
+pub heard_of : (xs : List Placed) (messages : List Content) → known xs ≡ map Message messages → (host : HostView)
+    → host_after_events host xs ≡ host_after_messages host messages
+heard_of [] [] e host = refl
+heard_of (x ∷ xs) (message ∷ messages) e host =
+    let first : x.event ≡ Message message = cc e in
+    rw first (heard_of xs messages (cc e) (host_after_message host message))
+heard_of [] (message ∷ messages) e host = cc
+heard_of (x ∷ xs) [] e host = cc
 
 module _ (reads : Reads) where
   -- a message alone
@@ -48,7 +64,7 @@ module _ (reads : Reads) where
       (events (unfinished_message prefix ++ rest)) in
       let all : x ∷ (xs ++ behind) ≡ y ∷ []
       = ap (λ (es : List Placed). es ++ behind) (sym e) ∙ sym (reads.append prefix rest) ∙ whole in
-      nothing_behind (length prefix - length (unfinished_message prefix)) (events (unfinished_message prefix ++ rest))
+      nil_raised (length prefix - length (unfinished_message prefix)) (events (unfinished_message prefix ++ rest))
       (right_empty xs behind (tail_same x y (xs ++ behind) [] all))
 
   -- a part of a message makes no event, and all of it is held
@@ -72,18 +88,19 @@ module _ (reads : Reads) where
     pub heard : List Content
     pub left : List Content
     pub all : messages ≡ heard ++ left
-    pub host : (host : HostView) → host_after_events host (events prefix) ≡ host_after_messages host heard
+    pub known : known (events prefix) ≡ map Message heard
     pub encoded : AreEncoded left (unfinished_message prefix ++ more)
 
   -- one message, and a prefix of those after it
   after_message : (word prefix others : List ℕ) (n : ℕ) (message : Content) (heard : List Content)
       → events word ≡ at_place n (Message message) ∷ [] → unfinished_message word ≡ [] → prefix ≡ word ++ others
-      → ((host : HostView) → host_after_events host (events others) ≡ host_after_messages host heard)
-      → (host : HostView) → host_after_events host (events prefix) ≡ host_after_messages host (message ∷ heard)
-  after_message word prefix others n message heard read held e on host =
-      ap (host_after_events host) (ap events e ∙ reads.append word others)
-      ∙ rw (read, held) (reads.places (host_after_message host message) (length word - 0) (events others))
-      ∙ on (host_after_message host message)
+      → known (events others) ≡ map Message heard → known (events prefix) ≡ Message message ∷ map Message heard
+  after_message word prefix others n message heard read held e more =
+      let after : events (word ++ others)
+      ≡ at_place n (Message message) ∷ events_behind (length word - 0) (events others)
+      = reads.append word others ∙ rw (read, held) refl in
+      ap (λ (bytes : List ℕ). known (events bytes)) e ∙ ap known after
+      ∙ ap (λ (rest : List Event). Message message ∷ rest) (known_behind (length word - 0) (events others) ∙ more)
 
   pub heard_prefix : (prefix more : List ℕ) (messages : List Content) → AreEncoded messages (prefix ++ more)
       → IsPrefix prefix more messages
@@ -92,7 +109,7 @@ module _ (reads : Reads) where
         heard = [];
         left = [];
         all = refl;
-        host = λ host. rw (left_empty prefix more encoded.in_a_row, no_events) refl;
+        known = rw (left_empty prefix more encoded.in_a_row, no_events) refl;
         encoded = record {
           are_messages = tt;
           in_a_row =
@@ -120,7 +137,7 @@ module _ (reads : Reads) where
             heard = [];
             left = message ∷ messages;
             all = refl;
-            host = λ host. rw waits.0 refl;
+            known = rw waits.0 refl;
             encoded = rw waits.1 encoded;
           }
       go on (inr (others, e, f)) =
@@ -129,6 +146,6 @@ module _ (reads : Reads) where
             heard = message ∷ rest.heard;
             left = rest.left;
             all = ap (λ (list : List Content). message ∷ list) rest.all;
-            host = after_message (encoding message) prefix others _ message rest.heard read held e rest.host;
+            known = after_message (encoding message) prefix others _ message rest.heard read held e rest.known;
             encoded = rw (e, reads.unfinished_append (encoding message) others, held) rest.encoded;
           }

@@ -1,5 +1,5 @@
 -- A restart is done exactly if its bytes fit, and a dump request if it has room and few replies are awaited.
-use Rattle.std.proofs.Common.{◌≡◌, refl, sym, ◌∙◌, ◌+◌, ◌≤◌, Bool, true, false, List, [], ◌∷◌, length, ◌<◌, Some, if◌then◌else◌, nat_lt, arith, rules}
+use Rattle.std.proofs.Common.{◌≡◌, refl, sym, ◌∙◌, ◌+◌, ◌≤◌, false, List, [], ◌∷◌, length, ◌<◌, Some, if◌then◌else◌, rules}
 use Rattle.std.specs.Prelude.{◌↔◌}
 use Rattle.dgt_values.specs.declared.kinds.Kind.{Kind}
 use Rattle.dgt_command.specs.Content.{CommandContent}

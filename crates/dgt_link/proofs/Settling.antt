@@ -467,6 +467,11 @@ module _ (falls : BacklogFalls) where
       let weighed = mul-le-mul_left (world.up.capacity + 1) less in
       rw same (omega (arith, few, size, weighed))
 
+pub count_first : (answer : Outcome) (answers : List Outcome)
+    → done_count (answer ∷ answers) ≡ done_count (answer ∷ []) + done_count answers
+count_first Outcome.Done answers = omega arith
+count_first _ answers = omega arith
+
 module _ (short : WordsAreShort) (within : NoWordBeginsAPart) (rises : BacklogRises) where
   take_steps : (world after : WorldView) (count : ℕ) → IsPartial world.board.partial
       → Becomes (ActContent.ToBoard count) world after → steps_left after < steps_left world
@@ -506,11 +511,6 @@ module _ (keeps : (act : ActContent) (world after : WorldView) (answer : Outcome
   step_steps act world after Outcome.Done is settling step =
       let less = done_steps act world after is settling step in omega (arith, less)
   step_steps act world after _ is settling step = rw step.leaves (omega arith)
-
-  count_first : (answer : Outcome) (answers : List Outcome)
-      → done_count (answer ∷ answers) ≡ done_count (answer ∷ []) + done_count answers
-  count_first Outcome.Done answers = omega arith
-  count_first _ answers = omega arith
 
   pub run_steps : (acts : List ActContent) (world after : WorldView) (answers : List Outcome) → IsWorld world
       → AllByRecursion IsSettling acts → Runs acts world answers after → done_count answers ≤ steps_left world

@@ -20,6 +20,7 @@ use Rattle.dgt_link.specs.Act.{ActContent}
 use Rattle.dgt_link.specs.declared.acts.Outcome.{Outcome}
 use Rattle.dgt_link.specs.declared.world.TheConstants.{MIN_DOWN, MIN_UP}
 use Rattle.dgt_link.specs.Machine.{Move, MachineState, commands_anew, after_hear, after_move, after_moves, after_take, new_state}
+use Rattle.dgt_decode.specs.Grammar.{events}
 use Rattle.dgt_link.specs.Readers.{Grammars}
 use Rattle.dgt_link.specs.Stands.{AreEncoded, IsExactWorld, IsWorld, StandsFor, StandsAfterRun, StandsAfterStep}
 use Rattle.dgt_link.specs.Step.{Becomes, Runs, Step}
@@ -28,7 +29,7 @@ use Rattle.dgt_link.proofs.Asking.{break_moves, run_is_other, step_is_other}
 use Rattle.dgt_link.proofs.Dividing.{anew_divides, divides_command}
 use Rattle.dgt_link.proofs.PromisedActs.{StepsAreMoves}
 use Rattle.dgt_link.proofs.Lists.{all_append}
-use Rattle.dgt_link.proofs.Hearing.{heard_prefix, host_after_messages}
+use Rattle.dgt_link.proofs.Hearing.{heard_of, heard_prefix, host_after_messages}
 use Rattle.dgt_link.proofs.AfterMoves.{moves_exact, moves_sound}
 use Rattle.dgt_link.proofs.Sending.{next_is_sent}
 use Rattle.dgt_link.proofs.Soundness.{break_exact, move_sound, new_exact, new_sound}
@@ -219,7 +220,8 @@ module _ (laws : Grammars) where
       (record { picture = stands.picture; clock = stands.clock; awaited = stands.awaited }) in (
         moves,
         (length prefix.heard, refl),
-        rw (same, led, prefix.host world.host) (assumption (rw led at (moves_sound x moves stands.sound))),
+        rw (same, led, heard_of (events bytes) prefix.heard prefix.known world.host)
+            (assumption (rw led at (moves_sound x moves stands.sound))),
       )
 
   break_reaches : (world after : WorldView) (x : MachineState) → StandsFor world x

@@ -40,7 +40,7 @@ pub subsequence_of_nothing : {X : Type 0} (xs : List X) → IsSubsequence xs [] 
 subsequence_of_nothing [] h = refl
 subsequence_of_nothing (x ∷ xs) h = absurd h
 
-same_kind_itself : (kind : Kind) → is_same_kind kind kind ≡ true
+pub same_kind_itself : (kind : Kind) → is_same_kind kind kind ≡ true
 same_kind_itself Kind.Dump = refl
 same_kind_itself _ = refl
 

@@ -17,6 +17,7 @@ use Rattle.dgt_lines.specs.Lines.{bytes_text, words_text}
 use Rattle.dgt_lines.specs.CommandWords.{command_text, display_word, is_printable, is_shown, known_words, raw_words, shown_character, text_word, words_with}
 use Rattle.dgt_ask.specs.declared.details.Detail.TheVariants as detail
 use Rattle.dgt_ask.specs.Asks.{AskInOrder, Asks, HasBytes, HasPayload, IsDisplay, IsText}
+use Rattle.dgt_command.proofs.DivisionLemmas.{bytes_left}
 
 -- bytes are read back from their text
 is_no_hyphen : (bytes : List ℕ) (byte : ℕ) → encode_lower (byte ∷ bytes) ≢ codes "-"
@@ -46,11 +47,6 @@ leds_back leds bytes encodes =
 
 -- ---- clock messages
 
-are_first : (xs ys : List ℕ) → AreBytes (xs ++ ys) → AreBytes xs
-are_first [] ys are i = omega arith
-are_first (x ∷ xs) ys are zero = are zero
-are_first (x ∷ xs) ys are (suc i) = are_first xs ys (λ j. are (suc j)) i
-
 pub record Carried (message : ClockContent) : Type 0 where
   pub id_is_byte : message.id < 256
   pub few : length message.payload ≤ 252
@@ -64,7 +60,7 @@ carried message bytes encodes =
     record {
       id_is_byte = are 3;
       few = omega (arith, size);
-      are_bytes = are_first message.payload (0x00 ∷ []) (λ i. are (suc (suc (suc (suc i)))));
+      are_bytes = bytes_left message.payload (0x00 ∷ []) (λ i. are (suc (suc (suc (suc i)))));
     }
 
 one_byte : (byte : ℕ) → byte < 256 → AreBytes (byte ∷ [])

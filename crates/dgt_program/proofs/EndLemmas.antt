@@ -1,5 +1,5 @@
 -- How tasks end.
-use Rattle.std.proofs.Common.{◌≡◌, ◌≢◌, ◌⊎◌, inl, inr, ℕ, ◌+◌, ◌<◌, ◌≤◌, Bool, true, false, List, [], ◌∷◌, ◌++◌, length, Result, Ok, Err, OnOk, IsTrue, refl, sym, ◌∙◌, ap, subst, arith, length-append}
+use Rattle.std.proofs.Common.{◌≡◌, ◌≢◌, inl, inr, ℕ, ◌+◌, ◌≤◌, Bool, true, false, List, [], ◌∷◌, ◌++◌, length, Result, Ok, Err, OnOk, IsTrue, refl, ◌∙◌, ap, subst, arith, length-append}
 use Rattle.std.specs.Io.KnownBytes.{Appends}
 use Rattle.dgt_values.specs.declared.pieces.Piece.{Piece}
 use Rattle.dgt_values.specs.Placement.{IsPlacement}
@@ -13,12 +13,11 @@ use Rattle.dgt_lines.specs.Monitoring.{IsMonitored, IsPrefix}
 use Rattle.dgt_lines.specs.Turns.{Change, Ran, sink_mark_after}
 use Rattle.dgt_lines.specs.Writing.{Writes}
 use Rattle.dgt_text.specs.Simulating.{IsSimulated, Rules, ShowsHealed, ShowsPicture, faulty_rules, plain_rules}
-use Rattle.dgt_arguments.specs.declared.command_line.Task.{Task}
 use Rattle.dgt_arguments.specs.declared.command_line.Task.TheVariants.{Help, Show, Monitor, Picture, Commands, Ask, Board, Simulate}
 use Rattle.dgt_program.specs.declared.fault.Fault.{Fault}
-use Rattle.dgt_program.specs.declared.fault.Fault.TheVariants.{Run, LineTooSmall, OutOfMemory}
+use Rattle.dgt_program.specs.declared.fault.Fault.TheVariants.{Run}
 use Rattle.dgt_program.specs.Ends.{AllIsMonitored, AllIsShown, FaultsComeFirst, IsBeforeRuns, PlacementsAreRefused, PlaysAll, PositionsArePlaced, ShowsAll, ShowsNothing, SmallLinesAreRefused, TextsAreFlushed, WordsAreDecoded, WordsComeFirst, WorldsAreLarge}
-use Rattle.dgt_program.specs.Tasks.{Does, IsShown, PlaysScript, PlaysWith, ShowsWord, task_answer}
+use Rattle.dgt_program.specs.Tasks.{IsShown, PlaysScript, PlaysWith, ShowsWord, task_answer}
 
 -- ---- answers
 

@@ -1,7 +1,6 @@
 -- What a board's answer determines.
-use Rattle.std.proofs.Common.{◌≡◌, ℕ, ◌≤◌, List, [], ◌∷◌, ◌++◌, Result, Ok, Err, refl, sym, ◌∙◌, ap, subst, length, arith, append_assoc}
+use Rattle.std.proofs.Common.{◌≡◌, ℕ, List, [], ◌∷◌, ◌++◌, Ok, Err, refl, sym, ◌∙◌, ap, subst, length, arith, append_assoc}
 use Rattle.dgt_message.specs.Encoding.{encoding}
-use Rattle.dgt_lines.specs.declared.faults.RunFault.{RunFault}
 use Rattle.dgt_lines.specs.declared.faults.RunFault.TheVariants.{ReadFailed, WriteFailed, TooManyTurns, BadLine}
 use Rattle.dgt_lines.specs.Monitoring.{IsPrefix}
 use Rattle.dgt_text.specs.Conversation.{EachIsAnsweredOnce, EachPrefixGoesOn, Exchange, bytes_sent, sent}

@@ -1,5 +1,5 @@
 -- Lines with which a script begins are the first of all its lines.
-use Rattle.std.proofs.Common.{◌≡◌, ◌≢◌, ◌⊎◌, inl, inr, ℕ, Bool, false, List, [], ◌∷◌, ◌++◌, refl, sym, ◌∙◌, ap, append-nil, true≢false}
+use Rattle.std.proofs.Common.{◌≡◌, ◌⊎◌, inl, inr, ℕ, Bool, false, List, [], ◌∷◌, ◌++◌, refl, sym, ◌∙◌, ap, append-nil, true≢false}
 use Rattle.std.specs.Prelude.{All, flat_map}
 use Rattle.dgt_script.specs.ScriptLines.{HasNoFeed, IsCut, ended}
 use Rattle.dgt_text.specs.Simulating.{BeginsWith, all_lines}

@@ -1,9 +1,8 @@
 -- A script has one end.
-use Rattle.std.proofs.Common.{◌≡◌, ◌≢◌, ◌⊎◌, inl, inr, ℕ, ◌+◌, Bool, true, false, List, [], ◌∷◌, ◌++◌, Result, Ok, Err, IsTrue, refl, sym, ◌∙◌, ap, subst, length}
+use Rattle.std.proofs.Common.{◌≡◌, ◌⊎◌, inl, inr, ℕ, ◌+◌, Bool, true, false, List, [], ◌∷◌, ◌++◌, Ok, Err, IsTrue, refl, sym, ◌∙◌, ap, subst, length}
 use Rattle.std.specs.Prelude.{◌↔◌}
 use Rattle.dgt_link.specs.declared.acts.Outcome.{Outcome}
 use Rattle.dgt_link.specs.View.{IsQuietWorld, WorldView}
-use Rattle.dgt_lines.specs.declared.faults.RunFault.{RunFault}
 use Rattle.dgt_lines.specs.declared.faults.RunFault.TheVariants.{ReadFailed, WriteFailed, TooManyTurns, BadLine}
 use Rattle.dgt_script.specs.Script.{AsksFor, IsBadAt, IsSingleValued, Vocabulary}
 use Rattle.dgt_script.specs.ScriptLines.{IsCut}

@@ -1,12 +1,12 @@
 -- What a refused write leaves of a script is a prefix of its text.
-use Rattle.std.proofs.Common.{◌≡◌, ℕ, ◌≤◌, ◌⊎◌, inl, inr, Bool, List, [], ◌∷◌, ◌++◌, Result, Ok, Err, refl, sym, ◌∙◌, ap, subst, length, arith, append_assoc, true≢false}
+use Rattle.std.proofs.Common.{◌≡◌, ℕ, inl, inr, List, [], ◌∷◌, ◌++◌, refl, sym, ◌∙◌, ap, subst, length, arith, append_assoc, true≢false}
 use Rattle.dgt_link.specs.declared.acts.Outcome.{Outcome}
 use Rattle.dgt_link.specs.View.{WorldView}
 use Rattle.dgt_lines.specs.Monitoring.{IsPrefix}
 use Rattle.dgt_script.specs.Outcomes.{outcome_line}
 use Rattle.dgt_text.specs.Closing.{closing_lines}
 use Rattle.dgt_text.specs.Ends.{OneIsTorn, OnlyWholeLines, TornTextsBegin}
-use Rattle.dgt_text.specs.Simulating.{Plays, PlaysTorn, Rules, all_lines}
+use Rattle.dgt_text.specs.Simulating.{Plays, PlaysTorn, Rules}
 use Rattle.dgt_text.proofs.BeginLemmas.{begins_all, begins_whole}
 use Rattle.dgt_text.proofs.EndOnce.{AreClear, closed_once, cut_plays_once}
 use Rattle.dgt_text.proofs.PlayLemmas.{plays_append}
