@@ -14,11 +14,11 @@ use Rattle.dgt_board.specs.State.{BoardState, updates}
 -- the message of an owed reply, as the board stands
 abbrev pub reply_message : BoardState → Reply → Content
 reply_message board (Reply.Of Kind.Dump) = Content.dump board.squares
-reply_message board (Reply.Of Kind.Serial) = Content.serial board.identity.serial
+reply_message board (Reply.Of Kind.Serial) = carried_as KnownCode.Serial board.identity.serial
 reply_message board (Reply.Of Kind.Trademark) =
     carried_as KnownCode.Trademark board.identity.trademark
 reply_message board (Reply.Of Kind.Version) =
-    Content.version board.identity.main board.identity.sub
+    carried_as KnownCode.Version (board.identity.main ∷ board.identity.sub ∷ [])
 reply_message board (Reply.Of Kind.Battery) = carried_as KnownCode.Battery board.identity.battery
 reply_message board (Reply.Of Kind.LongSerial) =
     carried_as KnownCode.LongSerial board.identity.long_serial

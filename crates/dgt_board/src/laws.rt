@@ -149,17 +149,17 @@ pub fn what_is_short()
 /// five and into four. If it has nothing to send it says so, and nothing changes.
 pub fn what_is_polled()
     ensures wrote { (polled : Answer) (before after : BoardView) (new : List ℕ) → Polls polled
-        (Some (Content.version 2 3)) before after (1 ∷ 1 ∷ 1 ∷ 1 ∷ 1 ∷ 1 ∷ []) new
+        (Some (Content.carried 0x13 (2 ∷ 3 ∷ []))) before after (1 ∷ 1 ∷ 1 ∷ 1 ∷ 1 ∷ 1 ∷ []) new
         → (polled ≡ Answer.Wrote 5) × (new ≡ 0x93 ∷ 0x00 ∷ 0x05 ∷ 0x02 ∷ 0x03 ∷ 1 ∷ []) }
     ensures sent { (count : ℕ) (before after : BoardView) (message : Content) (old new : List ℕ)
         → Polls (Answer.Wrote count) (Some message) before after old new
         → (after.partial ≡ before.partial)
         × (after.state ≡ after_sending before.state message) × IsMessage message }
     ensures filled { (polled : Answer) (before after : BoardView) (new : List ℕ) → Polls polled
-        (Some (Content.version 2 3)) before after (1 ∷ 1 ∷ 1 ∷ 1 ∷ 1 ∷ []) new
+        (Some (Content.carried 0x13 (2 ∷ 3 ∷ []))) before after (1 ∷ 1 ∷ 1 ∷ 1 ∷ 1 ∷ []) new
         → (polled ≡ Answer.Wrote 5) × (new ≡ 0x93 ∷ 0x00 ∷ 0x05 ∷ 0x02 ∷ 0x03 ∷ []) }
     ensures too_short { (polled : Answer) (before after : BoardView) (new : List ℕ) → Polls polled
-        (Some (Content.version 2 3)) before after (1 ∷ 1 ∷ 1 ∷ 1 ∷ []) new
+        (Some (Content.carried 0x13 (2 ∷ 3 ∷ []))) before after (1 ∷ 1 ∷ 1 ∷ 1 ∷ []) new
         → (polled ≡ Answer.NeedRoom 5) × (new ≡ 1 ∷ 1 ∷ 1 ∷ 1 ∷ []) × (after ≡ before) }
     ensures nothing { (polled : Answer) (before after : BoardView) (old new : List ℕ)
         → Polls polled None before after old new

@@ -1,18 +1,19 @@
 -- What a struct of C says, and what it doesn't.
-use Rattle.std.proofs.Common.{◌≡◌, refl, ℕ, ◌<◌, ◌≤◌, List, map, Option, Some, None, arith, subst}
-use Rattle.std.proofs.lemmas.List.Elements.{All-map}
-use Rattle.std.specs.Prelude.{slice_index_or}
+use Rattle.std.proofs.Common.{◌≡◌, ◌≢◌, refl, ℕ, ◌<◌, ◌≤◌, List, map, Option, Some, None, arith, subst, sym}
+use Rattle.std.specs.List.{AllByRecursion}
+use Rattle.std.proofs.lemmas.List.Elements.{All-from_recursion, All-map}
+use Rattle.std.specs.Prelude.{◌↔◌, slice_index_or}
 use Rattle.dgt_values.specs.declared.pieces.Piece.{Piece}
 use Rattle.dgt_values.specs.Board.{piece_code}
 use Rattle.dgt_message.specs.declared.known.KnownCode.{KnownCode}
 use Rattle.dgt_message.specs.Clock.{ClockState}
-use Rattle.dgt_message.specs.Code.{known_with}
+use Rattle.dgt_message.specs.Code.{known_number, known_with}
 use Rattle.dgt_message.specs.Content.{Content}
 use Rattle.dgt_message.proofs.Codes.{piece_code-below}
 use Rattle.dgt_c.specs.Clocks.{SaysClock}
-use Rattle.dgt_c.specs.Encoding.{IsMessageKind, SaysMessage}
+use Rattle.dgt_c.specs.Encoding.{IsMessageKind, SaysMessage, carried_said, kinds_of_messages}
 use Rattle.dgt_c.specs.Starting.{ArePieces}
-use Rattle.dgt_c.specs.Reported.{carried_kind, message_reported}
+use Rattle.dgt_c.specs.Reported.{carried_reported, message_reported}
 use Rattle.dgt_c.specs.declared.header.DgtEvent.{DgtEvent}
 use Rattle.dgt_c.specs.declared.header.TheConstants.{EVENT_DUMP, EVENT_NO_CLOCK, EVENT_TIMES}
 
@@ -22,19 +23,22 @@ are_pieces pieces codes same =
     subst ArePieces same
     (All-map (λ (code : ℕ). code < 16) piece_code pieces (λ k d h. piece_code-below (slice_index_or pieces k d)))
 
--- the kind of a message that is carried is one of these
-carried_bounds : (known : Option KnownCode) → (7 ≤ carried_kind known) × (carried_kind known ≤ 11)
-carried_bounds None = (omega arith, omega arith)
-carried_bounds (Some KnownCode.Dump) = (omega arith, omega arith)
-carried_bounds (Some _) = (omega arith, omega arith)
+-- the kind of a message that is carried is that of a serial number or a later one
+carried_least : (known : Option KnownCode) (code : ℕ) (body : List ℕ) → 6 ≤ (carried_reported known code body).kind
+carried_least None code body = omega arith
+carried_least (Some KnownCode.Dump) code body = omega arith
+carried_least (Some _) code body = omega arith
 
 -- each message has a kind of messages
-carried_kinds : (known : Option KnownCode) → IsMessageKind (carried_kind known)
-carried_kinds None = (10, omega arith, refl)
-carried_kinds (Some KnownCode.Trademark) = (6, omega arith, refl)
-carried_kinds (Some KnownCode.Battery) = (8, omega arith, refl)
-carried_kinds (Some KnownCode.LongSerial) = (9, omega arith, refl)
-carried_kinds (Some _) = (10, omega arith, refl)
+carried_kinds : (known : Option KnownCode) (code : ℕ) (body : List ℕ)
+    → IsMessageKind (carried_reported known code body).kind
+carried_kinds None code body = (10, omega arith, refl)
+carried_kinds (Some KnownCode.Serial) code body = (5, omega arith, refl)
+carried_kinds (Some KnownCode.Trademark) code body = (6, omega arith, refl)
+carried_kinds (Some KnownCode.Version) code body = (7, omega arith, refl)
+carried_kinds (Some KnownCode.Battery) code body = (8, omega arith, refl)
+carried_kinds (Some KnownCode.LongSerial) code body = (9, omega arith, refl)
+carried_kinds (Some _) code body = (10, omega arith, refl)
 
 pub message_kinds : (message : Content) → IsMessageKind (message_reported message).kind
 message_kinds (Content.dump pieces) = (0, omega arith, refl)
@@ -42,24 +46,22 @@ message_kinds (Content.field square piece) = (1, omega arith, refl)
 message_kinds (Content.times times) = (2, omega arith, refl)
 message_kinds (Content.no_clock absence) = (3, omega arith, refl)
 message_kinds (Content.ack answer) = (4, omega arith, refl)
-message_kinds (Content.serial digits) = (5, omega arith, refl)
-message_kinds (Content.version main sub) = (7, omega arith, refl)
-message_kinds (Content.carried code body) = carried_kinds (known_with code)
+message_kinds (Content.carried code body) = carried_kinds (known_with code) code body
 
 -- an event of no kind of message says none
-pub no_message : (said : DgtEvent) (body : List ℕ) → (1 ≤ said.kind → said.kind ≤ 11 → ⊥)
+pub no_message : (said : DgtEvent) (body : List ℕ) → AllByRecursion (λ kind. kind ≢ said.kind) kinds_of_messages
     → (message : Content) → SaysMessage said body message → ⊥
-no_message said body none (Content.carried code bytes) says =
-    let bounds = carried_bounds (known_with code) in
-    none (omega (arith, says.1.0, bounds.0)) (omega (arith, says.1.0, bounds.1))
-no_message said body none _ says = none (omega (arith, says.1.0)) (omega (arith, says.1.0))
+no_message said body none message says =
+    let kind = message_kinds message in
+    All-from_recursion (λ each. each ≢ said.kind) kinds_of_messages none kind.0 said.kind kind.1
+    (subst (λ is. slice_index_or kinds_of_messages kind.0 is ≡ is) (sym says.1.0) kind.2)
 
 -- an event of a dump with a number that is no piece's says none either
 pub no_dump : (said : DgtEvent) (body : List ℕ) → said.kind ≡ EVENT_DUMP → (ArePieces said.pieces → ⊥)
     → (message : Content) → SaysMessage said body message → ⊥
 no_dump said body kind none (Content.dump pieces) says = none (are_pieces pieces said.pieces says.1.1)
 no_dump said body kind none (Content.carried code bytes) says =
-    absurd (omega (arith, kind, says.1.0, (carried_bounds (known_with code)).0))
+    absurd (omega (arith, kind, says.1.0, carried_least (known_with code) code bytes))
 no_dump said body kind none _ says = absurd (omega (arith, kind, says.1.0))
 
 -- nor does an event of a clock that says no clock
@@ -68,5 +70,16 @@ pub no_clock : (said : DgtEvent) (body : List ℕ) → EVENT_TIMES ≤ said.kind
 no_clock said body least most none (Content.times readings) says = none (ClockState.times readings) says.1.1
 no_clock said body least most none (Content.no_clock absence) says = none (ClockState.no_clock absence) says.1.1
 no_clock said body least most none (Content.carried code bytes) says =
-    absurd (omega (arith, most, says.1.0, (carried_bounds (known_with code)).0))
+    absurd (omega (arith, most, says.1.0, carried_least (known_with code) code bytes))
 no_clock said body least most none _ says = absurd (omega (arith, least, most, says.1.0))
+
+-- the bytes of another code than those of a serial number and a version are the body
+pub said_apart : ((number : ℕ) (code : KnownCode) → (known_with number ≡ Some code) ↔ (number ≡ known_number code))
+    → (said : DgtEvent) (body : List ℕ) (code : ℕ) → code ≢ 0x11 → code ≢ 0x13 → (known : Option KnownCode)
+    → known_with code ≡ known → carried_said known said body ≡ body
+said_apart one_code said body code serial version None is = refl
+said_apart one_code said body code serial version (Some KnownCode.Serial) is =
+    absurd (serial ((one_code code KnownCode.Serial).0 is))
+said_apart one_code said body code serial version (Some KnownCode.Version) is =
+    absurd (version ((one_code code KnownCode.Version).0 is))
+said_apart one_code said body code serial version (Some _) is = refl

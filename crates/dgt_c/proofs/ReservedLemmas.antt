@@ -1,15 +1,23 @@
 -- The reserved members of what is reported are 0.
 use Rattle.std.proofs.Common.{◌≡◌, ◌∙◌, refl, ap, ℕ, ◌-◌, List, Option, Some, None}
 use Rattle.std.specs.Prelude.{replicate}
+use Rattle.dgt_message.specs.declared.known.KnownCode.{KnownCode}
+use Rattle.dgt_message.specs.Code.{known_with}
 use Rattle.dgt_message.specs.Content.{Content}
 use Rattle.dgt_message.specs.Reading.{reading}
 use Rattle.dgt_decode.specs.Grammar.{Event, Message, Refused, Cut, BadLength, Stray, reading_event}
 use Rattle.dgt_command.specs.Content.{EventContent, Read, BadSize, BadStart, BadEnd, Stray as StrayByte}
 use Rattle.dgt_c.specs.Commands.{command_reported}
 use Rattle.dgt_c.specs.Once.{CommandsReserveZeros, ReportsReserveZeros, ViewsReserveZeros}
-use Rattle.dgt_c.specs.Reported.{event_reported, reported_at}
+use Rattle.dgt_c.specs.Reported.{carried_reported, event_reported, reported_at}
 use Rattle.dgt_c.specs.declared.header.DgtCommand.{DgtCommand}
 use Rattle.dgt_c.specs.declared.header.DgtEvent.{DgtEvent}
+
+carried_zeros : (known : Option KnownCode) (code : ℕ) (body : List ℕ)
+    → (carried_reported known code body).reserved ≡ replicate 29 0
+carried_zeros None code body = refl
+carried_zeros (Some KnownCode.Dump) code body = refl
+carried_zeros (Some _) code body = refl
 
 event_zeros : (event : Option Event) → (event_reported event).reserved ≡ replicate 29 0
 event_zeros None = refl
@@ -18,9 +26,7 @@ event_zeros (Some (Message (Content.field square piece))) = refl
 event_zeros (Some (Message (Content.times times))) = refl
 event_zeros (Some (Message (Content.no_clock absence))) = refl
 event_zeros (Some (Message (Content.ack answer))) = refl
-event_zeros (Some (Message (Content.serial digits))) = refl
-event_zeros (Some (Message (Content.version main sub))) = refl
-event_zeros (Some (Message (Content.carried code body))) = refl
+event_zeros (Some (Message (Content.carried code body))) = carried_zeros (known_with code) code body
 event_zeros (Some (Refused code fault)) = refl
 event_zeros (Some (Cut have)) = refl
 event_zeros (Some BadLength) = refl

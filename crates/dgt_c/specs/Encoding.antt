@@ -3,7 +3,9 @@ use Rattle.std.specs.Prelude.{◌≡◌, ◌⊎◌, ◌<◌, ℕ, List, [], ◌�
 use Rattle.dgt_values.specs.Board.{piece_code}
 use Rattle.dgt_values.specs.Bytes.{WritesPrefix}
 use Rattle.dgt_values.specs.declared.refusals.NoRoom.{NoRoom}
+use Rattle.dgt_message.specs.declared.known.KnownCode.{KnownCode}
 use Rattle.dgt_message.specs.Clock.{ClockState}
+use Rattle.dgt_message.specs.Code.{known_with}
 use Rattle.dgt_message.specs.Content.{Content, IsCarried, IsMessage, content}
 use Rattle.dgt_message.specs.declared.message.Message.{Message}
 use Rattle.dgt_message.specs.Reading.{reading}
@@ -33,12 +35,19 @@ EncodesNothing old new reported = (reported ≡ NOTHING_ENCODED) × (new ≡ old
 -- ---- Messages
 
 -- The kinds of messages. The other kinds are those of faults, or none yet.
+abbrev pub kinds_of_messages : List ℕ
+kinds_of_messages =
+    EVENT_DUMP ∷ EVENT_FIELD ∷ EVENT_TIMES ∷ EVENT_NO_CLOCK ∷ EVENT_ACK ∷ EVENT_SERIAL
+    ∷ EVENT_TRADEMARK ∷ EVENT_VERSION ∷ EVENT_BATTERY ∷ EVENT_LONG_SERIAL ∷ EVENT_OTHER ∷ []
+
 abbrev pub IsMessageKind : ℕ → Type 0
-IsMessageKind kind =
-    Contains
-    (EVENT_DUMP ∷ EVENT_FIELD ∷ EVENT_TIMES ∷ EVENT_NO_CLOCK ∷ EVENT_ACK ∷ EVENT_SERIAL
-    ∷ EVENT_TRADEMARK ∷ EVENT_VERSION ∷ EVENT_BATTERY ∷ EVENT_LONG_SERIAL ∷ EVENT_OTHER ∷ [])
-    kind
+IsMessageKind kind = Contains kinds_of_messages kind
+
+-- the bytes that the kind of a message under this code says: members, or the body
+abbrev pub carried_said : Option KnownCode → DgtEvent → List ℕ → List ℕ
+carried_said (Some KnownCode.Serial) said body = said.serial
+carried_said (Some KnownCode.Version) said body = said.main_number ∷ said.sub_number ∷ []
+carried_said _ said body = body
 
 -- the members that the kind of a message sets, or the body, say this message
 abbrev pub SaysMembers : DgtEvent → List ℕ → Content → Type 0
@@ -50,11 +59,9 @@ SaysMembers said body (Content.no_clock absence) =
     SaysClock said.clock (ClockState.no_clock absence)
 SaysMembers said body (Content.ack answer) =
     (answer.ack ≡ said.ack) × (answer.status ≡ said.ack_status)
-SaysMembers said body (Content.serial digits) = digits ≡ said.serial
-SaysMembers said body (Content.version main sub) =
-    (main ≡ said.main_number) × (sub ≡ said.sub_number)
 SaysMembers said body (Content.carried code bytes) =
-    (said.kind ≡ EVENT_OTHER → code ≡ said.code) × (bytes ≡ body)
+    (said.kind ≡ EVENT_OTHER → code ≡ said.code)
+    × (bytes ≡ carried_said (known_with code) said body)
 
 -- the kind and the members, or the body, say this message
 abbrev pub SaysContent : DgtEvent → List ℕ → Content → Type 0

@@ -1,6 +1,6 @@
--- What C receives about an event: a struct, whose kind says which fields are set, and the bytes of
--- a body that is carried unread.
-use Rattle.std.specs.Prelude.{ℕ, List, [], length, map, Option, Some, None}
+-- What C receives about an event: a struct, whose kind says which members are set, and the bytes of
+-- a body that no member has.
+use Rattle.std.specs.Prelude.{ℕ, List, [], length, map, slice_index, Option, Some, None}
 use Rattle.dgt_values.specs.Board.{piece_code}
 use Rattle.dgt_message.specs.declared.known.KnownCode.{KnownCode}
 use Rattle.dgt_message.specs.declared.viewing.BodyFault.{BodyFault}
@@ -12,12 +12,24 @@ use Rattle.dgt_c.specs.Clocks.{clock_reported}
 use Rattle.dgt_c.specs.declared.header.DgtEvent.{DgtEvent}
 use Rattle.dgt_c.specs.declared.header.TheConstants.{NOTHING, EVENT_DUMP, EVENT_FIELD, EVENT_TIMES, EVENT_NO_CLOCK, EVENT_ACK, EVENT_SERIAL, EVENT_TRADEMARK, EVENT_VERSION, EVENT_BATTERY, EVENT_LONG_SERIAL, EVENT_OTHER, EVENT_REFUSED, EVENT_CUT, EVENT_BAD_LENGTH, EVENT_STRAY, FAULT_WRONG_SIZE, FAULT_BAD_PIECE, FAULT_BAD_SQUARE, FAULT_BAD_READING}
 
--- the kind of a message whose body is carried unread
+-- the kind of a message whose body no member has
 abbrev pub carried_kind : Option KnownCode → ℕ
 carried_kind (Some KnownCode.Trademark) = EVENT_TRADEMARK
 carried_kind (Some KnownCode.Battery) = EVENT_BATTERY
 carried_kind (Some KnownCode.LongSerial) = EVENT_LONG_SERIAL
 carried_kind _ = EVENT_OTHER
+
+-- the message under a code whose body is carried as it is
+abbrev pub carried_reported : Option KnownCode → ℕ → List ℕ → DgtEvent
+carried_reported (Some KnownCode.Serial) code body =
+    record NOTHING { kind = EVENT_SERIAL; serial = body }
+carried_reported (Some KnownCode.Version) code body = record NOTHING {
+  kind = EVENT_VERSION;
+  main_number = slice_index body 0;
+  sub_number = slice_index body 1;
+}
+carried_reported known code body =
+    record NOTHING { kind = carried_kind known; code = code; body_len = length body }
 
 abbrev pub message_reported : Content → DgtEvent
 message_reported (Content.dump pieces) =
@@ -30,11 +42,7 @@ message_reported (Content.no_clock absence) =
     record NOTHING { kind = EVENT_NO_CLOCK; clock = clock_reported (ClockState.no_clock absence) }
 message_reported (Content.ack answer) =
     record NOTHING { kind = EVENT_ACK; ack = answer.ack; ack_status = answer.status }
-message_reported (Content.serial digits) = record NOTHING { kind = EVENT_SERIAL; serial = digits }
-message_reported (Content.version main sub) =
-    record NOTHING { kind = EVENT_VERSION; main_number = main; sub_number = sub }
-message_reported (Content.carried code body) =
-    record NOTHING { kind = carried_kind (known_with code); code = code; body_len = length body }
+message_reported (Content.carried code body) = carried_reported (known_with code) code body
 
 abbrev pub fault_number : BodyFault → ℕ
 fault_number BodyFault.WrongSize = FAULT_WRONG_SIZE
@@ -71,7 +79,12 @@ abbrev pub reported_at : ℕ → Option Event → DgtEvent
 reported_at place None = NOTHING
 reported_at place (Some event) = record (event_reported (Some event)) { place = place }
 
--- the body of a message that is carried unread
+-- the body under a code, if no member has it
+abbrev pub body_apart : Option KnownCode → List ℕ → List ℕ
+body_apart (Some KnownCode.Serial) body = []
+body_apart (Some KnownCode.Version) body = []
+body_apart _ body = body
+
 abbrev pub body_said : Option Event → List ℕ
-body_said (Some (Message (Content.carried code body))) = body
+body_said (Some (Message (Content.carried code body))) = body_apart (known_with code) body
 body_said _ = []

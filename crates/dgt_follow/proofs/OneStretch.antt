@@ -1,7 +1,7 @@
 -- One stretch of faulty bytes among messages that come whole.
 use Rattle.std.proofs.Common.{◌≡◌, ◌≤◌, ◌+◌, true, false, Option, Some, refl, sym, ap, ◌∙◌, ℕ, List, [], ◌∷◌, ◌++◌, map, option_to_list, arith}
 use Rattle.dgt_message.specs.Content.{Content}
-use Rattle.dgt_message.specs.Content.Content.{dump, field, times, no_clock, ack, serial, version, carried}
+use Rattle.dgt_message.specs.Content.Content.{dump}
 use Rattle.dgt_message.specs.Picture.{picture_after_all}
 use Rattle.dgt_decode.specs.Grammar.{events, unfinished_message}
 use Rattle.dgt_host.specs.Confirmed.{ConfirmedIsReported, Passage, Whole, Faulty, StretchIsOne, confirmed_after_all, faults_after, faults_after_all, heard, messages, sent}
@@ -31,13 +31,7 @@ line_heard (m ∷ before) after a b = ap (λ (s : List Content). m ∷ s) (line_
 
 no_more : (faults : ℕ) (m : Content) → faults_after faults (Whole m) ≤ faults
 no_more faults (dump pieces) = omega arith
-no_more faults (field square piece) = omega arith
-no_more faults (times readings) = omega arith
-no_more faults (no_clock absence) = omega arith
-no_more faults (ack answer) = omega arith
-no_more faults (serial digits) = omega arith
-no_more faults (version main sub) = omega arith
-no_more faults (carried own body) = omega arith
+no_more faults _ = omega arith
 
 whole_faults : (faults : ℕ) (said : List Content) → faults ≤ 1 → faults_after_all faults (map Whole said) ≤ 1
 whole_faults faults [] few = few

@@ -3,7 +3,7 @@ use Rattle.std.proofs.Common.{◌≡◌, ◌≤◌, ◌/◌, Bool, true, false, 
 use Rattle.dgt_values.specs.declared.kinds.Kind.{Kind}
 use Rattle.dgt_values.specs.declared.pieces.Piece.{Piece}
 use Rattle.dgt_message.specs.Content.{answered_kind}
-use Rattle.dgt_message.specs.Content.Content.{dump, field, times, no_clock, ack, serial, version, carried}
+use Rattle.dgt_message.specs.Content.Content.{dump}
 use Rattle.dgt_message.specs.declared.viewing.BodyFault.TheVariants.{WrongSize, BadPiece, BadSquare, BadReading}
 use Rattle.dgt_decode.specs.Grammar.{Event, Message, Refused, Cut, BadLength, Stray}
 use Rattle.dgt_host.specs.Confirmed.{changes, same_pieces}
@@ -183,23 +183,9 @@ event_stays_sure : (pace : PaceView) (now : ℕ) → is_sure pace ≡ true
     → is_sure (pace_after_event pace now awaited picture event) ≡ true
 event_stays_sure pace now sure awaited picture (Message (dump pieces)) =
     dump_stays_sure pace picture now awaited pieces
-event_stays_sure pace now sure awaited picture (Message (field square piece)) =
-    other false pace.pardons pace.confirmed (changes picture (field square piece)) pace.settling pace.doubtful sure
-event_stays_sure pace now sure awaited picture (Message (times readings)) =
-    other false pace.pardons pace.confirmed (changes picture (times readings)) pace.settling pace.doubtful sure
-event_stays_sure pace now sure awaited picture (Message (no_clock absence)) =
-    other false pace.pardons pace.confirmed (changes picture (no_clock absence)) pace.settling pace.doubtful sure
-event_stays_sure pace now sure awaited picture (Message (ack answer)) =
-    other false pace.pardons pace.confirmed (changes picture (ack answer)) pace.settling pace.doubtful sure
-event_stays_sure pace now sure awaited picture (Message (serial digits)) =
-    other (is_unasked awaited (answered_kind (serial digits))) pace.pardons pace.confirmed
-    (changes picture (serial digits)) pace.settling pace.doubtful sure
-event_stays_sure pace now sure awaited picture (Message (version main sub)) =
-    other (is_unasked awaited (answered_kind (version main sub))) pace.pardons pace.confirmed
-    (changes picture (version main sub)) pace.settling pace.doubtful sure
-event_stays_sure pace now sure awaited picture (Message (carried own body)) =
-    other (is_unasked awaited (answered_kind (carried own body))) pace.pardons pace.confirmed
-    (changes picture (carried own body)) pace.settling pace.doubtful sure
+event_stays_sure pace now sure awaited picture (Message said) =
+    other (is_unasked awaited (answered_kind said)) pace.pardons pace.confirmed (changes picture said) pace.settling
+    pace.doubtful sure
 event_stays_sure pace now sure awaited picture (Refused code WrongSize) = refl
 event_stays_sure pace now sure awaited picture (Refused code (BadPiece at)) = refl
 event_stays_sure pace now sure awaited picture (Refused code (BadSquare at)) = refl

@@ -1,7 +1,9 @@
 -- When a follower asks its board, and what: what it counts and what it notes of the messages.
-use Rattle.std.specs.Prelude.{◌≡◌, ℕ, ◌+◌, ◌-◌, ◌/◌, ◌^◌, ◌==◌, max, min, nat_le, nat_lt, List, [], ◌∷◌, ◌++◌, Option, Some, None, is_some, Bool, false, true, not, ◌&&◌, ◌||◌, if◌then◌else◌}
+use Rattle.std.specs.Prelude.{◌≡◌, ℕ, ◌+◌, ◌-◌, ◌/◌, ◌^◌, max, min, nat_le, nat_lt, List, [], ◌∷◌, ◌++◌, Option, Some, None, is_some, Bool, false, true, not, ◌==◌, ◌&&◌, ◌||◌, if◌then◌else◌}
 use Rattle.dgt_values.specs.declared.kinds.Kind.{Kind}
+use Rattle.dgt_message.specs.declared.known.KnownCode.{KnownCode}
 use Rattle.dgt_message.specs.Clock.{Time, Times}
+use Rattle.dgt_message.specs.Code.{known_number}
 use Rattle.dgt_message.specs.Content.{Content, answered_kind}
 use Rattle.dgt_command.specs.Content.{CommandContent}
 use Rattle.dgt_command.specs.Encoding.{command_encoding}
@@ -121,7 +123,8 @@ heard_at before now (Message said) = Some now
 heard_at before now _ = before
 
 abbrev pub serial_by : Option (List ℕ) → Event → Option (List ℕ)
-serial_by before (Message (Content.serial digits)) = Some digits
+serial_by before (Message (Content.carried code body)) =
+    if code == known_number KnownCode.Serial then Some body else before
 serial_by before _ = before
 
 -- A clock that has no reading yet sends nothing but zeros.

@@ -359,8 +359,8 @@ pub fn notes_of_events()
         (pace_after_event pace now [] None (Event.Message (Content.dump pieces))).disturbed ≡ true }
     ensures pardoned { (pace : PaceView) (now main sub : ℕ) (picture : Option (List Piece)) →
         pace.pardons ≡ true → pace.disturbed ≡ false →
-        (pace_after_event pace now [] picture (Event.Message (Content.version main sub))).disturbed
-        ≡ false }
+        (pace_after_event pace now [] picture
+        (Event.Message (Content.carried 0x13 (main ∷ sub ∷ [])))).disturbed ≡ false }
     ensures contradicts { (pace : PaceView) (now : ℕ) (known pieces : List Piece)
         (awaited : List Kind) → changes (Some known) (Content.dump pieces) ≡ true →
         let after = pace_after_event pace now awaited (Some known)
@@ -385,7 +385,7 @@ pub fn notes_of_events()
         (after.answered ≡ true) × (after.doubtful ≡ false) × (after.settling ≡ false) }
     ensures other { (pace : PaceView) (now main sub : ℕ) (later : List Kind) →
         pace.answered ≡ false → (pace_after_event pace now (Kind.Version ∷ later) None
-        (Event.Message (Content.version main sub))).answered ≡ false }
+        (Event.Message (Content.carried 0x13 (main ∷ sub ∷ [])))).answered ≡ false }
     ensures heard { (pace : PaceView) (now square : ℕ) (piece : Piece) → (pace_after_event pace now
         [] None (Event.Message (Content.field square piece))).heard ≡ Some now }
     ensures unheard { (pace : PaceView) (now byte : ℕ) →
@@ -439,11 +439,14 @@ pub fn what_confirms()
 pub fn what_is_known()
     ensures serial { (pace : PaceView) (now : ℕ) (digits : List ℕ) (awaited : List Kind)
         (picture : Option (List Piece)) →
-        (pace_after_event pace now awaited picture (Event.Message (Content.serial digits))).serial
-        ≡ Some digits }
-    ensures same { (pace : PaceView) (now square : ℕ) (piece : Piece) (awaited : List Kind)
-        (picture : Option (List Piece)) → (pace_after_event pace now awaited picture
-        (Event.Message (Content.field square piece))).serial ≡ pace.serial }
+        (pace_after_event pace now awaited picture
+        (Event.Message (Content.carried 0x11 digits))).serial ≡ Some digits }
+    ensures same { (pace : PaceView) (now square : ℕ) (piece : Piece) (body : List ℕ)
+        (awaited : List Kind) (picture : Option (List Piece)) →
+        ((pace_after_event pace now awaited picture
+        (Event.Message (Content.field square piece))).serial ≡ pace.serial)
+        × ((pace_after_event pace now awaited picture
+        (Event.Message (Content.carried 0x22 body))).serial ≡ pace.serial) }
     ensures readable { (pace : PaceView) (now : ℕ) (readings : BothTimes) (awaited : List Kind)
         (picture : Option (List Piece)) → (pace_after_event pace now awaited picture
         (Event.Message (Content.times readings))).unreadable ≡ is_blank readings }

@@ -399,12 +399,12 @@ pub fn happenings_are_heard()
         bytes_by (TimedHappening.Hears now 2) before ≡ first ∷ second ∷ [] }
     ensures sent { (before : FollowedView) (main sub : ℕ) → before.world.up.bytes ≡ [] →
         before.world.up.capacity ≡ 5 →
-        next_message before.world.board.state ≡ Some (Content.version main sub) →
+        next_message before.world.board.state ≡ Some (Content.carried 0x13 (main ∷ sub ∷ [])) →
         sent_by (TimedHappening.Acts (FaultyContent.Plain ActContent.BoardSend)) before
-        ≡ Content.version main sub ∷ [] }
+        ≡ Content.carried 0x13 (main ∷ sub ∷ []) ∷ [] }
     ensures unsent { (before : FollowedView) (main sub : ℕ) → before.world.up.bytes ≡ [] →
         before.world.up.capacity ≡ 4 →
-        next_message before.world.board.state ≡ Some (Content.version main sub) →
+        next_message before.world.board.state ≡ Some (Content.carried 0x13 (main ∷ sub ∷ [])) →
         sent_by (TimedHappening.Acts (FaultyContent.Plain ActContent.BoardSend)) before ≡ [] }
     ensures silent { (before : FollowedView) (now : ℕ) →
         (sent_by (TimedHappening.Asks now) before ≡ [])

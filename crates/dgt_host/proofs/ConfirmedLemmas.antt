@@ -10,7 +10,7 @@ use Rattle.dgt_message.specs.Content.{Content, content}
 use Rattle.dgt_message.specs.declared.message.Message.{Message}
 use Rattle.dgt_values.specs.declared.positions.Position.{Position}
 use Rattle.dgt_values.specs.declared.squares.Square.{Square}
-use Rattle.dgt_message.specs.Content.Content.{dump, field, times, no_clock, ack, serial, version, carried}
+use Rattle.dgt_message.specs.Content.Content.{dump, field}
 use Rattle.dgt_message.specs.Picture.{picture_after, picture_after_all}
 use Rattle.dgt_host.specs.Confirmed.{same_pieces, differ, changes, repeats, confirmed_after, confirmed_after_all, AllLeave, Passage, Whole, Faulty, heard_in, sent, heard, faults_after, faults_after_all, IsRight, reported_by, ConfirmedWasReported, ConfirmedIsReported, TwoFaultsSuffice, LateFaultsSuffice, UnconfirmedIsWrong, ConfirmedByDump, ChangesIsExact, FaultlessIsRight}
 
@@ -77,15 +77,7 @@ pub quiet : (picture : Option (List Piece)) (m : Message) → ((x : Position) �
     → (picture ≡ picture_after picture (content m)) × (false ≡ changes picture (content m))
 quiet picture (Message.Dump x) no_one no_other = absurd (no_one x refl)
 quiet picture (Message.Field x y) no_one no_other = absurd (no_other x y refl)
-quiet picture (Message.Times x) no_one no_other = (refl, sym (unmoved picture))
-quiet picture (Message.NoClock x) no_one no_other = (refl, sym (unmoved picture))
-quiet picture (Message.Ack x) no_one no_other = (refl, sym (unmoved picture))
-quiet picture (Message.Serial x) no_one no_other = (refl, sym (unmoved picture))
-quiet picture (Message.Version x y) no_one no_other = (refl, sym (unmoved picture))
-quiet picture (Message.Trademark x) no_one no_other = (refl, sym (unmoved picture))
-quiet picture (Message.Battery x) no_one no_other = (refl, sym (unmoved picture))
-quiet picture (Message.LongSerial x) no_one no_other = (refl, sym (unmoved picture))
-quiet picture (Message.Other x y) no_one no_other = (refl, sym (unmoved picture))
+quiet picture _ no_one no_other = (refl, sym (unmoved picture))
 
 -- a known picture that a message doesn't change
 unchanged : (known : List Piece) (said : Content) → changes (Some known) said ≡ false
@@ -93,12 +85,7 @@ unchanged : (known : List Piece) (said : Content) → changes (Some known) said 
 unchanged known (dump pieces) e = ap Some (sym (same_is known pieces (not_false _ e)))
 unchanged known (field square piece) e =
     ap Some (sym (same_is known (slice_set known square piece) (not_false _ e)))
-unchanged known (times readings) e = refl
-unchanged known (no_clock absence) e = refl
-unchanged known (ack answer) e = refl
-unchanged known (serial digits) e = refl
-unchanged known (version main sub) e = refl
-unchanged known (carried own body) e = refl
+unchanged known _ e = refl
 
 abbrev Known : Option (List Piece) → Type 0
 Known shown = (known : List Piece) × (shown ≡ Some known)
@@ -120,24 +107,13 @@ stays : (confirmed : Bool) (shown : Option (List Piece)) (said : Content)
 stays confirmed (Some known) (dump pieces) is e =
     ((known, refl), ap Some (sym (same_is known pieces e)))
 stays confirmed None (dump pieces) is e = cc
-stays confirmed shown (field square piece) is e = by_rest confirmed shown (field square piece) is e
-stays confirmed shown (times readings) is e = by_rest confirmed shown (times readings) is e
-stays confirmed shown (no_clock absence) is e = by_rest confirmed shown (no_clock absence) is e
-stays confirmed shown (ack answer) is e = by_rest confirmed shown (ack answer) is e
-stays confirmed shown (serial digits) is e = by_rest confirmed shown (serial digits) is e
-stays confirmed shown (version main sub) is e = by_rest confirmed shown (version main sub) is e
-stays confirmed shown (carried own body) is e = by_rest confirmed shown (carried own body) is e
+stays confirmed shown said is e = by_rest confirmed shown said is e
 
 -- what is known stays known
 known_after : (known : List Piece) (said : Content) → Known (picture_after (Some known) said)
 known_after known (dump pieces) = (pieces, refl)
 known_after known (field square piece) = (slice_set known square piece, refl)
-known_after known (times readings) = (known, refl)
-known_after known (no_clock absence) = (known, refl)
-known_after known (ack answer) = (known, refl)
-known_after known (serial digits) = (known, refl)
-known_after known (version main sub) = (known, refl)
-known_after known (carried own body) = (known, refl)
+known_after known _ = (known, refl)
 
 -- a message that is no dump
 record NoDump (said : Content) : Type 0 where
@@ -149,13 +125,7 @@ record NoDump (said : Content) : Type 0 where
 -- a message is a dump, or it isn't
 kinds : (said : Content) → ((pieces : List Piece) × (said ≡ dump pieces)) ⊎ NoDump said
 kinds (dump pieces) = inl (pieces, refl)
-kinds (field square piece) = inr (record { none = refl; rest = λ c s. refl; faults = λ n. refl })
-kinds (times readings) = inr (record { none = refl; rest = λ c s. refl; faults = λ n. refl })
-kinds (no_clock absence) = inr (record { none = refl; rest = λ c s. refl; faults = λ n. refl })
-kinds (ack answer) = inr (record { none = refl; rest = λ c s. refl; faults = λ n. refl })
-kinds (serial digits) = inr (record { none = refl; rest = λ c s. refl; faults = λ n. refl })
-kinds (version main sub) = inr (record { none = refl; rest = λ c s. refl; faults = λ n. refl })
-kinds (carried own body) = inr (record { none = refl; rest = λ c s. refl; faults = λ n. refl })
+kinds _ = inr (record { none = refl; rest = λ c s. refl; faults = λ n. refl })
 
 some_after : (picture : Option (List Piece)) (said : Content) → Known picture → Known (picture_after picture said)
 some_after picture said (known, is) = rw is (known_after known said)

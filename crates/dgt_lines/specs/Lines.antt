@@ -1,5 +1,5 @@
 -- The lines that say what a board sends. A line is an offset, a space, a text and a line feed.
-use Rattle.std.specs.Prelude.{ℕ, ◌-◌, Option, Some, List, [], ◌∷◌, ◌++◌, length, replicate, map, codes, decimal}
+use Rattle.std.specs.Prelude.{ℕ, ◌-◌, Option, Some, List, [], ◌∷◌, ◌++◌, length, replicate, map, codes, decimal, slice_index}
 use Rattle.std.specs.List.{join_with_byte, flat_map}
 use Rattle.hex.specs.Hex.{encode_lower}
 use Rattle.dgt_values.specs.Board.{piece_letter, square_name}
@@ -9,7 +9,7 @@ use Rattle.dgt_message.specs.declared.viewing.BodyFault.TheVariants.{WrongSize, 
 use Rattle.dgt_message.specs.declared.known.KnownCode.{KnownCode}
 use Rattle.dgt_message.specs.Code.{known_with}
 use Rattle.dgt_message.specs.Content.{Content}
-use Rattle.dgt_message.specs.Content.Content.{dump, field, times, no_clock, ack, serial, version, carried}
+use Rattle.dgt_message.specs.Content.Content.{dump, field, times, no_clock, ack, carried}
 use Rattle.dgt_message.specs.Clock.{Time}
 use Rattle.dgt_decode.specs.Grammar.{Event, Message, Refused, Cut, BadLength, Stray, Placed, events, events_behind, unfinished_message}
 use Rattle.dgt_decode.specs.Feeding.{chunk_events}
@@ -45,12 +45,20 @@ shown_time t =
 unfoldable pub reading_text : Time → List ℕ
 reading_text t = shown_time t ++ codes " " ++ decimal t.flags
 
--- what a body is that is carried unread
+-- what a body is that is carried as it is
 abbrev pub carried_words : Option KnownCode → ℕ → List (List ℕ)
+carried_words (Some KnownCode.Serial) code = codes "serial" ∷ []
 carried_words (Some KnownCode.Trademark) code = codes "trademark" ∷ []
+carried_words (Some KnownCode.Version) code = codes "version" ∷ []
 carried_words (Some KnownCode.Battery) code = codes "battery" ∷ []
 carried_words (Some KnownCode.LongSerial) code = codes "longserial" ∷ []
 carried_words _ code = codes "other" ∷ byte_text code ∷ []
+
+-- its bytes; those of a version are two numbers with a point between
+abbrev pub carried_text : Option KnownCode → List ℕ → List ℕ
+carried_text (Some KnownCode.Version) body =
+    decimal (slice_index body 0) ++ codes "." ++ decimal (slice_index body 1)
+carried_text _ body = bytes_text body
 
 unfoldable pub message_text : Content → List ℕ
 message_text (dump pieces) = words_text (codes "dump" ∷ placement_text pieces ∷ [])
@@ -63,11 +71,8 @@ message_text (no_clock absence) =
     words_text (codes "noclock" ∷ bytes_text absence.raw ∷ byte_text absence.status ∷ [])
 message_text (ack answer) =
     words_text (codes "ack" ∷ map byte_text (answer.ack ++ answer.status ∷ []))
-message_text (serial digits) = words_text (codes "serial" ∷ bytes_text digits ∷ [])
-message_text (version main sub) =
-    words_text (codes "version" ∷ (decimal main ++ codes "." ++ decimal sub) ∷ [])
 message_text (carried code body) =
-    words_text (carried_words (known_with code) code ++ bytes_text body ∷ [])
+    words_text (carried_words (known_with code) code ++ carried_text (known_with code) body ∷ [])
 
 abbrev pub fault_text : BodyFault → List ℕ
 fault_text WrongSize = codes "wrongsize"

@@ -3,8 +3,9 @@
 ghost use Rattle.std.specs.Prelude.{◌≡◌, ◌≢◌, ◌+◌, ◌<◌, ◌≤◌, ℕ, List, [], ◌++◌, ◌∷◌, length, decimal, map};
 ghost use Rattle.dgt_values.specs.Bytes.{number};
 ghost use Rattle.dgt_values.specs.Board.{square_number};
-ghost use Rattle.dgt_message.specs.Content.{clock_message, clock_seen, content, absence_seen, answer_seen, time_seen, times_seen};
-ghost use Rattle.dgt_message.specs.Content.Content.{field, times, no_clock, ack, serial};
+ghost use Rattle.dgt_message.specs.declared.known.KnownCode.{KnownCode};
+ghost use Rattle.dgt_message.specs.Content.{carried_as, clock_message, clock_seen, content, absence_seen, answer_seen, time_seen, times_seen};
+ghost use Rattle.dgt_message.specs.Content.Content.{field, times, no_clock, ack};
 ghost use Rattle.dgt_decode.specs.Grammar.{Cut, Refused, Stray};
 ghost use Rattle.dgt_decode.specs.Feeding.{event_content, event_found_in};
 ghost use Rattle.dgt_lines.specs.Lines.{byte_text, event_text, fault_text, message_text, reading_text};
@@ -213,7 +214,8 @@ fn push_byte<const ROOM: usize>(text: &mut Outgoing<ROOM>, byte: u8)
 #[tactic(auto, unfolding(crate::specs::Lines::message_text))]
 fn push_serial<const ROOM: usize>(text: &mut Outgoing<ROOM>, digits: &[SevenBit; 5])
     requires { length text.old + 100 ≤ ROOM }
-    ensures text { text.new ≡ text.old ++ message_text (serial (map number digits.now)) }
+    ensures text { text.new
+        ≡ text.old ++ message_text (carried_as KnownCode.Serial (map number digits.now)) }
     ensures len { length text.new ≡ length text.old + 17 }
 {
     text.push(b"serial ");

@@ -1,7 +1,7 @@
 -- At most one message fits a code and a body, at most one fault does, and never both.
-use Rattle.std.proofs.Common.{◌≡◌, ◌≢◌, ℕ, zero, suc, ◌<◌, ◌+◌, ◌%◌, Bool, true, false, cond, refl, sym, ap, ◌∙◌, ◌⊎◌}
-use Rattle.std.proofs.Common.{inl, inr, List, [], ◌∷◌, length, map, arith, length-append, Option, Some, None}
-use Rattle.std.specs.Prelude.{◌==◌, IfSome, IsSomeAnd, slice_index}
+use Rattle.std.proofs.Common.{◌≡◌, ℕ, zero, suc, ◌<◌, ◌%◌, Bool, true, false, cond, refl, sym, ap, ◌∙◌, ◌⊎◌}
+use Rattle.std.proofs.Common.{inl, inr, List, [], ◌∷◌, length, map, arith, length-append}
+use Rattle.std.specs.Prelude.{◌==◌, slice_index}
 use Rattle.std.proofs.lemmas.List.{length-map, get_or-map}
 use Rattle.dgt_values.specs.Board.{piece_code}
 use Rattle.dgt_values.specs.declared.pieces.Piece.{Piece}
@@ -9,10 +9,12 @@ use Rattle.dgt_values.specs.declared.pieces.Piece.TheVariants.{Empty}
 use Rattle.dgt_message.specs.declared.viewing.BodyFault.{BodyFault}
 use Rattle.dgt_message.specs.declared.viewing.BodyFault.TheVariants.{WrongSize, BadPiece, BadSquare, BadReading}
 use Rattle.dgt_message.specs.Content.{Content, IsMessage}
-use Rattle.dgt_message.specs.Content.Content.{dump, field, times, no_clock, ack, serial, version, carried}
-use Rattle.dgt_message.specs.Reading.{Allows, HasFault, IsFaultOf, IsFirstBad, fault_of}
-use Rattle.dgt_message.proofs.Sizes.{AllowsBefore, IsRightSize, IsWrongSize}
-use Rattle.dgt_message.specs.Layout.{Layout, column_of, layout_of, layout_total}
+use Rattle.dgt_message.specs.Content.Content.{dump, field, times, no_clock, ack, carried}
+use Rattle.dgt_message.specs.Code.{HasSize}
+use Rattle.dgt_message.specs.Content.{code_of}
+use Rattle.dgt_message.specs.Reading.{Allows, IsFaultOf, IsFirstBad, fault_of}
+use Rattle.dgt_message.proofs.Sizes.{AllowsBefore}
+use Rattle.dgt_message.specs.Layout.{Layout, column_at, column_of, layout_of}
 use Rattle.dgt_message.specs.Layout.Column.{hours, sixty, anything}
 use Rattle.dgt_message.specs.Clock.{Times as BothTimes, AreTimes}
 use Rattle.dgt_message.specs.Encoding.{BodyEncodes, Fits, times_bytes}
@@ -25,20 +27,11 @@ pub one_message : (code : ℕ) (body : List ℕ) (first second : Content) → Fi
 one_message code body first second h k = sym (message_in-fits first code body h) ∙ message_in-fits second code body k
 
 -- of two first bad places neither stands before the other
-one_place : (layout : Layout) (body : List ℕ) (a b : ℕ) → IsFirstBad layout body a → IsFirstBad layout body b → a ≡ b
-one_place layout body a b h k =
+one_place : (code : ℕ) (body : List ℕ) (a b : ℕ) → IsFirstBad code body a → IsFirstBad code body b → a ≡ b
+one_place code body a b h k =
     let not_before : a < b → ⊥ = λ l. h.bad (k.first a l) in
     let not_after : b < a → ⊥ = λ l. k.bad (h.first b l) in
     omega (arith, not_before, not_after)
-
--- a length is the total or it is not
-sizes : (o : Option ℕ) (n : ℕ) → IfSome o (λ t. n ≡ t) → IsSomeAnd o (λ t. n ≢ t) → ⊥
-sizes (Some t) n h k = k h
-sizes None n h k = k
-
--- a size is right or wrong
-not_both_sizes : (layout : Layout) (body : List ℕ) → IsRightSize layout body → IsWrongSize layout body → ⊥
-not_both_sizes layout body h k = sizes (layout_total layout) (length body + 3) h k
 
 -- the fault of a byte of times is that of a reading
 pub times_fault : (a b : Bool) (at : ℕ) → fault_of (cond a anything (cond b hours sixty)) at ≡ BadReading at
@@ -47,30 +40,28 @@ times_fault false true at = refl
 times_fault false false at = refl
 
 -- a fault is that of the size, or that of the first bad place
-abbrev Arises : Layout → List ℕ → BodyFault → Type 0
-Arises layout body why =
-    (IsWrongSize layout body × (why ≡ WrongSize))
-    ⊎ ((at : ℕ) × IsFirstBad layout body at × (why ≡ fault_of (column_of layout at) at))
+abbrev Arises : ℕ → List ℕ → BodyFault → Type 0
+Arises code body why =
+    ((HasSize code body → ⊥) × (why ≡ WrongSize))
+    ⊎ ((at : ℕ) × IsFirstBad code body at × (why ≡ fault_of (column_at code body at) at))
 
-arises : (layout : Layout) (body : List ℕ) (why : BodyFault) → HasFault layout body why → Arises layout body why
-arises layout body WrongSize h = inl (h, refl)
-arises layout body (BadPiece at) h = inr (at, h.0, ap (λ column. fault_of column at) (sym h.1))
-arises layout body (BadSquare at) h = inr (at, h.0, ap (λ column. fault_of column at) (sym h.1))
-arises layout body (BadReading at) h =
+arises : (code : ℕ) (body : List ℕ) (why : BodyFault) → IsFaultOf code body why → Arises code body why
+arises code body WrongSize h = inl (h, refl)
+arises code body (BadPiece at) h = inr (at, h.0, ap (λ column. fault_of column at) (sym h.1))
+arises code body (BadSquare at) h = inr (at, h.0, ap (λ column. fault_of column at) (sym h.1))
+arises code body (BadReading at) h =
     inr (at, h.0, sym (ap (λ l. fault_of (column_of l at) at) h.1 ∙ times_fault (at == 6) (at % 3 == 0) at))
 
 -- one size is right or wrong, and one place is the first bad one
-same_fault : (layout : Layout) (body : List ℕ) (f g : BodyFault) → Arises layout body f → Arises layout body g → f ≡ g
-same_fault layout body f g (inl h) (inl k) = h.1 ∙ sym k.1
-same_fault layout body f g (inl h) (inr (at, bad, e)) = absurd (not_both_sizes layout body bad.size h.0)
-same_fault layout body f g (inr (at, bad, e)) (inl k) = absurd (not_both_sizes layout body bad.size k.0)
-same_fault layout body f g (inr (a, h, e)) (inr (b, k, d)) =
-    e ∙ ap (λ at. fault_of (column_of layout at) at) (one_place layout body a b h k) ∙ sym d
+same_fault : (code : ℕ) (body : List ℕ) (f g : BodyFault) → Arises code body f → Arises code body g → f ≡ g
+same_fault code body f g (inl h) (inl k) = h.1 ∙ sym k.1
+same_fault code body f g (inl h) (inr (at, bad, e)) = absurd (h.0 bad.size)
+same_fault code body f g (inr (at, bad, e)) (inl k) = absurd (k.0 bad.size)
+same_fault code body f g (inr (a, h, e)) (inr (b, k, d)) =
+    e ∙ ap (λ at. fault_of (column_at code body at) at) (one_place code body a b h k) ∙ sym d
 
 pub one_fault : (code : ℕ) (body : List ℕ) (f g : BodyFault) → IsFaultOf code body f → IsFaultOf code body g → f ≡ g
-one_fault code body f g h k =
-    let layout = layout_of code body in
-    same_fault layout body f g (arises layout body f h) (arises layout body g k)
+one_fault code body f g h k = same_fault code body f g (arises code body f h) (arises code body g k)
 
 -- each byte of written times is allowed in its place
 times_allowed : (t : BothTimes) → AreTimes t → (at : ℕ) → at < 7
@@ -106,30 +97,26 @@ said_allowed (field where_ what) body h s at l = rw s (field_allowed where_ what
 said_allowed (times readings) body h s at l = rw s (times_allowed readings h at (omega (arith, ap length s)))
 said_allowed _ body h s at l = tt
 
--- a body that says something has the size of its layout
-said_size : (said : Content) (body : List ℕ) → IsMessage said → BodyEncodes said body
-    → IsRightSize (said_layout said) body
+-- a body that says something has the size of its code
+said_size : (said : Content) (body : List ℕ) → IsMessage said → BodyEncodes said body → HasSize (code_of said) body
 said_size (dump pieces) body h s = rw s (omega (arith, length-map pieces piece_code))
 said_size (field where_ what) body h s = rw s refl
 said_size (times readings) body h s = rw s refl
 said_size (no_clock absence) body h s = rw s (omega (arith, h.0, length-append absence.raw (absence.status ∷ [])))
 said_size (ack answer) body h s = omega (arith, s.0)
-said_size (serial number) body h s = rw s (omega (arith, h.0))
-said_size (version main sub) body h s = rw s refl
-said_size (carried own bytes) body h s = tt
+said_size (carried own bytes) body h s = rw s h.2
 
 -- so it has no fault
-faultless : (layout : Layout) (body : List ℕ) (why : BodyFault) → IsRightSize layout body
-    → AllowsBefore layout body (length body) → Arises layout body why → ⊥
-faultless layout body why size allowed (inl h) = not_both_sizes layout body size h.0
-faultless layout body why size allowed (inr (at, h, e)) = h.bad (allowed at h.within)
+faultless : (code : ℕ) (body : List ℕ) (why : BodyFault) → HasSize code body
+    → AllowsBefore (layout_of code body) body (length body) → Arises code body why → ⊥
+faultless code body why size allowed (inl h) = h.0 size
+faultless code body why size allowed (inr (at, h, e)) = h.bad (allowed at h.within)
 
 -- if a message fits, the size is right and each place allows its byte
 pub not_both : (code : ℕ) (body : List ℕ) (said : Content) (fault : BodyFault) → Fits said code body
     → IsFaultOf code body fault → ⊥
 not_both code body said fault h k =
-    let has : HasFault (said_layout said) body fault =
-    rw (← laid_out said body h.is_message h.encoded, ← h.code_is) k in
-    faultless (said_layout said) body fault (said_size said body h.is_message h.encoded)
-    (said_allowed said body h.is_message h.encoded)
-    (arises (said_layout said) body fault has)
+    let size : HasSize code body = rw h.code_is (said_size said body h.is_message h.encoded) in
+    let allowed : AllowsBefore (layout_of code body) body (length body) =
+    rw (h.code_is, laid_out said body h.is_message h.encoded) (said_allowed said body h.is_message h.encoded) in
+    faultless code body fault size allowed (arises code body fault k)

@@ -45,15 +45,6 @@ field_fits (a ∷ b ∷ c ∷ body) size h = absurd (omega arith)
 field_fits (a ∷ []) size h = absurd (omega arith)
 field_fits [] size h = absurd (omega arith)
 
--- two bytes are a version
-version_fits : (body : List ℕ) → length body + 3 ≡ 5 → All (λ byte. byte < 128) body
-    → FitsAs KnownCode.Version Layout.version body
-version_fits (a ∷ b ∷ []) size seven =
-    record { is_message = (seven 0 0 (omega arith), seven 1 0 (omega arith)); code_is = refl; encoded = refl }
-version_fits (a ∷ b ∷ c ∷ body) size seven = absurd (omega arith)
-version_fits (a ∷ []) size seven = absurd (omega arith)
-version_fits [] size seven = absurd (omega arith)
-
 -- two digits in a byte, and back
 repacked : (b : ℕ) → Allows sixty b → packed_decimal (10 * (b / 16) + b % 16) ≡ b
 repacked b h = omega (arith, h.0, h.1)
@@ -128,8 +119,8 @@ none_fits _ size seven unmarked set = absurd (omega arith)
 -- seven allowed bytes are a message of the clock, by their marks and then by their status
 clock_fits : (body : List ℕ) → All (λ byte. byte < 128) body → (m : Bool) → is_marked body ≡ m → (s : Bool)
     → says_no_clock (slice_index body 6) ≡ s
-    → let layout : Layout = cond m Layout.ack (cond s Layout.no_clock Layout.times) in
-    IsRightSize layout body → AllowsBefore layout body (length body) → FitsAs KnownCode.Clock layout body
+    → length body + 3 ≡ 10 → let layout : Layout = cond m Layout.ack (cond s Layout.no_clock Layout.times) in
+    AllowsBefore layout body (length body) → FitsAs KnownCode.Clock layout body
 clock_fits body seven true e s f size h = ack_fits body size seven e
 clock_fits body seven false e true f size h = none_fits body size seven e f
 clock_fits body seven false e false f size h = times_fits body size seven f h
@@ -137,7 +128,7 @@ clock_fits body seven false e false f size h = times_fits body size seven f h
 -- a body of the right size whose bytes are all allowed says the message of its layout
 pub body_fits : (known : Option KnownCode) (code : ℕ) (body : List ℕ) → code < 128 → IsCarried body
     → known_with code ≡ known
-    → IsRightSize (known_layout known body) body → AllowsBefore (known_layout known body) body (length body)
+    → IsRightSize known body → AllowsBefore (known_layout known body) body (length body)
     → Fits (said_in (known_layout known body) code body) code body
 body_fits (Some KnownCode.Dump) code body small carried e size h =
     rw (found_number code KnownCode.Dump e) (dump_fits body size h)
@@ -146,10 +137,8 @@ body_fits (Some KnownCode.Clock) code body small carried e size h =
     (clock_fits body carried.1 (is_marked body) refl (says_no_clock (slice_index body 6)) refl size h)
 body_fits (Some KnownCode.Field) code body small carried e size h =
     rw (found_number code KnownCode.Field e) (field_fits body size h)
-body_fits (Some KnownCode.Serial) code body small carried e size h =
-    rw (found_number code KnownCode.Serial e)
-    (record { is_message = (omega arith, carried.1); code_is = refl; encoded = refl })
-body_fits (Some KnownCode.Version) code body small carried e size h =
-    rw (found_number code KnownCode.Version e) (version_fits body size carried.1)
-body_fits _ code body small carried e size h =
-    record { is_message = (small, ap (λ known. known_layout known body) e, carried); code_is = refl; encoded = refl }
+body_fits _ code body small carried e size h = record {
+  is_message = (small, ap (λ known. known_layout known body) e, rw e size, carried);
+  code_is = refl;
+  encoded = refl;
+}

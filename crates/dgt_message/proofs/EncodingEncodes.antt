@@ -12,7 +12,7 @@ use Rattle.dgt_values.specs.declared.pieces.Piece.{Piece}
 use Rattle.dgt_message.specs.Clock.{Answer, Times as BothTimes, AreTimes, is_mark, IsAck}
 use Rattle.dgt_message.specs.Encoding.{ack_in, mark_with, ack_encoding, BodyEncodes, Fits, HasHeader, Encodes, times_bytes, message_bytes, encoding, body_encoding}
 use Rattle.dgt_message.specs.Content.{Content, code_of, IsCarried, IsMessage}
-use Rattle.dgt_message.specs.Content.Content.{dump, field, times, no_clock, ack, serial, version, carried}
+use Rattle.dgt_message.specs.Content.Content.{dump, field, times, no_clock, ack, carried}
 use Rattle.dgt_message.proofs.Codes.{piece_code-below}
 
 -- one more byte in front
@@ -107,9 +107,7 @@ short_body (field square piece) h = omega arith
 short_body (times readings) h = omega arith
 short_body (no_clock absence) h = omega (arith, h.0, length-append absence.raw (absence.status ∷ []))
 short_body (ack answer) h = omega arith
-short_body (serial number) h = omega (arith, h.0)
-short_body (version main sub) h = omega arith
-short_body (carried own body) h = h.2.0
+short_body (carried own body) h = h.3.0
 
 -- a body that is written is seven-bit
 small_body : (said : Content) → IsMessage said → AreSevenBit (body_encoding said)
@@ -119,9 +117,7 @@ small_body (field square piece) h =
 small_body (times readings) h = times_small readings h
 small_body (no_clock absence) h = All-push (λ byte. byte < 128) absence.raw absence.status h.1 h.3
 small_body (ack answer) h = ack_small answer h
-small_body (serial number) h = h.1
-small_body (version main sub) h = listed (main ∷ sub ∷ []) (h.0, (h.1, tt))
-small_body (carried own body) h = h.2.1
+small_body (carried own body) h = h.3.1
 
 -- a body that is written encodes the message
 encoded : (said : Content) → IsMessage said → BodyEncodes said (body_encoding said)

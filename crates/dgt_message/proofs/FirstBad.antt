@@ -1,12 +1,13 @@
 -- The first byte that its place doesn't allow, as it is computed, and the fault that it makes.
-use Rattle.std.proofs.Common.{◌≡◌, ◌≢◌, ℕ, zero, suc, ◌<◌, ◌/◌, ◌%◌, inl, inr, Bool, true, false, cond, refl, ap, List}
+use Rattle.std.proofs.Common.{◌≡◌, ℕ, zero, suc, ◌<◌, ◌/◌, ◌%◌, inl, inr, Bool, true, false, cond, refl, ap, List}
 use Rattle.std.proofs.Common.{length, arith, Option, Some, None, below_more}
-use Rattle.std.specs.Prelude.{◌==◌, nat_le, IfSome, IsSomeAnd, MatchOption, slice_index}
+use Rattle.std.specs.Prelude.{◌==◌, nat_le, IfSome, MatchOption, slice_index}
 use Rattle.std.specs.Option.{option_map_or, option_or}
 use Rattle.std.proofs.lemmas.Bool.{and_cases, and_parts, eqb-false, eqb-true, leb-true, leb-false, ltb-true, ltb-false}
-use Rattle.dgt_message.specs.Reading.{Allows, HasFault, IsFirstBad, fault_of, first_bad_place, first_failure, is_allowed}
-use Rattle.dgt_message.proofs.Sizes.{AllowsBefore, IsRightSize}
-use Rattle.dgt_message.specs.Layout.{Column, Layout, column_of}
+use Rattle.dgt_message.specs.Code.{HasSize}
+use Rattle.dgt_message.specs.Reading.{Allows, IsFaultOf, IsFirstBad, fault_of, first_bad_place, first_failure, is_allowed}
+use Rattle.dgt_message.proofs.Sizes.{AllowsBefore}
+use Rattle.dgt_message.specs.Layout.{Column, Layout, column_at, column_of, layout_of}
 use Rattle.dgt_message.specs.Layout.Column.{square, piece, hours, sixty, anything}
 use Rattle.dgt_message.proofs.AtMostOne.{times_fault}
 
@@ -49,35 +50,40 @@ not_allowed sixty byte h a =
 not_allowed anything byte h a = cc
 
 -- what a search finds in a body of the right size is the first bad place, and if it finds none there is none
-search_finds : (layout : Layout) (body : List ℕ) → IsRightSize layout body → (found : Option ℕ)
-    → Search (λ place. is_allowed (column_of layout place) (slice_index body place)) (length body) found
-    → MatchOption found (AllowsBefore layout body (length body)) (IsFirstBad layout body)
-search_finds layout body size None (all h) = λ k l. allowed (column_of layout k) (slice_index body k) (h k l)
-search_finds layout body size (Some at) (fails _ l f h) = record {
+search_finds : (code : ℕ) (body : List ℕ) → HasSize code body → (found : Option ℕ)
+    → Search (λ place. is_allowed (column_at code body place) (slice_index body place)) (length body) found
+    → MatchOption found (AllowsBefore (layout_of code body) body (length body)) (IsFirstBad code body)
+search_finds code body size None (all h) = λ k l. allowed (column_at code body k) (slice_index body k) (h k l)
+search_finds code body size (Some at) (fails _ l f h) = record {
   size = size;
   within = l;
-  bad = not_allowed (column_of layout at) (slice_index body at) f;
-  first = λ k less. allowed (column_of layout k) (slice_index body k) (h k less);
+  bad = not_allowed (column_at code body at) (slice_index body at) f;
+  first = λ k less. allowed (column_at code body k) (slice_index body k) (h k less);
 }
 
-pub first_bad_place-reports : (layout : Layout) (body : List ℕ) → IsRightSize layout body
-    → MatchOption (first_bad_place layout body) (AllowsBefore layout body (length body)) (IsFirstBad layout body)
-first_bad_place-reports layout body size =
-    search_finds layout body size (first_bad_place layout body) (searched _ (length body))
-
--- the fault of a square or a piece of a field
-field_fault : (body : List ℕ) (at : ℕ) → IsFirstBad Layout.field body at → (b : Bool) → (at == 0) ≡ b
-    → HasFault Layout.field body (fault_of (cond b square piece) at)
-field_fault body at h true e = (h, ap (λ b. cond b square piece) e)
-field_fault body at h false e = (h, ap (λ b. cond b square piece) e)
+pub first_bad_place-reports : (code : ℕ) (body : List ℕ) → HasSize code body
+    → MatchOption (first_bad_place code body) (AllowsBefore (layout_of code body) body (length body))
+    (IsFirstBad code body)
+first_bad_place-reports code body size =
+    search_finds code body size (first_bad_place code body) (searched _ (length body))
 
 -- the fault of the column at the first bad place is one of the body
-pub place_fault : (layout : Layout) (body : List ℕ) (at : ℕ) → IsFirstBad layout body at
-    → HasFault layout body (fault_of (column_of layout at) at)
-place_fault Layout.dump body at h = (h, refl)
-place_fault Layout.field body at h = field_fault body at h (at == 0) refl
-place_fault Layout.times body at h = rw (times_fault (at == 6) (at % 3 == 0) at) (h, refl)
-place_fault _ body at h = absurd (h.bad tt)
+pub place_fault : (code : ℕ) (body : List ℕ) (at : ℕ) → IsFirstBad code body at
+    → IsFaultOf code body (fault_of (column_at code body at) at)
+place_fault code body at h = by_layout (layout_of code body) refl
+  where
+    -- that of a square or a piece of a field
+    by_column : (b : Bool) → column_at code body at ≡ cond b square piece
+        → IsFaultOf code body (fault_of (cond b square piece) at)
+    by_column true is = (h, is)
+    by_column false is = (h, is)
+
+    by_layout : (layout : Layout) → layout_of code body ≡ layout
+        → IsFaultOf code body (fault_of (column_of layout at) at)
+    by_layout Layout.dump is = (h, ap (λ l. column_of l at) is)
+    by_layout Layout.field is = by_column (at == 0) (ap (λ l. column_of l at) is)
+    by_layout Layout.times is = rw (times_fault (at == 6) (at % 3 == 0) at) (h, is)
+    by_layout _ is = absurd (h.bad (rw is tt))
 
 -- the test of the size reports a right one
 pub right_size : (o : Option ℕ) (n : ℕ) → option_map_or (λ total. n == total) o true ≡ true
@@ -87,6 +93,6 @@ right_size (Some total) n h = eqb-true n total h
 
 -- the test of the size reports a wrong one
 pub wrong_size : (o : Option ℕ) (n : ℕ) → option_map_or (λ total. n == total) o true ≡ false
-    → IsSomeAnd o (λ total. n ≢ total)
+    → IfSome o (λ total. n ≡ total) → ⊥
 wrong_size None n h = cc
 wrong_size (Some total) n h = eqb-false n total h

@@ -8,7 +8,7 @@ use Rattle.dgt_values.specs.declared.pieces.Piece.{Piece}
 use Rattle.dgt_values.specs.declared.pieces.Piece.TheVariants.{Empty}
 use Rattle.dgt_message.specs.Clock.{Times as BothTimes, AreTimes, IsAbsence, absence_of, is_mark, Time, IsTime}
 use Rattle.dgt_message.specs.Content.{Content, code_of, IsMessage}
-use Rattle.dgt_message.specs.Content.Content.{dump, field, times, no_clock, ack, serial, version, carried}
+use Rattle.dgt_message.specs.Content.Content.{dump, field, times, no_clock, ack, carried}
 use Rattle.dgt_message.specs.Layout.{Layout, clock_layout, layout_of}
 use Rattle.dgt_message.specs.Reading.{piece_with_code, time_in, said_in}
 use Rattle.dgt_message.specs.Encoding.{BodyEncodes, Fits, Encodes, times_bytes, packed_decimal}
@@ -97,8 +97,6 @@ said_layout (field square piece) = Layout.field
 said_layout (times readings) = Layout.times
 said_layout (no_clock absence) = Layout.no_clock
 said_layout (ack answer) = Layout.ack
-said_layout (serial digits) = Layout.serial
-said_layout (version main sub) = Layout.version
 said_layout (carried own body) = Layout.carried
 
 -- a body that says something is laid out as this message
@@ -109,8 +107,6 @@ laid_out (field square piece) body h s = refl
 laid_out (times readings) body h s = rw s (times_laid_out readings h)
 laid_out (no_clock absence) body h s = rw s (absence_laid_out absence.raw absence.status h)
 laid_out (ack answer) body h s = rw s.1 refl
-laid_out (serial digits) body h s = refl
-laid_out (version main sub) body h s = refl
 laid_out (carried own bytes) body h s = rw s h.1
 
 -- six bytes and a status come back
@@ -128,8 +124,6 @@ said_back (field square piece) body h s = rw s (ap (field square) (piece_with_co
 said_back (times readings) body h s = rw (s, same_time readings.first h.0, same_time readings.second h.1) refl
 said_back (no_clock absence) body h s = rw s (ap no_clock (absence_back absence.raw absence.status h.0))
 said_back (ack answer) body h s = rw (← s.2, ← s.3) refl
-said_back (serial digits) body h s = ap serial s
-said_back (version main sub) body h s = rw s refl
 said_back (carried own bytes) body h s = ap (carried own) s
 
 -- the message in the body under a code

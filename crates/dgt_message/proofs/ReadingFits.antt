@@ -7,13 +7,13 @@ use Rattle.std.proofs.lemmas.List.Elements.{All-drop}
 use Rattle.dgt_message.specs.declared.viewing.BodyFault.{BodyFault}
 use Rattle.dgt_message.specs.declared.viewing.BodyFault.TheVariants.{WrongSize}
 use Rattle.dgt_message.specs.declared.message.Message.{Message}
-use Rattle.dgt_message.specs.Code.{known_with}
+use Rattle.dgt_message.specs.Code.{HasSize, known_total, known_with}
 use Rattle.dgt_message.specs.Content.{Content, code_of, content, IsCarried}
-use Rattle.dgt_message.proofs.Sizes.{AllowsBefore, IsRightSize}
+use Rattle.dgt_message.proofs.Sizes.{AllowsBefore}
 use Rattle.dgt_message.specs.Reading.{IsFaultOf, IsFirstBad, Views, fault_of, first_bad_place, reading, said_in}
 use Rattle.std.specs.Option.{option_map_or}
 use Rattle.std.specs.Result.{result_map_both}
-use Rattle.dgt_message.specs.Layout.{Layout, column_of, layout_of, layout_total}
+use Rattle.dgt_message.specs.Layout.{column_at, layout_of}
 use Rattle.dgt_message.specs.Encoding.{Fits, Encodes}
 use Rattle.dgt_message.proofs.AtMostOne.{one_message, one_fault, not_both}
 use Rattle.dgt_message.proofs.BodyFits.{body_fits}
@@ -25,33 +25,33 @@ abbrev Says : ℕ → List ℕ → Result Content BodyFault → Type 0
 Says code body r = MatchResult r (λ said. Fits said code body) (IsFaultOf code body)
 
 -- the fault at the first bad place, or the message if there is none
-abbrev message_or_fault : Layout → ℕ → List ℕ → Option ℕ → Result Content BodyFault
-message_or_fault layout code body found =
-    option_map_or (λ at. Err (fault_of (column_of layout at) at)) found (Ok (said_in layout code body))
+abbrev message_or_fault : ℕ → List ℕ → Option ℕ → Result Content BodyFault
+message_or_fault code body found =
+    option_map_or (λ at. Err (fault_of (column_at code body at) at)) found
+    (Ok (said_in (layout_of code body) code body))
 
 -- so is the fault at the first bad place, or the message if there is none
-by_place : (code : ℕ) (body : List ℕ) → code < 128 → IsCarried body → IsRightSize (layout_of code body) body
-    → (found : Option ℕ)
-    → MatchOption found (AllowsBefore (layout_of code body) body (length body)) (IsFirstBad (layout_of code body) body)
-    → Says code body (message_or_fault (layout_of code body) code body found)
+by_place : (code : ℕ) (body : List ℕ) → code < 128 → IsCarried body → HasSize code body → (found : Option ℕ)
+    → MatchOption found (AllowsBefore (layout_of code body) body (length body)) (IsFirstBad code body)
+    → Says code body (message_or_fault code body found)
 by_place code body small carried size None h = body_fits (known_with code) code body small carried refl size h
-by_place code body small carried size (Some at) h = place_fault (layout_of code body) body at h
+by_place code body small carried size (Some at) h = place_fault code body at h
 
 -- so is the reading
 reading_says : (code : ℕ) (body : List ℕ) → code < 128 → IsCarried body → Says code body (reading code body)
 unfolding reading
 reading_says code body small carried =
-    go (option_map_or (λ total. length body + 3 == total) (layout_total layout) true) refl
+    go (option_map_or (λ total. length body + 3 == total) fixed true) refl
   where
-    layout : Layout
-    layout = layout_of code body
+    fixed : Option ℕ
+    fixed = known_total (known_with code)
 
-    go : (t : Bool) → option_map_or (λ total. length body + 3 == total) (layout_total layout) true ≡ t
-        → Says code body (cond t (message_or_fault layout code body (first_bad_place layout body)) (Err WrongSize))
+    go : (t : Bool) → option_map_or (λ total. length body + 3 == total) fixed true ≡ t
+        → Says code body (cond t (message_or_fault code body (first_bad_place code body)) (Err WrongSize))
     go true e =
-        let size = right_size (layout_total layout) (length body + 3) e in
-        by_place code body small carried size (first_bad_place layout body) (first_bad_place-reports layout body size)
-    go false e = wrong_size (layout_total layout) (length body + 3) e
+        let size = right_size fixed (length body + 3) e in
+        by_place code body small carried size (first_bad_place code body) (first_bad_place-reports code body size)
+    go false e = wrong_size fixed (length body + 3) e
 
 -- what fits is the reading
 said_is : (code : ℕ) (body : List ℕ) (r : Result Content BodyFault) (said : Content) → Says code body r

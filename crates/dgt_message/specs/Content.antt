@@ -1,5 +1,5 @@
 -- What a message says, apart from where its bytes lie in memory.
-use Rattle.std.specs.Prelude.{◌≡◌, ℕ, ◌<◌, ◌≤◌, List, length, map, Option, Some, None}
+use Rattle.std.specs.Prelude.{◌≡◌, ℕ, ◌<◌, ◌≤◌, List, [], ◌∷◌, length, map, Option, Some, None}
 use Rattle.dgt_values.specs.declared.bodies.TheConstants.{MAX_BODY}
 use Rattle.dgt_values.specs.declared.kinds.Kind.{Kind}
 use Rattle.dgt_values.specs.declared.pieces.Piece.{Piece}
@@ -15,7 +15,7 @@ use Rattle.dgt_message.specs.declared.other.OtherCode.{OtherCode}
 use Rattle.dgt_message.specs.declared.readings.Reading.{Reading}
 use Rattle.dgt_message.specs.declared.readings.Status.{Status}
 use Rattle.dgt_message.specs.Clock.{Time, Times as BothTimes, Absence, Answer, ClockState, absence_of, time_of, times_of, AreTimes, IsAbsence, IsAck}
-use Rattle.dgt_message.specs.Code.{known_number, known_with}
+use Rattle.dgt_message.specs.Code.{known_number, known_with, HasSize}
 use Rattle.dgt_message.specs.Layout.{Layout, layout_of}
 
 pub data Content : Type 0 where
@@ -24,11 +24,9 @@ pub data Content : Type 0 where
   times : (readings : BothTimes) → Content
   no_clock : (absence : Absence) → Content
   ack : (answer : Answer) → Content
-  serial : (digits : List ℕ) → Content
-  version : (main sub : ℕ) → Content
   carried : (code : ℕ) (body : List ℕ) → Content
 
--- the body of a known code, carried unread
+-- the body of a known code, carried as it is
 abbrev pub carried_as : KnownCode → List ℕ → Content
 carried_as code body = carried (known_number code) body
 
@@ -61,9 +59,10 @@ content (Message.Field square piece) = field (square_number square) piece
 content (Message.Times readings) = times (times_seen readings)
 content (Message.NoClock absence) = no_clock (absence_seen absence)
 content (Message.Ack answer) = ack (answer_seen answer)
-content (Message.Serial digits) = serial (map number digits)
-content (Message.Version main sub) = version (number main) (number sub)
+content (Message.Serial digits) = carried_as KnownCode.Serial (map number digits)
 content (Message.Trademark body) = carried_as KnownCode.Trademark (body_bytes body)
+content (Message.Version main sub) =
+    carried_as KnownCode.Version (number main ∷ number sub ∷ [])
 content (Message.Battery body) = carried_as KnownCode.Battery (body_bytes body)
 content (Message.LongSerial body) = carried_as KnownCode.LongSerial (body_bytes body)
 content (Message.Other other body) = carried (code_number other) (body_bytes body)
@@ -80,8 +79,6 @@ code_of (field square piece) = known_number KnownCode.Field
 code_of (times readings) = known_number KnownCode.Clock
 code_of (no_clock absence) = known_number KnownCode.Clock
 code_of (ack answer) = known_number KnownCode.Clock
-code_of (serial digits) = known_number KnownCode.Serial
-code_of (version main sub) = known_number KnownCode.Version
 code_of (carried own body) = own
 
 -- the kind of the messages under a code, if they answer a command that has one
@@ -108,7 +105,5 @@ IsMessage (field square piece) = square < 64
 IsMessage (times readings) = AreTimes readings
 IsMessage (no_clock absence) = IsAbsence absence
 IsMessage (ack answer) = IsAck answer
-IsMessage (serial digits) = (length digits ≡ 5) × AreSevenBit digits
-IsMessage (version main sub) = (main < 128) × (sub < 128)
 IsMessage (carried own body) =
-    (own < 128) × (layout_of own body ≡ Layout.carried) × IsCarried body
+    (own < 128) × (layout_of own body ≡ Layout.carried) × HasSize own body × IsCarried body

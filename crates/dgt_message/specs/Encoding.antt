@@ -44,8 +44,6 @@ body_encoding (Content.field square piece) = square ∷ piece_code piece ∷ []
 body_encoding (Content.times readings) = times_bytes readings
 body_encoding (Content.no_clock absence) = absence.raw ++ absence.status ∷ []
 body_encoding (Content.ack answer) = ack_encoding answer
-body_encoding (Content.serial digits) = digits
-body_encoding (Content.version main sub) = main ∷ sub ∷ []
 body_encoding (Content.carried code body) = body
 
 -- the body encodes what the message says: an acknowledgement has several encodings

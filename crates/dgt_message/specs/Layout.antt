@@ -1,5 +1,5 @@
 -- How the body under a code is laid out.
-use Rattle.std.specs.Prelude.{ℕ, ◌==◌, ◌%◌, if◌then◌else◌, List, slice_index, Option, Some, None}
+use Rattle.std.specs.Prelude.{ℕ, ◌==◌, ◌%◌, if◌then◌else◌, List, slice_index, Option, Some}
 use Rattle.dgt_message.specs.declared.known.KnownCode.{KnownCode}
 use Rattle.dgt_message.specs.Clock.{is_marked, says_no_clock}
 use Rattle.dgt_message.specs.Code.{known_with}
@@ -10,8 +10,6 @@ pub data Layout : Type 0 where
   times : Layout
   no_clock : Layout
   ack : Layout
-  serial : Layout
-  version : Layout
   carried : Layout
 
 -- in a body of the clock the marks come before the status
@@ -19,28 +17,15 @@ abbrev pub clock_layout : List ℕ → Layout
 clock_layout body =
     if is_marked body then ack else if says_no_clock (slice_index body 6) then no_clock else times
 
--- by the code, if it has a case; every other body is carried unread
+-- by the code, if its bytes have ranges; every other body is carried as it is
 abbrev pub known_layout : Option KnownCode → List ℕ → Layout
 known_layout (Some KnownCode.Dump) body = dump
 known_layout (Some KnownCode.Clock) body = clock_layout body
 known_layout (Some KnownCode.Field) body = field
-known_layout (Some KnownCode.Serial) body = serial
-known_layout (Some KnownCode.Version) body = version
 known_layout _ body = carried
 
 abbrev pub layout_of : ℕ → List ℕ → Layout
 layout_of code body = known_layout (known_with code) body
-
--- the length of a whole message, if it is fixed
-abbrev pub layout_total : Layout → Option ℕ
-layout_total dump = Some 67
-layout_total field = Some 5
-layout_total times = Some 10
-layout_total no_clock = Some 10
-layout_total ack = Some 10
-layout_total serial = Some 8
-layout_total version = Some 5
-layout_total carried = None
 
 -- what a place in a body holds; sixty is minutes or seconds
 pub data Column : Type 0 where
@@ -57,3 +42,7 @@ column_of dump place = piece
 column_of field place = if place == 0 then square else piece
 column_of times place = if place == 6 then anything else if place % 3 == 0 then hours else sixty
 column_of _ place = anything
+
+-- the column of a place in the body under a code
+abbrev pub column_at : ℕ → List ℕ → ℕ → Column
+column_at code body place = column_of (layout_of code body) place

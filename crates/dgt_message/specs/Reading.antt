@@ -1,17 +1,18 @@
 -- What a code and a body are read as: the message that fits them, or the one fault of the body,
 -- which is its size or else the first byte that its place doesn't allow. The law
 -- `reading_is_exact` ties the computed `reading` to `Fits` and to `IsFaultOf`.
-use Rattle.std.specs.Prelude.{◌≡◌, ◌≢◌, ℕ, zero, suc, ◌+◌, ◌*◌, ◌/◌, ◌%◌, ◌<◌, ◌≤◌, ◌==◌, ◌&&◌}
+use Rattle.std.specs.Prelude.{◌≡◌, ℕ, zero, suc, ◌+◌, ◌*◌, ◌/◌, ◌%◌, ◌<◌, ◌≤◌, ◌==◌, ◌&&◌}
 use Rattle.std.specs.Prelude.{Bool, true, nat_lt, nat_le, if◌then◌else◌, List, [], ◌∷◌, length}
-use Rattle.std.specs.Prelude.{map, take, slice_index, slice_index_or, Option, Some, None, IfSome}
-use Rattle.std.specs.Prelude.{IsSomeAnd, Result, Ok, Err, MatchResult}
+use Rattle.std.specs.Prelude.{map, take, slice_index, slice_index_or, Option, Some, None, Result}
+use Rattle.std.specs.Prelude.{Ok, Err, MatchResult}
 use Rattle.std.specs.Option.{option_map_or, option_or}
 use Rattle.dgt_values.specs.declared.pieces.Piece.{Piece}
 use Rattle.dgt_message.specs.declared.message.Message.{Message}
 use Rattle.dgt_message.specs.declared.viewing.BodyFault.{BodyFault}
 use Rattle.dgt_message.specs.Clock.{Time, absence_of, time_of, times_of}
 use Rattle.dgt_message.specs.Content.{Content, content}
-use Rattle.dgt_message.specs.Layout.{Column, Layout, column_of, layout_of, layout_total}
+use Rattle.dgt_message.specs.Code.{HasSize, known_total, known_with}
+use Rattle.dgt_message.specs.Layout.{Column, Layout, column_at, layout_of}
 use Rattle.dgt_message.specs.Encoding.{ack_in, Fits}
 
 -- a column allows a byte: two digits are packed, with tens in the high four bits
@@ -22,30 +23,25 @@ Allows Column.hours byte = byte % 16 ≤ 9
 Allows Column.sixty byte = (byte / 16 ≤ 5) × (byte % 16 ≤ 9)
 Allows Column.anything byte = Unit {0}
 
-abbrev pub AllowsAt : Layout → List ℕ → ℕ → Type 0
-AllowsAt layout body place = Allows (column_of layout place) (slice_index body place)
+abbrev pub AllowsAt : ℕ → List ℕ → ℕ → Type 0
+AllowsAt code body place = Allows (column_at code body place) (slice_index body place)
 
 -- a body of the right size has its first byte that isn't allowed at this place
-pub record IsFirstBad (layout : Layout) (body : List ℕ) (at : ℕ) : Type 0 where
-  pub size : IfSome (layout_total layout) (λ total. length body + 3 ≡ total)
+pub record IsFirstBad (code : ℕ) (body : List ℕ) (at : ℕ) : Type 0 where
+  pub size : HasSize code body
   pub within : at < length body
-  pub bad : ¬ (AllowsAt layout body at)
-  pub first : (place : ℕ) → place < at → AllowsAt layout body place
-
--- a body that is laid out so has this fault
-abbrev pub HasFault : Layout → List ℕ → BodyFault → Type 0
-HasFault layout body BodyFault.WrongSize =
-    IsSomeAnd (layout_total layout) (λ total. length body + 3 ≢ total)
-HasFault layout body (BodyFault.BadPiece at) =
-    IsFirstBad layout body at × (column_of layout at ≡ Column.piece)
-HasFault layout body (BodyFault.BadSquare at) =
-    IsFirstBad layout body at × (column_of layout at ≡ Column.square)
-HasFault layout body (BodyFault.BadReading at) =
-    IsFirstBad layout body at × (layout ≡ Layout.times)
+  pub bad : ¬ (AllowsAt code body at)
+  pub first : (place : ℕ) → place < at → AllowsAt code body place
 
 -- the body has this fault under this code
 abbrev pub IsFaultOf : ℕ → List ℕ → BodyFault → Type 0
-IsFaultOf code body why = HasFault (layout_of code body) body why
+IsFaultOf code body BodyFault.WrongSize = ¬ (HasSize code body)
+IsFaultOf code body (BodyFault.BadPiece at) =
+    IsFirstBad code body at × (column_at code body at ≡ Column.piece)
+IsFaultOf code body (BodyFault.BadSquare at) =
+    IsFirstBad code body at × (column_at code body at ≡ Column.square)
+IsFaultOf code body (BodyFault.BadReading at) =
+    IsFirstBad code body at × (layout_of code body ≡ Layout.times)
 
 -- the result is what the body says, or why it says nothing
 abbrev pub Views : ℕ → List ℕ → Result Message BodyFault → Type 0
@@ -79,9 +75,6 @@ said_in Layout.no_clock code body =
     Content.no_clock (absence_of (take 6 body) (slice_index body 6))
 said_in Layout.ack code body =
     Content.ack (record { ack = ack_in body; status = slice_index body 6 })
-said_in Layout.serial code body = Content.serial body
-said_in Layout.version code body =
-    Content.version (slice_index body 0) (slice_index body 1)
 said_in Layout.carried code body = Content.carried code body
 
 -- whether a column allows a byte
@@ -98,9 +91,9 @@ first_failure test zero = None
 first_failure test (suc n) = option_or (first_failure test n) (if test n then None else Some n)
 
 -- the first place in a body that doesn't allow its byte
-abbrev pub first_bad_place : Layout → List ℕ → Option ℕ
-first_bad_place layout body = first_failure
-    (λ place. is_allowed (column_of layout place) (slice_index body place)) (length body)
+abbrev pub first_bad_place : ℕ → List ℕ → Option ℕ
+first_bad_place code body = first_failure
+    (λ place. is_allowed (column_at code body place) (slice_index body place)) (length body)
 
 -- the fault of a byte that this column doesn't allow
 abbrev pub fault_of : Column → ℕ → BodyFault
@@ -111,8 +104,7 @@ fault_of _ at = BodyFault.BadReading at
 -- the fault of a wrong size, or else that of the first bad place, or else the message
 unfoldable pub reading : ℕ → List ℕ → Result Content BodyFault
 reading code body =
-    let layout : Layout = layout_of code body in
-    if option_map_or (λ total. length body + 3 == total) (layout_total layout) true
-    then option_map_or (λ at. Err (fault_of (column_of layout at) at))
-    (first_bad_place layout body) (Ok (said_in layout code body))
+    if option_map_or (λ total. length body + 3 == total) (known_total (known_with code)) true
+    then option_map_or (λ at. Err (fault_of (column_at code body at) at))
+    (first_bad_place code body) (Ok (said_in (layout_of code body) code body))
     else Err BodyFault.WrongSize

@@ -109,6 +109,7 @@ pub fn encoded_is_read()
 
 /// A body of another length than its code fixes has a wrong size. A dump has 64 bytes, a message of
 /// the clock 7, a field 2, a serial number 5 and a version 2.
+#[tactic(auto, using(crate::proofs::OtherBodies::other_size))]
 pub fn one_size()
     ensures dump { (body : List ℕ) → length body ≢ 64
         → reading 0x06 body ≡ Err BodyFault.WrongSize }

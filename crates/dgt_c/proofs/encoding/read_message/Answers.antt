@@ -1,9 +1,9 @@
-use Rattle.std.proofs.Common.{arith}
+use Rattle.std.proofs.Common.{arith, rules}
 use Rattle.dgt_c.proofs.EncodingLemmas.{no_clock, no_dump, no_message}
 use Rattle.dgt_c.proofs.encoding.read_message.Goals as goal
 
 pub returns-in_default : goal.returns-in_default
-returns-in_default c = no_message c.args.said.now c.args.body.now (λ least most. omega (arith, least, most))
+returns-in_default c = no_message c.args.said.now c.args.body.now (search rules)
 
 pub returns-in_err-read_position-in-1 : goal.returns-in_err-read_position-in-1
 returns-in_err-read_position-in-1 c =

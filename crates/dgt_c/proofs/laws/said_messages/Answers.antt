@@ -1,6 +1,7 @@
-use Rattle.std.proofs.Common.{subst, sym}
+use Rattle.std.proofs.Common.{◌∙◌, refl, subst, sym}
 use Rattle.dgt_c.specs.Encoding.{IsMessageKind}
-use Rattle.dgt_c.proofs.EncodingLemmas.{message_kinds}
+use Rattle.dgt_message.specs.Code.{known_with}
+use Rattle.dgt_c.proofs.EncodingLemmas.{message_kinds, said_apart}
 use Rattle.dgt_c.proofs.laws.said_messages.Goals as goal
 
 pub returns-clause-kinds : goal.returns-clause-kinds
@@ -19,13 +20,14 @@ pub returns-clause-no_clock : goal.returns-clause-no_clock
 returns-clause-no_clock c = λ said body absence p. (p.0, p.1.2)
 
 pub returns-clause-serial : goal.returns-clause-serial
-returns-clause-serial c = λ said body digits p. (p.0, sym p.1)
+returns-clause-serial c = λ said body digits p. (p.0, sym p.1.1)
 
 pub returns-clause-version : goal.returns-clause-version
-returns-clause-version c = λ said body first second p. (p.0, sym p.1.0, sym p.1.1)
+returns-clause-version c = λ said body first second p. (p.0, let same = p.1.1 in cc, let same = p.1.1 in cc)
 
 pub returns-clause-carried : goal.returns-clause-carried
-returns-clause-carried c = λ said body bytes code p. p.1.1
+returns-clause-carried c = λ said body bytes code serial version p.
+    p.1.1 ∙ said_apart c.a_number_has_one_code.ensures said body code serial version (known_with code) refl
 
 pub returns-clause-other : goal.returns-clause-other
 returns-clause-other c = λ said body bytes code kind p. p.1.0 kind
