@@ -1,11 +1,11 @@
 //! The words for what a board sends.
 
-ghost use Rattle.std.specs.Prelude.{◌≡◌, ◌≢◌, ◌+◌, ◌<◌, ◌≤◌, ℕ, List, [], ◌++◌, ◌∷◌, length, decimal, map};
+ghost use Rattle.std.specs.Prelude.{◌≡◌, ◌≢◌, ◌+◌, ◌<◌, ◌≤◌, ℕ, List, [], ◌++◌, ◌∷◌, codes, length, decimal, map};
 ghost use Rattle.dgt_values.specs.Bytes.{number};
-ghost use Rattle.dgt_values.specs.Board.{square_number};
+ghost use Rattle.dgt_values.specs.Board.{pieces_of, square_number};
 ghost use Rattle.dgt_message.specs.declared.known.KnownCode.{KnownCode};
 ghost use Rattle.dgt_message.specs.Content.{carried_as, clock_message, clock_seen, content, absence_seen, answer_seen, time_seen, times_seen};
-ghost use Rattle.dgt_message.specs.Content.Content.{field, times, no_clock, ack};
+ghost use Rattle.dgt_message.specs.Content.Content.{dump, field, times, no_clock, ack};
 ghost use Rattle.dgt_decode.specs.Grammar.{Cut, Refused, Stray};
 ghost use Rattle.dgt_decode.specs.Feeding.{event_content, event_found_in};
 ghost use Rattle.dgt_lines.specs.Lines.{byte_text, event_text, fault_text, message_text, reading_text};
@@ -15,7 +15,7 @@ use crate::clocks::time_text;
 use crate::gathering::Outgoing;
 use dgt_decode::{Event, Found};
 use dgt_message::{BodyFault, Clock, ClockAck, Message, NoClock, Reading, Times, serial_bytes};
-use dgt_values::{Body, Piece, SevenBit, Square};
+use dgt_values::{Body, Piece, Position, SevenBit, Square};
 
 /// Adds the text of an event up to the bytes that it carries, and answers these.
 #[tactic(auto, unfolding(crate::specs::Lines::event_text))]
@@ -85,21 +85,13 @@ fn push_message<'a, const ROOM: usize>(
     ensures room { length text.new < ROOM }
 {
     match message {
-        Message::Dump(position) => {
-            text.push(b"dump ");
-            text.push(position.placement().as_bytes());
-        }
+        Message::Dump(position) => push_dump(text, position),
         Message::Field { square, piece } => push_field(text, *square, *piece),
         Message::Times(times) => push_times(text, *times),
         Message::NoClock(absence) => push_absence(text, *absence),
         Message::Ack(answer) => push_ack(text, *answer),
         Message::Serial(digits) => push_serial(text, digits),
-        Message::Version { main, sub } => {
-            text.push(b"version ");
-            text.push_decimal(main.get() as u64, 1);
-            text.push(b".");
-            text.push_decimal(sub.get() as u64, 1);
-        }
+        Message::Version { main, sub } => push_version(text, *main, *sub),
         Message::Trademark(body) => {
             text.push(b"trademark ");
             return Some(*body);
@@ -113,13 +105,46 @@ fn push_message<'a, const ROOM: usize>(
             return Some(*body);
         }
         Message::Other { code, body } => {
-            text.push(b"other ");
-            text.push_hex(&[code.get().get()]);
-            text.push(b" ");
+            push_other(text, code.get());
             return Some(*body);
         }
     }
     None
+}
+
+#[tactic(auto, unfolding(crate::specs::Lines::message_text))]
+fn push_dump<const ROOM: usize>(text: &mut Outgoing<ROOM>, position: &Position)
+    requires { length text.old + 100 ≤ ROOM }
+    ensures text { text.new ≡ text.old ++ message_text (dump (pieces_of position.now)) }
+    ensures room { length text.new < ROOM }
+{
+    text.push(b"dump ");
+    text.push(position.placement().as_bytes());
+}
+
+#[tactic(auto, unfolding(crate::specs::Lines::message_text))]
+fn push_version<const ROOM: usize>(text: &mut Outgoing<ROOM>, main: SevenBit, sub: SevenBit)
+    requires { length text.old + 100 ≤ ROOM }
+    ensures text { text.new ≡ text.old
+        ++ message_text (carried_as KnownCode.Version (number main ∷ number sub ∷ [])) }
+    ensures room { length text.new < ROOM }
+{
+    text.push(b"version ");
+    text.push_decimal(main.get() as u64, 1);
+    text.push(b".");
+    text.push_decimal(sub.get() as u64, 1);
+}
+
+// Adds the text of a code without a name, up to the bytes that follow it.
+fn push_other<const ROOM: usize>(text: &mut Outgoing<ROOM>, code: SevenBit)
+    requires { length text.old + 100 ≤ ROOM }
+    ensures text { text.new ≡ text.old
+        ++ (codes "other " ++ (byte_text (number code) ++ codes " ")) }
+    ensures room { length text.new < ROOM }
+{
+    text.push(b"other ");
+    text.push_hex(&[code.get()]);
+    text.push(b" ");
 }
 
 /// Adds the text of what stands on a square.
