@@ -4,7 +4,7 @@ use Rattle.std.proofs.Math.Seq.{take-add}
 use Rattle.std.proofs.lemmas.Bool.{cases_lt}
 use Rattle.std.proofs.lemmas.Grind.{flat_map-append}
 use Rattle.std.proofs.lemmas.List.{drop-drop, drop-set-lt, length-append, length-drop, length-set, length-take, map-append, nil_from_length, take-append-drop, take_all, take_more_set}
-use Rattle.dgt_decode.specs.Grammar.{Event, Placed, at_place, events, events_behind, unfinished_message}
+use Rattle.dgt_decode.specs.Grammar.{Event, Placed, at_place, events, shifted, unfinished_message}
 use Rattle.dgt_decode.specs.Feeding.{FirstEvent, event_content, event_content_if_any}
 use Rattle.dgt_decode.specs.declared.event.Event as code
 use Rattle.dgt_decode.specs.Laws.{EventsAppend, UnfinishedAppend, UnfinishedIsPart, UnfinishedIsQuiet}
@@ -20,7 +20,7 @@ use Rattle.dgt_c.specs.declared.header.DgtEvent.{DgtEvent}
 -- what more bytes make comes after what was made
 events_more : EventsAppend → (held chunk : List ℕ) (i n : ℕ) → let s = held ++ take i chunk in
     events_up_to held chunk (i + n) ≡ events_up_to held chunk i
-    ++ events_behind (length s - length (unfinished_message s)) (events (unfinished_message s ++ take n (drop i chunk)))
+    ++ shifted (length s - length (unfinished_message s)) (events (unfinished_message s ++ take n (drop i chunk)))
 events_more later held chunk i n =
     ap (λ xs. events (held ++ xs)) (take-add i n chunk)
     ∙ ap events (sym (append_assoc held (take i chunk) (take n (drop i chunk))))
@@ -33,7 +33,7 @@ quiet : EventsAppend → (held chunk : List ℕ) (i n : ℕ)
 quiet later held chunk i n none =
     let s : List ℕ = held ++ take i chunk in
     events_more later held chunk i n
-    ∙ ap (λ xs. events_up_to held chunk i ++ events_behind (length s - length (unfinished_message s)) xs) none
+    ∙ ap (λ xs. events_up_to held chunk i ++ shifted (length s - length (unfinished_message s)) xs) none
     ∙ append-nil (events_up_to held chunk i)
 
 prefix_nil : {X : Type 0} (xs ys : List X) → xs ++ ys ≡ [] → xs ≡ []
@@ -90,7 +90,7 @@ one_used later held chunk i n event (within, made, least) =
     let s : List ℕ = held ++ take i chunk in
     events_more later held chunk i n
     ∙ ap (λ (xs : List Placed).
-    events_up_to held chunk i ++ events_behind (length s - length (unfinished_message s)) xs) made
+    events_up_to held chunk i ++ shifted (length s - length (unfinished_message s)) xs) made
 
 -- ---- A loop over a chunk
 

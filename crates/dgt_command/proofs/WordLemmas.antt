@@ -6,7 +6,7 @@ use Rattle.std.proofs.lemmas.List.{append_cancel_left, take_at, get_or_push, len
 use Rattle.std.specs.Prelude.{◌==◌, slice_index, if◌then◌else◌}
 use Rattle.dgt_command.specs.declared.command.Command.{Command}
 use Rattle.dgt_command.specs.Content.{command_content, ClockContent, CommandContent, ClockMessage, Leds, EventContent, Read, BadSize, BadStart, BadEnd, Stray}
-use Rattle.dgt_command.specs.Encoding.{bare_command, behind_code, command_encoding}
+use Rattle.dgt_command.specs.Encoding.{bare_command, after_code, command_encoding}
 use Rattle.dgt_command.specs.Lengths.{word_length}
 use Rattle.dgt_command.specs.Words.{BeginsNoCommand, HasForm}
 use Rattle.dgt_command.proofs.CodeLemmas.{bare_form, no_command}
@@ -23,13 +23,13 @@ nothing = record { id = 0; payload = [] }
 not_clock : (b : ℕ) → BeginsNoCommand b → (b == 0x2b) ≡ false
 not_clock b h =
     ne_eqb b 0x2b
-    (λ e. h (ClockMessage nothing) (behind_code (ClockMessage nothing))
-    (ap (λ (x : ℕ). x ∷ behind_code (ClockMessage nothing)) (sym e)))
+    (λ e. h (ClockMessage nothing) (after_code (ClockMessage nothing))
+    (ap (λ (x : ℕ). x ∷ after_code (ClockMessage nothing)) (sym e)))
 
 -- nor an LED frame
 not_leds : (b : ℕ) → BeginsNoCommand b → (b == 0x60) ≡ false
 not_leds b h =
-    ne_eqb b 0x60 (λ e. h (Leds []) (behind_code (Leds [])) (ap (λ (x : ℕ). x ∷ behind_code (Leds [])) (sym e)))
+    ne_eqb b 0x60 (λ e. h (Leds []) (after_code (Leds [])) (ap (λ (x : ℕ). x ∷ after_code (Leds [])) (sym e)))
 
 -- the frame that a list begins with has this length
 encoding_length : (c : CommandContent) (x : List ℕ) → word_length (command_encoding c ++ x) ≡ length

@@ -25,14 +25,14 @@ command_code Version = 0x4d
 command_code LongSerial = 0x55
 command_code (Leds leds) = 0x60
 
-abbrev pub behind_code : CommandContent → List ℕ
-behind_code (ClockMessage message) =
+abbrev pub after_code : CommandContent → List ℕ
+after_code (ClockMessage message) =
     (length message.payload + 3) ∷ 0x03 ∷ message.id ∷ (message.payload ++ 0x00 ∷ [])
-behind_code (Leds leds) = length leds ∷ leds
-behind_code _ = []
+after_code (Leds leds) = length leds ∷ leds
+after_code _ = []
 
 abbrev pub command_encoding : CommandContent → List ℕ
-command_encoding command = command_code command ∷ behind_code command
+command_encoding command = command_code command ∷ after_code command
 
 pub record EncodesCommand (command : CommandContent) (bytes : List ℕ) : Type 0 where
   pub are_bytes : AreBytes bytes

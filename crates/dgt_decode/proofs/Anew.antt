@@ -2,9 +2,9 @@
 use Rattle.std.proofs.Common.{◌≡◌, ℕ, ◌+◌, ◌-◌, ◌≤◌, List, ◌∷◌, ◌++◌, length, true, refl, sym, ap, ◌∙◌, arith}
 use Rattle.std.proofs.lemmas.List.{append-nil}
 use Rattle.std.proofs.lemmas.Bool.{le-leb}
-use Rattle.dgt_decode.specs.Grammar.{Placed, events_behind, has_top_bit, cut_of, events, unfinished_message}
+use Rattle.dgt_decode.specs.Grammar.{Placed, shifted, has_top_bit, cut_of, events, unfinished_message}
 use Rattle.dgt_decode.specs.Laws.{BeginsAnew}
-use Rattle.dgt_decode.proofs.Places.{events_behind-events_behind, events_behind-zero}
+use Rattle.dgt_decode.proofs.Places.{shifted-shifted, shifted-zero}
 use Rattle.dgt_decode.proofs.Cuts.{lead-append, segments-append}
 use Rattle.dgt_decode.proofs.Appending.{events-append}
 use Rattle.dgt_decode.proofs.UnfinishedLemmas.{IsUnfinished, nothing, waiting, IsUnfinished-unfinished, length-unfinished, unfinished-append}
@@ -13,11 +13,11 @@ has_top : (b : ℕ) → 128 ≤ b → has_top_bit b ≡ true
 has_top b top = le-leb 128 b top
 
 -- after one segment with no verdict
-events_behind_unfinished : (o : List ℕ) → IsUnfinished o → (b : ℕ) (p : List ℕ) → 128 ≤ b
-    → events (o ++ b ∷ p) ≡ events_behind (length o) (cut_of o ++ events (b ∷ p))
+shifted_unfinished : (o : List ℕ) → IsUnfinished o → (b : ℕ) (p : List ℕ) → 128 ≤ b
+    → events (o ++ b ∷ p) ≡ shifted (length o) (cut_of o ++ events (b ∷ p))
 unfolding events
-events_behind_unfinished o nothing b p top = sym (events_behind-zero (events (b ∷ p)))
-events_behind_unfinished o (waiting g alone e) b p top =
+shifted_unfinished o nothing b p top = sym (shifted-zero (events (b ∷ p)))
+shifted_unfinished o (waiting g alone e) b p top =
     rw (
       lead-append g (b ∷ p),
       segments-append g (b ∷ p),
@@ -25,8 +25,8 @@ events_behind_unfinished o (waiting g alone e) b p top =
       alone.one,
       has_top b top,
       append-nil g,
-      events_behind-zero,
-      events_behind-zero,
+      shifted-zero,
+      shifted-zero,
     )
     (rw e refl)
 
@@ -43,10 +43,10 @@ begins_anew s p b top =
     let here : length s - length o + length o ≡ length s = omega (arith, length-unfinished s) in
     let reported : List Placed = cut_of (unfinished_message s) ++ events (b ∷ p) in (
       events-append s (b ∷ p)
-          ∙ ap (λ (zs : List Placed). events s ++ events_behind (length s - length o) zs)
-          (events_behind_unfinished o (IsUnfinished-unfinished s) b p top)
+          ∙ ap (λ (zs : List Placed). events s ++ shifted (length s - length o) zs)
+          (shifted_unfinished o (IsUnfinished-unfinished s) b p top)
           ∙ ap (λ (zs : List Placed). events s ++ zs)
-          (events_behind-events_behind (length s - length o) (length o) reported
-          ∙ ap (λ (n : ℕ). events_behind n reported) here),
+          (shifted-shifted (length s - length o) (length o) reported
+          ∙ ap (λ (n : ℕ). shifted n reported) here),
       unfinished-append s (b ∷ p) ∙ unfinished_behind_unfinished o (IsUnfinished-unfinished s) b p top,
     )

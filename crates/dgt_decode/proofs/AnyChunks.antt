@@ -4,12 +4,12 @@ use Rattle.std.proofs.lemmas.List.{append-nil, append_cancel_left, length-append
 use Rattle.std.proofs.Math.Seq.{take-length}
 use Rattle.dgt_message.specs.Content.{Content, IsMessage}
 use Rattle.dgt_message.specs.Encoding.{encoding}
-use Rattle.dgt_decode.specs.Grammar.{Event, Message, Placed, at_place, events_behind, cut_of, events, unfinished_message}
+use Rattle.dgt_decode.specs.Grammar.{Event, Message, Placed, at_place, shifted, cut_of, events, unfinished_message}
 use Rattle.dgt_decode.specs.Feeding.{FirstEvent, at_place_if_any}
 use Rattle.dgt_decode.specs.Laws.{Call, AreCalls, used_bytes, events_in_chunks}
 use Rattle.dgt_decode.proofs.Appending.{events-append}
 use Rattle.dgt_decode.proofs.UnfinishedLemmas.{unfinished-append, length-unfinished}
-use Rattle.dgt_decode.proofs.Loops.{events_behind-at_place_if_any}
+use Rattle.dgt_decode.proofs.Loops.{shifted-at_place_if_any}
 use Rattle.dgt_decode.proofs.Encoded.{AreRead, AreEncoded, encoding_is_read}
 
 -- no more bytes are used than the chunk has
@@ -31,10 +31,10 @@ call_reported s call first =
     let place : length s - length o + (length o + call.used) ≡ length s + call.used =
     omega (arith, length-unfinished s) in
     events-append s (take call.used call.chunk)
-    ∙ ap (λ (xs : List Placed). events s ++ events_behind (length s - length o) xs)
+    ∙ ap (λ (xs : List Placed). events s ++ shifted (length s - length o) xs)
     (first_reported o call.chunk call.used call.event first)
     ∙ ap (λ (xs : List Placed). events s ++ xs)
-    (events_behind-at_place_if_any (length s - length o) (length o + call.used)
+    (shifted-at_place_if_any (length s - length o) (length o + call.used)
     (length s + call.used) call.event place)
 
 -- by induction: each call goes on if the one before it stopped
@@ -57,10 +57,10 @@ in_any_chunks s (call ∷ calls) are =
 -- what is reported in chunks is reported of the whole
 pub encoding_in_chunks : AreRead → AreEncoded → (s : List ℕ) (said : Content) (calls : List Call)
     → IsMessage said → AreCalls (unfinished_message s) calls → used_bytes calls ≡ encoding said
-    → events_in_chunks (length s) calls ≡ events_behind (length s) (cut_of (unfinished_message s)) ++ at_place
+    → events_in_chunks (length s) calls ≡ shifted (length s) (cut_of (unfinished_message s)) ++ at_place
     (length s + length (encoding said)) (Message said) ∷ []
 encoding_in_chunks reads encoded s said calls is are same =
-    let cut = events_behind (length s) (cut_of (unfinished_message s)) in
+    let cut = shifted (length s) (cut_of (unfinished_message s)) in
     let reported = cut ++ at_place (length s + length (encoding said)) (Message said) ∷ [] in
     append_cancel_left (events s) (events_in_chunks (length s) calls) reported (
     sym (in_any_chunks s calls are)

@@ -2,8 +2,8 @@
 use Rattle.std.proofs.Common.{◌≡◌, ℕ, suc, ◌+◌, ◌-◌, ◌≤◌, Bool, true, false, cond, List, [], ◌∷◌, ◌++◌, length, drop, Option, Some, None, refl, sym, ap, ◌∙◌, append_assoc, arith}
 use Rattle.std.proofs.lemmas.List.{append-nil, length-append, drop-append-le, length-drop}
 use Rattle.std.proofs.lemmas.Bool.{le-leb, lt-leb, leb-true, leb-false}
-use Rattle.dgt_decode.specs.Grammar.{Placed, events_behind, strays, has_top_bit, lead, segments, verdict, unfinished_part, cut_of, cut_before, segments_events, unfinished_segment, events, unfinished_message}
-use Rattle.dgt_decode.proofs.Places.{events_behind-append, events_behind-events_behind, events_behind-zero, strays-append}
+use Rattle.dgt_decode.specs.Grammar.{Placed, shifted, strays, has_top_bit, lead, segments, verdict, unfinished_part, cut_of, cut_before, segments_events, unfinished_segment, events, unfinished_message}
+use Rattle.dgt_decode.proofs.Places.{shifted-append, shifted-shifted, shifted-zero, strays-append}
 use Rattle.dgt_decode.proofs.Cuts.{lead_with, segments_with, lead-append, segments-append}
 use Rattle.dgt_decode.proofs.Verdicts.{verdict-append}
 use Rattle.dgt_decode.proofs.SevenBit.{SevenByRecursion}
@@ -109,21 +109,21 @@ cut_before-with p g (h ∷ gs) u = refl
 
 -- places after a message, and after its segment
 regroup : (place d n l : ℕ) (a b e : List Placed) → place + d ≡ n
-    → events_behind place (a ++ events_behind d b) ++ events_behind (n + l) e ≡ events_behind place a ++ events_behind
-    n (b ++ events_behind l e)
+    → shifted place (a ++ shifted d b) ++ shifted (n + l) e ≡ shifted place a ++ shifted
+    n (b ++ shifted l e)
 regroup place d n l a b e same =
     rw (
-      events_behind-append place a (events_behind d b),
-      events_behind-events_behind place d b,
+      shifted-append place a (shifted d b),
+      shifted-shifted place d b,
       same,
-      events_behind-append n b (events_behind l e),
-      events_behind-events_behind n l e,
+      shifted-append n b (shifted l e),
+      shifted-shifted n l e,
     )
-    (append_assoc (events_behind place a) (events_behind n b) (events_behind (n + l) e))
+    (append_assoc (shifted place a) (shifted n b) (shifted (n + l) e))
 
 -- more bytes after a last segment that is finished
 last-finished : (g p : List ℕ) (x : Placed) → verdict g ≡ Some x
-    → segments_events ((g ++ lead p) ∷ segments p) ≡ segments_events (g ∷ []) ++ events_behind (length g) (events p)
+    → segments_events ((g ++ lead p) ∷ segments p) ≡ segments_events (g ∷ []) ++ shifted (length g) (events p)
 unfolding events
 last-finished g p x e =
     let stays = verdict-append g (lead p) x e in
@@ -138,7 +138,7 @@ last-finished g p x e =
           (drop x.place g) (lead p),
       length-append g (lead p),
       append-nil
-          (events_behind x.place (strays (drop x.place g))),
+          (shifted x.place (strays (drop x.place g))),
     )
     (ap (λ (zs : List Placed). x ∷ zs)
     (regroup x.place (length (drop x.place g)) (length g) (length (lead p)) (strays (drop x.place g))
@@ -146,34 +146,34 @@ last-finished g p x e =
 
 -- more bytes after a last segment that is unfinished
 last-unfinished : (g p : List ℕ) → IsAlone g → verdict g ≡ None
-    → segments_events ((g ++ lead p) ∷ segments p) ≡ segments_events (g ∷ []) ++ events_behind 0 (events (g ++ p))
+    → segments_events ((g ++ lead p) ∷ segments p) ≡ segments_events (g ∷ []) ++ shifted 0 (events (g ++ p))
 unfolding events
 last-unfinished g p alone e =
-    rw (lead-append g p, segments-append g p, alone.no_lead, alone.one, e) (simp events_behind-zero)
+    rw (lead-append g p, segments-append g p, alone.no_lead, alone.one, e) (simp shifted-zero)
 
 -- more bytes after segments
 pub segments_events-with : (p g : List ℕ) (gs : List (List ℕ)) → AreAlone (g ∷ gs)
-    → segments_events (segments_with p (g ∷ gs)) ≡ segments_events (g ∷ gs) ++ events_behind (settled_of (g ∷ gs))
+    → segments_events (segments_with p (g ∷ gs)) ≡ segments_events (g ∷ gs) ++ shifted (settled_of (g ∷ gs))
     (events (unfinished_segment (g ∷ gs) ++ p))
 segments_events-with p g [] alone = go (verdict g) refl
   where
     go : (v : Option Placed) → verdict g ≡ v
-        → segments_events ((g ++ lead p) ∷ segments p) ≡ segments_events (g ∷ []) ++ events_behind (settled_by v g)
+        → segments_events ((g ++ lead p) ∷ segments p) ≡ segments_events (g ∷ []) ++ shifted (settled_by v g)
         (events (unfinished_part v g ++ p))
     go None e = last-unfinished g p alone.0 e
     go (Some x) e = last-finished g p x e
 segments_events-with p g (h ∷ gs) alone =
     rw (cut_before-with p h gs (unfinished_part (verdict g) g), segments_events-with p h gs alone.1)
-    (simp (events_behind-append, events_behind-events_behind, append_assoc))
+    (simp (shifted-append, shifted-shifted, append_assoc))
 
 -- the events of a list by its cut
 abbrev events_by_cut : List ℕ → List (List ℕ) → List Placed
-events_by_cut prefix gs = strays prefix ++ events_behind (length prefix) (segments_events gs)
+events_by_cut prefix gs = strays prefix ++ shifted (length prefix) (segments_events gs)
 
 -- more bytes after a lead and segments
 events_by_cut-with : (p prefix : List ℕ) (gs : List (List ℕ)) → AreAlone gs
     → events_by_cut (lead_with p prefix gs) (segments_with p gs)
-    ≡ events_by_cut prefix gs ++ events_behind (length prefix + settled_of gs) (events (unfinished_segment gs ++ p))
+    ≡ events_by_cut prefix gs ++ shifted (length prefix + settled_of gs) (events (unfinished_segment gs ++ p))
 unfolding events
 events_by_cut-with p prefix [] alone =
     let same : length prefix + 0 ≡ length prefix = omega arith in
@@ -181,24 +181,24 @@ events_by_cut-with p prefix [] alone =
       strays-append prefix (lead p),
       length-append prefix (lead p),
       same,
-      events_behind-append (length prefix)
-          (strays (lead p)) (events_behind (length (lead p)) (segments_events (segments p))),
-      events_behind-events_behind
+      shifted-append (length prefix)
+          (strays (lead p)) (shifted (length (lead p)) (segments_events (segments p))),
+      shifted-shifted
           (length prefix) (length (lead p)) (segments_events (segments p)),
       append-nil (strays prefix),
     )
-    (append_assoc (strays prefix) (events_behind (length prefix) (strays (lead p)))
-    (events_behind (length prefix + length (lead p)) (segments_events (segments p))))
+    (append_assoc (strays prefix) (shifted (length prefix) (strays (lead p)))
+    (shifted (length prefix + length (lead p)) (segments_events (segments p))))
 events_by_cut-with p prefix (g ∷ gs) alone =
     rw (
       segments_events-with p g gs alone,
-      events_behind-append (length prefix) (segments_events (g ∷ gs))
-          (events_behind (settled_of (g ∷ gs)) (events (unfinished_segment (g ∷ gs) ++ p))),
-      events_behind-events_behind
+      shifted-append (length prefix) (segments_events (g ∷ gs))
+          (shifted (settled_of (g ∷ gs)) (events (unfinished_segment (g ∷ gs) ++ p))),
+      shifted-shifted
           (length prefix) (settled_of (g ∷ gs)) (events (unfinished_segment (g ∷ gs) ++ p)),
     )
-    (sym (append_assoc (strays prefix) (events_behind (length prefix) (segments_events (g ∷ gs)))
-    (events_behind (length prefix + settled_of (g ∷ gs)) (events (unfinished_segment (g ∷ gs) ++ p)))))
+    (sym (append_assoc (strays prefix) (shifted (length prefix) (segments_events (g ∷ gs)))
+    (shifted (length prefix + settled_of (g ∷ gs)) (events (unfinished_segment (g ∷ gs) ++ p)))))
 
 -- how many bytes stand before the unfinished message
 pub settled : (s : List ℕ) → length s - length (unfinished_message s) ≡ length (lead s) + settled_of (segments s)
@@ -206,7 +206,7 @@ unfolding unfinished_message
 settled s = omega (arith, settled-unfinished (segments s), length-cut s)
 
 -- more bytes after a list, with the place by its cut
-events-append_by_cut : (s p : List ℕ) → events (s ++ p) ≡ events s ++ events_behind
+events-append_by_cut : (s p : List ℕ) → events (s ++ p) ≡ events s ++ shifted
     (length (lead s) + settled_of (segments s)) (events (unfinished_message s ++ p))
 unfolding events unfinished_message
 events-append_by_cut s p =
@@ -214,6 +214,6 @@ events-append_by_cut s p =
 
 -- Later bytes change no event, and need only what is unfinished.
 pub events-append : (s p : List ℕ) → events (s ++ p) ≡ events s
-    ++ events_behind (length s - length (unfinished_message s))
+    ++ shifted (length s - length (unfinished_message s))
     (events (unfinished_message s ++ p))
 events-append s p = rw (settled s) (events-append_by_cut s p)

@@ -4,11 +4,11 @@ use Rattle.std.proofs.lemmas.List.{append-nil, length-append, length-drop, lengt
 use Rattle.std.proofs.lemmas.Bool.{cases_lt}
 use Rattle.std.proofs.Math.Seq.{drop-length, take-add}
 use Rattle.std.specs.List.{FoldsTo, concat}
-use Rattle.dgt_decode.specs.Grammar.{Event, Placed, at_place, events, events_behind, unfinished_message, segment_events, verdict}
+use Rattle.dgt_decode.specs.Grammar.{Event, Placed, at_place, events, shifted, unfinished_message, segment_events, verdict}
 use Rattle.dgt_decode.specs.Feeding.{FirstEvent, at_place_if_any, chunk_events}
 use Rattle.dgt_decode.specs.Laws.{Call, UnfinishedIsQuiet, ChunksAdd, events_of_chunks}
 use Rattle.dgt_decode.proofs.AnyChunks.{call_reported}
-use Rattle.dgt_decode.proofs.Places.{events_behind-append, events_behind-events_behind, events_behind-zero}
+use Rattle.dgt_decode.proofs.Places.{shifted-append, shifted-shifted, shifted-zero}
 use Rattle.dgt_decode.proofs.Appending.{events-append}
 use Rattle.dgt_decode.proofs.UnfinishedLemmas.{IsUnfinished, nothing, waiting, IsUnfinished-unfinished, events-of_unfinished, length-unfinished, unfinished-append}
 use Rattle.dgt_decode.proofs.Steps.{IsHeld, IsHeld-unfinished, next-begins, next-seven, verdict-new}
@@ -16,7 +16,7 @@ use Rattle.dgt_decode.proofs.Steps.{IsHeld, IsHeld-unfinished, next-begins, next
 -- These are events after n bytes.
 record IsBehind (n : ℕ) (reported : List Placed) : Type 0 where
   early : List Placed
-  is : reported ≡ events_behind n early
+  is : reported ≡ shifted n early
 
 -- an event at the byte that follows
 behind_one : (n m : ℕ) (event : Event) → m ≡ n + 1 → IsBehind n (at_place m event ∷ [])
@@ -38,7 +38,7 @@ behind_verdict h b e (Some x) f =
 behind_byte_held : (held : List ℕ) (b : ℕ) → IsHeld held → IsUnfinished held
     → IsBehind (length held) (events (held ++ b ∷ []))
 behind_byte_held held b h nothing =
-    record { early = events (b ∷ []); is = sym (events_behind-zero (events (b ∷ []))) }
+    record { early = events (b ∷ []); is = sym (shifted-zero (events (b ∷ []))) }
 behind_byte_held held b h (waiting [] alone e) = absurd (let no = alone.one in cc)
 behind_byte_held held b h (waiting (x ∷ g) alone e) =
     let some : 0 < length (x ∷ g) = omega arith in
@@ -52,7 +52,7 @@ behind_byte_held held b h (waiting (x ∷ g) alone e) =
 -- what more bytes make after any
 record AreBehind (s p : List ℕ) : Type 0 where
   early : List Placed
-  is : events (s ++ p) ≡ events s ++ events_behind (length s) early
+  is : events (s ++ p) ≡ events s ++ shifted (length s) early
 
 -- one byte
 one_behind : (s : List ℕ) (b : ℕ) → AreBehind s (b ∷ [])
@@ -63,10 +63,10 @@ one_behind s b =
     record {
       early = byte.early;
       is = events-append s (b ∷ [])
-          ∙ ap (λ (xs : List Placed). events s ++ events_behind (length s - length o) xs) byte.is
+          ∙ ap (λ (xs : List Placed). events s ++ shifted (length s - length o) xs) byte.is
           ∙ ap (λ (xs : List Placed). events s ++ xs)
-          (events_behind-events_behind (length s - length o) (length o) byte.early
-          ∙ ap (λ (n : ℕ). events_behind n byte.early) place);
+          (shifted-shifted (length s - length o) (length o) byte.early
+          ∙ ap (λ (n : ℕ). shifted n byte.early) place);
     }
 
 -- any bytes, one after another
@@ -77,16 +77,16 @@ all_behind s (b ∷ p) =
     let later = all_behind (s ++ b ∷ []) p in
     let count : length (s ++ b ∷ []) ≡ length s + 1 = length-append s (b ∷ []) in
     record {
-      early = one.early ++ events_behind 1 later.early;
+      early = one.early ++ shifted 1 later.early;
       is = ap events (sym (append_assoc s (b ∷ []) p))
           ∙ later.is
           ∙ rw (
             count,
             one.is,
-            events_behind-append (length s) one.early (events_behind 1 later.early),
-            events_behind-events_behind (length s) 1 later.early,
+            shifted-append (length s) one.early (shifted 1 later.early),
+            shifted-shifted (length s) 1 later.early,
           )
-          (append_assoc (events s) (events_behind (length s) one.early) (events_behind (length s + 1) later.early));
+          (append_assoc (events s) (shifted (length s) one.early) (shifted (length s + 1) later.early));
     }
 
 -- ---- the events of a chunk
@@ -95,7 +95,7 @@ all_behind s (b ∷ p) =
 abbrev nearer : ℕ → List Placed → List Placed
 nearer n reported = map (λ x. at_place (x.place - n) x.event) reported
 
-nearer-behind : (n : ℕ) (reported : List Placed) → nearer n (events_behind n reported) ≡ reported
+nearer-behind : (n : ℕ) (reported : List Placed) → nearer n (shifted n reported) ≡ reported
 nearer-behind n [] = refl
 nearer-behind n (x ∷ reported) =
     let same : n + x.place - n ≡ x.place = omega arith in
@@ -107,46 +107,46 @@ nearer-append n (x ∷ xs) ys = ap (λ (zs : List Placed). at_place (x.place - n
 
 -- they make the events after what is held
 held_behind : (s p : List ℕ) → events (unfinished_message s ++ p)
-    ≡ events_behind (length (unfinished_message s)) (chunk_events (unfinished_message s) p)
+    ≡ shifted (length (unfinished_message s)) (chunk_events (unfinished_message s) p)
 held_behind s p =
     let o = unfinished_message s in
     let all = all_behind o p in
     let quiet = events-of_unfinished o (IsUnfinished-unfinished s) in
-    let is : events (o ++ p) ≡ events_behind (length o) all.early =
-    all.is ∙ ap (λ (xs : List Placed). xs ++ events_behind (length o) all.early) quiet in
-    is ∙ ap (events_behind (length o)) (sym (ap (nearer (length o)) is ∙ nearer-behind (length o) all.early))
+    let is : events (o ++ p) ≡ shifted (length o) all.early =
+    all.is ∙ ap (λ (xs : List Placed). xs ++ shifted (length o) all.early) quiet in
+    is ∙ ap (shifted (length o)) (sym (ap (nearer (length o)) is ∙ nearer-behind (length o) all.early))
 
 -- the events of a chunk come after those of all bytes before it
-pub behind : (s p : List ℕ) → events (s ++ p) ≡ events s ++ events_behind (length s)
+pub behind : (s p : List ℕ) → events (s ++ p) ≡ events s ++ shifted (length s)
     (chunk_events (unfinished_message s) p)
 behind s p =
     let o = unfinished_message s in
     let place : length s - length o + length o ≡ length s = omega (arith, length-unfinished s) in
     events-append s p
-    ∙ ap (λ (xs : List Placed). events s ++ events_behind (length s - length o) xs) (held_behind s p)
+    ∙ ap (λ (xs : List Placed). events s ++ shifted (length s - length o) xs) (held_behind s p)
     ∙ ap (λ (xs : List Placed). events s ++ xs)
-    (events_behind-events_behind (length s - length o) (length o) (chunk_events o p)
-    ∙ ap (λ (n : ℕ). events_behind n (chunk_events o p)) place)
+    (shifted-shifted (length s - length o) (length o) (chunk_events o p)
+    ∙ ap (λ (n : ℕ). shifted n (chunk_events o p)) place)
 
 -- in two parts, after what is held
 held_in_two : (o p q : List ℕ) → chunk_events o (p ++ q)
-    ≡ chunk_events o p ++ events_behind (length p) (chunk_events (unfinished_message (o ++ p)) q)
+    ≡ chunk_events o p ++ shifted (length p) (chunk_events (unfinished_message (o ++ p)) q)
 held_in_two o p q =
     let more = chunk_events (unfinished_message (o ++ p)) q in
     ap (λ (xs : List ℕ). nearer (length o) (events xs)) (sym (append_assoc o p q))
     ∙ ap (nearer (length o)) (behind (o ++ p) q)
-    ∙ nearer-append (length o) (events (o ++ p)) (events_behind (length (o ++ p)) more)
+    ∙ nearer-append (length o) (events (o ++ p)) (shifted (length (o ++ p)) more)
     ∙ ap (λ (xs : List Placed). chunk_events o p ++ xs)
-    (ap (λ (n : ℕ). nearer (length o) (events_behind n more)) (length-append o p)
-    ∙ ap (nearer (length o)) (sym (events_behind-events_behind (length o) (length p) more))
-    ∙ nearer-behind (length o) (events_behind (length p) more))
+    (ap (λ (n : ℕ). nearer (length o) (shifted n more)) (length-append o p)
+    ∙ ap (nearer (length o)) (sym (shifted-shifted (length o) (length p) more))
+    ∙ nearer-behind (length o) (shifted (length p) more))
 
 pub pieces_add : ChunksAdd
 pieces_add = record {
   behind = behind;
   in_two = λ s prefix rest. held_in_two (unfinished_message s) prefix rest
       ∙ ap (λ (o : List ℕ). chunk_events (unfinished_message s) prefix
-      ++ events_behind (length prefix) (chunk_events o rest))
+      ++ shifted (length prefix) (chunk_events o rest))
       (sym (unfinished-append s prefix));
 }
 
@@ -158,7 +158,7 @@ in_a_row s (chunk ∷ more) =
     ap events (sym (append_assoc s chunk (concat more)))
     ∙ in_a_row (s ++ chunk) more
     ∙ rw (length-append s chunk, behind s chunk, unfinished-append s chunk)
-    (append_assoc (events s) (events_behind (length s) (chunk_events (unfinished_message s) chunk))
+    (append_assoc (events s) (shifted (length s) (chunk_events (unfinished_message s) chunk))
     (events_of_chunks (length s + length chunk) (unfinished_message (unfinished_message s ++ chunk)) more))
 
 -- ---- nothing

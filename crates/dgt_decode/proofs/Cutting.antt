@@ -6,12 +6,12 @@ use Rattle.std.proofs.lemmas.Bool.{le-leb, leb-true, eq-eqb, ne_eqb, cases_lt}
 use Rattle.std.proofs.Math.Seq.{drop-cons, drop-length}
 use Rattle.dgt_decode.specs.declared.event.Event.{Event as CodeEvent}
 use Rattle.dgt_decode.specs.declared.event.Event.TheVariants as code_events
-use Rattle.dgt_decode.specs.Grammar.{Event, BadLength, Stray, Placed, at_place, message_event, announced_total, events_behind, strays, has_top_bit, lead, segments, verdict, segment_events, unfinished_part, cut_of, cut_before, segments_events, events}
+use Rattle.dgt_decode.specs.Grammar.{Event, BadLength, Stray, Placed, at_place, message_event, announced_total, shifted, strays, has_top_bit, lead, segments, verdict, segment_events, unfinished_part, cut_of, cut_before, segments_events, events}
 use Rattle.dgt_decode.specs.Feeding.{event_content}
 use Rattle.dgt_decode.specs.Laws.{IsSegment}
 use Rattle.dgt_decode.specs.Taking.{placed_content}
 use Rattle.dgt_decode.proofs.Verdicts.{verdict-bad, verdict-waits, verdict-whole}
-use Rattle.dgt_decode.proofs.Places.{events_behind-append, events_behind-events_behind, events_behind-zero, strays-append}
+use Rattle.dgt_decode.proofs.Places.{shifted-append, shifted-shifted, shifted-zero, strays-append}
 use Rattle.dgt_decode.proofs.Cuts.{lead-append, segments-append}
 use Rattle.dgt_decode.proofs.Appending.{lead-is_seven, lead-seven, segments-seven}
 use Rattle.dgt_decode.proofs.SevenBit.{SevenByRecursion, are_seven}
@@ -79,8 +79,8 @@ whole_here g t event is large enough reports =
 
 -- one more Stray
 pub strays_more : (before i : ℕ) (bytes : List ℕ) → i < length bytes
-    → events_behind before (strays (take i bytes)) ++ at_place (before + i + 1) (Stray (get_or bytes i 0)) ∷ []
-    ≡ events_behind before (strays (take (i + 1) bytes))
+    → shifted before (strays (take i bytes)) ++ at_place (before + i + 1) (Stray (get_or bytes i 0)) ∷ []
+    ≡ shifted before (strays (take (i + 1) bytes))
 strays_more before i bytes within =
     let count : length (take i bytes) ≡ i = omega (arith, length-take i bytes) in
     let place : before + (i + 1) ≡ before + i + 1 = omega arith in
@@ -89,20 +89,20 @@ strays_more before i bytes within =
       strays-append (take i bytes)
           (get_or bytes i 0 ∷ []),
       count,
-      events_behind-append before (strays (take i bytes))
+      shifted-append before (strays (take i bytes))
           (at_place (i + 1) (Stray (get_or bytes i 0)) ∷ []),
       place,
     ) refl)
 
 -- one more Stray is reported
 pub reported_stray : (old reported new : List (ℕ × CodeEvent)) (before i : ℕ) (bytes : List ℕ) → i < length bytes
-    → map placed_content reported ≡ map placed_content old ++ events_behind before (strays (take i bytes))
+    → map placed_content reported ≡ map placed_content old ++ shifted before (strays (take i bytes))
     → new ≡ reported ++ (before + i + 1, code_events.Stray (get_or bytes i 0)) ∷ []
-    → map placed_content new ≡ map placed_content old ++ events_behind before (strays (take (i + 1) bytes))
+    → map placed_content new ≡ map placed_content old ++ shifted before (strays (take (i + 1) bytes))
 reported_stray old reported new before i bytes within so_far pushed =
     let one : List (ℕ × CodeEvent) = (before + i + 1, code_events.Stray (get_or bytes i 0)) ∷ [] in
     rw (pushed, map-append placed_content reported one, so_far, ← strays_more before i bytes within)
-    (append_assoc (map placed_content old) (events_behind before (strays (take i bytes))) (map placed_content one))
+    (append_assoc (map placed_content old) (shifted before (strays (take i bytes))) (map placed_content one))
 
 -- ---- A segment
 
@@ -121,9 +121,9 @@ pub reported_verdict : (old mid new : List (ℕ × CodeEvent)) (before place : �
     → Some (at_place place (event_content event)) ≡ verdict g
     → mid ≡ old ++ (before + place, event) ∷ []
     → rest ≡ drop place g
-    → map placed_content new ≡ map placed_content mid ++ events_behind (before + place) (strays rest)
-    → map placed_content new ≡ map placed_content old ++ events_behind before
-    (segment_events (verdict g) g ++ events_behind (length g) (cut_after is_last (unfinished_part (verdict g) g)))
+    → map placed_content new ≡ map placed_content mid ++ shifted (before + place) (strays rest)
+    → map placed_content new ≡ map placed_content old ++ shifted before
+    (segment_events (verdict g) g ++ shifted (length g) (cut_after is_last (unfinished_part (verdict g) g)))
 reported_verdict old mid new before place event g rest is_last is pushed same reported =
     let one : List (ℕ × CodeEvent) = (before + place, event) ∷ [] in
     rw (
@@ -134,11 +134,11 @@ reported_verdict old mid new before place event g rest is_last is pushed same re
       ← is,
       cut_after-nothing is_last,
       append-nil
-          (events_behind place (strays (drop place g))),
-      events_behind-events_behind before place (strays (drop place g)),
+          (shifted place (strays (drop place g))),
+      shifted-shifted before place (strays (drop place g)),
     )
     (append_assoc (map placed_content old) (map placed_content one)
-    (events_behind (before + place) (strays (drop place g))))
+    (shifted (before + place) (strays (drop place g))))
 
 -- ---- The whole list
 
@@ -146,19 +146,19 @@ reported_verdict old mid new before place event g rest is_last is pushed same re
 pub record HasReported (bytes : List ℕ) (start : ℕ) (reported : List Placed) : Type 0 where
   pub within : start ≤ length bytes
   pub no_lead : lead (drop start bytes) ≡ []
-  pub so_far : reported ++ events_behind start (segments_events (segments (drop start bytes))) ≡ events bytes
+  pub so_far : reported ++ shifted start (segments_events (segments (drop start bytes))) ≡ events bytes
 
 -- the Strays of the lead are reported
 pub reported_lead : (bytes : List ℕ) (start : ℕ) (reported : List Placed) → start ≤ length bytes
     → take start bytes ≡ lead bytes
-    → reported ≡ events_behind 0 (strays (take start bytes)) → HasReported bytes start reported
+    → reported ≡ shifted 0 (strays (take start bytes)) → HasReported bytes start reported
 unfolding events
 reported_lead bytes start reported within is so_far =
     let count : length (lead bytes) ≡ start = ap length (sym is) ∙ omega (arith, length-take start bytes) in
     record {
       within = within;
       no_lead = lead_stops bytes start is;
-      so_far = rw (so_far, events_behind-zero (strays (take start bytes)), is, count, ← segments_behind bytes start is)
+      so_far = rw (so_far, shifted-zero (strays (take start bytes)), is, count, ← segments_behind bytes start is)
           refl;
     }
 
@@ -225,18 +225,18 @@ IsSegment-next bytes start count segment n = rw n.is (n.top, are_seven _ (lead-i
 
 -- places of the next events are counted from the start of the whole
 regrouped : (reported a c e : List Placed) (start n end : ℕ) → start + n ≡ end
-    → (reported ++ events_behind start (a ++ events_behind n c)) ++ events_behind end e ≡ reported
-    ++ events_behind start
-    (a ++ events_behind n (c ++ e))
+    → (reported ++ shifted start (a ++ shifted n c)) ++ shifted end e ≡ reported
+    ++ shifted start
+    (a ++ shifted n (c ++ e))
 regrouped reported a c e start n end same =
-    rw (← same) (simp (events_behind-append, events_behind-events_behind, append_assoc))
+    rw (← same) (simp (shifted-append, shifted-shifted, append_assoc))
 
 -- the events of the next segment are reported
 pub reported_segment : (bytes : List ℕ) (start count end : ℕ) (reported new : List Placed) (segment : List ℕ)
     → HasReported bytes start reported → start < length bytes
     → IsNext bytes start count segment → end ≡ start + 1 + count → end ≤ length bytes
-    → new ≡ reported ++ events_behind start
-    (segment_events (verdict segment) segment ++ events_behind (length segment)
+    → new ≡ reported ++ shifted start
+    (segment_events (verdict segment) segment ++ shifted (length segment)
     (cut_after (nat_eq end (length bytes)) (unfinished_part (verdict segment) segment)))
     → HasReported bytes end new
 reported_segment bytes start count end reported new segment h more n e within pushed =
@@ -259,5 +259,5 @@ reported_segment bytes start count end reported new segment h more n e within pu
           rw (pushed, n.is, ← cut_here bytes end u within none)
           (regrouped reported (segment_events (verdict g) g) (cut_before (segments (drop end bytes)) u)
           (segments_events (segments (drop end bytes))) start (length g) end place
-          ∙ sym (ap (λ (gs : List (List ℕ)). reported ++ events_behind start (segments_events gs)) here) ∙ h.so_far);
+          ∙ sym (ap (λ (gs : List (List ℕ)). reported ++ shifted start (segments_events gs)) here) ∙ h.so_far);
     }

@@ -3,7 +3,7 @@ use Rattle.std.proofs.Common.{◌≡◌, ℕ, Bool, true, false, cond, List, [],
 use Rattle.std.specs.List.{AllByRecursion, concat}
 use Rattle.std.proofs.lemmas.List.{append-nil}
 use Rattle.std.proofs.lemmas.Bool.{leb-true}
-use Rattle.dgt_decode.specs.Grammar.{Placed, events_behind, strays, has_top_bit, lead, segments, verdict, segment_events, unfinished_part, cut_of, segments_events, unfinished_segment, events, unfinished_message}
+use Rattle.dgt_decode.specs.Grammar.{Placed, shifted, strays, has_top_bit, lead, segments, verdict, segment_events, unfinished_part, cut_of, segments_events, unfinished_segment, events, unfinished_message}
 use Rattle.dgt_decode.specs.Laws.{CutsInto, IsSegment}
 use Rattle.dgt_decode.proofs.Cuts.{lead-append, segments-append}
 use Rattle.dgt_decode.proofs.Feeds.{nil_left}
@@ -89,7 +89,7 @@ nil_right [] ys e = e
 nil_right (x ∷ xs) ys e = absurd cc
 
 -- no events after bytes, no events
-pub nil_raised : (n : ℕ) (xs : List Placed) → events_behind n xs ≡ [] → xs ≡ []
+pub nil_raised : (n : ℕ) (xs : List Placed) → shifted n xs ≡ [] → xs ≡ []
 nil_raised n [] e = refl
 nil_raised n (x ∷ xs) e = absurd cc
 

@@ -7,10 +7,10 @@ use Rattle.std.proofs.Math.Seq.{drop-length}
 use Rattle.dgt_message.specs.Content.{Content, IsMessage}
 use Rattle.dgt_message.specs.Reading.{reading}
 use Rattle.dgt_message.specs.Encoding.{Encodes, encoding}
-use Rattle.dgt_decode.specs.Grammar.{Message, Placed, events_behind, lead, segments, message_event, cut_of, segments_events, events, unfinished_message}
+use Rattle.dgt_decode.specs.Grammar.{Message, Placed, shifted, lead, segments, message_event, cut_of, segments_events, events, unfinished_message}
 use Rattle.dgt_decode.specs.Feeding.{IsWholeMessage}
 use Rattle.dgt_decode.specs.Laws.{Sent, sent_bytes, arrivals, EncodingIsRead}
-use Rattle.dgt_decode.proofs.Places.{events_behind-append, events_behind-events_behind, events_behind-zero}
+use Rattle.dgt_decode.proofs.Places.{shifted-append, shifted-shifted, shifted-zero}
 use Rattle.dgt_decode.proofs.Cuts.{lead-append, segments-append}
 use Rattle.dgt_decode.proofs.Appending.{IsAlone, events-append, cut_before-nothing}
 use Rattle.dgt_decode.proofs.UnfinishedLemmas.{IsUnfinished, nothing, waiting, IsUnfinished-unfinished, length-unfinished, unfinished-append}
@@ -94,7 +94,7 @@ segments_events-encodings (m ∷ ms) h =
 
 -- after what is unfinished
 behind_unfinished : (o : List ℕ) → IsUnfinished o → (m : Sent) (ms : List Sent) → AllByRecursion IsRead (m ∷ ms)
-    → events (o ++ sent_bytes (m ∷ ms)) ≡ events_behind (length o) (cut_of o ++ arrivals (m ∷ ms))
+    → events (o ++ sent_bytes (m ∷ ms)) ≡ shifted (length o) (cut_of o ++ arrivals (m ∷ ms))
 unfolding events
 behind_unfinished o nothing m ms h =
     rw (lead-sent (m ∷ ms) h, segments-sent (m ∷ ms) h, segments_events-encodings (m ∷ ms) h) refl
@@ -104,27 +104,27 @@ behind_unfinished o (waiting g alone e) m ms h =
       segments-before g (sent_bytes (m ∷ ms)) alone
           (lead-sent (m ∷ ms) h),
       segments-sent (m ∷ ms) h,
-      events_behind-zero,
+      shifted-zero,
     )
     (rw (e, segments_events-encodings (m ∷ ms) h) refl)
 
 -- after any bytes
 events-sent : (s : List ℕ) (m : Sent) (more : List Sent) → AllByRecursion IsRead (m ∷ more) →
     events (s ++ sent_bytes (m ∷ more))
-    ≡ events s ++ events_behind (length s) (cut_of (unfinished_message s))
-    ++ events_behind (length s) (arrivals (m ∷ more))
+    ≡ events s ++ shifted (length s) (cut_of (unfinished_message s))
+    ++ shifted (length s) (arrivals (m ∷ more))
 events-sent s m more h =
     let o = unfinished_message s in
     let here : length s - length o + length o ≡ length s = omega (arith, length-unfinished s) in
     let a = cut_of o in
     let b = arrivals (m ∷ more) in
     events-append s (sent_bytes (m ∷ more))
-    ∙ ap (λ (zs : List Placed). events s ++ events_behind (length s - length o) zs)
+    ∙ ap (λ (zs : List Placed). events s ++ shifted (length s - length o) zs)
     (behind_unfinished o (IsUnfinished-unfinished s) m more h)
     ∙ ap (λ (zs : List Placed). events s ++ zs)
-    (events_behind-events_behind (length s - length o) (length o)
-    (a ++ b) ∙ ap (λ (n : ℕ). events_behind n (a ++ b)) here ∙ events_behind-append (length s) a b)
-    ∙ sym (append_assoc (events s) (events_behind (length s) a) (events_behind (length s) b))
+    (shifted-shifted (length s - length o) (length o)
+    (a ++ b) ∙ ap (λ (n : ℕ). shifted n (a ++ b)) here ∙ shifted-append (length s) a b)
+    ∙ sym (append_assoc (events s) (shifted (length s) a) (shifted (length s) b))
 
 -- a whole message after what is unfinished leaves nothing unfinished
 behind_whole : (o w : List ℕ) → IsUnfinished o → IsWholeMessage w → unfinished_message (o ++ w) ≡ []
@@ -151,8 +151,8 @@ unfinished-sent s m (k ∷ more) h =
 pub recovery : AreRead → (s : List ℕ) (m : Sent) (more : List Sent) → AllByRecursion (λ m. Encodes m.said m.bytes)
     (m ∷ more) →
     (events (s ++ sent_bytes (m ∷ more))
-    ≡ events s ++ events_behind (length s) (cut_of (unfinished_message s))
-    ++ events_behind (length s) (arrivals (m ∷ more)))
+    ≡ events s ++ shifted (length s) (cut_of (unfinished_message s))
+    ++ shifted (length s) (arrivals (m ∷ more)))
     × (unfinished_message (s ++ sent_bytes (m ∷ more)) ≡ [])
 recovery reads s m more h =
     let read = are_read reads (m ∷ more) h in

@@ -5,7 +5,7 @@ use Rattle.std.proofs.Math.Seq.{drop-cons, take-add, take-length}
 use Rattle.dgt_decode.specs.declared.event.Found.{Found}
 use Rattle.dgt_decode.specs.declared.event.Found.TheVariants as found
 use Rattle.std.proofs.lemmas.List.{append-nil, length-append, length-drop, length-take, length-take-le, take-take}
-use Rattle.dgt_decode.specs.Grammar.{Event, at_place, events_behind, events, unfinished_message}
+use Rattle.dgt_decode.specs.Grammar.{Event, at_place, shifted, events, unfinished_message}
 use Rattle.dgt_decode.specs.Feeding.{FirstEvent, IsWholeMessage, at_place_if_any, event_found_in}
 use Rattle.dgt_decode.specs.Taking.{Frames, FramesPrefix}
 use Rattle.dgt_decode.proofs.Appending.{events-append}
@@ -15,10 +15,10 @@ use Rattle.dgt_decode.proofs.Feeds.{FirstEvent-some, first_of_run}
 use Rattle.dgt_decode.proofs.Division.{quiet_held}
 
 -- an event after bytes stands at the sum of the places
-pub events_behind-at_place_if_any : (n m k : ℕ) (event : Option Event) → n + m ≡ k
-    → events_behind n (at_place_if_any m event) ≡ at_place_if_any k event
-events_behind-at_place_if_any n m k None e = refl
-events_behind-at_place_if_any n m k (Some event) e = ap (λ (p : ℕ). at_place p event ∷ []) e
+pub shifted-at_place_if_any : (n m k : ℕ) (event : Option Event) → n + m ≡ k
+    → shifted n (at_place_if_any m event) ≡ at_place_if_any k event
+shifted-at_place_if_any n m k None e = refl
+shifted-at_place_if_any n m k (Some event) e = ap (λ (p : ℕ). at_place p event ∷ []) e
 
 -- The event of p after s, which has none, is that of p after what s leaves unfinished.
 pub events-more : (s p : List ℕ) (n : ℕ) (event : Option Event) → events s ≡ []
@@ -29,7 +29,7 @@ events-more s p n event quiet now =
     omega (arith, length-unfinished s) in
     events-append s p
     ∙ rw (quiet, now)
-    (events_behind-at_place_if_any (length s - length (unfinished_message s)) (length (unfinished_message s) + n)
+    (shifted-at_place_if_any (length s - length (unfinished_message s)) (length (unfinished_message s) + n)
     (length s + n) event place)
 
 -- Such a reader has taken i bytes of the chunk without an event, and holds this.

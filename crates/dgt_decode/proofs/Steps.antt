@@ -3,8 +3,8 @@ use Rattle.std.proofs.Common.{◌≡◌, ℕ, ◌+◌, ◌<◌, ◌≤◌, List,
 use Rattle.std.proofs.lemmas.List.{append-nil, length-append}
 use Rattle.std.proofs.lemmas.Bool.{le-leb, lt-leb, cases_lt}
 use Rattle.std.proofs.Math.Seq.{drop-length}
-use Rattle.dgt_decode.specs.Grammar.{Cut, BadLength, Stray, Placed, at_place, events_behind, lead, segments, announced_total, message_event, verdict, segment_events, unfinished_part, cut_of, events, unfinished_message}
-use Rattle.dgt_decode.proofs.Places.{events_behind-zero}
+use Rattle.dgt_decode.specs.Grammar.{Cut, BadLength, Stray, Placed, at_place, shifted, lead, segments, announced_total, message_event, verdict, segment_events, unfinished_part, cut_of, events, unfinished_message}
+use Rattle.dgt_decode.proofs.Places.{shifted-zero}
 use Rattle.dgt_decode.proofs.Cuts.{lead-append, segments-append}
 use Rattle.dgt_decode.proofs.Verdicts.{verdict-short, verdict-bad, verdict-waits, verdict-whole, verdict-full, Stage, short, waits, bad, whole, stage_of, announced_total-append}
 use Rattle.dgt_decode.proofs.Appending.{IsAlone, IsAlone-from, lead-seven, segments-seven}
@@ -74,11 +74,11 @@ next-begins held b h some top =
     rw (segments-append held (b ∷ []), alone.one, le-leb 128 b top) (rw (append-nil held) refl) in
     let new-is : verdict (b ∷ []) ≡ None = verdict-short (b ∷ []) (omega arith) in
     record {
-      reported = rw (lead-is, segments-is, events_behind-zero, a.1, new-is) (cut held some);
+      reported = rw (lead-is, segments-is, shifted-zero, a.1, new-is) (cut held some);
       leaves = rw (segments-is, new-is) refl;
     }
   where
-    cut : (held : List ℕ) → 0 < length held → events_behind (length held) (cut_of held ++ []) ≡ at_place
+    cut : (held : List ℕ) → 0 < length held → shifted (length held) (cut_of held ++ []) ≡ at_place
         (length held + 1) (Cut (length held)) ∷ []
     cut [] some = absurd (omega arith)
     cut (x ∷ held) some = refl

@@ -2,7 +2,7 @@
 use Rattle.std.proofs.Common.{◌≡◌, ℕ, ◌≤◌, List, [], ◌∷◌, ◌++◌, length, Option, Some, None, refl, ◌∙◌, arith}
 use Rattle.std.proofs.lemmas.List.{append-nil}
 use Rattle.dgt_decode.specs.Grammar.{Placed, lead, segments, verdict, segment_events, unfinished_part, unfinished_segment, events, unfinished_message}
-use Rattle.dgt_decode.proofs.Places.{events_behind-zero}
+use Rattle.dgt_decode.proofs.Places.{shifted-zero}
 use Rattle.dgt_decode.proofs.Cuts.{segments_with, segments-append}
 use Rattle.dgt_decode.proofs.Verdicts.{verdict-append}
 use Rattle.dgt_decode.proofs.Appending.{IsAlone, AreAlone, AreAlone-segments, settled-unfinished, length-cut}
@@ -12,7 +12,7 @@ use Rattle.dgt_decode.proofs.Appending.{IsAlone, AreAlone, AreAlone-segments, se
 -- the events of one segment
 pub events-alone : (g : List ℕ) → IsAlone g → events g ≡ segment_events (verdict g) g
 unfolding events
-events-alone g alone = rw (alone.no_lead, alone.one, events_behind-zero) (append-nil (segment_events (verdict g) g))
+events-alone g alone = rw (alone.no_lead, alone.one, shifted-zero) (append-nil (segment_events (verdict g) g))
 
 -- what one segment leaves unfinished
 pub unfinished-alone : (g : List ℕ) → IsAlone g → unfinished_message g ≡ unfinished_part (verdict g) g

@@ -24,15 +24,15 @@ pub record Placed : Type 0 where
 abbrev pub at_place : ℕ → Event → Placed
 at_place place event = record { place = place; event = event }
 
--- the events of bytes that come after n others
-abbrev pub events_behind : ℕ → List Placed → List Placed
-events_behind n [] = []
-events_behind n (x ∷ events) = at_place (n + x.place) x.event ∷ events_behind n events
+-- the events of bytes that come after n others: each is n places later
+abbrev pub shifted : ℕ → List Placed → List Placed
+shifted n [] = []
+shifted n (x ∷ events) = at_place (n + x.place) x.event ∷ shifted n events
 
 -- a Stray for each byte
 abbrev pub strays : List ℕ → List Placed
 strays [] = []
-strays (b ∷ bytes) = at_place 1 (Stray b) ∷ events_behind 1 (strays bytes)
+strays (b ∷ bytes) = at_place 1 (Stray b) ∷ shifted 1 (strays bytes)
 
 -- ---- The cut
 
@@ -78,7 +78,7 @@ verdict segment =
 -- the events of a segment with this verdict: after its message each byte is stray
 abbrev pub segment_events : Option Placed → List ℕ → List Placed
 segment_events None segment = []
-segment_events (Some x) segment = x ∷ events_behind x.place (strays (drop x.place segment))
+segment_events (Some x) segment = x ∷ shifted x.place (strays (drop x.place segment))
 
 -- what a segment with this verdict leaves unfinished
 abbrev pub unfinished_part : Option Placed → List ℕ → List ℕ
@@ -101,7 +101,7 @@ abbrev pub segments_events : List (List ℕ) → List Placed
 segments_events [] = []
 segments_events (segment ∷ others) =
     segment_events (verdict segment) segment
-    ++ events_behind (length segment)
+    ++ shifted (length segment)
     (cut_before others (unfinished_part (verdict segment) segment) ++ segments_events others)
 
 abbrev pub unfinished_segment : List (List ℕ) → List ℕ
@@ -112,7 +112,7 @@ unfinished_segment (segment ∷ next ∷ others) = unfinished_segment (next ∷ 
 -- the events of a list of bytes, in order
 unfoldable pub events : List ℕ → List Placed
 events bytes =
-    strays (lead bytes) ++ events_behind (length (lead bytes)) (segments_events (segments bytes))
+    strays (lead bytes) ++ shifted (length (lead bytes)) (segments_events (segments bytes))
 
 -- the bytes of the unfinished message at the end, if there is one
 unfoldable pub unfinished_message : List ℕ → List ℕ

@@ -4,7 +4,7 @@ use Rattle.std.specs.List.{AllByRecursion, flat_map, concat}
 use Rattle.dgt_values.specs.Bytes.{AreSevenBit}
 use Rattle.dgt_message.specs.Content.{Content, IsMessage}
 use Rattle.dgt_message.specs.Encoding.{encoding}
-use Rattle.dgt_decode.specs.Grammar.{Message, Event, Placed, at_place, events_behind, cut_of, events, unfinished_message}
+use Rattle.dgt_decode.specs.Grammar.{Message, Event, Placed, at_place, shifted, cut_of, events, unfinished_message}
 use Rattle.dgt_decode.specs.Feeding.{FirstEvent, at_place_if_any, chunk_events}
 
 -- a byte with a set top bit, and seven-bit bytes after it
@@ -23,7 +23,7 @@ pub record CutsInto (prefix : List ℕ) (parts : List (List ℕ)) (s : List ℕ)
 -- Bytes that come later change no event, and need only the unfinished message of what came before.
 abbrev pub EventsAppend : Type 0
 EventsAppend = (s p : List ℕ) → events (s ++ p)
-    ≡ events s ++ events_behind (length s - length (unfinished_message s))
+    ≡ events s ++ shifted (length s - length (unfinished_message s))
     (events (unfinished_message s ++ p))
 
 -- What is unfinished at the end needs only the unfinished message of what came before.
@@ -42,11 +42,11 @@ QuietHeld = (s : List ℕ) → events s ≡ [] → unfinished_message s ≡ s
 -- After no bytes, events keep their places. After two lists of bytes their places are those after
 -- both lists in a row. Each event is placed by itself.
 pub record PlacesAdd : Type 0 where
-  pub none : (reported : List Placed) → events_behind 0 reported ≡ reported
+  pub none : (reported : List Placed) → shifted 0 reported ≡ reported
   pub twice : (m n : ℕ) (reported : List Placed) →
-      events_behind m (events_behind n reported) ≡ events_behind (m + n) reported
+      shifted m (shifted n reported) ≡ shifted (m + n) reported
   pub in_a_row : (n : ℕ) (reported more : List Placed) →
-      events_behind n (reported ++ more) ≡ events_behind n reported ++ events_behind n more
+      shifted n (reported ++ more) ≡ shifted n reported ++ shifted n more
 
 -- An unfinished message makes no event, and is what it leaves unfinished. If no byte comes after
 -- it, there is no event, and it stays as it is.
@@ -61,18 +61,18 @@ pub record UnfinishedIsQuiet : Type 0 where
 -- prefix, and then those of the rest.
 pub record ChunksAdd : Type 0 where
   pub behind : (s chunk : List ℕ) → events (s ++ chunk)
-      ≡ events s ++ events_behind (length s) (chunk_events (unfinished_message s) chunk)
+      ≡ events s ++ shifted (length s) (chunk_events (unfinished_message s) chunk)
   pub in_two : (s prefix rest : List ℕ) →
       chunk_events (unfinished_message s) (prefix ++ rest)
       ≡ chunk_events (unfinished_message s) prefix
-      ++ events_behind (length prefix) (chunk_events (unfinished_message (s ++ prefix)) rest)
+      ++ shifted (length prefix) (chunk_events (unfinished_message (s ++ prefix)) rest)
 
 -- A byte with a set top bit begins anew, whatever came before: all that it does to it is to cut an
 -- unfinished message off.
 abbrev pub BeginsAnew : Type 0
 BeginsAnew = (s p : List ℕ) (b : ℕ) → 128 ≤ b →
     (events (s ++ b ∷ p)
-    ≡ events s ++ events_behind (length s) (cut_of (unfinished_message s) ++ events (b ∷ p)))
+    ≡ events s ++ shifted (length s) (cut_of (unfinished_message s) ++ events (b ∷ p)))
     × (unfinished_message (s ++ b ∷ p) ≡ unfinished_message (b ∷ p))
 
 -- ---- Messages in a row
@@ -89,14 +89,14 @@ sent_bytes messages = flat_map (λ m. m.bytes) messages
 abbrev pub arrivals : List Sent → List Placed
 arrivals [] = []
 arrivals (m ∷ more) =
-    at_place (length m.bytes) (Message m.said) ∷ events_behind (length m.bytes) (arrivals more)
+    at_place (length m.bytes) (Message m.said) ∷ shifted (length m.bytes) (arrivals more)
 
 -- What is written of a message, after any bytes, makes this message known at its last byte, and
 -- leaves nothing unfinished.
 abbrev pub EncodingIsRead : Type 0
 EncodingIsRead = (s : List ℕ) (said : Content) → IsMessage said →
     (events (s ++ encoding said)
-    ≡ events s ++ events_behind (length s) (cut_of (unfinished_message s))
+    ≡ events s ++ shifted (length s) (cut_of (unfinished_message s))
     ++ at_place (length s + length (encoding said)) (Message said) ∷ [])
     × (unfinished_message (s ++ encoding said) ≡ [])
 
@@ -129,5 +129,5 @@ events_in_chunks n (call ∷ calls) =
 abbrev pub events_of_chunks : ℕ → List ℕ → List (List ℕ) → List Placed
 events_of_chunks n held [] = []
 events_of_chunks n held (chunk ∷ more) =
-    events_behind n (chunk_events held chunk)
+    shifted n (chunk_events held chunk)
     ++ events_of_chunks (n + length chunk) (unfinished_message (held ++ chunk)) more

@@ -7,7 +7,7 @@ ghost use Rattle.dgt_values.specs.Equality.{CloneIsSame, EqualIsSame, EqualIsSam
 ghost use Rattle.dgt_message.specs.Content.{Content, IsMessage};
 ghost use Rattle.dgt_message.specs.Encoding.{Encodes, encoding};
 ghost use Rattle.dgt_decode.specs.Feeding.{FirstEvent, event_content, fed_content};
-ghost use Rattle.dgt_decode.specs.Grammar.{Event as EventSaid, Message, at_place, cut_of, events, events_behind, lead, unfinished_message, segments};
+ghost use Rattle.dgt_decode.specs.Grammar.{Event as EventSaid, Message, at_place, cut_of, events, shifted, lead, unfinished_message, segments};
 ghost use Rattle.dgt_decode.specs.Laws.{AreCalls, BeginsAnew, Call, CutsInto, EventsAppend, UnfinishedAppend, UnfinishedIsPart, UnfinishedIsQuiet, ChunksAdd, PlacesAdd, QuietHeld, Sent, EncodingIsRead, arrivals, events_in_chunks, events_of_chunks, sent_bytes, used_bytes};
 
 use crate::decoder::{Fed, Unfinished};
@@ -103,8 +103,8 @@ pub fn recovery()
     ensures { (s : List ℕ) (m : Sent) (more : List Sent) →
         AllByRecursion (λ m. Encodes m.said m.bytes) (m ∷ more) →
         (events (s ++ sent_bytes (m ∷ more))
-        ≡ events s ++ events_behind (length s) (cut_of (unfinished_message s))
-        ++ events_behind (length s) (arrivals (m ∷ more)))
+        ≡ events s ++ shifted (length s) (cut_of (unfinished_message s))
+        ++ shifted (length s) (arrivals (m ∷ more)))
         × (unfinished_message (s ++ sent_bytes (m ∷ more)) ≡ []) }
 {
     messages::encoded_is_read();
@@ -137,7 +137,7 @@ pub fn encoding_in_chunks()
     ensures { (s : List ℕ) (said : Content) (calls : List Call) →
         IsMessage said → AreCalls (unfinished_message s) calls → used_bytes calls ≡ encoding said →
         events_in_chunks (length s) calls
-        ≡ events_behind (length s) (cut_of (unfinished_message s))
+        ≡ shifted (length s) (cut_of (unfinished_message s))
         ++ at_place (length s + length (encoding said)) (Message said) ∷ [] }
 {
     messages::encoded_is_read();

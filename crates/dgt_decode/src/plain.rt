@@ -3,7 +3,7 @@
 //! events without the list.
 
 ghost use Rattle.std.specs.Prelude.{◌≡◌, ◌≤◌, ◌<◌, ◌+◌, ◌^◌, [], ◌++◌, length, map, take, if◌then◌else◌, IfOk, IfSome, OnOk, option_map};
-ghost use Rattle.dgt_decode.specs.Grammar.{cut_of, events, events_behind, lead, segment_events, strays, unfinished_part, verdict};
+ghost use Rattle.dgt_decode.specs.Grammar.{cut_of, events, shifted, lead, segment_events, strays, unfinished_part, verdict};
 ghost use Rattle.dgt_decode.specs.Laws.{IsSegment};
 ghost use Rattle.dgt_decode.specs.Taking.{placed_content};
 
@@ -55,7 +55,7 @@ fn push_strays(
 ) -> Result<(), AllocError>
     requires { before + length bytes.now < 2 ^ 64 }
     ensures { OnOk result (map placed_content reported.new.items
-        ≡ map placed_content reported.old.items ++ events_behind before (strays bytes.now)) }
+        ≡ map placed_content reported.old.items ++ shifted before (strays bytes.now)) }
 {
     for (index, byte) in bytes.iter().enumerate() {
         reported.push((before + index + 1, Event::Stray(*byte)))?;
@@ -75,8 +75,8 @@ fn push_segment<'a>(
     requires fits { before + length segment.now + 1 < 2 ^ 64 }
     ensures { OnOk result (map placed_content reported.new.items
         ≡ map placed_content reported.old.items
-        ++ events_behind before (segment_events (verdict segment.now) segment.now
-        ++ events_behind (length segment.now) (if is_last then []
+        ++ shifted before (segment_events (verdict segment.now) segment.now
+        ++ shifted (length segment.now) (if is_last then []
         else cut_of (unfinished_part (verdict segment.now) segment.now)))) }
 {
     match segment_verdict(segment) {

@@ -2,7 +2,7 @@
 use Rattle.std.proofs.Common.{◌≡◌, ◌+◌, Option, Some, None, Bool, is_some, option_map, refl, sym, ap, ◌∙◌, ℕ, List, [], ◌∷◌, ◌++◌, append_assoc, append-nil, length, ◌-◌, take, drop, rules}
 use Rattle.std.proofs.Math.Seq.{take-add}
 use Rattle.std.proofs.lemmas.List.{take_all}
-use Rattle.dgt_decode.specs.Grammar.{Event, Message, Placed, events, events_behind, unfinished_message}
+use Rattle.dgt_decode.specs.Grammar.{Event, Message, Placed, events, shifted, unfinished_message}
 use Rattle.dgt_decode.specs.Feeding.{FirstEvent, at_place_if_any}
 use Rattle.dgt_decode.specs.Laws.{EventsAppend, UnfinishedAppend}
 use Rattle.dgt_values.specs.declared.kinds.Kind.{Kind}
@@ -19,7 +19,7 @@ follower_after_events-append f now (x ∷ xs) ys =
 
 -- the places of the events don't matter
 follower_after_events-behind : (f : FollowerView) (now n : ℕ) (xs : List Placed)
-    → follower_after_events f now (events_behind n xs) ≡ follower_after_events f now xs
+    → follower_after_events f now (shifted n xs) ≡ follower_after_events f now xs
 follower_after_events-behind f now n [] = refl
 follower_after_events-behind f now n (x ∷ xs) =
     follower_after_events-behind (follower_after_event f now x.event) now n xs
@@ -50,7 +50,7 @@ both later f now s more =
     sym (follower_after_events-behind (follower_after_events f now (events s)) now
     (length s - length (unfinished_message s)) (events (unfinished_message s ++ more)))
     ∙ sym (follower_after_events-append f now (events s)
-    (events_behind (length s - length (unfinished_message s)) (events (unfinished_message s ++ more))))
+    (shifted (length s - length (unfinished_message s)) (events (unfinished_message s ++ more))))
     ∙ ap (follower_after_events f now) (sym (later s more))
 
 in_two : EventsAppend → UnfinishedAppend → (f : FollowerView) (now : ℕ) (s more whole : List ℕ) → s ++ more ≡ whole

@@ -3,7 +3,7 @@ use Rattle.std.proofs.Common.{◌≡◌, ◌⊎◌, ◌≤◌, ◌<◌, ◌+◌,
 use Rattle.std.proofs.lemmas.Bool.{cases_lt}
 use Rattle.dgt_message.specs.Content.{Content, IsMessage}
 use Rattle.dgt_message.specs.Encoding.{Encodes, encoding}
-use Rattle.dgt_decode.specs.Grammar.{Event, Message, Refused, Cut, BadLength, Stray, Placed, announced_total, cut_of, events, events_behind, has_top_bit, lead, segment_events, segments, segments_events, strays, unfinished_part, verdict}
+use Rattle.dgt_decode.specs.Grammar.{Event, Message, Refused, Cut, BadLength, Stray, Placed, announced_total, cut_of, events, shifted, has_top_bit, lead, segment_events, segments, segments_events, strays, unfinished_part, verdict}
 use Rattle.dgt_decode.proofs.SevenBit.{SevenByRecursion, by_recursion}
 use Rattle.dgt_decode.proofs.Verdicts.{verdict-short, verdict-waits}
 use Rattle.dgt_host.specs.Confirmed.{message_in, messages}
@@ -41,7 +41,7 @@ same said other e (heard, is) = (heard, e ∙ is)
 of_verdict : (v : Option Placed) (g : List ℕ) → One (messages (segment_events v g))
 of_verdict None g = (None, refl)
 of_verdict (Some x) g =
-    let none : messages (events_behind x.place (strays (drop x.place g))) ≡ []
+    let none : messages (shifted x.place (strays (drop x.place g))) ≡ []
     = messages_behind x.place (strays (drop x.place g)) ∙ no_strays (drop x.place g) in
     same _ (message_in x.event)
     (ap (λ (m : List Content). message_in x.event ++ m) none ∙ append-nil (message_in x.event)) (of_event x.event)
@@ -62,7 +62,7 @@ both_are g k =
     let rest : List ℕ = unfinished_part (verdict g) g in
     let first : List Content = messages (segment_events (verdict g) g) in
     messages_append (segment_events (verdict g) g)
-    (events_behind (length g) (cut_of rest ++ segments_events (k ∷ [])))
+    (shifted (length g) (cut_of rest ++ segments_events (k ∷ [])))
     ∙ ap (λ (m : List Content). first ++ m)
     (messages_behind (length g) (cut_of rest ++ segments_events (k ∷ []))
     ∙ messages_append (cut_of rest) (segments_events (k ∷ []))
@@ -84,8 +84,8 @@ of_both g k (inr none) =
 in_segments : (s : List ℕ) → messages (events s) ≡ messages (segments_events (segments s))
 unfolding events
 in_segments s =
-    messages_append (strays (lead s)) (events_behind (length (lead s)) (segments_events (segments s)))
-    ∙ ap (λ (m : List Content). m ++ messages (events_behind (length (lead s)) (segments_events (segments s))))
+    messages_append (strays (lead s)) (shifted (length (lead s)) (segments_events (segments s)))
+    ∙ ap (λ (m : List Content). m ++ messages (shifted (length (lead s)) (segments_events (segments s))))
     (no_strays (lead s))
     ∙ messages_behind (length (lead s)) (segments_events (segments s))
 

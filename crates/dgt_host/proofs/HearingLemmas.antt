@@ -5,7 +5,7 @@ use Rattle.std.specs.List.{AllByRecursion, flat_map}
 use Rattle.dgt_values.specs.declared.pieces.Piece.{Piece}
 use Rattle.dgt_message.specs.Content.{Content, IsMessage}
 use Rattle.dgt_message.specs.Encoding.{encoding}
-use Rattle.dgt_decode.specs.Grammar.{Event, Message, Refused, Cut, BadLength, Stray, Placed, at_place, cut_of, events, events_behind, unfinished_message}
+use Rattle.dgt_decode.specs.Grammar.{Event, Message, Refused, Cut, BadLength, Stray, Placed, at_place, cut_of, events, shifted, unfinished_message}
 use Rattle.dgt_decode.specs.Laws.{EventsAppend, UnfinishedAppend, UnfinishedIsQuiet, EncodingIsRead}
 use Rattle.dgt_message.specs.Picture.{clock_after_all, picture_after_all}
 use Rattle.dgt_host.specs.Host.{HeardInChunks, HostView, host_after, host_after_event, host_after_events, host_after_message}
@@ -17,7 +17,7 @@ host_after_events-append host (x ∷ xs) ys = host_after_events-append (host_aft
 
 -- the places of the events don't matter
 pub host_after_events-behind : (host : HostView) (n : ℕ) (xs : List Placed)
-    → host_after_events host (events_behind n xs) ≡ host_after_events host xs
+    → host_after_events host (shifted n xs) ≡ host_after_events host xs
 host_after_events-behind host n [] = refl
 host_after_events-behind host n (x ∷ xs) = host_after_events-behind (host_after_event host x.event) n xs
 
@@ -47,7 +47,7 @@ both later host s more =
     sym (host_after_events-behind (host_after_events host (events s)) (length s - length (unfinished_message s))
     (events (unfinished_message s ++ more)))
     ∙ sym (host_after_events-append host (events s)
-    (events_behind (length s - length (unfinished_message s)) (events (unfinished_message s ++ more))))
+    (shifted (length s - length (unfinished_message s)) (events (unfinished_message s ++ more))))
     ∙ ap (host_after_events host) (sym (later s more))
 
 in_two : EventsAppend → UnfinishedAppend → (host : HostView) (s more whole : List ℕ) → s ++ more ≡ whole
@@ -90,7 +90,7 @@ heard_more in_chunks host before now chunk i n e f =
 
 -- that a message was cut off changes nothing
 cut_changes_nothing : (host : HostView) (n : ℕ) (unread : List ℕ)
-    → host_after_events host (events_behind n (cut_of unread)) ≡ host
+    → host_after_events host (shifted n (cut_of unread)) ≡ host
 cut_changes_nothing host n [] = refl
 cut_changes_nothing host n (b ∷ bytes) = refl
 
@@ -103,7 +103,7 @@ module _ (read : EncodingIsRead) where
       let before : List ℕ = host.unread ++ bytes in
       let whole : host.unread ++ (bytes ++ encoding said) ≡ before ++ encoding said
       = sym (append_assoc host.unread bytes (encoding said)) in
-      let cut : List Placed = events_behind (length before) (cut_of (unfinished_message before)) in
+      let cut : List Placed = shifted (length before) (cut_of (unfinished_message before)) in
       let last : List Placed = at_place (length before + length (encoding said)) (Message said) ∷ [] in
       let parted : events (host.unread ++ (bytes ++ encoding said)) ≡ (events before ++ cut) ++ last
       = ap events whole ∙ (read before said is).0 in

@@ -3,7 +3,7 @@ use Rattle.std.proofs.Common.{◌≡◌, ◌+◌, refl, sym, ap, ◌∙◌, ℕ,
 use Rattle.std.specs.List.{AllByRecursion, flat_map}
 use Rattle.dgt_message.specs.Content.{Content, IsMessage}
 use Rattle.dgt_message.specs.Encoding.{encoding}
-use Rattle.dgt_decode.specs.Grammar.{Message, Placed, at_place, cut_of, events, events_behind, unfinished_message}
+use Rattle.dgt_decode.specs.Grammar.{Message, Placed, at_place, cut_of, events, shifted, unfinished_message}
 use Rattle.dgt_decode.specs.Laws.{EncodingIsRead, EventsAppend, UnfinishedAppend}
 use Rattle.dgt_host.specs.Confirmed.{StretchIsOne, message_in, messages}
 
@@ -13,11 +13,11 @@ messages_append (x ∷ xs) ys =
     ap (λ (m : List Content). message_in x.event ++ m) (messages_append xs ys)
     ∙ sym (append_assoc (message_in x.event) (messages xs) (messages ys))
 
-pub messages_behind : (n : ℕ) (xs : List Placed) → messages (events_behind n xs) ≡ messages xs
+pub messages_behind : (n : ℕ) (xs : List Placed) → messages (shifted n xs) ≡ messages xs
 messages_behind n [] = refl
 messages_behind n (x ∷ xs) = ap (λ (m : List Content). message_in x.event ++ m) (messages_behind n xs)
 
-no_message : (n : ℕ) (unread : List ℕ) → messages (events_behind n (cut_of unread)) ≡ []
+no_message : (n : ℕ) (unread : List ℕ) → messages (shifted n (cut_of unread)) ≡ []
 no_message n [] = refl
 no_message n (b ∷ bytes) = refl
 
@@ -25,7 +25,7 @@ module _ (read : EncodingIsRead) (later : EventsAppend) (still : UnfinishedAppen
   one_more : (bytes : List ℕ) (said : Content) → IsMessage said
       → messages (events (bytes ++ encoding said)) ≡ messages (events bytes) ++ said ∷ []
   one_more bytes said is =
-      let cut : List Placed = events_behind (length bytes) (cut_of (unfinished_message bytes)) in
+      let cut : List Placed = shifted (length bytes) (cut_of (unfinished_message bytes)) in
       let last : List Placed = at_place (length bytes + length (encoding said)) (Message said) ∷ [] in
       ap messages (read bytes said is).0
       ∙ messages_append (events bytes ++ cut) last

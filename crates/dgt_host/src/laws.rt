@@ -8,7 +8,7 @@ ghost use Rattle.dgt_values.specs.Equality.{CloneIsSame, EqualIsSame, EqualIsSam
 ghost use Rattle.dgt_message.specs.Content.{Content, IsMessage};
 ghost use Rattle.dgt_message.specs.Encoding.{encoding};
 ghost use Rattle.dgt_decode.specs.Feeding.{event_content_if_any};
-ghost use Rattle.dgt_decode.specs.Grammar.{Event, Placed, events_behind, unfinished_message};
+ghost use Rattle.dgt_decode.specs.Grammar.{Event, Placed, shifted, unfinished_message};
 ghost use Rattle.dgt_message.specs.Picture.{clock_after_all, picture_after_all};
 ghost use Rattle.dgt_host.specs.Confirmed.{ChangesIsExact, ConfirmedByDump, ConfirmedIsReported, ConfirmedWasReported, FaultlessIsRight, IsRight, LateFaultsSuffice, Passage, StretchIsOne, TwoFaultsSuffice, UnconfirmedIsWrong, changes, confirmed_after, faults_after, heard_in, repeats, sent_in};
 ghost use Rattle.dgt_host.specs.Host.{HeardInChunks, HostView, host_after, host_after_events, host_after_message};
@@ -60,7 +60,7 @@ pub fn nothing_heard()
 /// What a host becomes doesn't depend on where the events stand.
 pub fn places_do_not_matter()
     ensures { (host : HostView) (places : ℕ) (events : List Placed)
-        → host_after_events host (events_behind places events) ≡ host_after_events host events }
+        → host_after_events host (shifted places events) ≡ host_after_events host events }
 {}
 
 /// What is written of a message is heard as this message, whatever bytes the host has heard before:

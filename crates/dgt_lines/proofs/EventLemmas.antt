@@ -3,7 +3,7 @@ use Rattle.std.proofs.Common.{◌≡◌, ℕ, ◌+◌, ◌-◌, List, [], ◌∷
 use Rattle.std.proofs.lemmas.Grind.{flat_map-append}
 use Rattle.std.proofs.lemmas.List.{take_all}
 use Rattle.std.specs.List.{flat_map}
-use Rattle.dgt_decode.specs.Grammar.{Event, at_place, events, events_behind, unfinished_message}
+use Rattle.dgt_decode.specs.Grammar.{Event, at_place, events, shifted, unfinished_message}
 use Rattle.dgt_decode.specs.Feeding.{FirstEvent, at_place_if_any, chunk_events}
 use Rattle.dgt_decode.specs.Laws.{UnfinishedAppend, ChunksAdd}
 use Rattle.dgt_lines.specs.Lines.{events_after, lines, lines_after, placed_line}
@@ -32,11 +32,11 @@ module _ (kept bytes chunk : List ℕ) (n : ℕ) (same : unfinished_message kept
       → offset ≡ length bytes
       → events_after (unfinished_message bytes) (length bytes) (take n chunk) ≡ at_place_if_any (offset + n) event
   events_found offset event h counted =
-      ap (events_behind (length bytes)) (ap (λ held. chunk_events held (take n chunk)) (sym same)
+      ap (shifted (length bytes)) (ap (λ held. chunk_events held (take n chunk)) (sym same)
       ∙ first_events (unfinished_message kept) chunk n event h) ∙ behind event
     where
       behind : (event : Option Event)
-          → events_behind (length bytes) (at_place_if_any n event) ≡ at_place_if_any (offset + n) event
+          → shifted (length bytes) (at_place_if_any n event) ≡ at_place_if_any (offset + n) event
       behind None = refl
       behind (Some x) = ap (λ m. at_place m x ∷ []) (omega (arith, counted))
 

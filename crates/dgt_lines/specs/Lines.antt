@@ -11,7 +11,7 @@ use Rattle.dgt_message.specs.Code.{known_with}
 use Rattle.dgt_message.specs.Content.{Content}
 use Rattle.dgt_message.specs.Content.Content.{dump, field, times, no_clock, ack, carried}
 use Rattle.dgt_message.specs.Clock.{Time}
-use Rattle.dgt_decode.specs.Grammar.{Event, Message, Refused, Cut, BadLength, Stray, Placed, events, events_behind, unfinished_message}
+use Rattle.dgt_decode.specs.Grammar.{Event, Message, Refused, Cut, BadLength, Stray, Placed, events, shifted, unfinished_message}
 use Rattle.dgt_decode.specs.Feeding.{chunk_events}
 
 -- ---- Numbers and bytes
@@ -113,7 +113,7 @@ lines bytes = flat_map placed_line (events bytes)
 
 -- the events of a chunk that comes after this many bytes, of which these are an unfinished message
 abbrev pub events_after : List ℕ → ℕ → List ℕ → List Placed
-events_after held offset chunk = events_behind offset (chunk_events held chunk)
+events_after held offset chunk = shifted offset (chunk_events held chunk)
 
 -- the lines of a chunk that comes after this many bytes, of which these are unfinished
 abbrev pub lines_after : List ℕ → ℕ → List ℕ → List ℕ

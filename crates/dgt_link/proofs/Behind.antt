@@ -12,7 +12,7 @@ use Rattle.dgt_message.specs.Encoding.{Encodes, encoding}
 use Rattle.dgt_command.specs.Content.{CommandContent, requested_kind}
 use Rattle.dgt_board.specs.State.{BoardState, after_change, after_hand_clock}
 use Rattle.dgt_board.specs.Sending.{after_sending, next_message}
-use Rattle.dgt_decode.specs.Grammar.{Event, Message, Placed, cut_of, events, events_behind, unfinished_message}
+use Rattle.dgt_decode.specs.Grammar.{Event, Message, Placed, cut_of, events, shifted, unfinished_message}
 use Rattle.dgt_decode.specs.Laws.{BeginsAnew}
 use Rattle.dgt_message.specs.Picture.{clock_after, picture_after}
 use Rattle.dgt_host.specs.Host.{HostView, awaited_after, host_after, host_after_event, host_after_events, host_after_message}
@@ -143,7 +143,7 @@ first_has_top_bit (message ∷ messages) b rest e = omega (arith, first_same e)
 -- whatever the host made of garbage, after it it hears what begins there
 behind_garbage : BeginsAnew
     → ((host : HostView) (n : ℕ) (reported : List Placed)
-    → host_after_events host (events_behind n reported) ≡ host_after_events host reported)
+    → host_after_events host (shifted n reported) ≡ host_after_events host reported)
     → (host : HostView) (garbage more : List ℕ) (b : ℕ) → 128 ≤ b
     → host_after_events host (events (garbage ++ b ∷ more))
     ≡ host_after_events (host_after_events host (events garbage)) (events (b ∷ more))
@@ -151,7 +151,7 @@ behind_garbage anew places host garbage more b top =
     let then : HostView = host_after_events host (events garbage) in
     let cut : List Placed = cut_of (unfinished_message garbage) in
     ap (host_after_events host) (anew garbage more b top).0
-    ∙ events_in_a_row host (events garbage) (events_behind (length garbage) (cut ++ events (b ∷ more)))
+    ∙ events_in_a_row host (events garbage) (shifted (length garbage) (cut ++ events (b ∷ more)))
     ∙ places then (length garbage) (cut ++ events (b ∷ more))
     ∙ events_in_a_row then cut (events (b ∷ more))
     ∙ ap (λ (h : HostView). host_after_events h (events (b ∷ more)))

@@ -4,7 +4,7 @@ use Rattle.std.specs.List.{flat_map}
 use Rattle.std.specs.Prelude.{map}
 use Rattle.dgt_message.specs.Content.{Content, IsMessage}
 use Rattle.dgt_message.specs.Encoding.{encoding}
-use Rattle.dgt_decode.specs.Grammar.{Event, Message, Placed, at_place, events, events_behind, unfinished_message}
+use Rattle.dgt_decode.specs.Grammar.{Event, Message, Placed, at_place, events, shifted, unfinished_message}
 use Rattle.dgt_host.specs.Host.{HostView, host_after_events, host_after_message}
 use Rattle.dgt_link.specs.Readers.{Reads}
 use Rattle.dgt_link.specs.Stands.{AreEncoded}
@@ -32,7 +32,7 @@ tail_same x y xs ys h = cc
 abbrev pub known : List Placed → List Event
 known xs = map (λ x. x.event) xs
 
-known_behind : (n : ℕ) (xs : List Placed) → known (events_behind n xs) ≡ known xs
+known_behind : (n : ℕ) (xs : List Placed) → known (shifted n xs) ≡ known xs
 known_behind n [] = refl
 known_behind n (x ∷ xs) = ap (λ (more : List Event). x.event ∷ more) (known_behind n xs)
 
@@ -60,7 +60,7 @@ module _ (reads : Reads) where
       → events (prefix ++ rest) ≡ y ∷ [] → events (unfinished_message prefix ++ rest) ≡ []
   nothing_more prefix rest x y xs e whole =
       let behind : List Placed
-      = events_behind (length prefix - length (unfinished_message prefix))
+      = shifted (length prefix - length (unfinished_message prefix))
       (events (unfinished_message prefix ++ rest)) in
       let all : x ∷ (xs ++ behind) ≡ y ∷ []
       = ap (λ (es : List Placed). es ++ behind) (sym e) ∙ sym (reads.append prefix rest) ∙ whole in
@@ -97,7 +97,7 @@ module _ (reads : Reads) where
       → known (events others) ≡ map Message heard → known (events prefix) ≡ Message message ∷ map Message heard
   after_message word prefix others n message heard read held e more =
       let after : events (word ++ others)
-      ≡ at_place n (Message message) ∷ events_behind (length word - 0) (events others)
+      ≡ at_place n (Message message) ∷ shifted (length word - 0) (events others)
       = reads.append word others ∙ rw (read, held) refl in
       ap (λ (bytes : List ℕ). known (events bytes)) e ∙ ap known after
       ∙ ap (λ (rest : List Event). Message message ∷ rest) (known_behind (length word - 0) (events others) ∙ more)

@@ -4,7 +4,7 @@ use Rattle.dgt_command.specs.Content.{EventContent}
 use Rattle.dgt_command.specs.Laws.{DivisionsAppend, EachDividesOnce, PrefixesDivideFirst, ZerosSettleTheReader}
 use Rattle.dgt_command.specs.Encoding.{AreBytes}
 use Rattle.dgt_command.specs.Words.{Divides, IsPartial}
-use Rattle.dgt_decode.specs.Grammar.{Placed, events_behind}
+use Rattle.dgt_decode.specs.Grammar.{Placed, shifted}
 use Rattle.dgt_decode.specs.Laws.{BeginsAnew, EventsAppend, UnfinishedAppend, QuietHeld, EncodingIsRead}
 use Rattle.dgt_host.specs.Host.{HostView, host_after_events}
 
@@ -15,7 +15,7 @@ pub record Reads : Type 0 where
   pub quiet_held : QuietHeld
   pub encoding : EncodingIsRead
   pub places : (host : HostView) (n : ℕ) (reported : List Placed)
-      → host_after_events host (events_behind n reported) ≡ host_after_events host reported
+      → host_after_events host (shifted n reported) ≡ host_after_events host reported
 
 -- the laws of both readers
 pub record Grammars : Type 0 where

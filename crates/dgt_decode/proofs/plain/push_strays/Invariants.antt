@@ -1,9 +1,9 @@
 use Rattle.std.proofs.Common.{map, ◌≡◌, ◌++◌, take}
-use Rattle.dgt_decode.specs.Grammar.{events_behind, strays}
+use Rattle.dgt_decode.specs.Grammar.{shifted, strays}
 use Rattle.dgt_decode.specs.Taking.{placed_content}
 use Rattle.dgt_decode.proofs.plain.push_strays.Given as goal
 
 abbrev pub invariant-loop-index : goal.invariant-loop-index
 invariant-loop-index l = map placed_content l.reported.items ≡ map placed_content l.fn.reported.items
-    ++ events_behind l.before
+    ++ shifted l.before
     (strays (take l.index l.bytes))
