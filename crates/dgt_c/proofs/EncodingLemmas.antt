@@ -1,21 +1,22 @@
 -- What a struct of C says, and what it doesn't.
-use Rattle.std.proofs.Common.{◌≡◌, ◌≢◌, refl, ℕ, ◌<◌, ◌≤◌, List, map, Option, Some, None, arith, subst, sym}
+use Rattle.std.proofs.Common.{◌≡◌, ◌≢◌, ◌⊎◌, ◌+◌, refl, ℕ, ◌<◌, ◌≤◌, List, [], ◌∷◌, length, map, Option, Some, None, ap, arith, subst, sym}
 use Rattle.std.specs.List.{AllByRecursion}
 use Rattle.std.proofs.lemmas.List.Elements.{All-from_recursion, All-map}
-use Rattle.std.specs.Prelude.{◌↔◌, slice_index_or}
+use Rattle.std.specs.Prelude.{IfSome, IsTrue, is_some, slice_index, slice_index_or}
 use Rattle.dgt_values.specs.declared.pieces.Piece.{Piece}
 use Rattle.dgt_values.specs.Board.{piece_code}
 use Rattle.dgt_message.specs.declared.known.KnownCode.{KnownCode}
 use Rattle.dgt_message.specs.Clock.{ClockState}
-use Rattle.dgt_message.specs.Code.{known_number, known_with}
-use Rattle.dgt_message.specs.Content.{Content}
+use Rattle.dgt_message.specs.Code.{known_total, known_with}
+use Rattle.dgt_message.specs.Content.{Content, IsCarried}
+use Rattle.dgt_message.specs.Layout.{known_layout}
 use Rattle.dgt_message.proofs.Codes.{piece_code-below}
 use Rattle.dgt_c.specs.Clocks.{SaysClock}
 use Rattle.dgt_c.specs.Encoding.{IsMessageKind, SaysMessage, carried_said, kinds_of_messages}
 use Rattle.dgt_c.specs.Starting.{ArePieces}
-use Rattle.dgt_c.specs.Reported.{carried_reported, message_reported}
+use Rattle.dgt_c.specs.Reported.{body_apart, carried_reported, message_reported}
 use Rattle.dgt_c.specs.declared.header.DgtEvent.{DgtEvent}
-use Rattle.dgt_c.specs.declared.header.TheConstants.{EVENT_DUMP, EVENT_NO_CLOCK, EVENT_TIMES}
+use Rattle.dgt_c.specs.declared.header.TheConstants.{EVENT_DUMP, EVENT_NO_CLOCK, EVENT_OTHER, EVENT_TIMES}
 
 -- the codes of pieces are codes of pieces
 pub are_pieces : (pieces : List Piece) (codes : List ℕ) → map piece_code pieces ≡ codes → ArePieces codes
@@ -73,13 +74,49 @@ no_clock said body least most none (Content.carried code bytes) says =
     absurd (omega (arith, most, says.1.0, carried_least (known_with code) code bytes))
 no_clock said body least most none _ says = absurd (omega (arith, least, most, says.1.0))
 
--- the bytes of another code than those of a serial number and a version are the body
-pub said_apart : ((number : ℕ) (code : KnownCode) → (known_with number ≡ Some code) ↔ (number ≡ known_number code))
-    → (said : DgtEvent) (body : List ℕ) (code : ℕ) → code ≢ 0x11 → code ≢ 0x13 → (known : Option KnownCode)
-    → known_with code ≡ known → carried_said known said body ≡ body
-said_apart one_code said body code serial version None is = refl
-said_apart one_code said body code serial version (Some KnownCode.Serial) is =
-    absurd (serial ((one_code code KnownCode.Serial).0 is))
-said_apart one_code said body code serial version (Some KnownCode.Version) is =
-    absurd (version ((one_code code KnownCode.Version).0 is))
-said_apart one_code said body code serial version (Some _) is = refl
+-- a struct of the kind of other messages has their code
+pub other_code : (known : Option KnownCode) (code : ℕ) (body : List ℕ)
+    → (carried_reported known code body).kind ≡ EVENT_OTHER → code ≡ (carried_reported known code body).code
+other_code None code body other = refl
+other_code (Some KnownCode.Serial) code body other = cc
+other_code (Some KnownCode.Version) code body other = cc
+other_code (Some _) code body other = refl
+
+-- two bytes are those of a list of two
+two : (body : List ℕ) → length body + 3 ≡ 5 → body ≡ slice_index body 0 ∷ slice_index body 1 ∷ []
+two (a ∷ b ∷ []) size = refl
+two (a ∷ b ∷ c ∷ body) size = absurd (omega arith)
+two (a ∷ []) size = absurd (omega arith)
+two [] size = absurd (omega arith)
+
+-- its members or the body are the bytes
+pub carried_bytes : (place : ℕ) (known : Option KnownCode) (code : ℕ) (body : List ℕ)
+    → IfSome (known_total known) (λ total. length body + 3 ≡ total)
+    → body ≡ carried_said known (record (carried_reported known code body) { place = place }) (body_apart known body)
+carried_bytes place None code body size = refl
+carried_bytes place (Some KnownCode.Serial) code body size = refl
+carried_bytes place (Some KnownCode.Version) code body size = two body size
+carried_bytes place (Some _) code body size = refl
+
+-- the bytes of a message of a kind with no member for them are the body
+pub said_apart : (said : DgtEvent) (body : List ℕ) (known : Option KnownCode) (code : ℕ) (bytes : List ℕ)
+    → (said.kind ≡ 7) ⊎ (said.kind ≡ 9) ⊎ (said.kind ≡ 10) ⊎ (said.kind ≡ 11)
+    → said.kind ≡ (carried_reported known code bytes).kind → carried_said known said body ≡ body
+said_apart said body None code bytes kind is = refl
+said_apart said body (Some KnownCode.Serial) code bytes kind is = absurd (omega (arith, kind, is))
+said_apart said body (Some KnownCode.Version) code bytes kind is = absurd (omega (arith, kind, is))
+said_apart said body (Some _) code bytes kind is = refl
+
+-- a code that has no case is none of the known ones
+pub no_case : (known : Option KnownCode) → (IsTrue (is_some known) → ⊥) → known ≡ None
+no_case None none = refl
+no_case (Some code) none = absurd (none refl)
+
+-- a struct of the kind of other messages, with their code, says one
+pub other_said : (said : DgtEvent) (body bytes : List ℕ) (code : ℕ) → code < 128 → known_with code ≡ None
+    → said.kind ≡ EVENT_OTHER → code ≡ said.code → bytes ≡ body → IsCarried bytes
+    → SaysMessage said body (Content.carried code bytes)
+other_said said body bytes code small none kind is same carried = (
+  (small, ap (λ known. known_layout known bytes) none, rw none tt, carried),
+  (rw none kind, ((λ other. is), rw none same)),
+)

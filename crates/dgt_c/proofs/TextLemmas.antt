@@ -1,41 +1,15 @@
 -- The struct and the body that report an event say it, and its text is written.
-use Rattle.std.proofs.Common.{◌≡◌, ◌+◌, refl, ℕ, List, [], ◌∷◌, length, Option, None, Some, ap, arith, inl, inr}
-use Rattle.std.specs.Prelude.{IfSome, slice_index}
-use Rattle.dgt_message.specs.declared.known.KnownCode.{KnownCode}
-use Rattle.dgt_message.specs.Code.{known_total, known_with}
+use Rattle.std.proofs.Common.{refl, ℕ, Some, ap, inl, inr}
+use Rattle.dgt_message.specs.Code.{known_with}
 use Rattle.dgt_message.specs.declared.viewing.BodyFault.{BodyFault}
 use Rattle.dgt_message.specs.Content.{Content, IsMessage}
 use Rattle.dgt_decode.specs.Grammar.{Message, Refused, Cut, BadLength, Stray}
-use Rattle.dgt_c.specs.Encoding.{SaysContent, carried_said}
+use Rattle.dgt_c.specs.Encoding.{SaysContent}
 use Rattle.dgt_c.specs.Once.{EventsAreRead, EventsHaveTexts, NothingHasNoText, ReportsAreSaid}
-use Rattle.dgt_c.specs.Reported.{body_apart, body_said, carried_reported, reported_at}
-use Rattle.dgt_c.specs.declared.header.TheConstants.{EVENT_OTHER}
+use Rattle.dgt_c.proofs.EncodingLemmas.{carried_bytes, other_code}
+use Rattle.dgt_c.specs.Reported.{body_said, reported_at}
 use Rattle.dgt_c.specs.Texts.{SaysFault}
 use Rattle.dgt_c.specs.declared.header.DgtEncoded.{DgtEncoded}
-
--- a struct of the kind of other messages has their code
-other_code : (known : Option KnownCode) (code : ℕ) (body : List ℕ)
-    → (carried_reported known code body).kind ≡ EVENT_OTHER → code ≡ (carried_reported known code body).code
-other_code None code body other = refl
-other_code (Some KnownCode.Serial) code body other = cc
-other_code (Some KnownCode.Version) code body other = cc
-other_code (Some _) code body other = refl
-
--- two bytes are those of a list of two
-two : (body : List ℕ) → length body + 3 ≡ 5 → body ≡ slice_index body 0 ∷ slice_index body 1 ∷ []
-two (a ∷ b ∷ []) size = refl
-two (a ∷ b ∷ c ∷ body) size = absurd (omega arith)
-two (a ∷ []) size = absurd (omega arith)
-two [] size = absurd (omega arith)
-
--- its members or the body are the bytes
-carried_bytes : (place : ℕ) (known : Option KnownCode) (code : ℕ) (body : List ℕ)
-    → IfSome (known_total known) (λ total. length body + 3 ≡ total)
-    → body ≡ carried_said known (record (carried_reported known code body) { place = place }) (body_apart known body)
-carried_bytes place None code body size = refl
-carried_bytes place (Some KnownCode.Serial) code body size = refl
-carried_bytes place (Some KnownCode.Version) code body size = two body size
-carried_bytes place (Some _) code body size = refl
 
 content_said : (place : ℕ) (message : Content) → IsMessage message
     → SaysContent (reported_at place (Some (Message message))) (body_said (Some (Message message))) message

@@ -1,7 +1,7 @@
 //! What holds of what calls report to C. [`header`] has the laws of numbers and structs. Nothing
 //! here runs: each function stands for the fact that its contract states.
 
-ghost use Rattle.std.specs.Prelude.{◌≡◌, ◌≢◌, ◌<◌, ◌∷◌, ℕ, List, [], map};
+ghost use Rattle.std.specs.Prelude.{◌≡◌, ◌⊎◌, ◌<◌, ◌∷◌, ℕ, List, [], map};
 ghost use Rattle.dgt_values.specs.declared.pieces.Piece.{Piece as AnyPiece};
 ghost use Rattle.dgt_values.specs.Board.{piece_code};
 ghost use Rattle.dgt_message.specs.Clock.{Absence, Times};
@@ -81,13 +81,12 @@ pub fn said_messages()
     ensures version { (said : DgtEvent) (body : List ℕ) (first second : ℕ) →
         SaysContent said body (Content.carried 0x13 (first ∷ second ∷ []))
         → (said.kind ≡ 8) × (said.main_number ≡ first) × (said.sub_number ≡ second) }
-    ensures carried { (said : DgtEvent) (body bytes : List ℕ) (code : ℕ) → code ≢ 0x11 →
-        code ≢ 0x13 → SaysContent said body (Content.carried code bytes) → bytes ≡ body }
+    ensures carried { (said : DgtEvent) (body bytes : List ℕ) (code : ℕ) →
+        (said.kind ≡ 7) ⊎ (said.kind ≡ 9) ⊎ (said.kind ≡ 10) ⊎ (said.kind ≡ 11) →
+        SaysContent said body (Content.carried code bytes) → bytes ≡ body }
     ensures other { (said : DgtEvent) (body bytes : List ℕ) (code : ℕ) → said.kind ≡ 11 →
         SaysContent said body (Content.carried code bytes) → code ≡ said.code }
-{
-    dgt_message::laws::a_number_has_one_code();
-}
+{}
 
 /// An encoding has one report. If C says no message, there is none and the slice stays; and if it
 /// says one, one is encoded.
