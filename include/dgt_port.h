@@ -224,8 +224,8 @@ static inline long dgt_port_exchange(int port, dgt_follower *follower, uint8_t *
     return dgt_port_read(port, bytes, n, due);
 }
 
-/* How many bytes a port has lost or altered since it was plugged in, as the system counts: those
- * that overran, were framed wrongly, had a wrong parity or were a break. 0 if the port doesn't count
+/* How many bytes a port has lost or altered since it was plugged in, as the system counts. They
+ * overran, were framed wrongly, had a wrong parity or were a break. 0 if the port doesn't count
  * them, as a pseudo-terminal. */
 static inline unsigned dgt_port_count_(int port) {
     struct serial_icounter_struct count;
@@ -241,8 +241,8 @@ typedef struct dgt_port_faults {
 } dgt_port_faults;
 
 /* Whether a port has lost or altered bytes since the last call. Call it once a follower has heard
- * what was read, and if so dgt_follower_line_disturbed. For DGT_PORT_LATE milliseconds after a fault
- * it is true, too: bytes may come that the port got before it. */
+ * what was read, and if so dgt_follower_line_disturbed. It is true for DGT_PORT_LATE milliseconds
+ * after a fault: bytes may come that the port got before it. */
 static inline bool dgt_port_is_disturbed(int port, dgt_port_faults *faults) {
     unsigned count = dgt_port_count_(port);
     uint64_t now = dgt_port_now();

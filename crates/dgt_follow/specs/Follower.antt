@@ -102,7 +102,7 @@ OverdueIsAskedAnew =
     time_after pace.asked (max OVERDUE (pace.period / 4)) ≤ now →
     asking (pace_at pace now) full now ≡ Asking.Anew
 
--- A follower that was disturbed begins anew when a quarter of the period has passed, and so does one
+-- A follower that was disturbed begins anew when a quarter of the period has passed. So does one
 -- with a message that has been unfinished for a second.
 abbrev pub DisturbedIsAskedAnew : Type 0
 DisturbedIsAskedAnew =

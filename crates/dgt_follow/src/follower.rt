@@ -337,9 +337,9 @@ impl Follower {
         self.host.picture()
     }
 
-    /// What the board reported last of its clock, if it reported any of it. `None` while that has no
-    /// reading: if the clock shows no digits, so that the report was refused, or if all its bytes are
-    /// zero, as before its first reading.
+    /// What the board reported last of its clock, if it reported any of it. `None` while that has
+    /// no reading: if the clock shows no digits, so that the report was refused, or if all its
+    /// bytes are zero, as before its first reading.
     pub fn clock(&self) -> Option<&Clock>
         ensures { option_map (λ clock. clock_seen clock.now) result ≡ clock_known self.now }
     {

@@ -44,8 +44,8 @@ pub fn bytes_by_example()
         ≡ 0x00 ∷ 0x6a ∷ 0x6b ∷ 0x6c ∷ 0x6d ∷ 0x6e ∷ 0x6f ∷ 0x7a ∷ 0x7b ∷ 0x7c ∷ 0x7f ∷ [] }
 {}
 
-/// What bytes begin with. No piece stands on square 64. A piece without its square is unknown, and so
-/// is a time without its seconds.
+/// What bytes begin with. No piece stands on square 64. A piece without its square is unknown, and
+/// so is a time without its seconds.
 pub fn first_by_example()
     ensures piece { (later : List ℕ) → IsFirst (0x41 ∷ 0x34 ∷ later)
         (StoredContent.piece 52 AnyPiece.WhitePawn 0) later }

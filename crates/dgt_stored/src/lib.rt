@@ -1,8 +1,8 @@
 //! What a DGT board stores while no host listens.
 //!
 //! A board writes its pieces and its clock into a memory of its own, and sends all of that after
-//! the command `49`, as a message with the code `0f`. [`first`] reads what the bytes of its body say
-//! first, and how many bytes that takes; call it again with the others:
+//! the command `49`, as a message with the code `0f`. [`first`] reads what the bytes of its body
+//! say first, and how many bytes that takes; call it again with the others:
 //!
 //! ```rust
 //! use dgt_stored::{Stored, first};

@@ -64,8 +64,9 @@ pub struct BoardView {
 /// It never ends: a stream that has gone is opened again.
 ///
 /// The stream is whatever `open` returns. A read has to return after a while if nothing comes, by
-/// `TimedOut` or `WouldBlock`, so that the board can be asked in time. `InvalidData` says that bytes
-/// were lost or altered. `Ok(0)` and any other fault say that the stream has gone. A port of the crate `serialport` does for each system it knows:
+/// `TimedOut` or `WouldBlock`, so that the board can be asked in time. `InvalidData` says that
+/// bytes were lost or altered. `Ok(0)` and any other fault say that the stream has gone. A port of
+/// the crate `serialport` does for each system it knows:
 ///
 /// ```ignore
 /// let port = || Ok(serialport::new("COM3", 9600).timeout(Duration::from_millis(100)).open()?);
@@ -261,11 +262,7 @@ fn ask(follower: &mut Follower, stream: &mut impl Write) -> io::Result<usize> {
 }
 
 /// Reads what comes, and returns how many bytes: 0 if nothing came in time.
-fn read(
-    follower: &mut Follower,
-    stream: &mut impl Read,
-    chunk: &mut [u8],
-) -> io::Result<usize> {
+fn read(follower: &mut Follower, stream: &mut impl Read, chunk: &mut [u8]) -> io::Result<usize> {
     match stream.read(chunk) {
         Ok(0) => Err(ErrorKind::UnexpectedEof.into()),
         Ok(count) => Ok(count),

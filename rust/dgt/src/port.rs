@@ -94,8 +94,8 @@ pub struct Port {
     is_disturbed: bool,
 }
 
-/// What a port has begun to mark. `ff ff` is the byte ff, and `ff 00` comes before a byte whose stop
-/// bit is wrong, or before the 00 of a break.
+/// What a port has begun to mark. `ff ff` is the byte ff, and `ff 00` comes before a byte whose
+/// stop bit is wrong, or before the 00 of a break.
 #[derive(Debug, Default, PartialEq)]
 enum Marks {
     #[default]
