@@ -1,6 +1,6 @@
 -- What a code and a body say, computed: a message that fits them is this one.
-use Rattle.std.proofs.Common.{◌≡◌, ℕ, zero, suc, ◌<◌, ◌≤◌, ◌+◌, ◌-◌, ◌*◌, ◌/◌, ◌%◌, false, refl, ap, List, [], ◌∷◌}
-use Rattle.std.proofs.Common.{◌++◌, length, map, take, drop, arith}
+use Rattle.std.proofs.Common.{◌≡◌, ℕ, ◌<◌, ◌≤◌, ◌+◌, ◌-◌, ◌*◌, ◌/◌, ◌%◌, false, refl, ap, List, [], ◌∷◌}
+use Rattle.std.proofs.Common.{◌++◌, length, map, take, drop, arith, rules}
 use Rattle.std.specs.Prelude.{◌||◌, slice_index}
 use Rattle.std.proofs.lemmas.Bool.{ne_eqb, false_from_ne_true}
 use Rattle.dgt_values.specs.Board.{piece_code}
@@ -20,27 +20,7 @@ piece_with_code-piece_code _ = refl
 
 -- a code below 16 is that of its piece
 pub piece_code-piece_with_code : (n : ℕ) → n < 16 → piece_code (piece_with_code n) ≡ n
-piece_code-piece_with_code zero h = refl
-piece_code-piece_with_code (suc zero) h = refl
-piece_code-piece_with_code (suc (suc zero)) h = refl
-piece_code-piece_with_code (suc (suc (suc zero))) h = refl
-piece_code-piece_with_code (suc (suc (suc (suc zero)))) h = refl
-piece_code-piece_with_code (suc (suc (suc (suc (suc zero))))) h = refl
-piece_code-piece_with_code (suc (suc (suc (suc (suc (suc zero)))))) h = refl
-piece_code-piece_with_code (suc (suc (suc (suc (suc (suc (suc zero))))))) h = refl
-piece_code-piece_with_code (suc (suc (suc (suc (suc (suc (suc (suc zero)))))))) h = refl
-piece_code-piece_with_code (suc (suc (suc (suc (suc (suc (suc (suc (suc zero))))))))) h = refl
-piece_code-piece_with_code (suc (suc (suc (suc (suc (suc (suc (suc (suc (suc zero)))))))))) h = refl
-piece_code-piece_with_code (suc (suc (suc (suc (suc (suc (suc (suc (suc (suc (suc zero))))))))))) h = refl
-piece_code-piece_with_code (suc (suc (suc (suc (suc (suc (suc (suc (suc (suc (suc (suc zero)))))))))))) h = refl
-piece_code-piece_with_code (suc (suc (suc (suc (suc (suc (suc (suc (suc (suc (suc (suc (suc zero))))))))))))) h = refl
-piece_code-piece_with_code (suc (suc (suc (suc (suc (suc (suc (suc (suc (suc (suc (suc (suc (suc zero)))))))))))))) h =
-    refl
-piece_code-piece_with_code
-    (suc (suc (suc (suc (suc (suc (suc (suc (suc (suc (suc (suc (suc (suc (suc zero))))))))))))))) h = refl
-piece_code-piece_with_code
-    (suc (suc (suc (suc (suc (suc (suc (suc (suc (suc (suc (suc (suc (suc (suc (suc n)))))))))))))))) h =
-    absurd (omega arith)
+piece_code-piece_with_code n h = search rules
 
 -- pieces are those with their codes
 pub map-piece_with_code : (pieces : List Piece) → map piece_with_code (map piece_code pieces) ≡ pieces
