@@ -8,7 +8,7 @@ import os
 import time
 from collections.abc import Iterable
 
-from ._board_line import BoardLine
+from ._board_with_clock import BoardWithClock
 from ._live_boards import Board, say
 from .board import Mode
 from .serial_ports import SerialPort, ports
@@ -29,7 +29,7 @@ class PortBoard(Board):
         """`OSError` if the port is a file that is no serial port."""
         super().__init__(os.path.basename(port), port)
         self._has_clock, self._has_lights = has_clock, has_lights
-        self._line = BoardLine(port, _PERIOD, Mode.UPDATE_NICE, identify=True)
+        self._line = BoardWithClock(port, _PERIOD, Mode.UPDATE_NICE, identify=True)
         self._descriptor: int | None = None
         self._asked: Position | None = None
         self._pending: tuple[str, bool] | None = None

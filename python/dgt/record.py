@@ -24,7 +24,7 @@ import threading
 import tty
 from typing import TextIO
 
-from ._board_line import _PATIENCE
+from ._board_with_clock import _PATIENCE
 from ._port import Port
 from ._session import RecordedPort, Recorder
 from ._version import VERSION
