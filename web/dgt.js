@@ -1,0 +1,1141 @@
+/**
+ * The proved library for the DGT electronic chess board, for browsers and Node.
+ *
+ *     import { load, Follower } from "./dgt.js";
+ *     const dgt = await load();
+ *     const follower = new Follower(dgt);
+ *     // Again and again: write follower.ask(now) to the line if it isn't null, wait for bytes
+ *     // until follower.dueAt, and hand them in by follower.hear(now, bytes).
+ *
+ * Nothing here opens a line, waits, or makes a request, but for `load` without an argument. Each
+ * value that is returned is a copy: no view of the module's memory leaves this file. What each call
+ * does is said in include/dgt.h.
+ *
+ * Squares are numbered from a8, 0, to h1, 63. White pawn, rook, knight, bishop, king and queen are
+ * 1 to 6, the black ones 7 to 12, and no piece is 0. Times are milliseconds.
+ */
+
+import { ASK, CALLS, CLOCKS, EVENTS, FAULTS, IDS, MAX_BODY, MODES, NO_COMMAND, NO_SUCH, NOT_ENCODED,
+         PLACEMENT_ROOM, STATUS, STRUCTS, TOO_MANY, VERSION, WORDS, WROTE } from "./header.js";
+
+export { ASK, IDS, MODES, STATUS };
+
+/** What is wrong with a call. Nothing was done if one is thrown. */
+export class DgtError extends Error {
+  /** @param {string} text */
+  constructor(text) {
+    super(text);
+    this.name = new.target.name;
+  }
+}
+/** 16 replies are awaited already. */
+export class TooManyAwaited extends DgtError {}
+/** The object was closed. */
+export class Closed extends DgtError {}
+/** An argument is out of its range. */
+export class BadValue extends DgtError {}
+/** A text is no placement from its character `at` on. */
+export class BadPlacement extends DgtError {
+  /** @param {number} at */
+  constructor(at) {
+    super(`no placement from character ${at} on`);
+    this.at = at;
+  }
+}
+
+/**
+ * @typedef {{hours: number, minutes: number, seconds: number, flags: number}} Time
+ * @typedef {{kind: "times", status: number, first: Time, second: Time}} Times
+ * @typedef {{kind: "none", status: number, raw: Uint8Array}} NoClock
+ * @typedef {{kind: "unknown"} | Times | NoClock} Clock
+ *
+ * @typedef {(
+ *   {type: "dump", pieces: Uint8Array} |
+ *   {type: "field", square: number, piece: number} |
+ *   {type: "times", clock: Times} |
+ *   {type: "noClock", clock: NoClock} |
+ *   {type: "ack", ack: Uint8Array, ackStatus: number} |
+ *   {type: "serial", serial: Uint8Array} |
+ *   {type: "trademark" | "battery" | "longSerial" | "other", code: number, body: Uint8Array} |
+ *   {type: "version", mainNumber: number, subNumber: number} |
+ *   {type: "refused", code: number, at: number,
+ *    fault: "wrongSize" | "badPiece" | "badSquare" | "badReading"} |
+ *   {type: "cut", have: number} |
+ *   {type: "badLength"} |
+ *   {type: "stray", byte: number}
+ * )} Message  of a board, or a fault of its bytes
+ * @typedef {Message & {offset: number, unasked: boolean}} Event  `offset` is how many bytes had
+ *   come since the handle was made
+ *
+ * @typedef {(
+ *   {type: "command", code: number, id: number, word: Uint8Array} |
+ *   {type: "badSize" | "badStart" | "badEnd"} |
+ *   {type: "strayByte", byte: number}
+ * )} Command
+ *
+ * @typedef {{serial: ArrayLike<number>, mainNumber: number, subNumber: number,
+ *   clockVersion: number, trademark: ArrayLike<number>, battery: ArrayLike<number>,
+ *   longSerial: ArrayLike<number>}} Identity
+ */
+
+const CHUNK = 4096; // as many bytes are handed in at once
+const MOST_EVENTS = 64; // as many are read at once
+const ROOM = 2 * MAX_BODY + 80; // for what a call writes: the longest text of an event
+const PAGE = 65536;
+
+const CARRIED = ["code", "body"];
+/** Which members of an event or a command each type sets. */
+const MEMBERS = {
+  dump: ["pieces"], field: ["square", "piece"], times: ["clock"], noClock: ["clock"],
+  ack: ["ack", "ackStatus"], serial: ["serial"], version: ["mainNumber", "subNumber"],
+  trademark: CARRIED, battery: CARRIED, longSerial: CARRIED, other: CARRIED,
+  refused: ["code", "fault", "at"], cut: ["have"], badLength: [], stray: ["byte"],
+  command: ["code", "id"], badSize: [], badStart: [], badEnd: [], strayByte: ["byte"],
+};
+const OF_CLOCKS = { unknown: [], times: ["status", "first", "second"], none: ["status", "raw"] };
+const OF_ALL = ["kind", "unasked", "place", "bodyLen"];
+/** Of each struct the places and types of its members, by their names. */
+const PLACES = Object.fromEntries(Object.entries(STRUCTS).map(([struct, { members }]) =>
+  [struct, new Map(members.map(([name, ...how]) => [name, how]))]));
+const names = object => Object.fromEntries(Object.entries(object).map(([name, n]) => [n, name]));
+const EVENT_NAMES = names(EVENTS), FAULT_NAMES = names(FAULTS), CLOCK_NAMES = names(CLOCKS);
+const WORD_NAMES = names(WORDS);
+
+/** @param {number} value */
+function byte(value) {
+  if (!Number.isInteger(value) || value < 0 || value > 255) throw new BadValue(`no byte: ${value}`);
+  return value;
+}
+
+/**
+ * Bytes that are handed in: `length` of them.
+ * @param {ArrayLike<number>} values
+ */
+function checked(values, length = values?.length) {
+  if (!Number.isInteger(length)) throw new BadValue("no bytes");
+  if (values.length !== length) throw new BadValue(`${values.length} bytes, not ${length}`);
+  if (!(values instanceof Uint8Array)) Array.from(values, byte);
+  return values;
+}
+
+/**
+ * A chunk of a line, as a stream hands it on.
+ * @param {Uint8Array} bytes
+ */
+function chunk(bytes) {
+  if (!(bytes instanceof Uint8Array)) throw new BadValue("a chunk is an Uint8Array");
+  return bytes;
+}
+
+/**
+ * A time or a period in whole milliseconds.
+ * @param {number} time
+ */
+function whole(time) {
+  if (!(time >= 0 && time <= Number.MAX_SAFE_INTEGER)) throw new BadValue(`no time: ${time}`);
+  return Math.floor(time);
+}
+
+/**
+ * The bytes of a text, one for each character, and spaces after it up to `length`.
+ * @param {string} text
+ */
+function latin(text, length = 0) {
+  const bytes = Array.from(text.padEnd(length), one => byte(one.codePointAt(0) ?? 0));
+  if (length && bytes.length > length) throw new BadValue(`more than ${length} characters`);
+  return bytes;
+}
+
+/**
+ * The module's calls and its memory, in which all handles are. It grows by this class alone: the
+ * module has no instruction for that.
+ */
+export class Library {
+  #memory;
+  #top;
+  #bytes;
+  #view;
+  /** @type {Map<number, number[]>} places that were given back, by their size */
+  #free = new Map();
+  /** @type {Record<string, (...values: any[]) => any>} by their names without `dgt_` */
+  calls = {};
+
+  /** @param {WebAssembly.Instance} instance */
+  constructor(instance) {
+    const exports = /** @type {any} */ (instance.exports);
+    this.#memory = exports.memory;
+    this.#top = Number(exports.__heap_base.value);
+    this.#bytes = new Uint8Array(this.#memory.buffer);
+    this.#view = new DataView(this.#memory.buffer);
+    for (const [name, words] of Object.entries(CALLS)) {
+      const [gives, ...takes] = words.split(",");
+      this.calls[name.slice(4)] = this.#caller(exports[name], gives, takes);
+    }
+    this.version = this.calls.version();
+    if (this.version < VERSION || Math.trunc(this.version / 1e6) !== Math.trunc(VERSION / 1e6)) {
+      throw new DgtError(`the module has version ${this.version}, and dgt.js is for ${VERSION}`);
+    }
+    // What calls read and write beside handles: a place for each purpose.
+    this.in = this.take(CHUNK);
+    this.other = this.take(512);
+    this.out = this.take(ROOM);
+    this.events = this.take(MOST_EVENTS * STRUCTS.event.size);
+    this.body = this.take(MAX_BODY);
+    this.result = this.take(16);
+    this.small = this.take(STRUCTS.identity.size);
+  }
+
+  /**
+   * A call with the numbers of JavaScript. A struct is written to a place that is handed in first.
+   * @param {(...values: any[]) => any} call
+   * @param {string} gives
+   * @param {string[]} takes
+   */
+  #caller(call, gives, takes) {
+    const isWide = takes.map(each => each === "wide");
+    const handed = (/** @type {any[]} */ values) =>
+      values.map((value, n) => isWide[n] ? BigInt(value) : value);
+    switch (gives) {
+      case "wide": return (/** @type {any[]} */ ...values) => Number(call(...handed(values)));
+      case "u32": return (/** @type {any[]} */ ...values) => call(...handed(values)) >>> 0;
+      case "bool": return (/** @type {any[]} */ ...values) => Boolean(call(...handed(values)));
+      case "u8": case "char": case "void":
+        return (/** @type {any[]} */ ...values) => call(...handed(values));
+      default: return (/** @type {any[]} */ ...values) => {
+        call(BigInt(this.result), ...handed(values));
+        return this.read(gives, this.result);
+      };
+    }
+  }
+
+  /**
+   * A place of `size` bytes, aligned to 16.
+   * @param {number} size
+   * @returns {number}
+   */
+  take(size) {
+    const free = this.#free.get(size)?.pop();
+    if (free !== undefined) return free;
+    const at = Math.ceil(this.#top / 16) * 16, end = at + size;
+    const lacking = end - this.#memory.buffer.byteLength;
+    if (end > 2 ** 31) throw new RangeError("no more memory"); // places are below 2 GB
+    if (lacking > 0) this.#grow(Math.ceil(lacking / PAGE)); // a RangeError if there is no more
+    this.#top = end;
+    return at;
+  }
+
+  // A memory of 64 bits takes a BigInt, and one of 32 bits a number: each refuses the other.
+  /** @param {any} pages */
+  #grow(pages) {
+    try {
+      this.#memory.grow(pages);
+    } catch (error) {
+      if (!(error instanceof TypeError)) throw error;
+      this.#memory.grow(BigInt(pages));
+    }
+    this.#bytes = new Uint8Array(this.#memory.buffer);
+    this.#view = new DataView(this.#memory.buffer);
+  }
+
+  /**
+   * @param {number} at
+   * @param {number} size
+   */
+  giveBack(at, size) {
+    this.#free.set(size, [...this.#free.get(size) ?? [], at]);
+  }
+
+  /** How many bytes the module's memory has. */
+  get memorySize() {
+    return this.#memory.buffer.byteLength;
+  }
+
+  /**
+   * A copy of bytes.
+   * @param {number} at
+   * @param {number} size
+   */
+  bytes(at, size) {
+    return this.#bytes.slice(at, at + size);
+  }
+
+  /**
+   * Writes bytes, and returns where.
+   * @param {number} at
+   * @param {ArrayLike<number>} values
+   */
+  put(at, values) {
+    this.#bytes.set(values, at);
+    return at;
+  }
+
+  /**
+   * The text up to its zero.
+   * @param {number} at
+   */
+  text(at) {
+    return String.fromCharCode(...this.#bytes.subarray(at, this.#bytes.indexOf(0, at)));
+  }
+
+  /** @param {number} at */
+  wide(at) {
+    return Number(this.#view.getBigUint64(at, true));
+  }
+
+  /**
+   * The members of a struct, all of them or those of these names.
+   * @param {string} struct
+   * @param {number} at
+   * @param {string[]} [wanted]
+   */
+  read(struct, at, wanted) {
+    /** @type {any} */
+    const found = {};
+    for (const name of wanted ?? PLACES[struct].keys()) {
+      const [place, kind] = PLACES[struct].get(name) ?? [];
+      if (kind) found[name] = this.#member(kind, at + place);
+    }
+    return found;
+  }
+
+  /**
+   * @param {string | number} kind
+   * @param {number} at
+   */
+  #member(kind, at) {
+    switch (kind) {
+      case "u8": return this.#bytes[at];
+      case "bool": return this.#bytes[at] !== 0;
+      case "wide": return this.wide(at);
+      case "clock": return this.clock(at);
+      default: return typeof kind === "number" ? this.bytes(at, kind) : this.read(kind, at);
+    }
+  }
+
+  /**
+   * Writes these members of a struct, with zeros in the others, and returns where.
+   * @param {string} struct
+   * @param {number} at
+   * @param {any} values
+   */
+  write(struct, at, values) {
+    const { size, members } = STRUCTS[struct];
+    this.#bytes.fill(0, at, at + size);
+    for (const [name, place, kind] of members) {
+      if (values[name] !== undefined) this.#writeMember(kind, at + place, values[name]);
+    }
+    return at;
+  }
+
+  /**
+   * @param {string | number} kind
+   * @param {number} at
+   * @param {any} value
+   */
+  #writeMember(kind, at, value) {
+    switch (kind) {
+      case "u8": this.#bytes[at] = byte(value); break;
+      case "wide": this.#view.setBigUint64(at, BigInt(whole(value)), true); break;
+      case "clock": this.writeClock(at, value); break;
+      case "body":
+        if (value.length > 64) throw new BadValue("a body of more than 64 bytes");
+        this.write("body", at, { len: value.length });
+        this.put(at + 8, checked(value));
+        break;
+      default:
+        if (typeof kind === "number") this.put(at, checked(value, kind));
+        else this.write(kind, at, value);
+    }
+  }
+
+  /**
+   * @param {number} at
+   * @returns {Clock}
+   */
+  clock(at) {
+    const kind = CLOCK_NAMES[this.#bytes[at]];
+    return { kind, ...this.read("clock", at, OF_CLOCKS[kind]) };
+  }
+
+  /**
+   * @param {number} at
+   * @param {Clock} clock
+   */
+  writeClock(at, clock) {
+    const members = OF_CLOCKS[clock.kind];
+    if (!members) throw new BadValue(`no kind of clock: ${clock.kind}`);
+    const said = Object.fromEntries(members.map(name => [name, clock[name]]));
+    return this.write("clock", at, { kind: CLOCKS[clock.kind], ...said });
+  }
+
+  /**
+   * The event at a place, whose body is at `body`, or null if there is none.
+   * @param {number} at
+   * @param {number} before  how many bytes had come before the call
+   * @returns {Event | null}
+   */
+  event(at, before) {
+    const { kind, unasked, place, bodyLen } = this.read("event", at, OF_ALL);
+    if (kind === EVENTS.none) return null;
+    const type = EVENT_NAMES[kind] ?? "other";
+    const event = { type, offset: before + place, unasked: unasked === 1,
+                    ...this.read("event", at, MEMBERS[type]) };
+    if (type === "refused") event.fault = FAULT_NAMES[event.fault];
+    if (MEMBERS[type] === CARRIED) event.body = this.bytes(this.body, bodyLen);
+    return event;
+  }
+
+  /**
+   * Writes a message, and its body to `body`. Returns what a call takes for both.
+   * @param {Message} message
+   */
+  #writeMessage(message) {
+    const { type } = message, members = MEMBERS[type] ?? [];
+    if (!(type in EVENTS)) throw new BadValue(`no message: ${type}`);
+    /** @type {any} */
+    const said = Object.fromEntries(members.map(name => [name, message[name]]));
+    if (Object.values(said).includes(undefined)) throw new BadValue(`a ${type} lacks a part`);
+    if (said.fault !== undefined) said.fault = FAULTS[said.fault];
+    const body = "body" in message ? checked(message.body) : [];
+    if (body.length > MAX_BODY) throw new BadValue(`a body of more than ${MAX_BODY} bytes`);
+    this.write("event", this.events, { ...said, kind: EVENTS[type] });
+    return [this.events, this.put(this.body, body), body.length];
+  }
+
+  /**
+   * What a call of these arguments writes to `out`.
+   * @param {string} name
+   * @param {any[]} values
+   */
+  #encoded(name, ...values) {
+    const { status, bytes } = this.calls[name](...values, this.out, ROOM);
+    if (status === NOT_ENCODED) throw new BadValue("a part is out of its range");
+    return this.bytes(this.out, bytes);
+  }
+
+  /**
+   * The bytes of a message, as a board sends them.
+   * @param {Message} message
+   */
+  encodeMessage(message) {
+    return this.#encoded("encode_message", ...this.#writeMessage(message));
+  }
+
+  /**
+   * An event as `dgt monitor` prints it, without its offset.
+   * @param {Message} event
+   */
+  eventText(event) {
+    return String.fromCharCode(...this.#encoded("event_text", ...this.#writeMessage(event)))
+      .slice(0, -1);
+  }
+
+  /**
+   * The message with this code and this body, or what is wrong with the body.
+   * @param {number} code
+   * @param {ArrayLike<number>} body
+   * @returns {Message}
+   */
+  viewMessage(code, body) {
+    const { length } = checked(body);
+    if (length > MAX_BODY || !this.calls.view_message(
+      byte(code), this.put(this.body, body), length, this.events)) {
+      throw new BadValue("no message has such a code and body");
+    }
+    const { offset, unasked, ...message } = /** @type {Event} */ (this.event(this.events, 0));
+    return message;
+  }
+
+  /**
+   * The bytes of a command: one of ASK, and what it carries.
+   * @param {number} code
+   * @param {number} id  of a clock message, one of IDS
+   * @param {ArrayLike<number>} carried
+   */
+  encodeCommand(code, id = 0, carried = []) {
+    if (checked(carried).length > 255) throw new BadValue("more bytes than a command carries");
+    return this.#encoded("encode_command", byte(code), byte(id), this.put(this.other, carried),
+                         carried.length);
+  }
+
+  /**
+   * The command that these bytes are, or null.
+   * @param {ArrayLike<number>} word
+   */
+  viewCommand(word) {
+    if (checked(word).length > CHUNK) return null;
+    const isOne = this.calls.view_command(this.put(this.in, word), word.length, this.small);
+    return isOne ? this.command(this.in) : null;
+  }
+
+  /**
+   * What a call that reads a host's bytes has reported at `small`, or null.
+   * @param {number} word
+   * @returns {Command | null}
+   */
+  command(word) {
+    const { kind, wordLen } = this.read("command", this.small, ["kind", "wordLen"]);
+    if (kind === WORDS.noWord) return null;
+    const type = WORD_NAMES[kind] ?? "strayByte";
+    const command = { type, ...this.read("command", this.small, MEMBERS[type]) };
+    if (type === "command") command.word = this.bytes(word, wordLen);
+    return command;
+  }
+
+  /**
+   * The placement of a FEN.
+   * @param {ArrayLike<number>} pieces
+   */
+  placement(pieces) {
+    if (!this.calls.placement(this.put(this.in, checked(pieces, 64)), this.small)) {
+      throw new BadValue("a piece is above 15");
+    }
+    return this.text(this.small);
+  }
+
+  /**
+   * The pieces of a placement.
+   * @param {string} text
+   */
+  parsePlacement(text) {
+    const bytes = latin(text.slice(0, CHUNK));
+    const { ok, at } = this.calls.parse_placement(this.put(this.in, bytes), bytes.length,
+                                                  this.small);
+    if (!ok) throw new BadPlacement(at);
+    return this.bytes(this.small, 64);
+  }
+
+  /**
+   * The squares on which two positions differ.
+   * @param {ArrayLike<number>} pieces
+   * @param {ArrayLike<number>} others
+   */
+  differ(pieces, others) {
+    const [one, other] = [this.put(this.in, checked(pieces, 64)),
+                          this.put(this.other, checked(others, 64))];
+    if (!this.calls.differ(one, other, this.small)) throw new BadValue("a piece is above 15");
+    const bits = this.#view.getBigUint64(this.small, true);
+    return [...Array(64).keys()].filter(n => bits >> BigInt(n) & 1n);
+  }
+
+  /**
+   * The letter of a piece, as in a FEN; "." for none.
+   * @param {number} piece
+   */
+  pieceLetter(piece) {
+    const letter = this.calls.piece_letter(byte(piece));
+    if (!letter) throw new BadValue(`no piece: ${piece}`);
+    return String.fromCharCode(letter);
+  }
+
+  /**
+   * The piece with this letter.
+   * @param {string} letter
+   */
+  pieceCode(letter) {
+    return this.#such("piece_code", letter, 1);
+  }
+
+  /**
+   * The name of a square, as "e4".
+   * @param {number} square
+   */
+  squareName(square) {
+    if (!this.calls.square_name(byte(square), this.small)) throw new BadValue("no square");
+    return this.text(this.small);
+  }
+
+  /**
+   * The square with this name.
+   * @param {string} name
+   */
+  squareNumber(name) {
+    return this.#such("square_number", name, 2);
+  }
+
+  /**
+   * The segments of a digit, a space or a hyphen on the clock's display.
+   * @param {string} character
+   */
+  segment(character) {
+    return this.#such("segment", character, 1);
+  }
+
+  /**
+   * @param {string} name
+   * @param {string} text
+   * @param {number} length
+   */
+  #such(name, text, length) {
+    const found = text.length === length ? this.calls[name](...latin(text)) : NO_SUCH;
+    if (found === NO_SUCH) throw new BadValue(`no such ${name.split("_")[0]}: ${text}`);
+    return found;
+  }
+}
+
+/**
+ * Makes the library of a module: without an argument of one beside this file, dgt64.wasm where
+ * memories of 64 bits are known, and else dgt.wasm.
+ * @param {BufferSource | WebAssembly.Module | URL | string} [source]  its bytes, the module, or
+ *   where to fetch it
+ */
+export async function load(source) {
+  const name = isWide() ? "dgt64.wasm" : "dgt.wasm";
+  let taken = source ?? new URL(name, import.meta.url);
+  if (typeof taken === "string" || taken instanceof URL) {
+    const answer = await fetch(taken);
+    if (!answer.ok) throw new DgtError(`${taken} was not fetched: ${answer.status}`);
+    taken = await answer.arrayBuffer(); // whatever type the server says that it has
+  }
+  const module = taken instanceof WebAssembly.Module ? taken : await WebAssembly.compile(taken);
+  return new Library(await WebAssembly.instantiate(module, {}));
+}
+
+/** Whether memories of 64 bits are known here: validates a module that has only such a memory. */
+export function isWide() {
+  return WebAssembly.validate(Uint8Array.of(0, 97, 115, 109, 1, 0, 0, 0, 5, 3, 1, 4, 1));
+}
+
+/** The bytes of an LED frame for two squares, or for none: what `sendLeds` takes.
+ * @param {number[]} squares
+ */
+export function lighting(...squares) {
+  if (squares.length === 0) return Uint8Array.of(0, 64, 64, 0);
+  if (squares.length !== 2 || squares.some(n => byte(n) > 63)) throw new BadValue("no two squares");
+  return Uint8Array.of(1, ...squares, 0);
+}
+
+/** @type {FinalizationRegistry<{dgt: Library, at: number, size: number}>} */
+const forgotten = new FinalizationRegistry(({ dgt, at, size }) => dgt.giveBack(at, size));
+
+/** What all handles have. Their memory is given back by `close`, or once nobody has them. */
+class Handle {
+  #at;
+  #size;
+
+  /**
+   * @param {Library} dgt
+   * @param {"host" | "follower" | "decoder" | "command_decoder" | "board"} kind
+   */
+  constructor(dgt, kind) {
+    this.dgt = dgt;
+    this.kind = kind;
+    this.#size = dgt.calls[`${kind}_size`]();
+    this.#at = dgt.take(this.#size);
+    dgt.calls[`${kind}_init`](this.#at);
+    forgotten.register(this, { dgt, at: this.#at, size: this.#size }, this);
+  }
+
+  /**
+   * A call with this handle first.
+   * @param {string} name
+   * @param {any[]} values
+   */
+  call(name, ...values) {
+    if (!this.#at) throw new Closed(`the ${this.kind} was closed`);
+    return this.dgt.calls[`${this.kind}_${name}`](this.#at, ...values);
+  }
+
+  /** Ends its use. */
+  close() {
+    if (!this.#at) return;
+    forgotten.unregister(this);
+    this.dgt.giveBack(this.#at, this.#size);
+    this.#at = 0;
+  }
+
+  /**
+   * The 64 pieces that a call writes, or null if it returns false.
+   * @param {string} name
+   */
+  pieces(name) {
+    const { dgt } = this;
+    return this.call(name, dgt.small) === false ? null : dgt.bytes(dgt.small, 64);
+  }
+
+  /** What the clock shows, as far as is known. */
+  get clock() {
+    this.call("clock", this.dgt.small);
+    return this.dgt.clock(this.dgt.small);
+  }
+}
+
+/** A reader of a board's bytes. */
+class Reader extends Handle {
+  /** How many bytes were used since it was made. */
+  total = 0;
+
+  /**
+   * The events of a chunk.
+   * @param {string} name  of the call
+   * @param {Uint8Array} bytes
+   * @returns {Event[]}
+   */
+  all(name, bytes) {
+    const { dgt } = this, { event: { size } } = STRUCTS, found = [];
+    chunk(bytes);
+    for (let from = 0; from < bytes.length;) {
+      const part = bytes.subarray(from, from + CHUNK);
+      const { used, count } = this.call(name, dgt.put(dgt.in, part), part.length, dgt.events,
+                                        MOST_EVENTS, dgt.body, MAX_BODY);
+      for (let n = 0; n < count; n++) {
+        found.push(/** @type {Event} */ (dgt.event(dgt.events + n * size, this.total)));
+      }
+      from += used;
+      this.total += used;
+    }
+    return found;
+  }
+
+  /**
+   * The same, one after another: a byte is used once the event before it was taken.
+   * @param {string} name
+   * @param {Uint8Array} bytes
+   * @param {number[]} before  what the call takes before the bytes
+   * @returns {Generator<Event, void>}
+   */
+  *each(name, bytes, ...before) {
+    const { dgt } = this;
+    chunk(bytes);
+    for (let from = 0; from < bytes.length;) {
+      const part = bytes.subarray(from, from + 256);
+      const used = this.call(name, ...before, dgt.put(dgt.in, part), part.length, dgt.events,
+                             dgt.body, MAX_BODY);
+      const event = dgt.event(dgt.events, this.total);
+      from += used;
+      this.total += used;
+      if (event) yield event;
+    }
+  }
+}
+
+/** Reports the events of a board's bytes, and keeps no picture. */
+export class Decoder extends Reader {
+  /** @param {Library} dgt */
+  constructor(dgt) {
+    super(dgt, "decoder");
+  }
+
+  /** @param {Uint8Array} bytes */
+  feed(bytes) {
+    return this.all("feed_all", bytes);
+  }
+
+  /** @param {Uint8Array} bytes */
+  feedEach(bytes) {
+    return this.each("feed", bytes);
+  }
+
+  /** How many bytes have come of an unfinished message. */
+  get rest() {
+    return this.call("rest");
+  }
+
+  /** The same, at the end of the bytes. The decoder is as new then. */
+  finish() {
+    return this.call("finish");
+  }
+
+  /** Makes it as new; `offset` goes on. */
+  reset() {
+    this.call("reset");
+  }
+}
+
+/**
+ * The commands that a host and a follower send. Each call returns the bytes to write to the line. A
+ * text or a payload that no command carries is a BadValue.
+ */
+class Sender extends Reader {
+  /**
+   * @param {string} name
+   * @param {any[]} values
+   */
+  sent(name, ...values) {
+    const { dgt } = this;
+    const { status, bytes } = this.call(name, ...values, dgt.out, ROOM);
+    if (status === TOO_MANY) throw new TooManyAwaited("16 replies are awaited already");
+    if (status === NO_COMMAND) throw new BadValue("there is no such command");
+    return dgt.bytes(dgt.out, bytes);
+  }
+
+  /**
+   * @param {ArrayLike<number>} bytes
+   * @returns {[number, number]} where they are now, and how many there are
+   */
+  #carried(bytes) {
+    if (checked(bytes).length > 255) throw new BadValue("more bytes than a command carries");
+    return [this.dgt.put(this.dgt.in, bytes), bytes.length];
+  }
+
+  /**
+   * A command of one byte, one of ASK.
+   * @param {number} code
+   */
+  send(code) {
+    return this.sent("send", byte(code));
+  }
+
+  /**
+   * A message to the clock.
+   * @param {number} id  one of IDS
+   * @param {ArrayLike<number>} payload
+   */
+  sendClock(id, payload = []) {
+    return this.sent("send_clock", byte(id), ...this.#carried(payload));
+  }
+
+  /**
+   * Shows at most six digits, spaces and hyphens.
+   * @param {string} text
+   */
+  sendDisplay(text, dots = 0, beep = 0) {
+    return this.sent("send_display", this.#carried(latin(text, 6))[0], byte(dots), byte(beep));
+  }
+
+  /**
+   * Shows at most eight characters.
+   * @param {string} text
+   */
+  sendText(text, beep = 0) {
+    return this.sent("send_text", this.#carried(latin(text, 8))[0], byte(beep));
+  }
+
+  /** @param {number} duration */
+  sendBeep(duration) {
+    return this.sent("send_beep", byte(duration));
+  }
+
+  /**
+   * Sets the times of both sides: hours, minutes and seconds.
+   * @param {ArrayLike<number>} left
+   * @param {ArrayLike<number>} right
+   * @param {number} control
+   */
+  sendSetAndRun(left, right, control) {
+    const { dgt } = this;
+    return this.sent("send_set_and_run", dgt.put(dgt.in, checked(left, 3)),
+                     dgt.put(dgt.other, checked(right, 3)), byte(control));
+  }
+
+  /** @param {ArrayLike<number>} icons */
+  sendIcons(icons) {
+    return this.sent("send_icons", ...this.#carried(icons));
+  }
+
+  /** The clock shows its times again. */
+  sendEnd() {
+    return this.sent("send_end");
+  }
+
+  /** Asks for the state of the clock's buttons. */
+  sendButton() {
+    return this.sent("send_button");
+  }
+
+  sendClockVersion() {
+    return this.sent("send_clock_version");
+  }
+
+  /**
+   * An LED frame: what `lighting` makes, or other bytes.
+   * @param {ArrayLike<number>} leds
+   */
+  sendLeds(leds) {
+    return this.sent("send_leds", ...this.#carried(leds));
+  }
+
+  /** The pieces on the squares, or null until a dump was heard. */
+  get picture() {
+    return this.pieces("picture");
+  }
+
+  /** The same as the placement of a FEN. */
+  get placement() {
+    const { dgt } = this;
+    return this.call("placement", dgt.small) ? dgt.text(dgt.small) : null;
+  }
+
+  /** How many bytes were heard of an unfinished message. */
+  get unread() {
+    return this.call("unread");
+  }
+
+  /** The line is lost, and what was under way on it. */
+  lineLost() {
+    this.call("line_lost");
+  }
+}
+
+/** Asks a board when you say so, and keeps a picture of it from what it hears. */
+export class Host extends Sender {
+  /** @param {Library} dgt */
+  constructor(dgt) {
+    super(dgt, "host");
+  }
+
+  /** @param {Uint8Array} bytes */
+  hear(bytes) {
+    return this.all("hear_all", bytes);
+  }
+
+  /** @param {Uint8Array} bytes */
+  hearEach(bytes) {
+    return this.each("hear", bytes);
+  }
+
+  /** Asks for each change, and for all squares. */
+  follow() {
+    return this.sent("follow");
+  }
+
+  /** The same after 255 zeros, which end whatever command the board is in the middle of. */
+  restart() {
+    return this.sent("restart");
+  }
+
+  /** The codes of the commands whose replies are awaited, the next one first. */
+  get awaited() {
+    const { dgt } = this;
+    const count = this.call("awaited", dgt.small);
+    return [...dgt.bytes(dgt.small, count)];
+  }
+
+  giveUpAwaited() {
+    return this.call("give_up_awaited");
+  }
+}
+
+/** A host that keeps its picture right by asking for the whole board again. */
+export class Follower extends Sender {
+  /**
+   * @param {Library} dgt
+   * @param {{period?: number, patience?: number, mode?: number, confirm?: boolean,
+   *   identify?: boolean}} [options]
+   */
+  constructor(dgt, options = {}) {
+    const { period = 10000, patience = 6, mode = MODES.updateBoard } = options;
+    const wanted = whole(period);
+    if (!(patience >>> 0 === patience)) throw new BadValue(`no patience: ${patience}`);
+    super(dgt, "follower");
+    this.call("start", wanted, patience);
+    this.mode = mode;
+    this.call("set_confirm", Boolean(options.confirm));
+    this.call("set_identify", Boolean(options.identify));
+  }
+
+  /**
+   * The bytes with which the board is to be asked now, or null if that isn't due.
+   * @param {number} now
+   */
+  ask(now) {
+    const asked = this.sent("ask", whole(now));
+    return asked.length ? asked : null;
+  }
+
+  /** The first time at which `ask` has something to do if nothing is heard before, or Infinity. */
+  get dueAt() {
+    return this.#time("due_at") ?? Infinity;
+  }
+
+  /** The time of the last whole message, or null. */
+  get lastHeard() {
+    return this.#time("last_heard");
+  }
+
+  /** @param {string} name */
+  #time(name) {
+    return this.call(name, this.dgt.small) ? this.dgt.wide(this.dgt.small) : null;
+  }
+
+  /** Has an asking be due at once, or once the last one is answered. */
+  askNow() {
+    this.call("ask_now");
+  }
+
+  /**
+   * Hears bytes that came at this time.
+   * @param {number} now
+   * @param {Uint8Array} bytes
+   */
+  hear(now, bytes) {
+    const { dgt } = this, at = whole(now);
+    for (let from = 0; from < chunk(bytes).length; from += CHUNK) {
+      const part = bytes.subarray(from, from + CHUNK);
+      this.call("hear_all", at, dgt.put(dgt.in, part), part.length);
+    }
+    this.total += bytes.length;
+  }
+
+  /**
+   * The events of bytes that came at this time. A byte is heard once the event before it was taken.
+   * @param {number} now
+   * @param {Uint8Array} bytes
+   */
+  hearEach(now, bytes) {
+    return this.each("hear", bytes, whole(now));
+  }
+
+  /** What each asking asks the board to report by itself: one of MODES, but idle. */
+  get mode() {
+    return this.call("mode");
+  }
+
+  set mode(mode) {
+    if (!this.call("set_mode", byte(mode))) throw new BadValue(`no mode: ${mode}`);
+  }
+
+  /** Whether the picture may be wrong. */
+  get inDoubt() {
+    return this.call("in_doubt");
+  }
+
+  /** Whether a second report of all squares has shown the same picture. */
+  get confirmed() {
+    return this.call("confirmed");
+  }
+
+  /** The serial number of the board, or null. */
+  get serial() {
+    const { dgt } = this;
+    return this.call("serial", dgt.small) ? dgt.bytes(dgt.small, 5) : null;
+  }
+
+  get heartbeatsLeft() {
+    return this.call("heartbeats_left");
+  }
+
+  /** Bytes of the board were lost or altered, as whoever reads the line has found out. */
+  lineDisturbed() {
+    this.call("line_disturbed");
+  }
+}
+
+/** Reports the commands in a host's bytes. */
+export class CommandDecoder extends Handle {
+  /** @param {Library} dgt */
+  constructor(dgt) {
+    super(dgt, "command_decoder");
+  }
+
+  /** @param {Uint8Array} bytes */
+  feed(bytes) {
+    const { dgt } = this, found = [];
+    for (let from = 0; from < chunk(bytes).length;) {
+      const part = bytes.subarray(from, from + CHUNK);
+      from += this.call("feed", dgt.put(dgt.in, part), part.length, dgt.small, dgt.body, MAX_BODY);
+      const command = dgt.command(dgt.body);
+      if (command) found.push(command);
+    }
+    return found;
+  }
+
+  /** How many bytes have come of an unfinished command. */
+  get rest() {
+    return this.call("rest");
+  }
+
+  /** The same, at the end of the bytes. It is as new then. */
+  finish() {
+    return this.call("finish");
+  }
+
+  reset() {
+    this.call("reset");
+  }
+}
+
+/** A board, as a host meets it on the line. */
+export class Board extends Handle {
+  /** @param {Library} dgt */
+  constructor(dgt) {
+    super(dgt, "board");
+  }
+
+  /**
+   * Makes the board anew, idle.
+   * @param {ArrayLike<number>} pieces
+   * @param {Clock} clock
+   * @param {Identity} identity
+   */
+  start(pieces, clock, identity) {
+    const { dgt } = this;
+    const wrong = this.call("start", dgt.put(dgt.in, checked(pieces, 64)),
+                            dgt.writeClock(dgt.other, clock),
+                            dgt.write("identity", dgt.small, identity));
+    if (wrong) throw new BadValue(["", "no pieces", "no such clock", "no such identity"][wrong]);
+  }
+
+  /**
+   * Puts a piece, or 0 for none, on a square.
+   * @param {number} square
+   * @param {number} piece
+   */
+  change(square, piece) {
+    if (!this.call("change", byte(square), byte(piece))) throw new BadValue("no square or piece");
+  }
+
+  /**
+   * Sets what the clock shows.
+   * @param {Times | NoClock} clock
+   */
+  handClock(clock) {
+    const { dgt } = this;
+    if (!this.call("hand_clock", dgt.writeClock(dgt.other, clock))) throw new BadValue("no clock");
+  }
+
+  /**
+   * Takes a host's bytes up to the first for which eight replies are owed already: poll then, and
+   * hand in the rest.
+   * @param {Uint8Array} bytes
+   */
+  take(bytes) {
+    const { dgt } = this, commands = [];
+    let used = 0;
+    while (used < chunk(bytes).length) {
+      const part = bytes.subarray(used, used + CHUNK);
+      const taken = this.call("take", dgt.put(dgt.in, part), part.length, dgt.small, dgt.body,
+                              MAX_BODY);
+      if (taken.busy) break;
+      used += taken.used;
+      const command = dgt.command(dgt.body);
+      if (command) commands.push(command);
+    }
+    return { used, commands };
+  }
+
+  /** The next message that is to be sent, or null. It counts as sent. */
+  poll() {
+    const { dgt } = this;
+    const { status, bytes } = this.call("poll", dgt.out, ROOM);
+    return status === WROTE ? dgt.bytes(dgt.out, bytes) : null;
+  }
+
+  /** Whether there is anything to send. */
+  get owes() {
+    return this.call("owes");
+  }
+
+  /** How many replies are owed. */
+  get owedLength() {
+    return this.call("owed_len");
+  }
+
+  /** How many bytes have come of an unfinished command. */
+  get partial() {
+    return this.call("partial");
+  }
+
+  /** One of MODES. */
+  get mode() {
+    return this.call("mode");
+  }
+
+  get position() {
+    return /** @type {Uint8Array} */ (this.pieces("position"));
+  }
+
+  lineLost() {
+    this.call("line_lost");
+  }
+}

@@ -1,0 +1,267 @@
+/**
+ * The rules of chess, as far as the moves of a game are to be read off a board, and the PGN of it.
+ * This file is tested, not proved.
+ *
+ * A position's `letters` are 64, from a8 to h1, as in a FEN, with a "." for no piece.
+ *
+ * @typedef {{letters: string, isWhite: boolean, castles: string, passant: number}} Position
+ * @typedef {{from: number, to: number, piece: string, promotes: string, takes: boolean,
+ *   castles: string, after: Position}} Move
+ */
+
+const BISHOP = [[1, 1], [1, -1], [-1, 1], [-1, -1]], ROOK = [[1, 0], [-1, 0], [0, 1], [0, -1]];
+const STEPS = /** @type {Record<string, number[][]>} */ ({
+  n: [[1, 2], [2, 1], [-1, 2], [-2, 1], [1, -2], [2, -1], [-1, -2], [-2, -1]],
+  b: BISHOP, r: ROOK, q: [...BISHOP, ...ROOK], k: [...BISHOP, ...ROOK],
+});
+// Of each corner and king's square: the castlings that end if something moves from or to it.
+const CORNERS = /** @type {Record<number, string>} */ (
+  { 0: "q", 4: "kq", 7: "k", 56: "Q", 60: "KQ", 63: "K" });
+
+/** @type {Position} */
+export const BEGIN = Object.freeze({
+  letters: "rnbqkbnrpppppppp" + ".".repeat(32) + "PPPPPPPPRNBQKBNR",
+  isWhite: true, castles: "KQkq", passant: -1,
+});
+
+/** @param {string} letter */
+const isWhitePiece = letter => letter >= "A" && letter <= "Z";
+
+/** @param {number} square @param {number[]} by */
+function step(square, [across, down]) {
+  const file = (square & 7) + across, row = (square >> 3) + down;
+  return file < 0 || file > 7 || row < 0 || row > 7 ? -1 : 8 * row + file;
+}
+
+/** @param {string} kind @param {boolean} isWhite */
+const coloured = (kind, isWhite) => isWhite ? kind.toUpperCase() : kind;
+
+/**
+ * Whether a side attacks a square.
+ * @param {ArrayLike<string>} letters @param {number} square @param {boolean} byWhite
+ */
+function isAttacked(letters, square, byWhite) {
+  for (const across of [-1, 1]) {
+    const from = step(square, [across, byWhite ? 1 : -1]);
+    if (from >= 0 && letters[from] === coloured("p", byWhite)) return true;
+  }
+  for (const kind of "nbrqk") {
+    for (const by of STEPS[kind]) {
+      let at = square;
+      do {
+        at = step(at, by);
+        if (at >= 0 && letters[at] === coloured(kind, byWhite)) return true;
+      } while (at >= 0 && letters[at] === "." && "brq".includes(kind));
+    }
+  }
+  return false;
+}
+
+/** @param {Position} position */
+export function isInCheck({ letters, isWhite }) {
+  return isAttacked(letters, letters.indexOf(coloured("k", isWhite)), !isWhite);
+}
+
+/**
+ * All legal moves.
+ * @param {Position} position
+ * @returns {Move[]}
+ */
+export function legalMoves(position) {
+  const { letters, isWhite, castles, passant } = position;
+  /** @type {Move[]} */
+  const found = [];
+  const isTheirs = (/** @type {number} */ at) =>
+    letters[at] !== "." && isWhitePiece(letters[at]) !== isWhite;
+
+  const add = (/** @type {number} */ from, /** @type {number} */ to, promotes = "", castle = "",
+               jumped = -1) => {
+    const next = [...letters], piece = letters[from];
+    next[to] = promotes ? coloured(promotes, isWhite) : piece;
+    next[from] = ".";
+    const isPawn = piece.toLowerCase() === "p";
+    const isPassant = isPawn && to === passant;
+    if (isPassant) next[to + (isWhite ? 8 : -8)] = ".";
+    if (castle) {
+      const [corner, beside] = castle === "k" ? [from + 3, from + 1] : [from - 4, from - 1];
+      next[beside] = next[corner];
+      next[corner] = ".";
+    }
+    if (isAttacked(next, next.indexOf(coloured("k", isWhite)), !isWhite)) return;
+    const ended = (CORNERS[from] ?? "") + (CORNERS[to] ?? "");
+    const after = {
+      letters: next.join(""), isWhite: !isWhite, passant: jumped,
+      castles: [...castles].filter(one => !ended.includes(one)).join(""),
+    };
+    found.push({ from, to, piece, promotes, takes: isTheirs(to) || isPassant, castles: castle,
+                 after });
+  };
+
+  for (let from = 0; from < 64; from++) {
+    const piece = letters[from];
+    if (piece === "." || isWhitePiece(piece) !== isWhite) continue;
+    const kind = piece.toLowerCase();
+    if (kind === "p") {
+      const down = isWhite ? -1 : 1, row = from >> 3;
+      const advance = (/** @type {number} */ to, jumped = -1) => {
+        if (to < 8 || to > 55) for (const one of "qrbn") add(from, to, one);
+        else add(from, to, "", "", jumped);
+      };
+      const one = step(from, [0, down]);
+      if (one >= 0 && letters[one] === ".") {
+        advance(one);
+        const two = step(one, [0, down]);
+        if (row === (isWhite ? 6 : 1) && letters[two] === ".") advance(two, one);
+      }
+      for (const across of [-1, 1]) {
+        const to = step(from, [across, down]);
+        if (to >= 0 && (isTheirs(to) || to === passant)) advance(to);
+      }
+      continue;
+    }
+    for (const by of STEPS[kind] ?? []) {
+      let to = from;
+      do {
+        to = step(to, by);
+        if (to >= 0 && (letters[to] === "." || isTheirs(to))) add(from, to);
+      } while (to >= 0 && letters[to] === "." && "brq".includes(kind));
+    }
+    if (kind !== "k") continue;
+    for (const [side, empty, passed] of /** @type {[string, number[], number[]][]} */ (
+      [["k", [1, 2], [0, 1]], ["q", [-1, -2, -3], [0, -1]]])) {
+      if (castles.includes(coloured(side, isWhite)) &&
+          empty.every(by => letters[from + by] === ".") &&
+          passed.every(by => !isAttacked(letters, from + by, !isWhite))) {
+        add(from, from + (side === "k" ? 2 : -2), "", side);
+      }
+    }
+  }
+  return found;
+}
+
+/** @param {number} square */
+const nameOf = square => "abcdefgh"[square & 7] + (8 - (square >> 3));
+
+/**
+ * The move as in a PGN.
+ * @param {Position} position @param {Move} move
+ */
+export function san(position, move) {
+  const { from, to, piece, promotes, takes, castles, after } = move;
+  const end = isInCheck(after) ? legalMoves(after).length ? "+" : "#" : "";
+  if (castles) return (castles === "k" ? "O-O" : "O-O-O") + end;
+  const kind = piece.toUpperCase();
+  if (kind === "P") {
+    return (takes ? nameOf(from)[0] + "x" : "") + nameOf(to) +
+      (promotes ? "=" + promotes.toUpperCase() : "") + end;
+  }
+  const others = legalMoves(position).filter(other =>
+    other.to === to && other.piece === piece && other.from !== from);
+  let which = "";
+  if (others.length) {
+    const [file, rank] = nameOf(from);
+    if (others.every(other => nameOf(other.from)[0] !== file)) which = file;
+    else if (others.every(other => nameOf(other.from)[1] !== rank)) which = rank;
+    else which = file + rank;
+  }
+  return kind + which + (takes ? "x" : "") + nameOf(to) + end;
+}
+
+/** @param {Position} position */
+function resultAt(position) {
+  if (legalMoves(position).length) return "*";
+  return !isInCheck(position) ? "1/2-1/2" : position.isWhite ? "0-1" : "1-0";
+}
+
+/** Reads the moves of a game off the pictures of a board. */
+export class Game {
+  /** @type {{position: Position, text: string}[]} the first one has no text */
+  line = [];
+  /** @type {{of: Position | undefined, is: string}} the result that was found last */
+  #found = { of: undefined, is: "*" };
+
+  /**
+   * Takes the next picture. What is no position of the game, as while a piece is in a hand, is
+   * passed over. Returns whether the moves have changed.
+   * @param {string} letters
+   */
+  see(letters) {
+    const last = this.line.at(-1);
+    if (last?.position.letters === letters) return false;
+    const before = this.line.at(-2);
+    if (before?.position.letters === letters) { // taken back
+      this.line.pop();
+      return true;
+    }
+    if (letters === BEGIN.letters) { // a new game
+      const isNew = this.line.length > 1;
+      this.line = [{ position: BEGIN, text: "" }];
+      return isNew;
+    }
+    if (last && this.#moved(last.position, letters)) return true;
+    // A piece that went on: Rf2 was Rf3, or the rook of a castling.
+    if (before) {
+      const taken = this.line.pop();
+      if (this.#moved(before.position, letters)) return true;
+      if (taken) this.line.push(taken);
+    }
+    // Two moves between two pictures, if there is only one way. They change three squares or more.
+    if (!last || differ(last.position.letters, letters) < 3) return false;
+    const ways = legalMoves(last.position)
+      .filter(({ from }) => last.position.letters[from] !== letters[from])
+      .flatMap(one => legalMoves(one.after).filter(({ after }) => after.letters === letters)
+        .map(() => one));
+    if (ways.length !== 1) return false;
+    this.#push(last.position, ways[0]);
+    return this.#moved(ways[0].after, letters);
+  }
+
+  /** @param {Position} position @param {string} letters */
+  #moved(position, letters) {
+    const move = legalMoves(position).find(({ after }) => after.letters === letters);
+    if (move) this.#push(position, move);
+    return Boolean(move);
+  }
+
+  /** @param {Position} position @param {Move} move */
+  #push(position, move) {
+    this.line.push({ position: move.after, text: san(position, move) });
+  }
+
+  /** The moves, with their numbers. */
+  get moves() {
+    return this.line.slice(1).map(({ text }, n) => n % 2 ? text : `${n / 2 + 1}. ${text}`);
+  }
+
+  get result() {
+    const last = this.line.at(-1)?.position;
+    if (last !== this.#found.of) this.#found = { of: last, is: last ? resultAt(last) : "*" };
+    return this.#found.is;
+  }
+
+  /** The result, or nothing while the game goes on. */
+  get ended() {
+    return this.result === "*" ? "" : this.result;
+  }
+
+  get pgn() {
+    const day = new Date().toISOString().slice(0, 10).replaceAll("-", ".");
+    const tags = { Event: "?", Site: "?", Date: day, Round: "?", White: "?", Black: "?",
+                   Result: this.result };
+    const head = Object.entries(tags).map(([name, text]) => `[${name} "${text}"]\n`).join("");
+    const lines = [""];
+    for (const word of [...this.moves.flatMap(text => text.split(" ")), this.result]) {
+      const line = lines[lines.length - 1];
+      if (line.length + word.length < 79) lines[lines.length - 1] = line ? `${line} ${word}` : word;
+      else lines.push(word);
+    }
+    return `${head}\n${lines.join("\n")}\n\n`;
+  }
+}
+
+/** @param {string} one @param {string} other */
+function differ(one, other) {
+  let count = 0;
+  for (let n = 0; n < 64; n++) if (one[n] !== other[n]) count++;
+  return count;
+}

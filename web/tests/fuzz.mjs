@@ -1,0 +1,428 @@
+// Has dgt.js and the library for C do the same, and compares all that they return.
+//
+// node fuzz.mjs MODULE PROGRAM COUNT [SEED [-v]]    PROGRAM is fuzz.c, compiled
+
+import { execFileSync } from "node:child_process";
+import { readFileSync } from "node:fs";
+import { load, Board, BadPlacement, BadValue, CommandDecoder, Decoder, Follower, Host,
+         TooManyAwaited } from "../dgt.js";
+import { CLOCKS, EVENTS, FAULTS, WORDS } from "../header.js";
+
+Error.stackTraceLimit = 0; // many are thrown
+const [module, program, total, seed = "1", loud] = process.argv.slice(2);
+const dgt = await load(readFileSync(module));
+
+const unused = new Set(Object.keys(dgt.calls));
+for (const [name, call] of Object.entries(dgt.calls)) {
+  dgt.calls[name] = (...values) => {
+    unused.delete(name);
+    return call(...values);
+  };
+}
+
+/* Numbers by chance, the same for each seed. */
+
+let state = Number(seed);
+function random(below) { // mulberry32
+  state = state + 0x6d2b79f5 >>> 0;
+  let n = Math.imul(state ^ state >>> 15, state | 1);
+  n ^= n + Math.imul(n ^ n >>> 7, n | 61);
+  return ((n ^ n >>> 14) >>> 0) % below;
+}
+const pick = list => list[random(list.length)];
+const some = (n, below = 128) => Array.from({ length: n }, () => random(below));
+
+/* What is said is hashed, as in fuzz.c. */
+
+let hash, text = "";
+const isLoud = loud === "-v";
+function say(words) {
+  for (let n = 0; n < words.length; n++) hash = Math.imul(hash ^ words.charCodeAt(n), 16777619);
+  if (isLoud) text += words;
+}
+const HEX = Array.from({ length: 256 }, (_, n) => n.toString(16).padStart(2, "0"));
+const sayBytes = bytes => say(Array.from(bytes, n => HEX[n]).join("") + " ");
+const sayNumbers = (...numbers) => say(numbers.map(n => `${Number(n)} `).join(""));
+function sayClock(c) {
+  sayNumbers(CLOCKS[c.kind]);
+  if (c.kind === "unknown") return;
+  sayNumbers(c.status);
+  if (c.kind === "none") return sayBytes(c.raw);
+  for (const side of [c.first, c.second]) {
+    sayNumbers(side.hours, side.minutes, side.seconds, side.flags);
+  }
+}
+function sayMessage(e) {
+  sayNumbers(EVENTS[e.type]);
+  switch (e.type) {
+    case "dump": return sayBytes(e.pieces);
+    case "field": return sayNumbers(e.square, e.piece);
+    case "times": case "noClock": return sayClock(e.clock);
+    case "ack": sayBytes(e.ack); return sayNumbers(e.ackStatus);
+    case "serial": return sayBytes(e.serial);
+    case "version": return sayNumbers(e.mainNumber, e.subNumber);
+    case "refused": return sayNumbers(e.code, FAULTS[e.fault], e.at);
+    case "cut": return sayNumbers(e.have);
+    case "badLength": return undefined;
+    case "stray": return sayNumbers(e.byte);
+    default: sayNumbers(e.code); return sayBytes(e.body);
+  }
+}
+function sayEvent(e) {
+  say("E");
+  sayNumbers(e.offset, e.unasked);
+  sayMessage(e);
+}
+function sayCommand(c) {
+  say("C");
+  sayNumbers(WORDS[c.type]);
+  if (c.type === "command") {
+    sayNumbers(c.code, c.id);
+    sayBytes(c.word);
+  }
+  if (c.type === "strayByte") sayNumbers(c.byte);
+}
+// Says what a call returns, or that it throws.
+function sayResult(act, then = sayBytes) {
+  let result;
+  try {
+    result = act();
+  } catch (error) {
+    if (error instanceof TooManyAwaited) return say("many ");
+    if (error instanceof BadPlacement) return say(`at ${error.at} `);
+    if (error instanceof BadValue) return say("bad ");
+    throw error;
+  }
+  say("ok ");
+  if (result !== null && result !== undefined) then(result);
+}
+
+/* What the bytes of a board and of a host are like. */
+
+function message() {
+  const whole = (code, body) => [0x80 | code, body.length + 3 >> 7, body.length + 3 & 127, ...body];
+  const bcd = () => random(6) << 4 | random(10);
+  switch (random(12)) {
+    case 0: return whole(6, some(64, random(20) ? 13 : 17));
+    case 1: case 2: case 3: return whole(14, [random(random(9) ? 64 : 80), random(14)]);
+    case 4: return whole(13, [random(128) & 0x7a, bcd(), bcd(), random(128) & 0x79, bcd(), bcd(),
+                              random(64)]);
+    case 5: return whole(13, [...some(6), 0x20 | random(32)]);
+    case 6: return whole(13, [0x0a | random(8) << 4, random(128), random(128),
+                              0x0a | random(8) << 4, random(128), random(128), random(128)]);
+    case 7: return whole(pick([0x11, 0x12, 0x13, 0x20, 0x22]), some(pick([0, 1, 2, 5, 64, 70])));
+    case 8: return whole(random(128), some(random(12)));
+    case 9: return whole(random(128), some(pick([128, 300, 600, random(50) ? 130 : 16380])));
+    case 10: return [0x80 | random(128), random(128), random(128)];
+    default: return some(1 + random(4), 256);
+  }
+}
+function command() {
+  const n = random(16);
+  switch (random(6)) {
+    case 0: return [0x2b, n + 3, 3, pick([1, 2, 3, 8, 9, 10, 11, 12]), ...some(n, 256), 0];
+    case 1: return [0x60, n, ...some(n, 256)];
+    case 2: return Array(random(300)).fill(0);
+    case 3: return some(1 + random(5), 256);
+    default: return [pick([0x40, 0x41, 0x42, 0x43, 0x44, 0x45, 0x47, 0x4b, 0x4c, 0x4d, 0x55])];
+  }
+}
+function hurt(bytes) {
+  const kind = random(6), at = random(bytes.length || 1);
+  if (kind === 0 && bytes.length) bytes[at] = random(256);
+  if (kind === 1) bytes.splice(at, 1 + random(3));
+  if (kind === 2) bytes.splice(at, 0, random(256));
+  return bytes;
+}
+const chunk = make => {
+  const bytes = [];
+  for (let n = random(4); n >= 0; n--) bytes.push(...hurt(make()));
+  const cut = random(3) ? bytes.length : random(bytes.length + 1);
+  kept = bytes.slice(cut);
+  return bytes.slice(0, cut);
+};
+let kept = []; // of the chunk before: its end comes next
+
+/* The cases. */
+
+const ops = []; // what is handed to the program
+let has, now;
+const u16 = n => ops.push(n >> 8, n & 255);
+const u32 = n => ops.push(n >>> 24, n >>> 16 & 255, n >>> 8 & 255, n & 255);
+const counted = bytes => { u16(bytes.length); for (const one of bytes) ops.push(one); };
+const short = bytes => { ops.push(bytes.length, ...bytes); };
+
+function clockBytes() {
+  const bytes = random(2) ? [1, random(140), 0, 0, 0, 0, 0, 0, random(11), random(61), random(61),
+                             random(9), random(10), random(60), random(60), random(8)] :
+    [2, 0x20 | random(64), ...some(6, random(9) ? 128 : 200), 0, 0, 0, 0, 0, 0, 0, 0];
+  const time = at => ({ hours: bytes[at], minutes: bytes[at + 1], seconds: bytes[at + 2],
+                        flags: bytes[at + 3] });
+  const clock = bytes[0] === 1 ? { kind: "times", status: bytes[1], first: time(8),
+                                   second: time(12) } :
+    { kind: "none", status: bytes[1], raw: bytes.slice(2, 8) };
+  return [bytes, clock];
+}
+
+// A message with parts of any range, and what dgt_event has of it: 16 bytes and a clock.
+function anyMessage() {
+  const [bytes, clock] = clockBytes(), n = some(9, random(4) ? 128 : 256);
+  const message = pick([
+    { type: "field", square: n[0] & 71, piece: n[1] & 17 },
+    { type: "version", mainNumber: n[0], subNumber: n[1] },
+    { type: "ack", ack: n.slice(0, 4), ackStatus: n[4] }, { type: "serial", serial: n.slice(0, 5) },
+    { type: clock.kind === "times" ? "times" : "noClock", clock },
+  ]);
+  return [message, [EVENTS[message.type], ...n, ...bytes]];
+}
+
+const ACTS = [
+  [6, () => {
+    const b = take(message);
+    ops.push(1);
+    counted(b);
+    for (const e of has.decoder[random(2) ? "feed" : "feedEach"](Uint8Array.from(b))) sayEvent(e);
+  }],
+  [6, () => {
+    const b = take(message);
+    ops.push(2);
+    counted(b);
+    for (const e of has.host[random(2) ? "hear" : "hearEach"](Uint8Array.from(b))) sayEvent(e);
+  }],
+  [4, () => {
+    const b = take(message);
+    ops.push(3);
+    u32(now);
+    counted(b);
+    has.follower.hear(now, Uint8Array.from(b));
+  }],
+  [4, () => {
+    const b = take(message);
+    ops.push(19);
+    u32(now);
+    counted(b);
+    for (const e of has.follower.hearEach(now, Uint8Array.from(b))) sayEvent(e);
+  }],
+  [3, () => {
+    const b = take(command);
+    ops.push(4);
+    counted(b);
+    has.reader.feed(Uint8Array.from(b)).forEach(sayCommand);
+  }],
+  [5, () => {
+    const b = take(command);
+    ops.push(5);
+    counted(b);
+    const { used, commands } = has.board.take(Uint8Array.from(b));
+    commands.forEach(sayCommand);
+    sayNumbers(used);
+  }],
+  [4, () => {
+    for (let n = random(8); n >= 0; n--) {
+      ops.push(6);
+      sayResult(() => has.board.poll());
+    }
+  }],
+  [4, () => {
+    const [square, piece] = [random(66), random(17)];
+    ops.push(7, square, piece);
+    sayResult(() => has.board.change(square, piece));
+  }],
+  [4, () => {
+    const code = random(3) ? 0x40 + random(0x16) : random(256), sender = random(2);
+    ops.push(8, sender, code);
+    sayResult(() => (sender ? has.follower : has.host).send(code));
+  }],
+  [2, () => {
+    const n = random(2);
+    ops.push(9, n);
+    sayResult(() => n ? has.host.restart() : has.host.follow());
+  }],
+  [4, () => {
+    now += random(4000);
+    ops.push(10);
+    u32(now);
+    sayResult(() => has.follower.ask(now) ?? []);
+  }],
+  [3, sayClockCommand],
+  [1, () => {
+    const n = random(5);
+    ops.push(12, n);
+    sayResult(() => { has.follower.mode = n; });
+  }],
+  [2, () => {
+    const n = random(10);
+    ops.push(13, n);
+    OTHERS[n]();
+  }],
+  [1, () => {
+    const [bytes, clock] = clockBytes();
+    ops.push(14, ...bytes);
+    sayResult(() => has.board.handClock(clock));
+  }],
+  [1, () => {
+    const words = anyPlacement();
+    ops.push(16);
+    short([...words].map(c => c.charCodeAt(0)));
+    sayResult(() => dgt.parsePlacement(words));
+  }],
+  [1, () => {
+    const pieces = some(64, random(4) ? 16 : 17), [bytes, clock] = clockBytes();
+    const below = random(9) ? 128 : 130, bodies = [0, 1, 2].map(() => some(random(65), below));
+    const [serial, numbers] = [some(5, below), some(3, below)];
+    ops.push(18, ...pieces, ...bytes, ...serial, ...numbers);
+    for (const one of bodies) ops.push(one.length, ...one, ...Array(64 - one.length).fill(0));
+    const [mainNumber, subNumber, clockVersion] = numbers;
+    const [trademark, battery, longSerial] = bodies;
+    sayResult(() => has.board.start(pieces, clock, {
+      serial, mainNumber, subNumber, clockVersion, trademark, battery, longSerial }));
+  }],
+  [1, () => {
+    const code = random(9) ? pick([0x06, 0x0d, 0x0e, 0x11, 0x13, 0x20, random(128)]) : random(256);
+    const body = some(pick([0, 2, 2, 5, 7, 7, 64, 250]), random(3) ? 16 : 130);
+    ops.push(20, code);
+    short(body);
+    sayResult(() => dgt.viewMessage(code, body), view => {
+      sayMessage(view);
+      sayResult(() => dgt.encodeMessage(view));
+      say(dgt.eventText(view));
+    });
+  }],
+  [1, () => {
+    const [message, bytes] = anyMessage();
+    ops.push(21, ...bytes);
+    sayResult(() => dgt.encodeMessage(message));
+    sayResult(() => dgt.eventText(message), say);
+  }],
+  [1, () => {
+    const word = hurt(command()).slice(0, 255), carried = some(random(14), 256);
+    const [code, id] = [random(4) ? pick([0x2b, 0x60, 0x42]) : random(256), random(16)];
+    ops.push(22, code, id);
+    short(carried);
+    short(word);
+    sayResult(() => dgt.encodeCommand(code, id, carried));
+    const found = dgt.viewCommand(word);
+    if (found) sayCommand(found);
+  }],
+  [1, () => {
+    const [one, other] = [some(64, random(4) ? 16 : 17), some(64, 16)];
+    const [n, c, d] = [random(70), 32 + random(96), 32 + random(32)];
+    if (random(2)) one.forEach((piece, at) => { if (random(9)) other[at] = piece; });
+    ops.push(23, ...one, ...other, n, c, d);
+    const [letter, next] = [c, d].map(code => String.fromCharCode(code));
+    sayResult(() => dgt.differ(one, other));
+    sayResult(() => dgt.placement(one), say);
+    sayResult(() => dgt.pieceLetter(n & 31), say);
+    sayResult(() => dgt.squareName(n), say);
+    sayResult(() => dgt.pieceCode(letter), sayNumbers);
+    sayResult(() => dgt.segment(letter), sayNumbers);
+    sayResult(() => dgt.squareNumber(letter + next), sayNumbers);
+  }],
+];
+const OTHERS = [
+  () => has.host.lineLost(), () => has.follower.lineLost(), () => has.board.lineLost(),
+  () => sayNumbers(has.decoder.finish()), () => sayNumbers(has.host.giveUpAwaited()),
+  () => sayNumbers(has.reader.finish()), () => has.decoder.reset(), () => has.reader.reset(),
+  () => has.follower.askNow(), () => has.follower.lineDisturbed(),
+];
+const WEIGHTED = ACTS.flatMap(([weight, act]) => Array(weight).fill(act));
+
+function anyPlacement() {
+  const words = dgt.placement(some(64, 16));
+  if (random(2)) return words;
+  return (words.slice(0, random(words.length)) + pick(["", "/", "9", "K", "e", "44"]) +
+    words.slice(random(words.length))).slice(0, 255);
+}
+
+// Each call for the clock, and LEDs, by a host or a follower.
+function sayClockCommand() {
+  const b = some(pick([0, 1, 6, 8, 9, 252, 253, 255]), 256);
+  const [which, sender] = [random(9), random(2)];
+  const digits = Array.from({ length: 6 }, () => random(20) ? pick([..."0123456789 -"]) : "x");
+  const letters = some(8), [x, y] = some(2, 256), it = sender ? has.follower : has.host;
+  ops.push(11, sender, which, x, y);
+  short(which === 1 ? digits.map(c => c.charCodeAt(0)) : which === 2 ? letters :
+    which === 4 ? some(6, 60) : b);
+  const sides = ops.slice(-6);
+  sayResult(() => [
+    () => it.sendClock(x, b), () => it.sendDisplay(digits.join(""), x, y),
+    () => it.sendText(String.fromCharCode(...letters), x), () => it.sendBeep(x),
+    () => it.sendSetAndRun(sides.slice(0, 3), sides.slice(3), x), () => it.sendIcons(b),
+    () => it.sendLeds(b), () => it.sendEnd(),
+    () => x & 1 ? it.sendButton() : it.sendClockVersion(),
+  ][which]());
+}
+
+// The rest of a chunk before is the beginning of the next one of its kind.
+const rests = new Map();
+function take(make) {
+  const bytes = [...rests.get(make) ?? [], ...chunk(make)].slice(0, 60000);
+  rests.set(make, kept);
+  return bytes;
+}
+
+function look() {
+  const { host, decoder, follower, board, reader } = has;
+  ops.push(254);
+  for (const it of [host, follower]) {
+    sayResult(() => it.picture);
+    sayResult(() => it.placement, say);
+    sayClock(it.clock);
+    sayNumbers(it.unread);
+  }
+  sayBytes(host.awaited);
+  sayNumbers(decoder.rest, reader.rest);
+  if (follower.dueAt !== Infinity) sayNumbers(follower.dueAt);
+  if (follower.lastHeard !== null) sayNumbers(follower.lastHeard);
+  sayResult(() => follower.serial);
+  sayNumbers(follower.inDoubt, follower.confirmed, follower.heartbeatsLeft, follower.mode);
+  sayBytes(board.position);
+  sayClock(board.clock);
+  sayNumbers(board.owes, board.owedLength, board.partial, board.mode);
+}
+
+const hashes = [];
+let acts = 0, heard = 0;
+
+function runCase() {
+  const period = pick([0, 1, 1000, 10000]), patience = pick([0, 1, 6, 255]), says = random(4);
+  ops.push(0);
+  u32(period);
+  ops.push(patience, says);
+  const options = { period, patience, confirm: (says & 1) > 0, identify: (says & 2) > 0 };
+  has = { decoder: new Decoder(dgt), host: new Host(dgt), board: new Board(dgt),
+          reader: new CommandDecoder(dgt), follower: new Follower(dgt, options) };
+  hash = 2166136261 | 0;
+  now = random(100000);
+  rests.clear();
+  for (let n = 4 + random(20); n > 0; n--) {
+    pick(WEIGHTED)();
+    acts++;
+  }
+  look();
+  heard += has.decoder.total + has.host.total;
+  Object.values(has).forEach(handle => handle.close());
+  ops.push(255);
+  hashes.push((hash >>> 0).toString(16).padStart(8, "0"));
+}
+
+for (let done = 0; done < Number(total);) {
+  const first = done;
+  for (; done < Number(total) && ops.length < 4e6; done++) runCase();
+  const answer = execFileSync(program, isLoud ? ["-v"] : [],
+                              { input: Uint8Array.from(ops), maxBuffer: 1 << 30 }).toString();
+  if (isLoud) console.log(`${answer}\n${text}`);
+  const theirs = answer.trim().split("\n");
+  hashes.forEach((mine, n) => {
+    if (isLoud || mine === theirs[n]) return;
+    console.log(`case ${first + n} of seed ${seed}: ${mine} in place of ${theirs[n]}`);
+    process.exit(1);
+  });
+  hashes.length = ops.length = 0;
+}
+console.log(`${total} cases, ${acts} acts, ${heard} bytes of boards`);
+unused.delete("version"); // was called by `load`
+if (unused.size) {
+  console.log(`calls that no case has made: ${[...unused]}`);
+  process.exit(1);
+}

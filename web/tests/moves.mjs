@@ -1,0 +1,53 @@
+// The rules by their counts of positions, and the games that boards show.
+import assert from "node:assert/strict";
+import { BEGIN, Game, legalMoves, san } from "../moves.js";
+
+function fen(text) {
+  const [placement, side, castles, passant] = text.split(" ");
+  return {
+    letters: placement.replaceAll("/", "").replace(/\d/g, n => ".".repeat(n)),
+    isWhite: side === "w", castles: castles.replace("-", ""),
+    passant: passant === "-" ? -1 : "abcdefgh".indexOf(passant[0]) + 8 * (8 - passant[1]),
+  };
+}
+const count = (position, depth) => depth === 0 ? 1 : legalMoves(position).reduce(
+  (sum, { after }) => sum + count(after, depth - 1), 0);
+const KNOWN = [
+  ["rnbqkbnr/pppppppp/8/8/8/8/PPPPPPPP/RNBQKBNR w KQkq -", [20, 400, 8902]],
+  ["r3k2r/p1ppqpb1/bn2pnp1/3PN3/1p2P3/2N2Q1p/PPPBBPPP/R3K2R w KQkq -", [48, 2039]],
+  ["8/2p5/3p4/KP5r/1R3p1k/8/4P1P1/8 w - -", [14, 191, 2812]],
+  ["r3k2r/Pppp1ppp/1b3nbN/nP6/BBP1P3/q4N2/Pp1P2PP/R2Q1RK1 w kq -", [6, 264, 9467]],
+  ["rnbq1k1r/pp1Pbppp/2p5/8/2B5/8/PPP1NnPP/RNBQK2R w KQ -", [44, 1486]],
+];
+for (const [text, counts] of KNOWN) {
+  counts.forEach((known, n) => assert.equal(count(fen(text), n + 1), known, `${text} ${n + 1}`));
+}
+
+const GAMES = 20;
+// Games by chance, whose moves are shown as a board shows them: a square after another.
+let state = 5;
+const random = below => (state = (Math.imul(state, 1664525) + 1013904223) >>> 0) % 65536 % below;
+let plies = 0;
+for (let round = 0; round < GAMES; round++) {
+  const game = new Game(), texts = [];
+  let position = BEGIN;
+  game.see(position.letters);
+  for (let n = 0; n < 120; n++) {
+    const moves = legalMoves(position);
+    if (!moves.length) break;
+    const move = moves[random(moves.length)];
+    texts.push(san(position, move));
+    const shown = [...position.letters];
+    const changed = [...Array(64).keys()].filter(at => shown[at] !== move.after.letters[at])
+      .sort((a, b) => (move.after.letters[a] !== ".") - (move.after.letters[b] !== "."));
+    for (const at of changed) {
+      shown[at] = move.after.letters[at];
+      game.see(shown.join(""));
+    }
+    position = move.after;
+  }
+  plies += texts.length;
+  const seen = game.line.slice(1).map(({ text }) => text);
+  assert.deepEqual(seen, texts, `game ${round}`);
+}
+console.log(`the counts of ${KNOWN.length} positions, and ${plies} moves`);
