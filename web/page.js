@@ -1,0 +1,409 @@
+// The page: shows a board that is followed, and one that is simulated.
+
+import { DgtError, STATUS, isWide, lighting, load } from "./dgt.js";
+import { Drawing } from "./drawing.js";
+import { Session, lettersOf } from "./session.js";
+import { SimulatedPort } from "./simulated.js";
+
+const find = id => document.getElementById(id);
+const wait = ms => new Promise(done => setTimeout(done, ms));
+const asked = new URLSearchParams(location.search);
+const PERIODS = { serial: Number(asked.get("period")) || 10000, simulated: 2000 }; // milliseconds
+const START = "rnbqkbnr/pppppppp/8/8/8/8/PPPPPPPP/RNBQKBNR";
+const NO_PIECES = ".".repeat(64);
+const STATES = {
+  none: "no board", gone: "no port: waiting for it", silent: "the board doesn't answer",
+  asking: "asking the board", doubt: "in doubt: asking again", known: "not confirmed yet",
+  confirmed: "confirmed",
+};
+const seen = new Drawing(document.querySelector("#seen svg"));
+const table = new Drawing(document.querySelector("#table svg"));
+let library, session = null, simulated = null, isDrawing = false;
+
+function write(node, text) {
+  if (node.textContent !== text) node.textContent = text;
+}
+
+function press(button, isPressed, text, other) {
+  button.setAttribute("aria-pressed", isPressed);
+  write(button, isPressed ? other : text);
+}
+
+/* What is shown. */
+
+// The page is drawn once, after all that comes together.
+function draw() {
+  if (!isDrawing) queueMicrotask(drawNow);
+  isDrawing = true;
+}
+
+function drawNow() {
+  isDrawing = false;
+  if (session?.hasEnded) session = null;
+  const state = session ? session.state : "none";
+  drawState(state);
+  drawClock(session?.clock, state);
+  const game = session?.game, moves = game?.moves ?? [];
+  write(find("moves"), [...moves, moves.length ? game.ended : ""].join(" "));
+  find("record").hidden = !moves.length;
+  find("connect").hidden = find("try").hidden = Boolean(session);
+  find("end").hidden = find("sends").hidden = !session;
+  find("table").hidden = find("acts").hidden = !simulated;
+  document.querySelector("main").classList.toggle("trying", Boolean(simulated));
+  write(find("title"), simulated ? "What this page knows" : "The board");
+  if (simulated) drawTable();
+}
+
+function drawState(state) {
+  const picture = session?.picture, fen = picture ? library.placement(picture) : "";
+  find("state").dataset.state = state;
+  write(find("state").firstElementChild, STATES[state]);
+  const age = state === "confirmed" ? performance.now() - session.confirmedAt : NaN;
+  write(find("age"), age >= 1000 ? ` ${Math.floor(age / 1000)} s ago` : "");
+  seen.draw(picture ? lettersOf(library, picture) : NO_PIECES,
+            fen ? `${STATES[state]}. FEN: ${fen}` : STATES[state]);
+  seen.svg.classList.toggle("unsure", ["doubt", "silent", "gone", "asking"].includes(state));
+  seen.svg.classList.toggle("nothing", !fen);
+  write(find("fen"), fen);
+  find("copy").hidden = !fen;
+}
+
+function drawTable() {
+  const { pieces, lit, shown, carried, altered, isPlugged, isOn, noise } = simulated;
+  table.draw(lettersOf(library, pieces), `The board on the table: ${library.placement(pieces)}`);
+  table.frame(lit);
+  seen.frame(session?.picture ? library.differ(pieces, session.picture) : []);
+  write(find("wire"), shown ? `the clock shows “${shown}”` :
+    `${carried} bytes, ${altered} altered`);
+  press(find("cable"), !isPlugged, "Pull the cable", "Plug it in");
+  press(find("power"), !isOn, "Switch it off", "Switch it on");
+  press(find("noise"), noise > 0, "Noise", "End the noise");
+}
+
+const timeText = ({ hours, minutes, seconds }) =>
+  `${hours}:${String(minutes).padStart(2, "0")}:${String(seconds).padStart(2, "0")}`;
+
+// The sides of the clock, not the colours: a board doesn't say whose is which.
+function drawClock(clock, state) {
+  const node = find("clock"), isThere = clock?.kind === "times";
+  const key = JSON.stringify([clock, state === "confirmed"]);
+  node.hidden = !clock;
+  if (!clock || node.dataset.key === key) return;
+  node.dataset.key = key;
+  const runs = isThere && clock.status & STATUS.running && ["confirmed", "known"].includes(state);
+  const turns = [STATUS.whiteTurn, STATUS.blackTurn];
+  node.replaceChildren(...(isThere ? [clock.first, clock.second] : [null]).map((time, side) => {
+    const made = document.createElement("span");
+    made.textContent = time ? timeText(time) : "no clock is connected";
+    made.className = !time ? "absent" : runs && clock.status & turns[side] ? "runs" : "";
+    return made;
+  }));
+}
+
+/* The messages. */
+
+const KEPT = 300; // lines
+const log = []; // all lines, for a test and for the console
+
+function note(kind, text, key = "") {
+  const lines = find("lines"), last = lines.firstElementChild;
+  showLines(true);
+  const isSame = key && last?.dataset.key === key; // a clock that runs is one line
+  const made = isSame ? last : document.createElement("li");
+  made.className = kind;
+  made.textContent = text;
+  if (key) made.dataset.key = key;
+  if (!isSame) lines.prepend(made);
+  if (lines.childElementCount > KEPT) lines.lastElementChild.remove();
+  log.push(text);
+  if (log.length > 10 * KEPT) log.splice(0, KEPT);
+}
+
+// The messages, or how to begin.
+function showLines(isShown) {
+  find("hint").hidden = isShown;
+  find("lines").hidden = find("order").hidden = !isShown;
+  write(find("heading"), isShown ? "Messages" : "How it works");
+}
+
+function say(text) {
+  find("says").hidden = !text;
+  write(find("says"), text);
+}
+
+/* Sessions. */
+
+function begin(port, ports, period) {
+  say("");
+  find("lines").replaceChildren();
+  session = new Session(library, port, ports, period, { note, changed: draw });
+  session.run().catch(error => say(`This should not happen: ${error}`));
+  draw();
+}
+
+async function connect() {
+  try {
+    begin(await navigator.serial.requestPort(), navigator.serial, PERIODS.serial);
+  } catch (error) {
+    if (error.name !== "NotFoundError") say(`The port was not chosen: ${error.message}`);
+  }
+}
+
+function tryIt() {
+  simulated = new SimulatedPort(library, library.parsePlacement(START));
+  clock.begin();
+  begin(simulated, simulated, PERIODS.simulated);
+}
+
+async function end() {
+  stopGame();
+  clock.end();
+  await session?.end();
+  simulated?.close();
+  simulated = session = null;
+  showLines(false);
+  draw();
+}
+
+/* The clock on the table. */
+
+const clock = {
+  left: [5400, 5400], turn: 0, isRunning: false, timer: 0,
+
+  begin() {
+    Object.assign(this, { left: [5400, 5400], turn: 0, isRunning: false });
+    this.timer = setInterval(() => this.tick(), 1000);
+    this.hand();
+  },
+
+  end() {
+    clearInterval(this.timer);
+  },
+
+  tick() {
+    if (!this.isRunning) return;
+    this.left[this.turn] = Math.max(0, this.left[this.turn] - 1);
+    this.hand();
+  },
+
+  press() {
+    if (this.isRunning) this.turn = 1 - this.turn;
+    this.isRunning = true;
+    this.hand();
+  },
+
+  hand() {
+    const [first, second] = this.left.map(all => ({
+      hours: Math.floor(all / 3600), minutes: Math.floor(all / 60) % 60, seconds: all % 60,
+      flags: 0,
+    }));
+    const turn = this.turn ? STATUS.blackTurn : STATUS.whiteTurn;
+    const status = (this.isRunning ? STATUS.running : 0) | turn;
+    simulated?.board.handClock({ kind: "times", status, first, second });
+  },
+};
+
+/* Pieces are moved on the table. */
+
+// The squares of a move as "e2e4", or null.
+function squaresOf(text) {
+  const found = /^([a-h][1-8])([a-h][1-8])$/.exec(text.trim().toLowerCase());
+  return found && found.slice(1).map(name => library.squareNumber(name));
+}
+
+function put(square, piece) {
+  const isLast = square < 8 || square > 55; // a pawn that comes to the other end is a queen then
+  const queens = { 1: 6, 7: 12 };
+  simulated.change(square, isLast && queens[piece] ? queens[piece] : piece);
+}
+
+function dragging(svg) {
+  let held = null;
+  svg.addEventListener("pointerdown", event => {
+    const place = table.at(event), piece = simulated?.pieces[place.square ?? 64];
+    if (held || !piece) return;
+    svg.setPointerCapture(event.pointerId);
+    held = { from: place.square, piece };
+    table.hold(library.pieceLetter(piece), place);
+    simulated.change(place.square, 0);
+    draw();
+  });
+  svg.addEventListener("pointermove", event => {
+    if (held) table.hold(library.pieceLetter(held.piece), table.at(event));
+  });
+  const drop = square => {
+    if (held && simulated && square !== null) put(square, held.piece);
+    table.hold("");
+    held = null;
+    draw();
+  };
+  svg.addEventListener("pointerup", event => drop(table.at(event).square));
+  svg.addEventListener("pointercancel", () => drop(held?.from ?? null));
+}
+
+async function move([from, to], pause = 0) {
+  const piece = simulated.pieces[from];
+  if (!piece || from === to) return;
+  simulated.change(from, 0);
+  draw();
+  if (pause) await wait(pause);
+  if (simulated) put(to, piece);
+  draw();
+}
+
+// Morphy against Duke Karl and Count Isouard, Paris 1858.
+const GAME = ("e2e4 e7e5 g1f3 d7d6 d2d4 c8g4 d4e5 g4f3 d1f3 d6e5 f1c4 g8f6 f3b3 d8e7 b1c3 c7c6 " +
+  "c1g5 b7b5 c3b5 c6b5 c4b5 b8d7 e1c1,a1d1 a8d8 d1d7 d8d7 h1d1 e7e6 b5d7 f6d7 b3b8 d7b8 d1d8")
+  .split(" ");
+let game = null; // the one that is played
+
+function setUp() {
+  const pieces = library.parsePlacement(START);
+  for (const square of library.differ(pieces, simulated.pieces)) {
+    simulated.change(square, pieces[square]);
+  }
+}
+
+function stopGame() {
+  game = null;
+  press(find("play"), false, "Play a game", "End the game");
+}
+
+async function play() {
+  if (game) return stopGame();
+  const mine = game = {};
+  press(find("play"), true, "Play a game", "End the game");
+  setUp();
+  for (const ply of GAME) {
+    await wait(900);
+    for (const part of ply.split(",")) {
+      if (game !== mine) return;
+      await move(squaresOf(part), 250);
+    }
+    clock.press();
+  }
+  if (game === mine) stopGame();
+}
+
+/* What the user does. */
+
+// Sends what a call of the follower returns.
+async function send(text, command) {
+  if (!session?.isOpen) return;
+  try {
+    const bytes = command(session.follower);
+    note("sent", text);
+    await session.send(bytes);
+  } catch (error) {
+    if (!(error instanceof DgtError)) throw error;
+    note("fault", error.message);
+  }
+}
+
+function save() {
+  const link = document.createElement("a");
+  const type = "application/x-chess-pgn";
+  link.href = URL.createObjectURL(new Blob([session.game.pgn], { type }));
+  link.download = "game.pgn";
+  link.click();
+  setTimeout(() => URL.revokeObjectURL(link.href), 1000);
+}
+
+function on(id, act) {
+  find(id).addEventListener("click", () => {
+    act();
+    draw();
+  });
+}
+
+// A form with one field; `act` gets its text, and returns false if it makes no sense.
+function onText(id, act) {
+  const form = find(id), field = form.querySelector("input");
+  form.addEventListener("submit", event => {
+    event.preventDefault();
+    if (act(field.value) === false) field.select();
+    else field.value = "";
+    draw();
+  });
+}
+
+on("connect", connect);
+on("try", tryIt);
+on("end", end);
+on("garble", () => simulated.garble());
+on("frame", () => simulated.frame());
+on("noise", () => simulated.makeNoise(simulated.noise === 0));
+on("cable", () => simulated.plug(!simulated.isPlugged));
+on("power", () => {
+  simulated.power(!simulated.isOn);
+  clock.hand();
+});
+on("press", () => clock.press());
+on("play", play);
+on("anew", () => {
+  stopGame();
+  setUp();
+});
+on("copy", () => navigator.clipboard?.writeText(find("fen").textContent));
+on("save", save);
+onText("move", text => {
+  const squares = squaresOf(text);
+  if (!squares) return false;
+  move(squares);
+});
+onText("show", text => {
+  if (text) send(`clock “${text}”`, it => it.sendText(text));
+  else send("clock: its times", it => it.sendEnd());
+});
+onText("light", text => {
+  const squares = text ? squaresOf(text) : [];
+  if (!squares) return false;
+  send(text ? `LEDs ${text}` : "no LEDs", it => it.sendLeds(lighting(...squares)));
+});
+dragging(table.svg);
+
+/* The beginning. */
+
+async function openAllowed() {
+  if (!navigator.serial) {
+    say(isSecureContext ?
+      "This browser gives no page a serial port. On a computer, Chrome, Edge and other Chromium " +
+      "browsers do. Here you can try the page without a board." :
+      "A browser gives serial ports only to pages from https, localhost or a disk.");
+    return;
+  }
+  find("connect").disabled = false;
+  const ports = await navigator.serial.getPorts(); // those that this page was allowed before
+  if (ports.length === 1) begin(ports[0], navigator.serial, PERIODS.serial);
+}
+
+// From a server the page can be installed, and opens without a network afterwards.
+function keep() {
+  if (!location.protocol.startsWith("http") || !("serviceWorker" in navigator)) return;
+  const link = document.createElement("link");
+  Object.assign(link, { rel: "manifest", href: "manifest.webmanifest" });
+  document.head.append(link);
+  navigator.serviceWorker.register("worker.js").catch(() => {}); // it works without
+}
+
+async function start() {
+  const isNarrow = asked.has("narrow") || !isWide();
+  const text = atob(isNarrow ? DGT : DGT64); // web/build puts both modules here
+  library = await load(Uint8Array.from(text, letter => letter.charCodeAt(0)));
+  const parts = [1e6, 1e3, 1].map(n => Math.trunc(library.version / n) % 1000);
+  write(find("version"), `version ${parts.join(".")}, ${isNarrow ? 32 : 64} bits`);
+  find("try").disabled = false;
+  await openAllowed();
+}
+
+try {
+  await start();
+} catch (error) {
+  say(`The library could not be started: ${error.message}`);
+}
+keep();
+draw();
+globalThis.page = { // for tests and the console
+  get session() { return session; }, get simulated() { return simulated; }, log, library, seen,
+  squaresOf, move,
+};

@@ -1,0 +1,145 @@
+// Plays games on a simulated board whose line and power fail, and compares the moves that a session
+// finds, one by one. Time is simulated, too.
+//
+// node games.mjs MODULE COUNT [SEED]
+
+import { pass } from "./clock.mjs";
+import assert from "node:assert/strict";
+import { readFileSync } from "node:fs";
+import { Board, load } from "../dgt.js";
+import { BEGIN, legalMoves, san } from "../moves.js";
+import { Session, lettersOf } from "../session.js";
+import { SimulatedPort } from "../simulated.js";
+
+const [module, count, seed = "1"] = process.argv.slice(2);
+const dgt = await load(readFileSync(module));
+const START = "rnbqkbnr/pppppppp/8/8/8/8/PPPPPPPP/RNBQKBNR";
+const PLIES = 40, PERIOD = 2000, MOST = 12000; // milliseconds until the picture is right again
+
+let state = Number(seed);
+Math.random = () => { // mulberry32: the same games for each seed
+  state = state + 0x6d2b79f5 >>> 0;
+  let n = Math.imul(state ^ state >>> 15, state | 1);
+  n ^= n + Math.imul(n ^ n >>> 7, n | 61);
+  return ((n ^ n >>> 14) >>> 0) / 2 ** 32;
+};
+const random = below => Math.floor(Math.random() * below);
+
+// What befalls the line before a move, and what ends it after the move.
+const NONE = [() => {}, () => {}];
+const FAULTS = {
+  none: NONE, garble: [port => port.garble(), () => {}], frame: [() => {}, port => port.frame()],
+  noise: [port => port.makeNoise(true), port => port.makeNoise(false)],
+  cable: [port => port.plug(false), port => port.plug(true)],
+  power: [port => port.power(false), port => port.power(true)],
+};
+
+const lines = [];
+const page = { note: (kind, text) => lines.push(text), changed: () => {} };
+
+// A move's squares one after another, as hands move pieces.
+async function show(port, before, after) {
+  const changed = [...before].map((_, n) => n).filter(n => before[n] !== after[n])
+    .sort((a, b) => (after[a] !== ".") - (after[b] !== "."));
+  for (const square of changed) {
+    port.change(square, after[square] === "." ? 0 : dgt.pieceCode(after[square]));
+    await pass(100 + random(400));
+  }
+}
+
+async function play(number) {
+  const port = new SimulatedPort(dgt, dgt.parsePlacement(START));
+  const session = new Session(dgt, port, port, PERIOD, page), ran = session.run();
+  const isRight = () => session.state === "confirmed" &&
+    lettersOf(dgt, session.picture) === lettersOf(dgt, port.pieces);
+  let position = BEGIN, faults = 0;
+  const texts = [];
+  await pass(MOST, isRight);
+  for (let ply = 0; ply < PLIES; ply++) {
+    const moves = legalMoves(position);
+    if (!moves.length) break;
+    const move = moves[random(moves.length)];
+    const name = random(3) ? "none" : Object.keys(FAULTS)[random(6)], [begin, end] = FAULTS[name];
+    texts.push(san(position, move));
+    begin(port);
+    await show(port, position.letters, move.after.letters);
+    end(port);
+    if (name === "frame") {
+      await pass(0);
+      assert.equal(session.state, "doubt", `game ${number}, ply ${ply}: ${name}`);
+    }
+    if (name !== "none") faults++;
+    await pass(name === "none" && random(2) ? 500 : MOST, isRight);
+    assert(name === "none" || isRight(), `game ${number}, ply ${ply} with ${name}: not healed`);
+    position = move.after;
+  }
+  await pass(MOST, isRight);
+  assert.deepEqual(session.game.line.slice(1).map(({ text }) => text), texts, `game ${number}`);
+  await session.end();
+  port.close();
+  port.board.close();
+  await pass(2000);
+  await ran;
+  return [texts.length, faults];
+}
+
+// A port whose bytes are handed in here. What is written to it is in `sent`.
+class ScriptedPort extends EventTarget {
+  sent = [];
+  writable = new WritableStream({ write: bytes => { this.sent.push(bytes); } });
+  constructor() {
+    super();
+    this.stream();
+  }
+  stream() {
+    this.readable = new ReadableStream({ start: control => { this.out = control; } });
+  }
+  fail(name) {
+    const { out } = this;
+    this.stream();
+    out.error(new DOMException("", name));
+  }
+  getInfo() {}
+  async open() {}
+  async close() {}
+}
+
+// Each fault of a line is a doubt. A dump that comes up to a tenth of a second later may be older,
+// and one that was asked for afterwards ends the doubt.
+async function checkFault(name) {
+  const port = new ScriptedPort(), board = new Board(dgt);
+  const session = new Session(dgt, port, port, PERIOD, page), ran = session.run();
+  const reply = async () => {
+    await pass(MOST, () => port.sent.length > 0);
+    board.take(port.sent.pop());
+    for (let message; (message = board.poll());) port.out.enqueue(message);
+    await pass(0);
+  };
+  const expect = (wanted, when) => assert.equal(session.state, wanted, `${name}: ${when}`);
+  await reply();
+  await reply();
+  expect("confirmed", "at first");
+  await pass(MOST, () => port.sent.length > 0);
+  port.fail(name);
+  await pass(50);
+  expect("doubt", "after the fault");
+  await reply();
+  expect("doubt", "after a dump that may be older");
+  await pass(100);
+  await reply();
+  expect("known", "after a dump that is newer");
+  await session.end();
+  await pass(PERIOD);
+  await ran;
+}
+
+for (const name of ["FramingError", "BufferOverrunError", "ParityError", "BreakError"]) {
+  await checkFault(name);
+}
+let plies = 0, faults = 0;
+for (let number = 1; number <= Number(count); number++) {
+  const [more, failed] = await play(number);
+  plies += more;
+  faults += failed;
+}
+console.log(`${count} games, ${plies} moves, ${faults} faults`);
