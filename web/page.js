@@ -4,6 +4,7 @@ import { DgtError, STATUS, isWide, lighting, load } from "./dgt.js";
 import { Drawing } from "./drawing.js";
 import { Session, lettersOf } from "./session.js";
 import { SimulatedPort } from "./simulated.js";
+import { Theorem } from "./theorem.js";
 
 const find = id => document.getElementById(id);
 const wait = ms => new Promise(done => setTimeout(done, ms));
@@ -18,7 +19,7 @@ const STATES = {
 };
 const seen = new Drawing(document.querySelector("#seen svg"));
 const table = new Drawing(document.querySelector("#table svg"));
-let library, session = null, simulated = null, isDrawing = false;
+let library, session = null, simulated = null, theorem = null, isDrawing = false;
 
 function write(node, text) {
   if (node.textContent !== text) node.textContent = text;
@@ -393,6 +394,9 @@ async function start() {
   const parts = [1e6, 1e3, 1].map(n => Math.trunc(library.version / n) % 1000);
   write(find("version"), `version ${parts.join(".")}, ${isNarrow ? 32 : 64} bits`);
   find("try").disabled = false;
+  find("theorem").addEventListener("toggle", ({ target }) => {
+    theorem ??= new Theorem(library, target);
+  });
   await openAllowed();
 }
 
@@ -405,5 +409,5 @@ keep();
 draw();
 globalThis.page = { // for tests and the console
   get session() { return session; }, get simulated() { return simulated; }, log, library, seen,
-  squaresOf, move,
+  squaresOf, move, get theorem() { return theorem; },
 };

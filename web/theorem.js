@@ -1,0 +1,117 @@
+// The theorem to play with: the acts of `dgt simulate`, and what is promised after each.
+
+import { Drawing } from "./drawing.js";
+import { lettersOf } from "./session.js";
+import { World } from "./world.js";
+
+const KEPT_LINES = 200;
+const hexText = bytes => bytes.map(one => one.toString(16).padStart(2, "0")).join("");
+
+export class Theorem {
+  #dgt;
+  #world;
+  #node;
+  #board;
+  #host;
+  script = []; // all lines, for `dgt simulate`
+
+  /** @param {import("./dgt.js").Library} dgt @param {HTMLElement} node */
+  constructor(dgt, node) {
+    this.#dgt = dgt;
+    this.#node = node;
+    this.#world = new World(dgt);
+    [this.#board, this.#host] = Array.from(node.querySelectorAll("svg"), svg => new Drawing(svg));
+    node.addEventListener("click", ({ target }) => {
+      for (const line of target.dataset?.acts?.split(",") ?? []) this.#press(line);
+      this.#draw();
+    });
+    const form = this.#find("form"), field = this.#find("input");
+    form.addEventListener("submit", event => {
+      event.preventDefault();
+      if (this.#move(field.value)) field.value = "";
+      else field.select();
+    });
+    this.#draw();
+  }
+
+  #find(selector) {
+    return this.#node.querySelector(selector);
+  }
+
+  #press(line) {
+    const { up, down } = this.#world;
+    if (line === "settle") for (const each of this.#world.settling()) this.act(each);
+    else if (line === "garbleup") this.act(`garbleup ${hexText(garbled(up))}`);
+    else if (line === "garbledown") this.act(`garbledown ${hexText(garbled(down))}`);
+    else this.act(line);
+  }
+
+  // Moves a piece, as "e2e4".
+  #move(text) {
+    const found = /^([a-h][1-8])([a-h][1-8])$/.exec(text.trim().toLowerCase());
+    if (!found) return false;
+    const from = this.#dgt.squareNumber(found[1]);
+    const letter = this.#dgt.pieceLetter(this.#world.board.position[from]);
+    this.act(`change ${found[1]} .`);
+    this.act(`change ${found[2]} ${letter}`);
+    this.#draw();
+    return true;
+  }
+
+  /** Does an act of a script, and lists it with its outcome. */
+  act(line) {
+    const outcome = this.#world.act(line), list = this.#find("ol");
+    const made = document.createElement("li");
+    this.script.push(line);
+    made.textContent = `${line} → ${outcome}`;
+    list.prepend(made);
+    if (list.childElementCount > KEPT_LINES) list.lastElementChild.remove();
+  }
+
+  #draw() {
+    const { board, host, up, down } = this.#world, { position } = board, { picture } = host;
+    const dgt = this.#dgt, placement = dgt.placement(position);
+    this.#board.draw(lettersOf(dgt, position), `The board: ${placement}`);
+    this.#host.draw(picture ? lettersOf(dgt, picture) : ".".repeat(64),
+                    `The host's picture: ${host.placement ?? "unknown"}`);
+    this.#host.frame(picture ? dgt.differ(position, picture) : []);
+    this.#host.svg.classList.toggle("nothing", !picture);
+    this.#write("up", `${up.length} bytes to the host: ${hexText(up.slice(0, 40))}`);
+    this.#write("down", `${down.length} bytes to the board: ${hexText(down.slice(-40))}`);
+    this.#write("said", this.#said());
+    const { isInStep, dump, updates } = this.#world.counted;
+    const facts = { asked: dump && updates, step: isInStep, quiet: this.#world.isQuiet,
+                    equal: host.placement === placement };
+    for (const [name, isSo] of Object.entries(facts)) this.#write(name, isSo ? "yes" : "no");
+  }
+
+  #write(name, text) {
+    const node = this.#find(`[data-shows=${name}]`);
+    if (node.textContent !== text) node.textContent = text;
+  }
+
+  // What is promised now, in words.
+  #said() {
+    const { isPromised, isQuiet, counted } = this.#world;
+    if (isPromised) {
+      return (counted.hadFault ? "Healed. " : "") + (isQuiet ?
+        "It is proved: as all is quiet, the host's picture is the board's." :
+        "It is proved: once all is quiet, the host's picture is the board's.");
+    }
+    if (!counted.isInStep) {
+      return "Nothing is promised: the board may not read what the host sent. A restart heals.";
+    }
+    const lacks = [counted.updates ? "" : "for updates by its last mode command",
+                   counted.dump ? "" : "for a dump since the last break or fault"].filter(Boolean);
+    return `Nothing is promised: the host hasn't asked ${lacks.join(", nor ")}.`;
+  }
+}
+
+// Bytes of a line, of which one is lost or altered. On an empty line there is one that is stray.
+function garbled(bytes) {
+  const made = bytes.slice(0, 250), at = Math.floor(Math.random() * made.length);
+  if (!made.length) return [Math.floor(Math.random() * 128)];
+  if (Math.random() < .5) made.splice(at, 1);
+  else made[at] ^= 1 << Math.floor(Math.random() * 7);
+  return made;
+}
