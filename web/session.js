@@ -109,8 +109,8 @@ export class Session {
     return null;
   }
 
-  // FramingError, BufferOverrunError, ParityError or BreakError. What is heard a short time later
-  // may have come before it.
+  // FramingError, BufferOverrunError, ParityError or BreakError. A dump that is heard a short time
+  // later may be older, so that it ends no doubt.
   #disturbed(fault) {
     this.page.note("fault", `line: ${fault}`);
     this.#disturbedUntil = performance.now() + LATE;
@@ -120,10 +120,9 @@ export class Session {
   }
 
   #hear(chunk) {
-    const now = performance.now(), isDisturbed = now < this.#disturbedUntil;
-    if (isDisturbed) this.follower.lineDisturbed();
+    const now = performance.now();
     for (const event of this.follower.hearEach(now, chunk)) this.#note(event, now);
-    if (isDisturbed) this.follower.lineDisturbed();
+    if (now < this.#disturbedUntil) this.follower.lineDisturbed();
     this.#drive(); // a hidden page's timers are late, its bytes aren't
     this.page.changed();
   }

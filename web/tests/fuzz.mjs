@@ -7,6 +7,7 @@ import { readFileSync } from "node:fs";
 import { load, Board, BadPlacement, BadValue, CommandDecoder, Decoder, Follower, Host,
          TooManyAwaited } from "../dgt.js";
 import { CLOCKS, EVENTS, FAULTS, WORDS } from "../header.js";
+import { chance } from "./random.mjs";
 
 Error.stackTraceLimit = 0; // many are thrown
 const [module, program, total, seed = "1", loud] = process.argv.slice(2);
@@ -20,15 +21,7 @@ for (const [name, call] of Object.entries(dgt.calls)) {
   };
 }
 
-/* Numbers by chance, the same for each seed. */
-
-let state = Number(seed);
-function random(below) { // mulberry32
-  state = state + 0x6d2b79f5 >>> 0;
-  let n = Math.imul(state ^ state >>> 15, state | 1);
-  n ^= n + Math.imul(n ^ n >>> 7, n | 61);
-  return ((n ^ n >>> 14) >>> 0) % below;
-}
+const random = chance(seed);
 const pick = list => list[random(list.length)];
 const some = (n, below = 128) => Array.from({ length: n }, () => random(below));
 

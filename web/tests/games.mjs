@@ -10,20 +10,15 @@ import { Board, load } from "../dgt.js";
 import { BEGIN, legalMoves, san } from "../moves.js";
 import { Session, lettersOf } from "../session.js";
 import { SimulatedPort } from "../simulated.js";
+import { chance } from "./random.mjs";
 
 const [module, count, seed = "1"] = process.argv.slice(2);
 const dgt = await load(readFileSync(module));
 const START = "rnbqkbnr/pppppppp/8/8/8/8/PPPPPPPP/RNBQKBNR";
 const PLIES = 40, PERIOD = 2000, MOST = 12000; // milliseconds until the picture is right again
 
-let state = Number(seed);
-Math.random = () => { // mulberry32: the same games for each seed
-  state = state + 0x6d2b79f5 >>> 0;
-  let n = Math.imul(state ^ state >>> 15, state | 1);
-  n ^= n + Math.imul(n ^ n >>> 7, n | 61);
-  return ((n ^ n >>> 14) >>> 0) / 2 ** 32;
-};
-const random = below => Math.floor(Math.random() * below);
+const random = chance(seed);
+Math.random = () => random(2 ** 32) / 2 ** 32; // for the noise of the line
 
 // What befalls the line before a move, and what ends it after the move.
 const NONE = [() => {}, () => {}];
@@ -71,6 +66,7 @@ async function play(number) {
     if (name !== "none") faults++;
     await pass(name === "none" && random(2) ? 500 : MOST, isRight);
     assert(name === "none" || isRight(), `game ${number}, ply ${ply} with ${name}: not healed`);
+    if (isRight()) assert.equal(session.game.line.at(-1).text, texts.at(-1), `game ${number}`);
     position = move.after;
   }
   await pass(MOST, isRight);
@@ -128,6 +124,10 @@ async function checkFault(name) {
   await pass(100);
   await reply();
   expect("known", "after a dump that is newer");
+  port.fail(name);
+  port.out.enqueue(Uint8Array.of(0x8e, 0, 5, 52, 0, 0x8e, 0, 5, 36, 1)); // e2e4, which isn't so
+  await pass(0);
+  assert.deepEqual(session.game.moves, [], "moves of a picture in doubt");
   await session.end();
   await pass(PERIOD);
   await ran;

@@ -59,6 +59,7 @@ const dgt = await load(bytes);
   assert.equal(follower.inDoubt, false);
   follower.lineDisturbed();
   assert.equal(follower.inDoubt, true);
+  assert.equal(new Follower(dgt, { patience: 2 ** 32 - 1 }).heartbeatsLeft, 2 ** 32 - 1);
 }
 { // Wrong arguments do nothing.
   const board = new Board(dgt), host = new Host(dgt), follower = new Follower(dgt);

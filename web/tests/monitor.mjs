@@ -5,11 +5,11 @@
 import { execFileSync } from "node:child_process";
 import { readFileSync } from "node:fs";
 import { load, Decoder } from "../dgt.js";
+import { chance } from "./random.mjs";
 
 const [module, program, streams] = process.argv.slice(2);
 const dgt = await load(readFileSync(module));
-let state = 7;
-const random = below => (state = (Math.imul(state, 1664525) + 1013904223) >>> 0) % 65536 % below;
+const random = chance(1);
 let lines = 0, bytes = 0;
 for (let stream = 0; stream < Number(streams); stream++) {
   const all = [];

@@ -1,6 +1,7 @@
 // The rules by their counts of positions, and the games that boards show.
 import assert from "node:assert/strict";
 import { BEGIN, Game, legalMoves, san } from "../moves.js";
+import { chance } from "./random.mjs";
 
 function fen(text) {
   const [placement, side, castles, passant] = text.split(" ");
@@ -25,8 +26,7 @@ for (const [text, counts] of KNOWN) {
 
 const GAMES = 20;
 // Games by chance, whose moves are shown as a board shows them: a square after another.
-let state = 5;
-const random = below => (state = (Math.imul(state, 1664525) + 1013904223) >>> 0) % 65536 % below;
+const random = chance(1);
 let plies = 0;
 for (let round = 0; round < GAMES; round++) {
   const game = new Game(), texts = [];

@@ -8,18 +8,18 @@ import { execFileSync } from "node:child_process";
 import { readFileSync } from "node:fs";
 import { load } from "../dgt.js";
 import { LINE_ROOM, World } from "../world.js";
+import { chance } from "./random.mjs";
 
 const [module, program, count] = process.argv.slice(2);
 const dgt = await load(readFileSync(module));
-let state = 11;
-const random = below => (state = (Math.imul(state, 1664525) + 1013904223) >>> 0) % 65536 % below;
+const random = chance(1);
 const pick = list => list[random(list.length)];
 const hex = bytes => bytes.map(one => one.toString(16).padStart(2, "0")).join("") || "-";
 
 // The bytes of a line, one of them lost, altered or inserted.
 function garbled(bytes) {
   const made = bytes.slice(0, 250);
-  made.splice(random(made.length + 1), random(3), ...pick([[], [random(256)], [0x8e]]));
+  made.splice(random(made.length + 1), random(3), ...pick([[], [random(256)], [0x8e], [0x60, 1]]));
   return hex(made);
 }
 const square = () => "abcdefgh"[random(8)] + (1 + random(8));
@@ -46,8 +46,12 @@ for (let number = 0; number < Number(count); number++) {
     promised++;
     assert.deepEqual(world.host.picture, world.board.position, script.join("\n"));
   };
-  for (let n = random(120); n > 0; n--) act(pick(random(6) ? LINES : FAULTS)(world));
-  for (const line of world.settling()) act(line);
+  const settle = () => { for (const line of world.settling()) act(line); };
+  for (let n = random(120); n > 0; n--) {
+    act(pick(random(12) ? LINES : FAULTS)(world));
+    if (!random(12)) settle();
+  }
+  settle();
   const { host, board, isQuiet } = world;
   outcomes.push(`board ${dgt.placement(board.position)}`, `host ${host.placement ?? "unknown"}`);
   const words = ["simulate", "--faults", "--up", LINE_ROOM, "--down", LINE_ROOM];
