@@ -171,11 +171,13 @@ export class Session {
   // Waits until a port like this one may be there again: it is tried then.
   async #comesBack() {
     this.page.changed();
+    const over = new AbortController();
     await new Promise(done => {
       this.#wake = done;
-      this.ports.addEventListener("connect", done, { once: true });
+      this.ports.addEventListener("connect", done, { signal: over.signal });
       setTimeout(done, 1000);
     });
+    over.abort();
     const all = await this.ports.getPorts?.() ?? [];
     const alike = all.filter(port => JSON.stringify(port.getInfo()) === this.info);
     if (alike.length && !alike.includes(this.port)) this.port = alike[0];
