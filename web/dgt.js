@@ -84,7 +84,7 @@ const ROOM = 2 * MAX_BODY + 80; // for what a call writes: the longest text of a
 const PAGE = 65536;
 
 const CARRIED = ["code", "body"];
-/** Which members of an event or a command each type sets. */
+/** @type {Record<string, string[]>} which members of an event or a command each type sets */
 const MEMBERS = {
   dump: ["pieces"], field: ["square", "piece"], times: ["clock"], noClock: ["clock"],
   ack: ["ack", "ackStatus"], serial: ["serial"], version: ["mainNumber", "subNumber"],
@@ -92,12 +92,14 @@ const MEMBERS = {
   refused: ["code", "fault", "at"], cut: ["have"], badLength: [], stray: ["byte"],
   command: ["code", "id"], badSize: [], badStart: [], badEnd: [], strayByte: ["byte"],
 };
+/** @type {Record<string, string[]>} the same of a clock */
 const OF_CLOCKS = { unknown: [], times: ["status", "first", "second"], none: ["status", "raw"] };
 const OF_ALL = ["kind", "unasked", "place", "bodyLen"];
-/** Of each struct the places and types of its members, by their names. */
+/** @type {Record<string, Map<string, any[]>>} the members of each struct by their names */
 const PLACES = Object.fromEntries(Object.entries(STRUCTS).map(([struct, { members }]) =>
   [struct, new Map(members.map(([name, ...how]) => [name, how]))]));
-const names = object => Object.fromEntries(Object.entries(object).map(([name, n]) => [n, name]));
+const names = (/** @type {Record<string, number>} */ object) =>
+  Object.fromEntries(Object.entries(object).map(([name, n]) => [n, name]));
 const EVENT_NAMES = names(EVENTS), FAULT_NAMES = names(FAULTS), CLOCK_NAMES = names(CLOCKS);
 const WORD_NAMES = names(WORDS);
 
@@ -362,9 +364,10 @@ export class Library {
    * @param {Clock} clock
    */
   writeClock(at, clock) {
-    const members = OF_CLOCKS[clock.kind];
+    /** @type {Record<string, any>} */
+    const given = clock, members = OF_CLOCKS[clock.kind];
     if (!members) throw new BadValue(`no kind of clock: ${clock.kind}`);
-    const said = Object.fromEntries(members.map(name => [name, clock[name]]));
+    const said = Object.fromEntries(members.map(name => [name, given[name]]));
     return this.write("clock", at, { kind: CLOCKS[clock.kind], ...said });
   }
 
@@ -378,6 +381,7 @@ export class Library {
     const { kind, unasked, place, bodyLen } = this.read("event", at, OF_ALL);
     if (kind === EVENTS.none) return null;
     const type = EVENT_NAMES[kind] ?? "other";
+    /** @type {any} */
     const event = { type, offset: before + place, unasked: unasked === 1,
                     ...this.read("event", at, MEMBERS[type]) };
     if (type === "refused") event.fault = FAULT_NAMES[event.fault];
@@ -387,7 +391,7 @@ export class Library {
 
   /**
    * Writes a message, and its body to `body`. Returns what a call takes for both.
-   * @param {Message} message
+   * @param {any} message
    */
   #writeMessage(message) {
     const { type } = message, members = MEMBERS[type] ?? [];
@@ -477,6 +481,7 @@ export class Library {
     const { kind, wordLen } = this.read("command", this.small, ["kind", "wordLen"]);
     if (kind === WORDS.noWord) return null;
     const type = WORD_NAMES[kind] ?? "strayByte";
+    /** @type {any} */
     const command = { type, ...this.read("command", this.small, MEMBERS[type]) };
     if (type === "command") command.word = this.bytes(word, wordLen);
     return command;
@@ -643,21 +648,16 @@ class Handle {
     this.dgt.giveBack(this.#at, this.#size);
     this.#at = 0;
   }
+}
 
-  /**
-   * The 64 pieces that a call writes, or null if it returns false.
-   * @param {string} name
-   */
-  pieces(name) {
-    const { dgt } = this;
-    return this.call(name, dgt.small) === false ? null : dgt.bytes(dgt.small, 64);
-  }
-
-  /** What the clock shows, as far as is known. */
-  get clock() {
-    this.call("clock", this.dgt.small);
-    return this.dgt.clock(this.dgt.small);
-  }
+/**
+ * What the clock of a host or a board shows.
+ * @param {Handle} handle
+ */
+function clockOf(handle) {
+  const { dgt } = handle;
+  handle.call("clock", dgt.small);
+  return dgt.clock(dgt.small);
 }
 
 /** A reader of a board's bytes. */
@@ -847,13 +847,19 @@ class Sender extends Reader {
 
   /** The pieces on the squares, or null until a dump was heard. */
   get picture() {
-    return this.pieces("picture");
+    const { dgt } = this;
+    return this.call("picture", dgt.small) ? dgt.bytes(dgt.small, 64) : null;
   }
 
   /** The same as the placement of a FEN. */
   get placement() {
     const { dgt } = this;
     return this.call("placement", dgt.small) ? dgt.text(dgt.small) : null;
+  }
+
+  /** What the board reported last of its clock. */
+  get clock() {
+    return clockOf(this);
   }
 
   /** How many bytes were heard of an unfinished message. */
@@ -1132,7 +1138,13 @@ export class Board extends Handle {
   }
 
   get position() {
-    return /** @type {Uint8Array} */ (this.pieces("position"));
+    const { dgt } = this;
+    this.call("position", dgt.small);
+    return dgt.bytes(dgt.small, 64);
+  }
+
+  get clock() {
+    return clockOf(this);
   }
 
   lineLost() {

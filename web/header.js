@@ -54,6 +54,7 @@ export const NO_SUCH = 255;
 
 // Of each struct: its size, and of each member its name, its place and its type.
 // That is a number of bytes or a word. `wide` is 64 bits: a number or a pointer.
+/** @type {Record<string, {size: number, members: [string, number, string | number][]}>} */
 export const STRUCTS = {
   host: { size: 22528, members: [] },
   follower: { size: 23552, members: [] },
