@@ -24,8 +24,11 @@ export const BEGIN = Object.freeze({
   isWhite: true, castles: "KQkq", passant: -1,
 });
 
-/** @param {string} letter */
-const isWhitePiece = letter => letter >= "A" && letter <= "Z";
+/**
+ * Whether a piece is one of the other side.
+ * @param {string} letter @param {boolean} isWhite  the side
+ */
+const isTheirs = (letter, isWhite) => letter !== "." && isWhite !== (letter <= "Z");
 
 /** @param {number} square @param {number[]} by */
 function step(square, [across, down]) {
@@ -62,78 +65,100 @@ export function isInCheck({ letters, isWhite }) {
   return isAttacked(letters, letters.indexOf(coloured("k", isWhite)), !isWhite);
 }
 
+/** @typedef {{to: number, promotes?: string, castles?: string, jumped?: number}} Step */
+
+/**
+ * The squares to which a pawn may go, whatever becomes of its king.
+ * @param {Position} position @param {number} from
+ * @returns {Generator<Step, void>}
+ */
+function* pawnSteps({ letters, isWhite, passant }, from) {
+  const down = isWhite ? -1 : 1, one = step(from, [0, down]);
+  const isLast = one < 8 || one > 55;
+  const squares = [-1, 1].map(across => step(from, [across, down])).filter(to =>
+    to >= 0 && (isTheirs(letters[to], isWhite) || to === passant));
+  if (letters[one] === ".") squares.push(one);
+  for (const to of squares) {
+    for (const promotes of isLast ? ["q", "r", "b", "n"] : [""]) yield { to, promotes };
+  }
+  const two = step(one, [0, down]), isFirst = from >> 3 === (isWhite ? 6 : 1);
+  if (isFirst && letters[one] === "." && letters[two] === ".") yield { to: two, jumped: one };
+}
+
+/**
+ * The same of another piece.
+ * @param {Position} position @param {number} from @param {string} kind
+ * @returns {Generator<Step, void>}
+ */
+function* pieceSteps({ letters, isWhite }, from, kind) {
+  for (const by of STEPS[kind] ?? []) {
+    let to = from;
+    do {
+      to = step(to, by);
+      if (to >= 0 && (letters[to] === "." || isTheirs(letters[to], isWhite))) yield { to };
+    } while (to >= 0 && letters[to] === "." && "brq".includes(kind));
+  }
+}
+
+const CASTLINGS = [
+  { castles: "k", by: 2, empty: [1, 2], passed: [0, 1] },
+  { castles: "q", by: -2, empty: [-1, -2, -3], passed: [0, -1] },
+];
+
+/**
+ * The castlings of a king.
+ * @param {Position} position @param {number} from
+ * @returns {Generator<Step, void>}
+ */
+function* castlingSteps({ letters, isWhite, castles: allowed }, from) {
+  for (const { castles, by, empty, passed } of CASTLINGS) {
+    if (allowed.includes(coloured(castles, isWhite)) &&
+        empty.every(across => letters[from + across] === ".") &&
+        passed.every(across => !isAttacked(letters, from + across, !isWhite))) {
+      yield { to: from + by, castles };
+    }
+  }
+}
+
+/**
+ * The move of a step, or null if it leaves the king attacked.
+ * @param {Position} position @param {number} from @param {Step} step
+ * @returns {Move | null}
+ */
+function moved(position, from, { to, promotes = "", castles = "", jumped = -1 }) {
+  const { letters, isWhite, passant } = position, piece = letters[from];
+  const next = [...letters], isPassant = piece.toLowerCase() === "p" && to === passant;
+  next[to] = promotes ? coloured(promotes, isWhite) : piece;
+  next[from] = ".";
+  if (isPassant) next[to + (isWhite ? 8 : -8)] = ".";
+  if (castles) {
+    const [corner, beside] = castles === "k" ? [from + 3, from + 1] : [from - 4, from - 1];
+    next[beside] = next[corner];
+    next[corner] = ".";
+  }
+  if (isAttacked(next, next.indexOf(coloured("k", isWhite)), !isWhite)) return null;
+  const ended = (CORNERS[from] ?? "") + (CORNERS[to] ?? "");
+  const left = [...position.castles].filter(one => !ended.includes(one)).join("");
+  const after = { letters: next.join(""), isWhite: !isWhite, castles: left, passant: jumped };
+  const takes = isTheirs(letters[to], isWhite) || isPassant;
+  return { from, to, piece, promotes, takes, castles, after };
+}
+
 /**
  * All legal moves.
  * @param {Position} position
- * @returns {Move[]}
  */
 export function legalMoves(position) {
-  const { letters, isWhite, castles, passant } = position;
   /** @type {Move[]} */
   const found = [];
-  const isTheirs = (/** @type {number} */ at) =>
-    letters[at] !== "." && isWhitePiece(letters[at]) !== isWhite;
-
-  const add = (/** @type {number} */ from, /** @type {number} */ to, promotes = "", castle = "",
-               jumped = -1) => {
-    const next = [...letters], piece = letters[from];
-    next[to] = promotes ? coloured(promotes, isWhite) : piece;
-    next[from] = ".";
-    const isPawn = piece.toLowerCase() === "p";
-    const isPassant = isPawn && to === passant;
-    if (isPassant) next[to + (isWhite ? 8 : -8)] = ".";
-    if (castle) {
-      const [corner, beside] = castle === "k" ? [from + 3, from + 1] : [from - 4, from - 1];
-      next[beside] = next[corner];
-      next[corner] = ".";
-    }
-    if (isAttacked(next, next.indexOf(coloured("k", isWhite)), !isWhite)) return;
-    const ended = (CORNERS[from] ?? "") + (CORNERS[to] ?? "");
-    const after = {
-      letters: next.join(""), isWhite: !isWhite, passant: jumped,
-      castles: [...castles].filter(one => !ended.includes(one)).join(""),
-    };
-    found.push({ from, to, piece, promotes, takes: isTheirs(to) || isPassant, castles: castle,
-                 after });
-  };
-
   for (let from = 0; from < 64; from++) {
-    const piece = letters[from];
-    if (piece === "." || isWhitePiece(piece) !== isWhite) continue;
-    const kind = piece.toLowerCase();
-    if (kind === "p") {
-      const down = isWhite ? -1 : 1, row = from >> 3;
-      const advance = (/** @type {number} */ to, jumped = -1) => {
-        if (to < 8 || to > 55) for (const one of "qrbn") add(from, to, one);
-        else add(from, to, "", "", jumped);
-      };
-      const one = step(from, [0, down]);
-      if (one >= 0 && letters[one] === ".") {
-        advance(one);
-        const two = step(one, [0, down]);
-        if (row === (isWhite ? 6 : 1) && letters[two] === ".") advance(two, one);
-      }
-      for (const across of [-1, 1]) {
-        const to = step(from, [across, down]);
-        if (to >= 0 && (isTheirs(to) || to === passant)) advance(to);
-      }
-      continue;
-    }
-    for (const by of STEPS[kind] ?? []) {
-      let to = from;
-      do {
-        to = step(to, by);
-        if (to >= 0 && (letters[to] === "." || isTheirs(to))) add(from, to);
-      } while (to >= 0 && letters[to] === "." && "brq".includes(kind));
-    }
-    if (kind !== "k") continue;
-    for (const [side, empty, passed] of /** @type {[string, number[], number[]][]} */ (
-      [["k", [1, 2], [0, 1]], ["q", [-1, -2, -3], [0, -1]]])) {
-      if (castles.includes(coloured(side, isWhite)) &&
-          empty.every(by => letters[from + by] === ".") &&
-          passed.every(by => !isAttacked(letters, from + by, !isWhite))) {
-        add(from, from + (side === "k" ? 2 : -2), "", side);
-      }
+    const piece = position.letters[from], kind = piece.toLowerCase();
+    if (piece === "." || isTheirs(piece, position.isWhite)) continue;
+    const steps = [...kind === "p" ? pawnSteps(position, from) : pieceSteps(position, from, kind)];
+    if (kind === "k") steps.push(...castlingSteps(position, from));
+    for (const one of steps) {
+      const move = moved(position, from, one);
+      if (move) found.push(move);
     }
   }
   return found;

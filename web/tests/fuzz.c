@@ -266,6 +266,18 @@ static void start(void) {
     say_whether(dgt_board_start(&board, pieces, &clock, &identity) == DGT_STARTED);
 }
 
+static void take(size_t n) {
+    dgt_command command;
+    size_t used = 0;
+    while (used < n) {
+        dgt_taken taken =
+            dgt_board_take(&board, bytes + used, n - used, &command, body, sizeof body);
+        if (taken.busy) break;
+        used += taken.used, say_command(&command, body);
+    }
+    say_number(used);
+}
+
 /* Feeds bytes to a call that reports one event after another. */
 #define EACH(total, n, ...)                                  \
     for (size_t at = 0; at < (n);) {                         \
@@ -273,87 +285,88 @@ static void start(void) {
         say_event(&event, total), at += used, total += used; \
     }
 
-static int act(int op) {
+/* Hands bytes in, if the act is that, and says what they made known. */
+static bool feed(int op) {
     dgt_event event;
     dgt_command command;
-    dgt_clock clock;
-    uint8_t given[16], pieces[64];
     size_t n, room = sizeof body;
-    uint64_t now;
+    uint64_t now = op == 3 || op == 19 ? get(4) : 0;
+    if (op < 1 || (op > 5 && op != 19)) return false;
+    n = get_bytes(2);
     switch (op) {
-    case 0: return begin();
     case 1:
-        n = get_bytes(2);
         EACH(decoder_total, n,
              dgt_decoder_feed(&decoder, bytes + at, n - at, &event, body, room));
         break;
     case 2:
-        n = get_bytes(2);
         EACH(host_total, n, dgt_host_hear(&host, bytes + at, n - at, &event, body, room));
         break;
     case 3:
-        now = get(4), n = get_bytes(2), follower_total += n;
-        dgt_follower_hear_all(&follower, now, bytes, n);
+        dgt_follower_hear_all(&follower, now, bytes, n), follower_total += n;
         break;
     case 4:
-        n = get_bytes(2);
         for (size_t at = 0; at < n;) {
             at += dgt_command_decoder_feed(&reader, bytes + at, n - at, &command, body, room);
             say_command(&command, body);
         }
         break;
-    case 5: {
-        size_t used = 0;
-        n = get_bytes(2);
-        while (used < n) {
-            dgt_taken taken =
-                dgt_board_take(&board, bytes + used, n - used, &command, body, room);
-            if (taken.busy) break;
-            used += taken.used, say_command(&command, body);
-        }
-        say_number(used);
-        break;
+    case 5: take(n); break;
+    default:
+        EACH(follower_total, n,
+             dgt_follower_hear(&follower, now, bytes + at, n - at, &event, body, room));
     }
-    case 6: {
-        dgt_polled polled = dgt_board_poll(&board, out, sizeof out);
-        say("ok ");
-        if (polled.status == DGT_WROTE) say_bytes(out, polled.bytes);
-        break;
+    return true;
+}
+
+static void change_board(int op) {
+    dgt_clock clock;
+    uint8_t given[16], square;
+    if (op == 7) {
+        square = (uint8_t)get(1);
+        say_whether(dgt_board_change(&board, square, (uint8_t)get(1)));
+    } else {
+        get_all(given, 16), memcpy(&clock, given, 16);
+        say_whether(dgt_board_hand_clock(&board, &clock));
     }
+}
+
+static void poll_board(void) {
+    dgt_polled polled = dgt_board_poll(&board, out, sizeof out);
+    say("ok ");
+    if (polled.status == DGT_WROTE) say_bytes(out, polled.bytes);
+}
+
+static void parse(void) {
+    uint8_t pieces[64];
+    size_t n = get_bytes(1);
+    dgt_parsed parsed = dgt_parse_placement((char *)bytes, n, pieces);
+    if (parsed.ok) say("ok "), say_bytes(pieces, 64);
+    else say("at %zu ", parsed.at);
+}
+
+static void send(int op) {
+    unsigned sender = op == 8 ? get(1) : 0;
+    if (op == 8) SENT(send, (uint8_t)get(1), out, sizeof out);
+    else if (op == 10) say_sent(dgt_follower_ask(&follower, get(4), out, sizeof out));
+    else if (get(1)) say_sent(dgt_host_restart(&host, out, sizeof out));
+    else say_sent(dgt_host_follow(&host, out, sizeof out));
+}
+
+static int act(int op) {
+    if (feed(op)) return 0;
+    switch (op) {
+    case 0: return begin();
+    case 6: poll_board(); break;
     case 7:
-        n = get(1);
-        say_whether(dgt_board_change(&board, (uint8_t)n, (uint8_t)get(1)));
-        break;
-    case 8: {
-        unsigned sender = get(1);
-        SENT(send, (uint8_t)get(1), out, sizeof out);
-        break;
-    }
+    case 14: change_board(op); break;
+    case 8:
     case 9:
-        say_sent(get(1) ? dgt_host_restart(&host, out, sizeof out)
-                        : dgt_host_follow(&host, out, sizeof out));
-        break;
-    case 10: say_sent(dgt_follower_ask(&follower, get(4), out, sizeof out)); break;
+    case 10: send(op); break;
     case 11: clock_command(); break;
     case 12: say_whether(dgt_follower_set_mode(&follower, (uint8_t)get(1))); break;
     case 13: note(get(1)); break;
-    case 14:
-        get_all(given, 16), memcpy(&clock, given, 16);
-        say_whether(dgt_board_hand_clock(&board, &clock));
-        break;
-    case 16: {
-        n = get_bytes(1);
-        dgt_parsed parsed = dgt_parse_placement((char *)bytes, n, pieces);
-        if (parsed.ok) say("ok "), say_bytes(pieces, 64);
-        else say("at %zu ", parsed.at);
-        break;
-    }
+    case 16: parse(); break;
     case 18: start(); break;
-    case 19:
-        now = get(4), n = get_bytes(2);
-        EACH(follower_total, n,
-             dgt_follower_hear(&follower, now, bytes + at, n - at, &event, body, room));
-        break;
     case 20: view_message(); break;
     case 21: any_message(); break;
     case 22: view_command(); break;
