@@ -58,6 +58,9 @@ class OwnPort(Port):
     def ask(self, chunk):
         self.write(chunk)
 
+    def is_disturbed(self, _):
+        return False
+
     def exchange(self, seconds, wakes=None):
         self.timeout = seconds
         return self.read(self.in_waiting or 1)

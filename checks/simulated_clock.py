@@ -71,9 +71,9 @@ def check_rows(dgt):
         try:
             port = board.stdout.readline().strip()
             with dgt.follow(port, 60, mode=dgt.Mode.UPDATE_NICE) as following:
-                first = clocks(following, 1, time.monotonic() + SECONDS)
-                if first != [str(dgt.Times())]:
-                    return f"the clock at first: {first}"
+                first = following.wait(time.monotonic() + SECONDS)
+                if first is None or first.clock is not None:  # it sends zeros alone
+                    return f"the board at first: {first}"
                 wrongs = (check_row(following, board, *row) for row in ROWS)
                 return next(filter(None, wrongs), None)
         finally:

@@ -203,6 +203,10 @@ class _Given:
 
     ask = write
 
+    def is_disturbed(self, _: float) -> bool:
+        """It reports no faults."""
+        return False
+
     def exchange(self, seconds: float, wakes: int | None = None) -> bytes:
         """Returns bytes once they come, or nothing after `seconds`. `OSError` if the line has
         ended. `BadValue` with `wakes`."""
@@ -348,7 +352,7 @@ class Following(Uncopied, ClockCommands[None]):
             self._steps.lose((fault.strerror or str(fault)) if self._is_given else _GONE)
         else:
             now = time.monotonic()
-            self._steps.is_disturbed = isinstance(line, Port) and line.is_disturbed(now)
+            self._steps.is_disturbed = line.is_disturbed(now)
             self._hear(chunk, now)
 
     def _hear(self, chunk: bytes, now: float) -> None:
