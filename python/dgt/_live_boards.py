@@ -4,7 +4,6 @@ from __future__ import annotations
 
 import asyncio
 import copy
-import os
 import sys
 import time
 from collections.abc import Iterable
@@ -25,6 +24,7 @@ class Game:
 
     def __init__(self, recogniser: MoveRecogniser) -> None:
         self.recogniser = recogniser
+        self._set_up: GameState | None = None
         self._note()
 
     def _note(self) -> None:
@@ -33,16 +33,17 @@ class Game:
 
     def set_up(self, state: GameState) -> None:
         """The game goes on from this state, once the board has shown it."""
+        self._set_up = state
         self.recogniser.go_on(state)
         self._note()
 
     @property
     def moves(self) -> list[str] | None:
         """The moves since then, in short notation. `None` if the board hasn't shown yet what was
-        set up, or no game has begun. Earlier moves may be taken back and made again."""
-        if self.recogniser.state is None:
-            return None
-        return self._texts[len(os.path.commonprefix([self._given, self.recogniser.moves])):]
+        set up, or no game has begun, or moves are taken back that were made before."""
+        count = len(self._given)
+        is_on = self.recogniser.moves[:count] == self._given
+        return self._texts[count:] if self.recogniser.state is not None and is_on else None
 
     def see(self, view: BoardView, now: float) -> None:
         """Notes what the board shows."""
@@ -66,6 +67,14 @@ class Game:
             else:
                 self._texts.pop()
             self._state = event.state
+        if self.moves is None and self._is_set_up():  # by other moves than before
+            self._given = self.recogniser.moves
+
+    def _is_set_up(self) -> bool:
+        """Whether the game has come to what was set up, or nothing was."""
+        state, given = self._state, self._set_up
+        return state is not None and (given is None or (state.letters, state.white) == (
+            given.letters, given.white))
 
 
 class Watcher(Protocol):
@@ -194,7 +203,8 @@ class Board:
     def event(self, game: Game) -> Json:
         """What a feed says of it, and of a game on it."""
         shown, state, moves = self.shown(game), game.recogniser.state, game.moves
-        match = state is not None and str(Position.of_letters(state.letters)) == shown
+        match = (state is not None and moves is not None
+                 and str(Position.of_letters(state.letters)) == shown)
         event = {"flipped": game.recogniser.turned, "board": shown, "clock": self.clock,
                  "match": match}
         return {**event, **({} if moves is None else {"san": moves})}
