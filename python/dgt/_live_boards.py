@@ -10,13 +10,15 @@ from collections.abc import Iterable
 from typing import Any, Protocol
 
 from .following import BoardView
-from .games import _LONG_DOUBT, _root
+from .games import _HINT_WAIT, _LONG_DOUBT, _misplaced, _root
 from .moves import GameBegun, MoveEvent, MoveMade, MoveRecogniser
 from .pgn import san
 from .rules import GameState
 from .values import Position, Time, Times
 
 Json = dict[str, Any]
+_MOST_WRONG = 8
+"""How many squares differ at most from what the board should show, so that they are named."""
 
 
 class Game:
@@ -44,6 +46,18 @@ class Game:
         count = len(self._given)
         is_on = self.recogniser.moves[:count] == self._given
         return self._texts[count:] if self.recogniser.state is not None and is_on else None
+
+    def hint(self, letters: str) -> str:
+        """Returns what to put where on a board that shows these letters, so that the game goes on.
+        Nothing if it goes on, or the board shows too much else."""
+        recogniser = self.recogniser
+        state = self._set_up if self.moves is None else recogniser.state
+        if state is None or recogniser.pending or recogniser.unconfirmed or recogniser.due:
+            return ""
+        ways = (letters[::-1], letters) if recogniser.turned else (letters, letters[::-1])
+        told = [_misplaced(each, state, _MOST_WRONG) for each in ways
+                if each == ways[0] or recogniser.state is None]
+        return "" if state.letters in ways else next(filter(None, told), "")
 
     def see(self, view: BoardView, now: float) -> None:
         """Notes what the board shows."""
@@ -96,6 +110,8 @@ class Board:
         """The game that is recognised without a client."""
         self.watchers: list[Watcher] = []
         self._clock_at, self._doubted_at, self._said = 0.0, float("-inf"), ""
+        self._hint_at: float | None = None
+        self._hinted = ""
         self._timer: asyncio.TimerHandle | None = None
 
     @property
@@ -121,8 +137,10 @@ class Board:
 
     def set_up(self, game: Game, state: GameState) -> None:
         """Has a game go on from this state."""
+        now = time.monotonic()
+        self._hint_at = now + _HINT_WAIT
         game.set_up(state)
-        game.see(self.view, time.monotonic())
+        game.see(self.view, now)
 
     # ---- What is known of it
 
@@ -131,6 +149,8 @@ class Board:
         now = time.monotonic()
         if view.clock != self.view.clock:
             self._clock_at = time.time()
+        if view.picture != self.view.picture or view.away:
+            self._hint_at = now + _HINT_WAIT
         self.view = view
         if view.in_doubt or view.picture is None:
             self._doubted_at = float("-inf") if view.away else min(self._doubted_at, now)
@@ -149,18 +169,30 @@ class Board:
             say(f"{self.source}: {text}")
         self._said = text
 
+    def _hint(self) -> None:
+        """Says what to put where for a game of a client to go on, if that is new."""
+        picture, self._hint_at = self.view.picture, None
+        hints = [watcher.game.hint(picture.letters) for watcher in self.watchers
+                 ] if picture is not None and not self.view.in_doubt else []
+        hint = next(filter(None, hints), "")
+        if hint and hint != self._hinted:
+            say(f"{self.source}: {hint}")
+        self._hinted = hint
+
     def turn(self) -> None:
         """Does what is due, has each watcher look, and comes back when something will be due."""
         now = time.monotonic()
         for game in self.games:
             game.wait(now)
+        if self._hint_at is not None and now >= self._hint_at:
+            self._hint()
         for watcher in self.watchers.copy():
             watcher.look()
         self._turn_at(self._dues())
 
     def _dues(self) -> Iterable[float | None]:
         """Returns the times at which something is due."""
-        return [game.recogniser.due for game in self.games]
+        return [self._hint_at, *(game.recogniser.due for game in self.games)]
 
     def _turn_at(self, dues: Iterable[float | None]) -> None:
         if self._timer is not None:

@@ -428,12 +428,10 @@ class Games(Uncopied):
         if shown == self._hinted:
             return
         self._hinted = shown
-        wrong = [square for square in range(64) if shown[square] != state.letters[square]]
         if self._in_centre():
             self._warn("lift both kings to give the result")
-        elif (1 <= len(wrong) <= _MOST_WRONG and any(shown[square] != "." for square in wrong)
-              and "K" in shown and "k" in shown):
-            self._warn(f"no move leads to this: {to_put(shown, state.letters)}")
+        elif misplaced := _misplaced(shown, state, _MOST_WRONG):
+            self._warn(misplaced)
 
     # ---- The file
 
@@ -467,6 +465,16 @@ def _is_left(side: str) -> bool:
     if side not in ("left", "right"):
         raise BadValue(f"white_clock must be left or right: {side!r}")
     return side == "left"
+
+
+def _misplaced(shown: str, state: GameState, most: int) -> str:
+    """Returns what to put on which squares so that the board shows a state, or nothing if it shows
+    it, more than `most` squares differ, or pieces are only lifted."""
+    wrong = [square for square in range(64) if shown[square] != state.letters[square]]
+    if (1 <= len(wrong) <= most and any(shown[square] != "." for square in wrong)
+            and "K" in shown and "k" in shown):
+        return f"no move leads to this: {to_put(shown, state.letters)}"
+    return ""
 
 
 def _root(begun: GameState, first: MoveMade) -> GameState:

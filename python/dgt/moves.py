@@ -111,6 +111,12 @@ def _two_moves(state: GameState, shown: str, put: Collection[tuple[int, str]]) -
     return found
 
 
+def _is_final(moves: _Moves) -> bool:
+    """Returns whether the last of two moves or more can't be undone by another move."""
+    (_, before), (_, after) = moves[-2:]
+    return after.halfmoves == 0 or after.castlings != before.castlings
+
+
 class MoveRecogniser:
     """Recognises the moves of a game from what stands on a board. Feed it each position of the
     board with `see`, and call `wait` when `due` is reached.
@@ -151,7 +157,7 @@ class MoveRecogniser:
       `set_up`. The first move decides whose turn it was.
     - So does a position that no move leads to after `lose_track`, once it has rested for five
       seconds.
-    - After `go_on` only the position that it names begins a game.
+    - After `go_on` only the position that it names begins a game, or what leads on from it.
     """
 
     def __init__(self, fen: str | None = None, settle: float = 0.3, set_up: float = _LONG_WAIT
@@ -168,7 +174,7 @@ class MoveRecogniser:
         self._moves: list[tuple[str, GameState]] = []
         self._numbers: dict[str, list[int]] = {}  # after how many moves the board showed this
         self._set_up = self._first is None
-        self._is_given = self._is_ahead = self._is_lost = False
+        self._is_given = self._is_ahead = self._is_lost = self._was_shown = False
         self._shown = ""
         self._changed: set[int] = set()
         self._put: deque[tuple[int, str]] = deque(maxlen=_PUT)
@@ -237,7 +243,10 @@ class MoveRecogniser:
         if self._due is None or time < self._due or not self._is_confirmed:
             return []
         self._due, due = None, self._next
-        return self._take(due) if isinstance(due, _Reading) else self._begin(due)
+        if not isinstance(due, _Reading):
+            return self._begin(due)
+        begun = [] if self._roots else self._begin((due.root,))
+        return begun + self._take(due)
 
     def hold(self) -> None:
         """Drops what is due. Call it when the picture is in doubt; the next `see` looks anew."""
@@ -277,7 +286,8 @@ class MoveRecogniser:
         - If it has come to this state, all its moves stay, and may be taken back.
         - If the state is one move later, that move is added (`pending`). The board shows it later,
           or together with the answer.
-        - Else its moves are dropped, and a game begins once the board shows the state, also turned.
+        - Else its moves are dropped, and a game begins once the board shows the state, also turned,
+          or for a second what one or two moves from there lead to: they were made meanwhile.
 
         What the board shows is looked at with the next `see`. `TypeError` if it is no state.
 
@@ -306,6 +316,8 @@ class MoveRecogniser:
                 self._take(_Reading(base.kept, base.root, ((move, state),)))
                 self._is_ahead = True
                 return True
+        self._was_shown = any(base.state.white == state.white for base in self._bases(
+            self._numbers.get(state.letters, [])))
         self._roots, self._moves, self._numbers = (), [], {}
         return False
 
@@ -325,6 +337,8 @@ class MoveRecogniser:
             wait = self._wait_for_game()
             if wait is not None and (roots := self._roots_shown()):
                 self._next, self._due = roots, time + wait
+            elif gone_on := self._gone_on():
+                self._next, self._due = gone_on, time + max(self._rest(gone_on), _LONG_WAIT)
             return []
         self._set_up = False
         events: list[MoveEvent] = []
@@ -408,6 +422,20 @@ class MoveRecogniser:
                            in zip(self._shown, base.state.letters)) for base in told)
         return max(self._settle, _LOST_WAIT) if self._is_lost and is_other else None
 
+    def _gone_on(self) -> _Reading | None:
+        """Returns the one or two moves that lead from the state that `go_on` waits for to what is
+        shown, also turned. If the game hasn't come to that state, the second may be a piece that
+        was not moved yet rather than one that has gone back: then it is none."""
+        if self._first is None or not self._is_given or self._roots:
+            return None
+        for step in (1, -1):
+            shown = self._shown[::step]
+            moves = _one_move(self._first, shown) or _two_moves(self._first, shown, ())
+            if moves and (self._was_shown or len(moves) == 1 or _is_final(moves)):
+                self._turned, self._shown = self._turned != (step < 0), shown
+                return _Reading(0, self._first, moves)
+        return None
+
     def _roots_shown(self) -> tuple[GameState, ...]:
         """Returns the states of what is shown, with each side's turn that is possible. Before the
         first game, White has the half in which more of its pieces stand."""
@@ -454,7 +482,7 @@ class MoveRecogniser:
 
     def _begin(self, roots: tuple[GameState, ...]) -> list[MoveEvent]:
         """A game begins, on a board that may have been turned."""
-        if roots[0].letters != self._shown:
+        if self._shown != roots[0].letters == self._shown[::-1]:
             self._turned, self._shown = not self._turned, self._shown[::-1]
         self._roots, self._moves = roots, []
         self._numbers = {roots[0].letters: [0]}
