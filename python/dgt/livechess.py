@@ -25,6 +25,7 @@ import argparse
 import asyncio
 import contextlib
 import importlib
+import inspect
 import logging
 import signal
 import sys
@@ -41,6 +42,10 @@ _ORIGINS = ("https://lichess.org", None)
 """The sites that may connect: a page of any site could. `None` is a program that names none."""
 _MOST_CLIENTS, _MOST_BYTES, _MOST_SENT = 32, 1 << 16, 16
 _NO_SUCH_PATH = 1008
+_MOST_OPENING, _OPEN_WAIT = 64, 5.0
+"""How many connections may be without a handshake, and for how many seconds."""
+_SAID_AGAIN = 60.0
+"""After how many seconds a lack of files is printed again."""
 _LAST_WAIT = 3.0
 """For how many seconds clients may take leave at the end."""
 
@@ -51,6 +56,7 @@ class Server:
     def __init__(self, words: argparse.Namespace) -> None:
         """`SystemExit` if something is missing or wrong."""
         self._words, self._boards, self._count = words, list[Board](), 0
+        self._opening, self._lacked_at = list[Any](), float("-inf")
         try:
             self._websockets: Any = importlib.import_module("websockets")
         except ImportError:
@@ -62,10 +68,9 @@ class Server:
         for number in (signal.SIGINT, signal.SIGTERM, signal.SIGHUP):
             if signal.getsignal(number) is not signal.SIG_IGN:
                 loop.add_signal_handler(number, stop.set)
+        loop.set_exception_handler(self._note_fault)
         try:
-            server = await self._websockets.serve(
-                self._visit, "localhost", words.port, origins=[*_ORIGINS, *words.origin],
-                max_size=_MOST_BYTES, max_queue=_MOST_SENT, compression=None, close_timeout=2)
+            server = await self._serve()
         except OSError as fault:
             sys.exit(f"dgt-livechess: port {words.port}: {fault} (end LiveChess and other programs "
                      "that have it, or see --port)")
@@ -74,11 +79,60 @@ class Server:
         await stop.wait()
         if looking is not None:
             looking.cancel()
+        await self._leave_all()
         server.close()
         with contextlib.suppress(TimeoutError):
             await asyncio.wait_for(server.wait_closed(), _LAST_WAIT)
         for board in self._boards:
             board.close()
+
+    async def _serve(self) -> Any:
+        serve, origins = self._websockets.serve, [*_ORIGINS, *self._words.origin]
+        has_protocols = "create_protocol" in inspect.signature(serve).parameters
+        how: dict[str, Any] = {"open_timeout": _OPEN_WAIT}
+        if has_protocols:
+            how = {"create_protocol": self._open}
+        return await serve(self._visit, "localhost", self._words.port, origins=origins,
+                           max_size=_MOST_BYTES, max_queue=_MOST_SENT, compression=None,
+                           close_timeout=2, **how)
+
+    def _open(self, *words: Any, **names: Any) -> Any:
+        """Makes what serves a connection. One that stays without a handshake is left: versions of
+        the module up to 13 wait for it without an end."""
+        made = self._websockets.WebSocketServerProtocol(*words, **names)
+        self._opening.append(made)
+        asyncio.get_running_loop().call_later(_OPEN_WAIT, self._leave, made)
+        if len(self._opening) > _MOST_OPENING:
+            self._leave(self._opening[0])
+        return made
+
+    def _leave(self, made: Any) -> None:
+        """Ends a connection that is still without a handshake."""
+        if made in self._opening and not hasattr(made, "transport"):  # it has just come
+            asyncio.get_running_loop().call_soon(self._leave, made)
+        elif made in self._opening:
+            self._opening.remove(made)
+            if not made.open:
+                made.transport.abort()
+
+    async def _leave_all(self) -> None:
+        """Ends all of them. The module fails if it is closed while one of them ends."""
+        ending = [made.handler_task for made in self._opening
+                  if hasattr(made, "handler_task") and not made.open]
+        for made in self._opening.copy():
+            self._leave(made)
+        if ending:
+            await asyncio.wait(ending, timeout=_LAST_WAIT)
+
+    def _note_fault(self, loop: asyncio.AbstractEventLoop, context: dict[str, Any]) -> None:
+        """Prints a fault that nobody has caught. One to accept a connection is tried again each
+        second, and is printed once."""
+        fault, now = context.get("exception"), loop.time()
+        if not isinstance(fault, OSError) or "accept" not in context["message"]:
+            loop.default_exception_handler(context)
+        elif now > self._lacked_at + _SAID_AGAIN:
+            say(f"no more connections now: {fault.strerror} (it is tried again)")
+            self._lacked_at = now
 
     def _follow(self) -> asyncio.Task[None] | None:
         """Begins to follow the boards. Returns what looks for more of them."""
