@@ -96,6 +96,9 @@ class Watcher(Protocol):
 
     game: Game
 
+    def is_of(self, board: Board) -> bool:
+        """Whether this is still the board that it is to watch."""
+
     def look(self) -> None:
         """The board has changed, or it may have."""
 
@@ -122,7 +125,7 @@ class Board:
     @property
     def games(self) -> list[Game]:
         """The games that are recognised on it."""
-        return [self.own, *(watcher.game for watcher in self.watchers)]
+        return [self.own, *(each.game for each in self.watchers if each.is_of(self))]
 
     @property
     def pending(self) -> tuple[str, bool] | None:
@@ -160,7 +163,7 @@ class Board:
             self._doubted_at = float("inf")
         for game in self.games:
             game.see(view, now)
-        if view.away or view.picture:
+        if view.away or view.picture and not view.in_doubt:
             self._say(view.away or f"following the board {self.serial}")
 
     def _say(self, text: str) -> None:
@@ -172,7 +175,7 @@ class Board:
     def _hint(self) -> None:
         """Says what to put where for a game of a client to go on, if that is new."""
         picture, self._hint_at = self.view.picture, None
-        hints = [watcher.game.hint(picture.letters) for watcher in self.watchers
+        hints = [game.hint(picture.letters) for game in self.games[1:]
                  ] if picture is not None and not self.view.in_doubt else []
         hint = next(filter(None, hints), "")
         if hint and hint != self._hinted:

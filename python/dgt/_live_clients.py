@@ -31,11 +31,30 @@ class Feed:
         self.number, self.serial, self.board = number, serial, board
         self.game: Game = board.new_game()
         self._client = client
+        self._is_by_number = board.view.serial == serial
         self._last: Json = {}
+
+    def is_of(self, board: Board) -> bool:
+        """Whether this is still the board of its number: another one may be on its port."""
+        return not self._is_by_number or board.view.serial == self.serial
+
+    def _find(self) -> None:
+        """Goes to the port on which the board is now."""
+        board = self._client.board_of(self.serial)
+        if board is not None and board is not self.board:
+            self.close()
+            self.board = board
+            board.watchers.append(self)
+            self.game.see(board.view, time.monotonic())
+            asyncio.get_running_loop().call_soon(board.turn)
 
     def look(self) -> None:
         """Sends what is known of the board, if that is new."""
-        event = {"serialnr": self.serial, **self.board.event(self.game)}
+        if self._is_by_number and (self.board.view.away or not self.is_of(self.board)):
+            self._find()
+        known = self.board.event(self.game) if self.is_of(self.board) else {
+            "flipped": self.game.recogniser.turned, "board": None, "clock": None, "match": False}
+        event = {"serialnr": self.serial, **known}
         if event != self._last:
             self._last = event
             self._client.send("feed", self.number, event)
@@ -132,6 +151,11 @@ class Client:
         for board in sorted(self._boards, key=lambda each: bool(each.view.away)):
             named[board.source if board.serial in named else board.serial] = board
         return named
+
+    def board_of(self, serial: str) -> Board | None:
+        """Returns the board with a number of its own, if it is there."""
+        return next((board for board in self._boards
+                     if board.view.serial == serial and not board.view.away), None)
 
     def _subscribe(self, number: int | str | None, feed: object, param: Json) -> None:
         serial, named = param.get("serialnr"), self._named()

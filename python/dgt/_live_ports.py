@@ -7,10 +7,12 @@ import contextlib
 import os
 import time
 from collections.abc import Iterable
+from dataclasses import replace
 
 from ._board_with_clock import BoardWithClock
 from ._live_boards import Board, say
 from .board import Mode
+from .following import BoardView
 from .serial_ports import SerialPort, ports
 from .values import SQUARES, Position, square_number
 
@@ -18,6 +20,8 @@ _PERIOD = 2.0
 """How often a board is asked for all squares and its clock, in seconds."""
 _LOOK = 2.0
 """How often ports are looked for, in seconds."""
+_NUMBER_WAIT = 5.0
+"""For how long a board that comes back may be another one, if it doesn't report its number."""
 _AT_ONCE = 64
 """How many changes of a board are taken before others have their turn."""
 
@@ -33,7 +37,7 @@ class PortBoard(Board):
         self._descriptor: int | None = None
         self._asked: Position | None = None
         self._pending: tuple[str, bool] | None = None
-        self._is_late = False
+        self._is_late, self._back_at = False, float("-inf")
         self.turn()
 
     def turn(self) -> None:
@@ -42,13 +46,21 @@ class PortBoard(Board):
             if (view := self._line.wait(now)) is None:
                 self._is_late = False
                 break
-            self.see(view)
+            self.see(self._identified(view, now))
         self._watch(self._line.descriptor)
         is_unconfirmed = any(game.recogniser.unconfirmed for game in self.games)
         if is_unconfirmed and self.view.picture != self._asked:
             self._asked = self.view.picture
             self._line.follower.ask_now()
         super().turn()
+
+    def _identified(self, view: BoardView, now: float) -> BoardView:
+        """Returns a view, in doubt while the board that has come back may be another one."""
+        if view.away is not None:
+            self._back_at = now
+        is_known = view.serial is None or self._line.follower.serial is not None
+        return view if is_known or now >= self._back_at + _NUMBER_WAIT else replace(
+            view, in_doubt=True)
 
     def _dues(self) -> Iterable[float | None]:
         now = time.monotonic()
