@@ -38,6 +38,8 @@ _OTHER_SIZE = "the board doesn't report 64 squares (is it for draughts? dgt-doct
 _CLOSED = "the line was closed"
 _GOES = (errno.ENOENT, errno.ENXIO, errno.ENODEV, errno.EIO)
 """The faults of a port that was there and has gone."""
+_LATE = 1.0
+"""How many seconds an asking without an answer is older at least than the next that finds none."""
 _CHUNK = 4096
 _DUMP = 0x06
 """The code of a report of all squares."""
@@ -110,13 +112,15 @@ class _Steps:
         self._refusals = 0  # reports of all squares that had another size, one after another
         self.is_disturbed = False
         """Whether the line has just lost or altered bytes, as whoever reads it has found out."""
-        self.asked_at = self._asked_before = float("-inf")
+        self.asked_at = self._unanswered_at = float("-inf")
 
     def ask(self, now: float) -> bytes:
         """Returns what to ask the board at this time."""
         asked = self.follower.ask(now)
         if asked:
-            self._asked_before, self.asked_at = self.asked_at, round(now, 3)
+            self.asked_at = round(now, 3)
+            if not self._is_unanswered():
+                self._unanswered_at = self.asked_at
         self._note()  # an answer or the rest of a message may be overdue by now
         return asked
 
@@ -149,7 +153,7 @@ class _Steps:
         """Notes that the line is away. What is known stays known, and is in doubt."""
         self.follower.line_lost()
         self._refusals = 0
-        self._missing, self.asked_at, self._asked_before = why, float("-inf"), float("-inf")
+        self._missing, self.asked_at, self._unanswered_at = why, float("-inf"), float("-inf")
         self._note()
 
     def regain(self) -> None:
@@ -157,10 +161,14 @@ class _Steps:
         self._missing = None
         self._note()
 
-    def _is_silent(self) -> bool:
-        """Whether two askings found nothing that was heard since the first of them."""
+    def _is_unanswered(self) -> bool:
+        """Whether nothing was heard since an asking."""
         heard = self.follower.last_heard
-        return self._asked_before > (float("-inf") if heard is None else heard)
+        return self._unanswered_at > (float("-inf") if heard is None else heard)
+
+    def _is_silent(self) -> bool:
+        """Whether an asking a second later than one found nothing that was heard since that."""
+        return self._is_unanswered() and round(self.asked_at - self._unanswered_at, 3) >= _LATE
 
     def _note(self, has_no_reading: bool = False) -> None:
         """Notes what has changed. The last clock stays known while the line is away, but not once
