@@ -108,6 +108,8 @@ class Board:
 
     def __init__(self, name: str, source: str) -> None:
         self.name, self.source = name, source
+        self.rank: tuple[int, str] = (0, "")
+        """Its place in a list of boards; those of equal rank keep their order."""
         self.view = BoardView()
         self.own = Game(MoveRecogniser())
         """The game that is recognised without a client."""

@@ -22,7 +22,7 @@ _MOST_BYTES = 500
 _TOPICS = [("boards/+/state", 1), ("boards/+/confirmed", 1), ("boards/+", 1), ("boards/+/clock", 1)]
 """What is subscribed to. A new subscriber gets the last message of each, in this order."""
 _AWAY = {"silent": following._SILENT, "gone": following._GONE,
-         "ended": "nobody publishes the board any more"}
+         "ended": "nobody publishes the board any more", "unheard": "the broker has gone"}
 _CLOCK = re.compile(r"clock (\d+):(\d+):(\d+) (\d+):(\d+):(\d+) (running|stopped) (\S+)( low)?")
 _TURNS = {"white": 0x10, "black": 0x08}
 
@@ -42,6 +42,7 @@ class BrokerBoard(Board):
 
     def __init__(self, name: str) -> None:
         super().__init__(name, f"boards/{name}")
+        self.rank = (int(name), "") if name.isdecimal() else (_MOST_BOARDS, name)
         self._texts = dict.fromkeys(("", "confirmed", "clock", "state"), "")
 
     def note(self, topic: str, text: str) -> None:
@@ -102,7 +103,7 @@ class Broker:
         if self._said == "is there":
             self._say("has gone; it is tried again until it answers")
         for board in self._known.values():
-            board.note("state", "gone")  # it says what it is once it is back
+            board.note("state", "unheard")  # it says what it is once it is back
 
     def _hear(self, topic: str, payload: bytes) -> None:
         _, name, *below = topic.split("/")

@@ -146,9 +146,10 @@ class Client:
 
     def _named(self) -> dict[str, Board]:
         """Returns the boards by their numbers, first those that are there: clients may take the
-        first. If two have the same number, the second has its source in place of it."""
+        first. Those of a broker have the order of their names. If two have the same number, the
+        second has its source in place of it."""
         named = dict[str, Board]()
-        for board in sorted(self._boards, key=lambda each: bool(each.view.away)):
+        for board in sorted(self._boards, key=lambda each: (bool(each.view.away), each.rank)):
             named[board.source if board.serial in named else board.serial] = board
         return named
 
@@ -161,8 +162,12 @@ class Client:
         serial, named = param.get("serialnr"), self._named()
         if feed != "eboardevent":
             raise Refused(f"no feed {feed!r}")
-        if number is None or number in self._feeds or len(self._feeds) >= _MOST_FEEDS:
-            raise Refused(f"no id, the id of another feed, or more than {_MOST_FEEDS} feeds")
+        if number is None:
+            raise Refused("no id")
+        if number in self._feeds:
+            raise Refused(f"another feed has the id {number!r}")
+        if len(self._feeds) >= _MOST_FEEDS:
+            raise Refused(f"there are {_MOST_FEEDS} feeds already")
         board = named.get(str(serial)) or next(
             (each for each in self._boards if serial in (each.name, each.source)), None)
         if board is None:

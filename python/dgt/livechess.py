@@ -29,6 +29,7 @@ import inspect
 import logging
 import signal
 import sys
+import urllib.parse
 from collections.abc import Sequence
 from typing import Any
 
@@ -40,6 +41,7 @@ from ._live_ports import PortBoard, look_for_ports
 _PATH, _PORT = "/api/v1.0", 1982
 _ORIGINS = ("https://lichess.org", None)
 """The sites that may connect: a page of any site could. `None` is a program that names none."""
+_DEFAULT_PORTS = {"https": 443, "http": 80}
 _MOST_CLIENTS, _MOST_BYTES, _MOST_SENT = 32, 1 << 16, 16
 _NO_SUCH_PATH = 1008
 _MOST_OPENING, _OPEN_WAIT = 64, 5.0
@@ -175,6 +177,19 @@ def _a_port(text: str) -> int:
     raise argparse.ArgumentTypeError(f"no number from 1 to 65535: {text!r}")
 
 
+def _an_origin(text: str) -> str:
+    """Returns an origin as browsers send it."""
+    with contextlib.suppress(ValueError):
+        parts = urllib.parse.urlsplit(text.strip())
+        port = parts.port if parts.port != _DEFAULT_PORTS.get(parts.scheme) else None
+        if parts.scheme in _DEFAULT_PORTS and parts.hostname and (
+                parts.path in ("", "/") and "@" not in parts.netloc
+                and not parts.query and not parts.fragment):
+            host = f"[{parts.hostname}]" if ":" in parts.hostname else parts.hostname
+            return f"{parts.scheme}://{host}" + ("" if port is None else f":{port}")
+    raise argparse.ArgumentTypeError(f"no origin such as https://example.org: {text!r}")
+
+
 def _read_words(arguments: Sequence[str] | None) -> argparse.Namespace:
     parser = argparse.ArgumentParser(
         prog="dgt-livechess", description=__doc__, allow_abbrev=False,
@@ -188,7 +203,7 @@ def _read_words(arguments: Sequence[str] | None) -> argparse.Namespace:
     parser.add_argument("--user", help="a user of the broker; MQTT_PASSWORD has the password")
     parser.add_argument("--port", type=_a_port, default=_PORT, metavar="PORT",
                         help="the port of the WebSocket (%(default)s)")
-    parser.add_argument("--origin", action="append", default=[], metavar="ORIGIN",
+    parser.add_argument("--origin", action="append", type=_an_origin, default=[], metavar="ORIGIN",
                         help="another site that may connect, such as https://example.org")
     parser.add_argument("--clock", action="store_true",
                         help="the board's clock shows a move that a client has set up, until it "
