@@ -145,7 +145,8 @@ class Board:
         now = time.monotonic()
         self._hint_at = now + _HINT_WAIT
         game.set_up(state)
-        game.see(self.view, now)
+        if game in self.games:  # else another board is on the port now
+            game.see(self.view, now)
 
     # ---- What is known of it
 

@@ -31,7 +31,8 @@ class Feed:
         self.number, self.serial, self.board = number, serial, board
         self.game: Game = board.new_game()
         self._client = client
-        self._is_by_number = board.view.serial == serial
+        # Boards that share a number stay on their ports.
+        self._is_by_number = board.view.serial == serial and len(client.boards_of(serial)) < 2
         self._last: Json = {}
 
     def is_of(self, board: Board) -> bool:
@@ -40,8 +41,9 @@ class Feed:
 
     def _find(self) -> None:
         """Goes to the port on which the board is now."""
-        board = self._client.board_of(self.serial)
-        if board is not None and board is not self.board:
+        boards = self._client.boards_of(self.serial)
+        if boards and self.board not in boards:
+            [board, *_] = boards
             self.close()
             self.board = board
             board.watchers.append(self)
@@ -153,10 +155,10 @@ class Client:
             named[board.source if board.serial in named else board.serial] = board
         return named
 
-    def board_of(self, serial: str) -> Board | None:
-        """Returns the board with a number of its own, if it is there."""
-        return next((board for board in self._boards
-                     if board.view.serial == serial and not board.view.away), None)
+    def boards_of(self, serial: str) -> list[Board]:
+        """Returns the boards with this number that are there."""
+        return [board for board in self._boards
+                if board.view.serial == serial and not board.view.away]
 
     def _subscribe(self, number: int | str | None, feed: object, param: Json) -> None:
         serial, named = param.get("serialnr"), self._named()
