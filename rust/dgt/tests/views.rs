@@ -27,9 +27,16 @@ impl Plugged {
 #[derive(Clone)]
 struct Line(Rc<RefCell<Plugged>>);
 
+/// A clock with five minutes for each player.
+fn clock() -> Clock {
+    let five = Reading::new(0, 5, 0, 0).unwrap();
+    Clock::Times(Times::new(five, five, Status::new(SevenBit::try_from(0).unwrap())).unwrap())
+}
+
 impl Line {
     fn new() -> Self {
-        let (board, waiting) = (Board::default(), VecDeque::new());
+        let board = Board::new(Position::start(), clock(), Identity::simulated());
+        let waiting = VecDeque::new();
         Line(Rc::new(RefCell::new(Plugged { board, waiting, is_there: true, is_deaf: false })))
     }
 
@@ -95,11 +102,11 @@ fn each_change_is_a_view() {
     let first = views.next().unwrap();
     assert_eq!((first.picture, first.in_doubt), (Some(Position::start()), false));
     assert_eq!((first.confirmed, first.away, first.clock), (false, None, None));
-    assert_eq!(views.next().unwrap().clock, Some(simulated_clock()));
+    assert_eq!(views.next().unwrap().clock, Some(clock()));
     line.change("e2", Piece::Empty);
     let lifted = views.next().unwrap();
     assert_eq!(lifted.picture, Some(start_without("e2")));
-    assert_eq!((lifted.clock, views.view()), (Some(simulated_clock()), lifted));
+    assert_eq!((lifted.clock, views.view()), (Some(clock()), lifted));
     line.0.borrow_mut().waiting.push_back(7);
     assert!(views.next().unwrap().in_doubt);
 }
@@ -124,8 +131,7 @@ fn a_port_that_goes_is_found_again() {
     let mut views = Views::new(|| line.open()).unwrap();
     views.follower().set_mode(UpdateMode::Clock);
     assert_eq!(views.next().unwrap().picture, Some(Position::start()));
-    let clock = views.next().unwrap().clock;
-    assert_eq!(clock, Some(simulated_clock()));
+    assert_eq!(views.next().unwrap().clock, Some(clock()));
     line.unplug();
     let gone = views.next().unwrap();
     assert_eq!((gone.picture, gone.in_doubt), (Some(Position::start()), true));
@@ -140,7 +146,7 @@ fn a_port_that_goes_is_found_again() {
     let right = views.next().unwrap();
     assert_eq!(right.picture, Some(start_without("e2")));
     assert!(!right.in_doubt);
-    assert_eq!([gone.clock, back.clock, right.clock], [clock; 3]);
+    assert_eq!([gone.clock, back.clock, right.clock], [Some(clock()); 3]);
     let unreadable = [0x8d, 0, 0x0a, 0x0f, 0x0f, 0x0f, 0x0f, 0x0f, 0x0f, 9];
     line.0.borrow_mut().waiting.extend(unreadable);
     assert_eq!(views.next().unwrap().clock, None);
