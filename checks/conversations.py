@@ -324,7 +324,7 @@ class FaultyTalk(Ends):
     def is_same_picture(self) -> None:
         follower, plain = self.follower, self.plain_host
         same("the picture", follower.picture and list(follower.picture.codes), plain.picture)
-        clock = plain.clock if self.is_clock_readable else None
+        clock = plain.clock if self.is_clock_readable and plain.clock != bytes(7) else None
         same("the clock", follower.clock and some.clock_body(follower.clock), clock)
 
     @invariant()
@@ -337,7 +337,8 @@ class FaultyTalk(Ends):
             return
         same("the picture of a quiet board", self.follower.picture, self.board.position)
         if self.asks_for_clock:
-            same("the clock of a quiet board", self.follower.clock, self.board.clock)
+            right = None if self.board.clock == dgt.Times() else self.board.clock
+            same("the clock of a quiet board", self.follower.clock, right)
 
     def teardown(self) -> None:
         while self.askings <= self.patience:

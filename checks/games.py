@@ -238,7 +238,7 @@ GIVEN = [
     # Another position begins a game, and nothing else does, not even the first squares.
     ("e2e4", "d2d4", False, "e4e2 9000 d2d4 d7d5", "game d7d5", "d7d5"),
     ("e2e4", "d2d4 d7d5", False, "e4e2 d2d4 9000 g8f6 9000 f6g8 d7d5", "game", ""),
-    ("e2e4 e7e5 g1f3", "e2e4", False, "f3g1 9000 e5e7 e7e6", "game e7e6", "e7e6"),
+    ("e2e4 e7e5 g1f3", "e2e4", False, "f3g1 9000 e5e7 e7e6", "game e7e5 -e7e5 e7e6", "e7e6"),
     ("e2e4", "e2e4", True, "e8. e1. e7k e3K 9000", "", "e2e4"),
     ("e2e4 e7e5 g1f3 b8c6", "e2e4 e7e5 g1f3 b8c6", True, "c6b8 f3g1 e5e7 e4e2 9000",
      "-b8c6 -g1f3 -e7e5 -e2e4", ""),
