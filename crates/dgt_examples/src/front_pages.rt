@@ -6,6 +6,7 @@ pub mod helping;
 pub mod listing;
 pub mod monitoring;
 pub mod moving;
+pub mod pausing;
 pub mod playing;
 pub mod printing;
 pub mod putting;

@@ -1,5 +1,5 @@
 use super::{
-    finding, greeting, helping, listing, monitoring, moving, playing, printing, putting, reporting,
+    finding, greeting, helping, listing, monitoring, moving, pausing, playing, printing, putting, reporting,
     requesting, settling, storing, taking_turns,
 };
 use crate::tests::{CAME, DUMP, GONE, board};
@@ -46,6 +46,8 @@ fn bytes_of_a_board_and_a_host(rt: HostRuntime) -> Result<(), Fail> {
     expect(&rt, storing::begins_with_a_lift(&[0x40, 0x34, 0x41, 0x24]));
     expect(&rt, !storing::begins_with_a_lift(&[0x41, 0x24]));
     expect(&rt, !storing::begins_with_a_lift(&[0x40]));
+    expect(&rt, pausing::is_paused([0x10, 0x88, 0x12, 0x33]));
+    expect(&rt, !pausing::is_paused([0x10, 0x88, 0x12, 0x34]));
     Ok(())
 }
 
