@@ -65,3 +65,9 @@ pub record IsFirst (bytes : List ℕ) (stored : StoredContent) (later : List ℕ
   pub begins : Begins bytes stored later
   pub known_first : (other : StoredContent) (others : List ℕ) → IsKnown other
       → Begins bytes other others → IsKnown stored
+
+-- A body says these things in this order, and nothing else: each is the first that the bytes after
+-- the one before say.
+abbrev pub Says : List ℕ → List StoredContent → Type 0
+Says bytes [] = bytes ≡ []
+Says bytes (stored ∷ more) = (later : List ℕ) × IsFirst bytes stored later × Says later more

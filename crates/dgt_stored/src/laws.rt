@@ -6,7 +6,7 @@ ghost use Rattle.dgt_values.specs.Equality.{CloneIsSame, EqualIsSame, EqualIsSam
 ghost use Rattle.dgt_values.specs.declared.pieces.Piece.{Piece as AnyPiece};
 ghost use Rattle.dgt_message.specs.Clock.{time_of};
 ghost use Rattle.dgt_stored.specs.declared.stored.Mark.{Mark as AnyMark};
-ghost use Rattle.dgt_stored.specs.Stored.{Begins, IsFirst, IsKnown, StoredContent, mark_byte, stored_bytes, stored_content};
+ghost use Rattle.dgt_stored.specs.Stored.{Begins, IsFirst, IsKnown, Says, StoredContent, mark_byte, stored_bytes, stored_content};
 
 use crate::stored::{Mark, Stored};
 
@@ -27,6 +27,15 @@ pub fn one_is_first()
     ensures { (bytes : List ℕ) (one other : StoredContent) (later others : List ℕ) →
         IsFirst bytes one later → IsFirst bytes other others → (one ≡ other) × (later ≡ others) }
 {}
+
+/// Each body says things, and says no others.
+pub fn bodies_are_read()
+    ensures each { (body : List ℕ) → (things : List StoredContent) × Says body things }
+    ensures once { (body : List ℕ) (things others : List StoredContent) →
+        Says body things → Says body others → things ≡ others }
+{
+    one_is_first();
+}
 
 /// The bytes of what is stored, by example: a white pawn on e2, the same with the other bit, a time
 /// of 1:30:05 of each player, and the marks.

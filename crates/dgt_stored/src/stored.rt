@@ -1,10 +1,10 @@
 //! What is stored, and how it is read.
 
-ghost use Rattle.std.specs.Prelude.{◌≡◌, ◌≢◌, ◌<◌, ℕ, List, [], drop, MatchOption};
+ghost use Rattle.std.specs.Prelude.{◌≡◌, ◌≢◌, ◌<◌, ℕ, List, [], drop, length, IfSome, MatchOption};
 ghost use Rattle.dgt_message.specs.Clock.{Time};
 ghost use Rattle.dgt_message.specs.Content.{time_seen};
 ghost use Rattle.dgt_message.specs.Encoding.{packed_decimal};
-ghost use Rattle.dgt_stored.specs.Stored.{Begins, IsFirst, StoredContent, mark_byte, stored_content};
+ghost use Rattle.dgt_stored.specs.Stored.{Begins, IsFirst, StoredContent, mark_byte, stored_bytes, stored_content};
 
 use dgt_message::Reading;
 use dgt_values::{Piece, Square};
@@ -77,8 +77,9 @@ impl Mark {
 
 /// What the first bytes say, and how many they are. `None` if there is none.
 pub fn first(bytes: &[u8]) -> Option<(Stored, usize)>
-    ensures { MatchOption result (bytes.now ≡ [])
+    ensures first { MatchOption result (bytes.now ≡ [])
         (λ read. IsFirst bytes.now (stored_content read.0) (drop read.1 bytes.now)) }
+    ensures used { IfSome result (λ read. read.1 ≡ length (stored_bytes (stored_content read.0))) }
 {
     if let Some((square, piece, bit)) = first_piece(bytes) {
         return Some((Stored::Piece { square, piece, bit }, 2));
