@@ -37,7 +37,7 @@ later_bytes chunk i are =
     bytes_right (take i chunk) (drop i chunk) (subst AreBytes (sym (take-append-drop i chunk)) are)
 
 -- what waits for a flush still does after a call that gathers more
-waits_then : (o o' s t : List ℕ) (before now after : Bool) → (Waits s before → Waits o now)
+pub waits_then : (o o' s t : List ℕ) (before now after : Bool) → (Waits s before → Waits o now)
     → (Waits (o ++ t) now → Waits o' after) → Waits (s ++ t) before → Waits o' after
 waits_then [] o' s [] before now after p q w = q (λ e. p (λ z. w (append-nil s ∙ z)) refl)
 waits_then [] o' s (x ∷ t) before now after p q w = q (λ e. absurd (omega (arith, ap length e)))

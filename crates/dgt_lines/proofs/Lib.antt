@@ -12,6 +12,8 @@ pub mod Printed
 pub mod Heard
 pub mod Pictured
 pub mod Listed
+pub mod Logged
+pub mod StoredLines
 pub mod ClosingLemmas
 pub mod PrintedWords
 mod ClockLemmas

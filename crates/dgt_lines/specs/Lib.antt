@@ -10,11 +10,13 @@ pub mod Device
 pub mod CommandWords
 pub mod CommandLines
 pub mod CommandLaws
+pub mod Logs
 pub mod Turns
 pub mod RunLaws
 pub mod Monitoring
 pub mod Picturing
 pub mod Commanding
+pub mod Logging
 pub mod Closing
 -- for bodies alone
 pub mod Wording

@@ -1,11 +1,12 @@
 -- What an engine prints of the bytes that it reads.
 use Rattle.std.specs.Prelude.{◌≡◌, ℕ, false, List, [], ◌++◌, length, take, Result, IfOk, OnErr, OnOk}
-use Rattle.dgt_decode.specs.Grammar.{unfinished_message}
+use Rattle.dgt_decode.specs.Grammar.{events, unfinished_message}
 use Rattle.dgt_lines.specs.declared.doubts.PictureState.{PictureState}
 use Rattle.dgt_lines.specs.declared.streams.Sink.{Ghosts as Sink}
 use Rattle.dgt_lines.specs.declared.faults.RunFault.{RunFault}
 use Rattle.dgt_lines.specs.Lines.{lines, unfinished_line}
 use Rattle.dgt_lines.specs.Reports.{state_from, text_from}
+use Rattle.dgt_lines.specs.Logs.{HasLog}
 use Rattle.dgt_lines.specs.Marks.{Waits}
 use Rattle.dgt_lines.specs.Writing.{Gathers, Writes}
 use Rattle.dgt_lines.specs.CommandLines.{Prints}
@@ -84,3 +85,13 @@ pub record HasPrintedReports (first : PictureState) (kept : List ℕ) (state : P
 abbrev pub HasCommandLines : List ℕ → List ℕ → List ℕ → Type 0
 HasCommandLines bytes text last =
     (rest : List ℕ) × Prints 0 bytes rest text × (last ≡ unfinished_line (length bytes) rest)
+
+-- ---- The lines of what a board has stored
+
+abbrev pub HasLogLines : List ℕ → List ℕ → List ℕ → Type 0
+HasLogLines bytes text last = HasLog (events bytes) text × (last ≡ [])
+
+-- the text is the lines of the bytes, and a framer that keeps `kept` holds what is unfinished
+pub record HasPrintedLog (kept bytes text : List ℕ) : Type 0 where
+  pub has : HasLog (events bytes) text
+  pub held : unfinished_message kept ≡ unfinished_message bytes

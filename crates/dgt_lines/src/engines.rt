@@ -1,6 +1,7 @@
 //! The engines that print what they read.
 
 ghost use Rattle.dgt_lines.specs.Commanding.{IsListed};
+ghost use Rattle.dgt_lines.specs.Logging.{IsLogged};
 ghost use Rattle.dgt_lines.specs.Monitoring.{IsMonitored};
 ghost use Rattle.dgt_lines.specs.Picturing.{IsPictured};
 ghost use Rattle.dgt_lines.specs.Turns.{change, InTurns, Ran, RunsInTurns};
@@ -10,6 +11,7 @@ use crate::command_chunks::COMMANDS_ROOM;
 use crate::doubts::{PictureState, Shown};
 use crate::faults::RunFault;
 use crate::gathering::Outgoing;
+use crate::log_chunks::{LOG_ROOM, Log};
 use crate::picture_chunks::{PICTURES_ROOM, Pictures};
 use crate::printers::print_input;
 use crate::streams::{Sink, Source};
@@ -102,4 +104,30 @@ pub fn picture<R: Source, W: Sink>(
     };
     let mut outgoing = Outgoing::<PICTURES_ROOM>::new();
     print_input(&mut pictures, &mut outgoing, reader, writer, limit)
+}
+
+/// Writes a line for each thing that a board has stored and sends in a message with the code `0f`,
+/// of the bytes that the reader gives, in at most `limit` reads.
+///
+/// `dgt_stored` reads the body of such a message. A line is the offset as in
+/// [`write_event`](crate::write_event), of the last byte of the thing, a space, its text and a line
+/// feed, as in `00000005 piece e2 .`. The lines of a message come when it is whole. What came in a
+/// read has its lines written and flushed before the next read. No other event has a line.
+///
+/// Its errors are those of [`monitor`].
+pub fn log<R: Source, W: Sink>(reader: &mut R, writer: &mut W, limit: u32) -> Result<(), RunFault>
+    // what was read, and what was written of it
+    ensures output { Ran R.Source W.Sink
+        (change reader.old reader.new) (change writer.old writer.new)
+        (InTurns limit result (IsLogged result)) }
+
+    // how often it reads, when it stops, and which marks it leaves
+    ensures in_turns { RunsInTurns R.Source W.Sink (change reader.old reader.new)
+        (change writer.old writer.new) limit result }
+{
+    let mut log = Log {
+        framer: Framer::new(),
+    };
+    let mut outgoing = Outgoing::<LOG_ROOM>::new();
+    print_input(&mut log, &mut outgoing, reader, writer, limit)
 }

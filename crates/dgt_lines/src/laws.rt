@@ -4,12 +4,14 @@
 ghost use Rattle.std.specs.Prelude.{◌≡◌, ◌≤◌, ◌⊎◌, [], ◌∷◌, ◌++◌, ℕ, Bool, List, Ok, Err, Result, Some, false, length, true};
 ghost use Rattle.std.specs.Io.KnownBytes.{IsAtEnd};
 ghost use Rattle.dgt_values.specs.Equality.{CloneIsSame, EqualIsSame};
-ghost use Rattle.dgt_decode.specs.Grammar.{unfinished_message};
+ghost use Rattle.dgt_decode.specs.Grammar.{Placed, events, unfinished_message};
 ghost use Rattle.dgt_lines.specs.CommandLaws.{EachCharacterIsShown, EachIsPrinted, EachIsPrintedOnce, OthersAreQuestionMarks, TextsAppend};
 ghost use Rattle.dgt_lines.specs.CommandLines.{Prints};
 ghost use Rattle.dgt_lines.specs.Commanding.{IsListed};
 ghost use Rattle.dgt_lines.specs.Device.{IsNewDevice};
 ghost use Rattle.dgt_lines.specs.Lines.{events_after, lines, lines_after, monitor_text, unfinished_line};
+ghost use Rattle.dgt_lines.specs.Logging.{IsLogged};
+ghost use Rattle.dgt_lines.specs.Logs.{HasLog};
 ghost use Rattle.dgt_lines.specs.Marks.{GivesEnd, TookSome};
 ghost use Rattle.dgt_lines.specs.Monitoring.{IsInSink, IsMonitored};
 ghost use Rattle.dgt_lines.specs.Picturing.{IsPictured};
@@ -24,7 +26,7 @@ use crate::doubts::{Doubt, PictureState, Shown};
 use crate::faults::RunFault;
 use crate::std_device::Device;
 use crate::streams::{Failed, Sink, Source};
-use crate::{COMMANDS_ROOM, LINES_ROOM, MAX_CHUNK, PICTURES_ROOM};
+use crate::{COMMANDS_ROOM, LINES_ROOM, LOG_ROOM, MAX_CHUNK, PICTURES_ROOM};
 use dgt_decode::laws;
 use std::io::{Read, Write};
 
@@ -34,6 +36,7 @@ pub fn limits()
     ensures lines { LINES_ROOM ≡ 32768 }
     ensures pictures { PICTURES_ROOM ≡ 66560 }
     ensures commands { COMMANDS_ROOM ≡ 32768 }
+    ensures log { LOG_ROOM ≡ 32768 }
 {}
 
 /// Two values are equal, as `==` answers, exactly if they are the same.
@@ -190,6 +193,24 @@ pub fn what_commands_leaves()
         → IsInSink r text (text ++ unfinished_line (length bytes) rest) out }
 {
     one_text();
+}
+
+/// Events have one text of what a board has stored, and no second.
+pub fn one_log()
+    ensures each { (placed : List Placed) → (text : List ℕ) × HasLog placed text }
+    ensures once { (placed : List Placed) (text other : List ℕ) →
+        HasLog placed text → HasLog placed other → text ≡ other }
+{
+    dgt_stored::laws::bodies_are_read();
+}
+
+/// What a sink has of the bytes that `log` read is the one text that their events have, by its
+/// answer.
+pub fn what_log_leaves()
+    ensures { (r : Result (Unit {0}) RunFault) (bytes out text : List ℕ) →
+        IsLogged r bytes out → HasLog (events bytes) text → IsInSink r text text out }
+{
+    one_log();
 }
 
 /// The lines of bytes in a row are those of the first ones, and then those of the chunk after them.

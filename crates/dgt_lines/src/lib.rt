@@ -8,7 +8,7 @@
 //! | write its text to a slice, as `field e4 P` | [`format_event`] |
 //! | write the line of a command, as `00000001 dump` | [`write_command`] |
 //! | write how a board and a host are at the end | [`write_closing`] |
-//! | write the lines of all that a source gives | [`monitor`], [`commands`], [`picture`] |
+//! | write the lines of all that a source gives | [`monitor`], [`commands`], [`picture`], [`log`] |
 //!
 //! ```rust
 //! use dgt_decode::Event;
@@ -60,6 +60,8 @@ mod formatting;
 mod gathering;
 pub mod laws;
 mod lines;
+mod log_chunks;
+mod logs;
 mod picture_chunks;
 mod pictures;
 mod printers;
@@ -74,11 +76,12 @@ pub use closing::write_closing;
 pub use command_chunks::COMMANDS_ROOM;
 pub use command_lines::write_command;
 pub use doubts::{Doubt, PictureState, Shown};
-pub use engines::{commands, monitor, picture};
+pub use engines::{commands, log, monitor, picture};
 pub use faults::RunFault;
 pub use formatting::format_event;
 pub use gathering::{flush, put};
 pub use lines::{write_event, write_unfinished};
+pub use log_chunks::LOG_ROOM;
 pub use picture_chunks::PICTURES_ROOM;
 pub use pictures::Picture;
 pub use printers::MAX_CHUNK;

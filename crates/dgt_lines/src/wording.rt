@@ -185,8 +185,8 @@ fn push_times<const ROOM: usize>(text: &mut Outgoing<ROOM>, readings: Times)
     push_byte(text, readings.status().code().get());
 }
 
-// The time that a clock shows for a side, and its flags.
-fn push_reading<const ROOM: usize>(text: &mut Outgoing<ROOM>, reading: Reading)
+/// Adds the time that a clock shows for a side, and its flags.
+pub(crate) fn push_reading<const ROOM: usize>(text: &mut Outgoing<ROOM>, reading: Reading)
     requires { length text.old + 9 ≤ ROOM }
     ensures text { text.new ≡ text.old ++ reading_text (time_seen reading) }
     ensures len { length text.new ≡ length text.old + 9 }

@@ -195,7 +195,7 @@ some_bytes (StoredContent.time shown) = omega arith
 some_bytes (StoredContent.mark mark) = omega arith
 some_bytes (StoredContent.unknown byte) = omega arith
 
-shorter : (bytes later : List ℕ) (stored : StoredContent) → IsFirst bytes stored later
+pub shorter : (bytes later : List ℕ) (stored : StoredContent) → IsFirst bytes stored later
     → length later + 1 ≤ length bytes
 shorter bytes later stored first =
     omega (arith, ap length first.begins.begins, length-append (stored_bytes stored) later, some_bytes stored)

@@ -1,6 +1,6 @@
 //! What is stored, and how it is read.
 
-ghost use Rattle.std.specs.Prelude.{◌≡◌, ◌≢◌, ◌<◌, ℕ, List, [], drop, length, IfSome, MatchOption};
+ghost use Rattle.std.specs.Prelude.{◌≡◌, ◌≢◌, ◌<◌, ◌≤◌, ℕ, List, [], drop, length, IfSome, MatchOption};
 ghost use Rattle.dgt_message.specs.Clock.{Time};
 ghost use Rattle.dgt_message.specs.Content.{time_seen};
 ghost use Rattle.dgt_message.specs.Encoding.{packed_decimal};
@@ -80,6 +80,7 @@ pub fn first(bytes: &[u8]) -> Option<(Stored, usize)>
     ensures first { MatchOption result (bytes.now ≡ [])
         (λ read. IsFirst bytes.now (stored_content read.0) (drop read.1 bytes.now)) }
     ensures used { IfSome result (λ read. read.1 ≡ length (stored_bytes (stored_content read.0))) }
+    ensures within { IfSome result (λ read. (0 < read.1) × (read.1 ≤ length bytes.now)) }
 {
     if let Some((square, piece, bit)) = first_piece(bytes) {
         return Some((Stored::Piece { square, piece, bit }, 2));

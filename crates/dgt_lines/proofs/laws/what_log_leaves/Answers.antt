@@ -1,0 +1,8 @@
+use Rattle.std.proofs.Common.{subst}
+use Rattle.dgt_decode.specs.Grammar.{events}
+use Rattle.dgt_lines.specs.Monitoring.{IsInSink}
+use Rattle.dgt_lines.proofs.laws.what_log_leaves.Goals as goal
+
+pub returns : goal.returns
+returns c = λ r bytes out text logged has.
+    subst (λ l. IsInSink r l l out) (c.one_log.ensures.once (events bytes) _ _ logged.has has) logged.stands
