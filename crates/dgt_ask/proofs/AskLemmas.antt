@@ -1,6 +1,6 @@
 -- What the words of commands are.
 use Rattle.std.proofs.Common.{◌≡◌, ◌≢◌, ◌+◌, ◌*◌, ◌/◌, ◌<◌, ◌≤◌, ℕ, zero, suc, false, List, [], ◌∷◌, ◌++◌, length, get_or, take, map, Bor, add-one, subst, Result, Ok, Err, Some, ap, arith, inl, inr, refl, sym, ◌∙◌, slice_index as nth}
-use Rattle.std.specs.Prelude.{OnErr, IfOk, IsErrAnd, MatchResult, flat_map, Bool, true, not, codes, decimal, ◌==◌}
+use Rattle.std.specs.Prelude.{OnErr, IfOk, IsErrAnd, MatchResult, Bool, true, not, codes, decimal, ◌==◌}
 use Rattle.std.specs.List.{list_all}
 use Rattle.std.specs.Result.{is_ok, result_ok}
 use Rattle.std.specs.Str.Parse.{ParsesUnsigned}
@@ -16,9 +16,9 @@ use Rattle.dgt_ask.specs.declared.details.Detail.TheVariants as detail
 use Rattle.dgt_ask.specs.declared.details.Detail.{Detail}
 use Rattle.dgt_ask.specs.declared.asking.BadAsk.{BadAsk}
 use Rattle.dgt_ask.specs.declared.asking.BadAsk.TheVariants.{OutOfMemory}
-use Rattle.dgt_ask.specs.Asks.{AskInOrder, Asks, DetailAsks, HasBytes, IsNamed, IsRaw, detail_text}
-use Rattle.dgt_command.specs.Encoding.{command_encoding}
-use Rattle.std.proofs.lemmas.Grind.{flat_map-append}
+use Rattle.dgt_ask.specs.Asks.{AskInOrder, AsksBytes, DetailAsks, HasBytes, IsNamed, IsRaw, detail_text}
+use Rattle.std.specs.List.{concat}
+use Rattle.std.proofs.lemmas.List.Folds.{concat-append}
 use Rattle.std.proofs.lemmas.List.{append-nil, get_or-map, length-map}
 use Rattle.std.proofs.Math.Seq.{take-suc}
 
@@ -203,16 +203,14 @@ pub refused : {A : Type 0} (P : A → Type 0) (r : Result A BadAsk) (fault : Bad
 refused P (Err e) fault is none = is ∙ none
 refused P (Ok _) fault is none = absurd is
 
-pub asks_at : (words : List (Bor (List ℕ))) (commands : List CommandContent) (i : ℕ)
-    → AskInOrder (map (λ word. word.now) words) commands → i < length words
-    → Asks (get_or words i (record { ref_ptr = (0, 0); now = [] })).now (get_or commands i Reset)
-asks_at words commands i order small =
-    subst (λ word. Asks word (get_or commands i Reset))
+pub asks_at : (words : List (Bor (List ℕ))) (asked : List (List ℕ)) (i : ℕ)
+    → AskInOrder (map (λ word. word.now) words) asked → i < length words
+    → AsksBytes (get_or words i (record { ref_ptr = (0, 0); now = [] })).now (get_or asked i [])
+asks_at words asked i order small =
+    subst (λ word. AsksBytes word (get_or asked i []))
     (get_or-map (λ (word : Bor (List ℕ)). word.now) words i (record { ref_ptr = (0, 0); now = [] }) [] small)
     (order.each i (rw length-map small))
 
-pub next_bytes : (commands : List CommandContent) (i : ℕ) → i < length commands
-    → flat_map command_encoding (take (i + 1) commands)
-    ≡ flat_map command_encoding (take i commands) ++ command_encoding (get_or commands i Reset)
-next_bytes commands i small =
-    rw (add-one, take-suc commands i Reset small, flat_map-append, append-nil) refl
+pub next_bytes : (asked : List (List ℕ)) (i : ℕ) → i < length asked
+    → concat (take (i + 1) asked) ≡ concat (take i asked) ++ get_or asked i []
+next_bytes asked i small = rw (add-one, take-suc asked i [] small, concat-append, append-nil) refl

@@ -15,6 +15,7 @@ abbrev pub IsAskedBy : List ℕ → Asked → Type 0
 IsAskedBy word (asked.Command command) = IsNamed word (command_content command)
 IsAskedBy word asked.Follow = word ≡ codes "follow"
 IsAskedBy word asked.Restart = word ≡ codes "restart"
+IsAskedBy word asked.Log = word ≡ codes "log"
 IsAskedBy word (asked.With detail) = word ≡ detail_text detail
 
 -- a call appends the bytes of this command, unless an allocation is refused
@@ -22,8 +23,7 @@ abbrev pub Adds : {A : Type 0} → Result A BadAsk → List ℕ → List ℕ →
 Adds r old new command =
     MatchResult r (λ _. new ≡ old ++ command_encoding command) (λ fault. fault ≡ OutOfMemory)
 
--- a call appends the bytes of this command, and a name comes next
-abbrev pub Takes : Result Awaited BadAsk → List ℕ → List ℕ → CommandContent → Type 0
-Takes r old new command =
-    MatchResult r (λ next. (next ≡ Name) × (new ≡ old ++ command_encoding command))
-    (λ fault. fault ≡ OutOfMemory)
+-- a call appends these bytes, and a name comes next
+abbrev pub Takes : Result Awaited BadAsk → List ℕ → List ℕ → List ℕ → Type 0
+Takes r old new bytes =
+    MatchResult r (λ next. (next ≡ Name) × (new ≡ old ++ bytes)) (λ fault. fault ≡ OutOfMemory)

@@ -1,11 +1,13 @@
--- What a word of `dgt ask` asks for, if a whole command stands in it.
+-- What a word of `dgt ask` asks for, if a whole command or a name stands in it.
 use Rattle.std.specs.Prelude.{◌≡◌, ◌≢◌, ◌<◌, ◌≤◌, ◌⊎◌, ℕ, false, List, [], ◌∷◌, ◌++◌, length, codes, decimal, Ok, get_or}
 use Rattle.std.specs.Str.{IsAscii}
 use Rattle.hex.specs.Hex.{decode_of, decode_sized}
 use Rattle.dgt_command.specs.declared.ids.KnownId.{KnownId}
 use Rattle.dgt_command.specs.Content.{ClockContent, CommandContent, Reset, Clock, Dump, Update, UpdateBoard, UpdateNice, Serial, Trademark, Battery, Version, LongSerial, ClockMessage, Leds, known_clock}
 use Rattle.dgt_command.specs.Display.{Shows}
+use Rattle.dgt_command.specs.Encoding.{command_encoding}
 use Rattle.dgt_command.specs.Ids.{has_own_case}
+use Rattle.dgt_host.specs.Host.{follow_bytes, restart_bytes}
 use Rattle.dgt_ask.specs.declared.details.Detail.{Detail}
 use Rattle.dgt_ask.specs.declared.details.Detail.TheVariants as detail
 
@@ -98,7 +100,22 @@ Asks word command =
     ⊎ ((detail : Detail) × (text : List ℕ) × (word ≡ detail_text detail ++ 32 ∷ text)
     × DetailAsks detail text command)
 
--- each of some words asks for the command at its place
-pub record AskInOrder (words : List (List ℕ)) (commands : List CommandContent) : Type 0 where
-  pub all : length commands ≡ length words
-  pub each : (i : ℕ) → i < length words → Asks (get_or words i []) (get_or commands i Reset)
+-- ---- bytes
+
+-- this word is no command, and asks for these bytes
+abbrev pub IsAlone : List ℕ → List ℕ → Type 0
+IsAlone word bytes =
+    ((word ≡ codes "follow") × (bytes ≡ follow_bytes))
+    ⊎ ((word ≡ codes "restart") × (bytes ≡ restart_bytes))
+    ⊎ ((word ≡ codes "log") × (bytes ≡ 0x49 ∷ []))
+
+-- a word asks for these bytes: a command's, or its own
+abbrev pub AsksBytes : List ℕ → List ℕ → Type 0
+AsksBytes word bytes =
+    ((command : CommandContent) × Asks word command × (bytes ≡ command_encoding command))
+    ⊎ IsAlone word bytes
+
+-- each of some words asks for the bytes at its place
+pub record AskInOrder (words asked : List (List ℕ)) : Type 0 where
+  pub all : length asked ≡ length words
+  pub each : (i : ℕ) → i < length words → AsksBytes (get_or words i []) (get_or asked i [])

@@ -1,14 +1,15 @@
 //! The words of a command line, and the bytes of their commands.
 
-ghost use Rattle.std.specs.Prelude.{◌≡◌, ◌≢◌, ◌≤◌, ◌++◌, false, List, [], ◌∷◌, codes, flat_map, length, map, slice_index as nth};
+ghost use Rattle.std.specs.Prelude.{◌≡◌, ◌≢◌, ◌≤◌, ◌++◌, false, ℕ, List, [], ◌∷◌, codes, length, map, slice_index as nth};
 ghost use Rattle.std.specs.Prelude.{OnOk, IfOk, IfSome, IsOkAnd, IsSomeAnd, MatchOption, MatchResult};
+ghost use Rattle.std.specs.List.{concat};
 ghost use Rattle.dgt_command.specs.Content.{command_content, ClockContent, ClockMessage, CommandContent};
 ghost use Rattle.dgt_command.specs.Ids.{has_own_case};
 ghost use Rattle.dgt_command.specs.Encoding.{command_encoding};
 ghost use Rattle.dgt_host.specs.Host.{follow_bytes, restart_bytes};
 ghost use Rattle.hex.specs.Hex.{decode_of, decode_sized};
 ghost use Rattle.dgt_ask.specs.Asking.{Adds, IsAskedBy, Takes};
-ghost use Rattle.dgt_ask.specs.Asks.{AskInOrder, Asks, DetailAsks, HasBytes, IsNamed, IsRaw};
+ghost use Rattle.dgt_ask.specs.Asks.{AskInOrder, Asks, AsksBytes, DetailAsks, HasBytes, IsAlone, IsNamed, IsRaw};
 
 use crate::details::{
     BadRaw, Detail, beep, byte, detail_of, eight_letters, icons, leds, raw, set_and_run, six_places,
@@ -24,9 +25,12 @@ use std::alloc::{AllocError, Global};
 /// columns.
 pub const WORDS: &str = "\
 reset, clock, dump, update, updateboard, updatenice, serial, longserial,
-trademark, battery, version, follow, restart, beep N, end, button,
+trademark, battery, version, follow, restart, log, beep N, end, button,
 clockversion, display TEXT, text TEXT, icons HEX, setandrun HEX,
 clockmessage ID HEX, leds HEX, stray HEX";
+
+// Asks a board for what it has stored. It is no command of this library.
+const LOG: u8 = 0x49;
 
 /// Why the words ask for no commands.
 #[derive(Drop)]
@@ -60,11 +64,14 @@ enum Asked {
     Command(Command<'static>),
     Follow,
     Restart,
+    Log,
     With(Detail),
 }
 
 fn named(word: &str) -> Option<Asked>
-    ensures { MatchOption result ((each : CommandContent) → ¬ (IsNamed word.now each))
+    ensures { MatchOption result
+        (((each : CommandContent) → ¬ (IsNamed word.now each))
+        × ((bytes : List ℕ) → ¬ (IsAlone word.now bytes)))
         (IsAskedBy word.now) }
 {
     let command = match word {
@@ -84,6 +91,7 @@ fn named(word: &str) -> Option<Asked>
         "clockversion" => Command::ClockMessage(ClockCommand::Version),
         "follow" => return Some(Asked::Follow),
         "restart" => return Some(Asked::Restart),
+        "log" => return Some(Asked::Log),
         _ => return Some(Asked::With(detail_of(word)?)),
     };
     Some(Asked::Command(command))
@@ -103,9 +111,8 @@ enum Awaited<'a> {
 /// A command is the words of a line of `dgt commands`: one word each, or all in one with a space
 /// between two of them.
 pub fn asked_bytes<'a>(alloc: Global, words: &[&'a str]) -> Result<Vec<u8>, BadAsk<'a>>
-    ensures { (commands : List CommandContent) → AskInOrder (map (λ word. word.now) words.now)
-        commands → MatchResult result
-        (λ bytes. bytes.items ≡ flat_map command_encoding commands)
+    ensures { (asked : List (List ℕ)) → AskInOrder (map (λ word. word.now) words.now) asked →
+        MatchResult result (λ bytes. bytes.items ≡ concat asked)
         (λ fault. fault ≡ BadAsk.OutOfMemory) }
 {
     let mut bytes = Vec::new(alloc);
@@ -126,8 +133,8 @@ fn take<'a>(
     word: &'a str,
     bytes: &mut Vec<u8>,
 ) -> Result<Awaited<'a>, BadAsk<'a>>
-    ensures { (command : CommandContent) → awaited.entry ≡ Awaited.Name → Asks word.now command →
-        Takes result bytes.old.items bytes.new.items command }
+    ensures { (asked : List ℕ) → awaited.entry ≡ Awaited.Name → AsksBytes word.now asked →
+        Takes result bytes.old.items bytes.new.items asked }
 {
     match awaited {
         // The one place where such a word says something else.
@@ -143,8 +150,10 @@ fn take<'a>(
 
 // Takes the first word of a command, or the whole of it in one.
 fn begin<'a>(word: &'a str, bytes: &mut Vec<u8>) -> Result<Awaited<'a>, BadAsk<'a>>
-    ensures { (command : CommandContent) → Asks word.now command →
-        Takes result bytes.old.items bytes.new.items command }
+    ensures command { (command : CommandContent) → Asks word.now command →
+        Takes result bytes.old.items bytes.new.items (command_encoding command) }
+    ensures alone { (asked : List ℕ) → IsAlone word.now asked →
+        Takes result bytes.old.items bytes.new.items asked }
 {
     if let Some((name, rest)) = word.split_once(' ') {
         match detail_of(name) {
@@ -158,6 +167,7 @@ fn begin<'a>(word: &'a str, bytes: &mut Vec<u8>) -> Result<Awaited<'a>, BadAsk<'
         Some(Asked::Command(command)) => push(&command, bytes)?,
         Some(Asked::Follow) => push_follow(bytes)?,
         Some(Asked::Restart) => push_restart(bytes)?,
+        Some(Asked::Log) => bytes.extend_from_slice(&[LOG])?,
         Some(Asked::With(detail)) => return Ok(Awaited::Detail(detail)),
         None => return Err(BadAsk::Unknown(word)),
     }

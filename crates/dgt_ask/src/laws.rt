@@ -1,13 +1,14 @@
 //! What words ask for. Nothing here runs: each function stands for the facts that its contract
 //! states.
 
-ghost use Rattle.std.specs.Prelude.{◌≡◌, ℕ, List, [], ◌∷◌, ◌++◌, Ok, codes, length};
+ghost use Rattle.std.specs.Prelude.{◌≡◌, ℕ, List, [], ◌∷◌, ◌++◌, Ok, codes, length, replicate};
 ghost use Rattle.std.specs.Str.{IsAscii};
 ghost use Rattle.hex.specs.Hex.{decode_of, decode_sized};
 ghost use Rattle.dgt_command.specs.declared.ids.KnownId.{KnownId};
 ghost use Rattle.dgt_command.specs.Content.{Battery, Clock, ClockContent, ClockMessage, CommandContent, Dump, Leds, LongSerial, Reset, Serial, Trademark, Update, UpdateBoard, UpdateNice, Version, known_clock};
 ghost use Rattle.dgt_command.specs.Display.{Shows};
-ghost use Rattle.dgt_ask.specs.Asks.{AskInOrder, Asks};
+ghost use Rattle.dgt_command.specs.Encoding.{command_encoding};
+ghost use Rattle.dgt_ask.specs.Asks.{AskInOrder, Asks, AsksBytes};
 
 /// Each word that is a command alone asks for it.
 pub fn names_ask()
@@ -49,10 +50,18 @@ pub fn details_ask()
     ensures no_leds { Asks (codes "leds -") (Leds []) }
 {}
 
-/// No words ask for no commands, and a word before others asks for a command before theirs.
+/// A word that asks for a command asks for its bytes, and other words have bytes of their own.
+pub fn bytes_are_asked()
+    ensures command { (word : List ℕ) (command : CommandContent) → Asks word command
+        → AsksBytes word (command_encoding command) }
+    ensures follow { AsksBytes (codes "follow") (0x44 ∷ 0x42 ∷ []) }
+    ensures restart { AsksBytes (codes "restart") (replicate 255 0 ++ 0x44 ∷ 0x42 ∷ []) }
+    ensures log { AsksBytes (codes "log") (0x49 ∷ []) }
+{}
+
+/// No words ask for no bytes, and a word before others asks for bytes before theirs.
 pub fn words_ask_in_order()
     ensures none { AskInOrder [] [] }
-    ensures more { (word : List ℕ) (words : List (List ℕ)) (command : CommandContent)
-        (commands : List CommandContent) → Asks word command → AskInOrder words commands
-        → AskInOrder (word ∷ words) (command ∷ commands) }
+    ensures more { (word asked : List ℕ) (words others : List (List ℕ)) → AsksBytes word asked
+        → AskInOrder words others → AskInOrder (word ∷ words) (asked ∷ others) }
 {}

@@ -1,5 +1,5 @@
 -- The text of a command asks for it.
-use Rattle.std.proofs.Common.{◌≡◌, ◌≢◌, ◌+◌, ◌/◌, ◌%◌, ◌<◌, ◌≤◌, ◌⊎◌, ℕ, zero, suc, Bool, true, false, List, [], ◌∷◌, ◌++◌, length, get_or, map, None, ap, arith, inl, inr, refl, subst, sym, slice_index as nth}
+use Rattle.std.proofs.Common.{◌≡◌, ◌≢◌, ◌∙◌, ◌+◌, ◌/◌, ◌%◌, ◌<◌, ◌≤◌, ◌⊎◌, ℕ, zero, suc, Bool, true, false, List, [], ◌∷◌, ◌++◌, length, get_or, map, None, ap, arith, inl, inr, refl, subst, sym, slice_index as nth}
 use Rattle.std.specs.Prelude.{codes, decimal, find, nat_le, if◌then◌else◌, ◌==◌, ◌&&◌}
 use Rattle.std.specs.List.{All, list_all}
 use Rattle.std.proofs.lemmas.List.{get_or-map, length-map}
@@ -270,11 +270,12 @@ asked_back (ClockMessage message) bytes encodes = clock_back message bytes encod
 asked_back (Leds leds) bytes encodes = leds_back leds bytes encodes
 
 pub asked_in_order : (commands : List CommandContent) → All (λ command. AreBytes (command_encoding command)) commands
-    → AskInOrder (map command_text commands) commands
+    → AskInOrder (map command_text commands) (map command_encoding commands)
 asked_in_order commands are = record {
-  all = sym (length-map commands command_text);
+  all = length-map commands command_encoding ∙ sym (length-map commands command_text);
   each = λ i small.
       let within : i < length commands = rw (← length-map commands command_text) small in
-      rw (get_or-map command_text commands i Reset [] within)
-      (asked_back (get_or commands i Reset) _ (record { are_bytes = are i Reset within; encoded = refl }));
+      let command = get_or commands i Reset in
+      rw (get_or-map command_text commands i Reset [] within, get_or-map command_encoding commands i Reset [] within)
+      (inl (command, asked_back command _ (record { are_bytes = are i Reset within; encoded = refl }), refl));
 }

@@ -29,7 +29,7 @@ pub fn commands_are_asked_back()
         Asks (command_text command) command }
     ensures in_order { (commands : List CommandContent) →
         All (λ command. AreBytes (command_encoding command)) commands →
-        AskInOrder (map command_text commands) commands }
+        AskInOrder (map command_text commands) (map command_encoding commands) }
 {}
 
 /// Words ask for no task with the status 2, or with 3 for refused memory, and have no other fault.

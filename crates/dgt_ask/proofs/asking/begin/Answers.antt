@@ -5,9 +5,9 @@ use Rattle.dgt_ask.specs.declared.details.Detail.TheVariants as detail
 use Rattle.dgt_ask.specs.Asks.{detail_text}
 use Rattle.dgt_ask.proofs.asking.begin.Goals as goal
 
-pub returns-in_err-push_id_and_bytes-in-Some-ClockMessage :
-    goal.returns-in_err-push_id_and_bytes-in-Some-ClockMessage
-returns-in_err-push_id_and_bytes-in-Some-ClockMessage c = λ command asks.
+pub returns-in_err-push_id_and_bytes-in-Some-ClockMessage-clause-command :
+    goal.returns-in_err-push_id_and_bytes-in-Some-ClockMessage-clause-command
+returns-in_err-push_id_and_bytes-in-Some-ClockMessage-clause-command c = λ command asks.
     elim asks [
       | inl named ↦
           let parts =
@@ -22,3 +22,6 @@ returns-in_err-push_id_and_bytes-in-Some-ClockMessage c = λ command asks.
           let fault = c.in_err-push_id_and_bytes-in-Some-ClockMessage.ensures raw.0 (rw cut.1 raw.2) in
           refused _ c.from_residual.result _ c.from_residual.ensures.1 fault
     ]
+
+pub returns-in-None-named-clause-alone : goal.returns-in-None-named-clause-alone
+returns-in-None-named-clause-alone c = λ asked alone. absurd (c.in-None-named.ensures.1 asked alone)
