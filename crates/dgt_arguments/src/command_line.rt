@@ -1,6 +1,6 @@
 //! The words of the command line, read by `clap`.
 use crate::help::{
-    ASK_NOTES, BOARD_NOTES, COMMANDS_NOTES, MONITOR_NOTES, PICTURE_NOTES, PROGRAM_NOTES,
+    ASK_NOTES, BOARD_NOTES, COMMANDS_NOTES, LOG_NOTES, MONITOR_NOTES, PICTURE_NOTES, PROGRAM_NOTES,
     SHOW_NOTES, SIMULATE_NOTES,
 };
 use clap::error::ErrorKind;
@@ -33,6 +33,8 @@ pub enum Task<'a> {
         doubt: bool,
         clock: bool,
     },
+    /// Show what a board has stored, by the messages of it in the input.
+    Log,
     /// Show what the bytes of the input ask a board for.
     Commands,
     /// Write these bytes of commands.
@@ -58,7 +60,7 @@ impl Task<'_> {
     /// (`reads` says that standard input is it), or writes bytes there (`writes`: standard output).
     pub fn note(&self, reads: bool, writes: bool) -> Option<&'static str> {
         match self {
-            Task::Monitor | Task::Picture { .. } | Task::Commands if reads => {
+            Task::Monitor | Task::Picture { .. } | Task::Log | Task::Commands if reads => {
                 Some("dgt: waiting for bytes from this terminal; Ctrl-D ends them")
             }
             Task::Ask { .. } | Task::Board { .. } if writes => {
@@ -98,6 +100,8 @@ const SHOW: &str = "Shows the messages in the bytes of a hexadecimal word";
 const MONITOR: &str = "Shows the messages in the bytes of standard input, as they come";
 
 const PICTURE: &str = "Shows the pieces of the board after each change on standard input";
+
+const LOG: &str = "Shows what a board has stored, by its messages on standard input";
 
 const ASK: &str = "Writes the bytes of commands to a board";
 
@@ -206,6 +210,7 @@ fn command<'a>(alloc: Global) -> Result<Command<'a>, AllocError> {
         .subcommand(show(alloc)?)?
         .subcommand(subcommand(alloc, "monitor", MONITOR, MONITOR_NOTES))?
         .subcommand(picture(alloc)?)?
+        .subcommand(subcommand(alloc, "log", LOG, LOG_NOTES))?
         .subcommand(ask(alloc)?)?
         .subcommand(subcommand(alloc, "commands", COMMANDS, COMMANDS_NOTES))?
         .subcommand(board(alloc)?)?
@@ -273,7 +278,7 @@ fn extra_file<'w>(words: &'w [String], text: &str) -> Option<(&'w str, &'w str)>
         .strip_prefix("error: unexpected argument '")?
         .split_once("' found")?;
     let command = words.get(1)?.as_str();
-    let reads = ["monitor", "picture", "commands", "board", "simulate"];
+    let reads = ["monitor", "picture", "log", "commands", "board", "simulate"];
     if file.starts_with('-') || !reads.contains(&command) {
         return None;
     }
@@ -303,6 +308,7 @@ fn task_named<'a>(name: &str, options: &ArgMatches<'a>) -> Option<Task<'a>> {
             doubt: options.get_flag("doubt"),
             clock: options.get_flag("clock"),
         },
+        "log" => Task::Log,
         "commands" => Task::Commands,
         "board" => Task::Board {
             placement: options.get_str("position")?,

@@ -36,10 +36,10 @@ pub const PROGRAM_NOTES: &str = "\
 A DGT board is a chess board that reports over a serial line which piece stands
 on each square. A host, the program at the other side, asks it by commands.
 'show' and 'monitor' print what the board's bytes mean, a line each, and
-'picture' prints its position. 'ask' writes commands, and 'commands' prints what
-a host's bytes ask for. 'board' takes the place of a board, to try a host on.
-'simulate' has a board and a host on a line of bytes each way, and moves the
-bytes by a script.
+'picture' prints its position. 'log' prints what it stored while no host read.
+'ask' writes commands, and 'commands' prints what a host's bytes ask for.
+'board' takes the place of a board, to try a host on. 'simulate' has a board and
+a host on a line of bytes each way, and moves the bytes by a script.
 
 Examples:
   $ dgt show 8e00052401
@@ -163,6 +163,48 @@ Example with the clock:
   00000067 rnbqkbnr/pppppppp/8/8/8/8/PPPPPPPP/RNBQKBNR
   00000077 clock 0:00:00 0:00:00 stopped -";
 
+/// What follows clap's own text in the help of `log`.
+pub const LOG_NOTES: &str = "\
+Reads the bytes that a board sends, from standard input up to its end. A board
+stores what happens while no host reads, and sends it as a message with the code
+0f, which 'dgt ask log' asks for. For each thing in such a message this writes a
+line to standard output, as soon as the message has come: the number of bytes up
+to the end of the thing, then one of
+
+  piece SQUARE PIECE  the piece now stands on the square
+  time H:MM:SS F      the time of one player; F is 6 or 7, one for each
+  powerup             the board was switched on
+  fourrows            pieces stand on four ranks, as before a game
+  emptyboard          no piece is on the board
+  begin               the pieces stand as a game begins
+  turnedbegin         the same, with the board turned
+  tag                 a tag
+  watchdog            the board began anew by itself
+  downloaded          all before this was sent to a host
+  nothing             nothing is stored here
+  erased              nothing was stored here yet
+  end                 the end of what is stored
+  unknown BYTE        a byte that is none of these, in hexadecimal
+
+PIECE is one of PRNBKQ (white), prnbkq (black) and XYZ (extra pieces), or . for
+an empty square. A + after it says that D4 of its byte is set: what that means
+is not published. Nothing else in the bytes has a line; 'dgt monitor' shows it.
+
+What the bytes mean is known from other programs, and was tried with no board.
+'dgt board' stores nothing.
+
+Exit status: 0, with faults in the bytes too. It is 1 if standard input or
+output fails, or the end has not come after 4294967295 reads; 2 if the command
+line is wrong; 3 if memory runs out.
+
+Example:
+  $ printf '\\x8f\\0\\xc\\x6a\\x40\\x34\\x41\\x24\\x61\\x30\\x5\\x6b' | dgt log
+  00000004 powerup
+  00000006 piece e2 .
+  00000008 piece e4 P
+  00000011 time 1:30:05 6
+  00000012 end";
+
 /// What follows clap's own text in the help of `ask`.
 pub const ASK_NOTES: &str = "\
 Writes the bytes of these commands, in their order and at once, to standard
@@ -182,6 +224,7 @@ The words, and what they ask for:
   version           the version of the board
   follow            updateboard and dump: all that a picture needs
   restart           255 zeros, which end a command that is half sent, and follow
+  log               what the board stored while no host read: see 'dgt log'
   beep N            the clock beeps for N of its units of time, 0 to 255
   end               the clock shows its times again
   button            the clock reports its buttons

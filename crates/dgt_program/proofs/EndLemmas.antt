@@ -13,7 +13,7 @@ use Rattle.dgt_lines.specs.Monitoring.{IsMonitored, IsPrefix}
 use Rattle.dgt_lines.specs.Turns.{Change, Ran, sink_mark_after}
 use Rattle.dgt_lines.specs.Writing.{Writes}
 use Rattle.dgt_text.specs.Simulating.{IsSimulated, Rules, ShowsHealed, ShowsPicture, faulty_rules, plain_rules}
-use Rattle.dgt_arguments.specs.declared.command_line.Task.TheVariants.{Help, Show, Monitor, Picture, Commands, Ask, Board, Simulate}
+use Rattle.dgt_arguments.specs.declared.command_line.Task.TheVariants.{Help, Show, Monitor, Picture, Log, Commands, Ask, Board, Simulate}
 use Rattle.dgt_program.specs.declared.fault.Fault.{Fault}
 use Rattle.dgt_program.specs.declared.fault.Fault.TheVariants.{Run}
 use Rattle.dgt_program.specs.Ends.{AllIsMonitored, AllIsShown, FaultsComeFirst, IsBeforeRuns, PlacementsAreRefused, PlaysAll, PositionsArePlaced, ShowsAll, ShowsNothing, SmallLinesAreRefused, TextsAreFlushed, WordsAreDecoded, WordsComeFirst, WorldsAreLarge}
@@ -53,6 +53,7 @@ module _ {S T : Type 0} (R : Source S) (W : Sink T) where
   faults_come_first (Show word) source sink fault first p = (p.0, word_first sink fault word.now first p.1)
   faults_come_first Monitor source sink fault first p = absurd (no_run p.run fault first p.answer)
   faults_come_first (Picture doubt clock) source sink fault first p = absurd (no_run p.run fault first p.answer)
+  faults_come_first Log source sink fault first p = absurd (no_run p.run fault first p.answer)
   faults_come_first Commands source sink fault first p = absurd (no_run p.run fault first p.answer)
   faults_come_first (Board placement) source sink fault first (inl p) =
       absurd (no_run p.2.1.run fault first p.2.1.answer)

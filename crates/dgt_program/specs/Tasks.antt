@@ -13,6 +13,7 @@ use Rattle.dgt_lines.specs.declared.streams.Source.{Ghosts as Source}
 use Rattle.dgt_lines.specs.declared.streams.Sink.{Ghosts as Sink}
 use Rattle.dgt_lines.specs.Commanding.{IsListed}
 use Rattle.dgt_lines.specs.Lines.{lines, monitor_text}
+use Rattle.dgt_lines.specs.Logging.{IsLogged}
 use Rattle.dgt_lines.specs.Monitoring.{IsMonitored, IsPrefix}
 use Rattle.dgt_lines.specs.Picturing.{IsPictured}
 use Rattle.dgt_lines.specs.Turns.{Change, InTurns, Ran, RunsInTurns, sink_mark_after}
@@ -20,7 +21,7 @@ use Rattle.dgt_lines.specs.Writing.{Writes}
 use Rattle.dgt_text.specs.Serving.{IsServed}
 use Rattle.dgt_text.specs.Simulating.{IsSimulated, Rules, ShowsHealed, ShowsPicture, faulty_rules, plain_rules}
 use Rattle.dgt_arguments.specs.declared.command_line.Task.{Task}
-use Rattle.dgt_arguments.specs.declared.command_line.Task.TheVariants.{Help, Show, Monitor, Picture, Commands, Ask, Board, Simulate}
+use Rattle.dgt_arguments.specs.declared.command_line.Task.TheVariants.{Help, Show, Monitor, Picture, Log, Commands, Ask, Board, Simulate}
 use Rattle.dgt_program.specs.declared.program.TheConstants.{MOST_TURNS}
 use Rattle.dgt_program.specs.declared.fault.Fault.{Fault}
 use Rattle.dgt_program.specs.declared.fault.Fault.TheVariants.{BadHex, BadPlacement, LineTooSmall, Run, OutOfMemory}
@@ -145,6 +146,7 @@ Does R W (Ask bytes) source sink r = Untouched source × Prints W sink r bytes.i
 Does R W (Show word) source sink r = Untouched source × ShowsWord W sink r word.now
 Does R W Monitor source sink r = Runs R W source sink r IsMonitored
 Does R W (Picture doubt clock) source sink r = Runs R W source sink r (IsPictured doubt clock)
+Does R W Log source sink r = Runs R W source sink r IsLogged
 Does R W Commands source sink r = Runs R W source sink r IsListed
 Does R W (Board placement) source sink r =
     OnBoard source sink r placement.now (AnswersFor R W source sink r)

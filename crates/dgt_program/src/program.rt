@@ -6,6 +6,7 @@ ghost use Rattle.dgt_values.specs.Board.{pieces_of};
 ghost use Rattle.dgt_board.specs.Simulated.{simulated_identity, simulated_times};
 ghost use Rattle.dgt_link.specs.View.{new_world};
 ghost use Rattle.dgt_lines.specs.Commanding.{IsListed};
+ghost use Rattle.dgt_lines.specs.Logging.{IsLogged};
 ghost use Rattle.dgt_lines.specs.Monitoring.{IsMonitored};
 ghost use Rattle.dgt_lines.specs.Picturing.{IsPictured};
 ghost use Rattle.dgt_lines.specs.Turns.{change};
@@ -19,7 +20,7 @@ use dgt_lines::laws::writes_in_a_row;
 use dgt_lines::{flush, put};
 use dgt_link::{World, WorldFault};
 use dgt_text::{
-    Bytes, Device, Shown, Sink, Source, commands, monitor, picture, serve, simulate,
+    Bytes, Device, Shown, Sink, Source, commands, log, monitor, picture, serve, simulate,
     simulate_faults,
 };
 use dgt_values::Position;
@@ -88,6 +89,7 @@ pub fn run_task<R: Source, W: Sink>(
         Task::Show { word } => show(alloc, word, output),
         Task::Monitor => show_messages(input, output),
         Task::Picture { doubt, clock } => show_picture(*doubt, *clock, input, output),
+        Task::Log => show_log(input, output),
         Task::Commands => show_commands(input, output),
         Task::Ask { bytes } => write_bytes(bytes.as_slice(), output),
         Task::Board { placement } => answer(placement, input, output),
@@ -127,6 +129,14 @@ fn show_commands<R: Source, W: Sink>(input: &mut R, output: &mut W) -> Result<()
         result IsListed }
 {
     Ok(commands(input, output, MOST_TURNS)?)
+}
+
+#[inline(never)]
+fn show_log<R: Source, W: Sink>(input: &mut R, output: &mut W) -> Result<(), Fault>
+    ensures { Runs R.Source W.Sink (change input.old input.new) (change output.old output.new)
+        result IsLogged }
+{
+    Ok(log(input, output, MOST_TURNS)?)
 }
 
 #[inline(never)]

@@ -3,8 +3,9 @@
 //! [`monitor`] reads what a board sends and writes a line for each event, as soon as its bytes
 //! came, and [`commands`] does the same for what a host sends. [`picture`] reads what a board sends
 //! too, and writes a line with the pieces of the board for each message that sets them. If
-//! [`Shown`] says so, it also writes when these may be wrong, and what the clock shows. [`serve`]
-//! reads commands and writes what a board answers. [`simulate`] plays a script in a world of a
+//! [`Shown`] says so, it also writes when these may be wrong, and what the clock shows. [`log`]
+//! writes a line for each thing that a board has stored. [`serve`] reads commands and writes what a
+//! board answers. [`simulate`] plays a script in a world of a
 //! board, a host and the lines between them, and writes what came of each act. [`simulate_faults`]
 //! does the same in a world whose lines and whose board's power may fail.
 //!
@@ -32,7 +33,7 @@ mod simulating;
 mod stage;
 
 pub use dgt_lines::{
-    Bytes, Device, Failed, RunFault, Shown, Sink, Source, commands, monitor, picture,
+    Bytes, Device, Failed, RunFault, Shown, Sink, Source, commands, log, monitor, picture,
     write_command, write_event,
 };
 pub use dgt_script::{LineFault, read_act, read_faulty_act};

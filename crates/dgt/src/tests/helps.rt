@@ -1,7 +1,7 @@
 //! The texts of help.
 use super::*;
 use dgt_arguments::help::{
-    ASK_NOTES, BOARD_NOTES, COMMANDS_NOTES, MONITOR_NOTES, PICTURE_NOTES, PROGRAM_NOTES,
+    ASK_NOTES, BOARD_NOTES, COMMANDS_NOTES, LOG_NOTES, MONITOR_NOTES, PICTURE_NOTES, PROGRAM_NOTES,
     SHOW_NOTES, SIMULATE_NOTES,
 };
 
@@ -15,6 +15,7 @@ Commands:
   show      Shows the messages in the bytes of a hexadecimal word
   monitor   Shows the messages in the bytes of standard input, as they come
   picture   Shows the pieces of the board after each change on standard input
+  log       Shows what a board has stored, by its messages on standard input
   ask       Writes the bytes of commands to a board
   commands  Shows the commands in the bytes of standard input, as they come
   board     Answers the commands on standard input, as a board does
@@ -62,6 +63,17 @@ Options:
       --doubt  Reports when the pieces may be wrong, too
       --clock  Shows the clock after each change, too
   -h, --help   Print help
+
+";
+
+/// The help of `log`, before its notes.
+const LOG: &str = "\
+Shows what a board has stored, by its messages on standard input
+
+Usage: dgt log
+
+Options:
+  -h, --help  Print help
 
 ";
 
@@ -127,6 +139,7 @@ fn shows_help(rt: HostRuntime) -> Result<(), Fail> {
         ("dgt show --help", SHOW, SHOW_NOTES),
         ("dgt monitor --help", MONITOR, MONITOR_NOTES),
         ("dgt picture --help", PICTURE, PICTURE_NOTES),
+        ("dgt log --help", LOG, LOG_NOTES),
         ("dgt ask --help", ASK, ASK_NOTES),
         ("dgt ask -h", ASK, ASK_NOTES),
         ("dgt ask dump --help", ASK, ASK_NOTES),
