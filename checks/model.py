@@ -1,5 +1,5 @@
 """docs/PROTOCOL.md and docs/PROGRAM.md once more, as plain as it can be said in Python: what `dgt
-monitor`, `dgt picture`, `dgt commands`, `dgt ask`, `dgt board` and `dgt simulate` write.
+monitor`, `dgt picture`, `dgt log`, `dgt commands`, `dgt ask`, `dgt board` and `dgt simulate` write.
 
 Written from these pages and the program's help, and not from its sources, so that both can
 be held against each other: checks/hostile does that. Squares are numbers, pieces their codes, a
@@ -24,6 +24,10 @@ DUMP, CLOCK, FIELD, SERIAL, TRADEMARK, VERSION, BATTERY, LONG_SERIAL = (
     0x22,
 )
 SIZES = {DUMP: 64, CLOCK: 7, FIELD: 2, SERIAL: 5, VERSION: 2}
+STORED = 0x0F
+MARKS = {0x00: "nothing", 0x6A: "powerup", 0x6B: "end", 0x6C: "fourrows", 0x6D: "emptyboard"}
+MARKS |= {0x6E: "downloaded", 0x6F: "begin", 0x7A: "turnedbegin", 0x7B: "tag", 0x7C: "watchdog"}
+MARKS |= {0x7F: "erased"}
 
 # The commands of one byte: those that ask for a message, with its code, and those that set the
 # mode.
@@ -243,6 +247,31 @@ def picture(data, doubt=False, clock=False):
     return "".join(lines).encode()
 
 
+def stored(body):
+    """The size and the text of what a body stores first."""
+    first, second = body[0], body[1:2]
+    if 0x40 <= first < 0x60 and second and second[0] < 64:
+        carried = " +" * (first >= 0x50)
+        return 2, f"piece {square_name(second[0])} {LETTERS[first % 16]}{carried}"
+    # The flags and the hours, minutes and seconds, a digit each.
+    if re.fullmatch("[67][0-9]([0-5][0-9]){2}", body[:3].hex()):
+        return 3, f"time {first & 0x0F}:{body[1]:02x}:{body[2]:02x} {first >> 4}"
+    return 1, MARKS.get(first, f"unknown {first:02x}")
+
+
+def log(data):
+    """What `dgt log` writes."""
+    decoder, lines = Decoder(), []
+    for offset, byte in enumerate(data, 1):
+        decoder.take(byte)
+        code, rest = decoder.message or (None, b"")
+        while code == STORED and rest:
+            size, text = stored(rest)
+            rest = rest[size:]
+            lines.append(f"{offset - len(rest):08} {text}\n")
+    return "".join(lines).encode()
+
+
 def word_kind(word):
     """What these bytes of the host are, or None while more of the word is to come."""
     first, have = word[0], len(word)
@@ -330,7 +359,7 @@ def clock_message(clock_id, payload):
 # What `dgt ask` writes for the words that stand alone.
 ASKED = {name: bytes([code]) for code, name in NAMES.items()}
 ASKED |= {name: clock_message(clock_id, b"") for clock_id, name in EMPTY.items()}
-ASKED |= {"follow": b"\x44\x42", "restart": bytes(255) + b"\x44\x42"}
+ASKED |= {"follow": b"\x44\x42", "restart": bytes(255) + b"\x44\x42", "log": b"\x49"}
 
 
 # How what follows the other words is read: to the bytes of the command, or None if it can't follow.

@@ -20,8 +20,8 @@ module _ {S : Type 0} {W : Sink S} where
       → Puts {A = A} W held a b (Ok x) text → Puts {A = B} W held a b (Ok y) text
   puts_as x y p = record { output = p.output; dropped = tt; no_flush = p.no_flush; waits = p.waits }
 
-  pub stops_as : {A B : Type 0} {held : List ℕ × List ℕ} {a b : S} {text : List ℕ} (e : RunFault) (r : Result B RunFault)
-      → IsErrAnd r (λ y. y ≡ e) → Puts {A = A} W held a b (Err e) text → Puts {A = B} W held a b r text
+  pub stops_as : {A B : Type 0} {held : List ℕ × List ℕ} {a b : S} {text : List ℕ} (e : RunFault)
+      (r : Result B RunFault) → IsErrAnd r (λ y. y ≡ e) → Puts {A = A} W held a b (Err e) text → Puts {A = B} W held a b r text
   stops_as e (Ok x) k p = absurd k
   stops_as e (Err y) k p =
       record { output = (k ∙ p.output.0, p.output.1); dropped = p.dropped; no_flush = p.no_flush; waits = tt }
@@ -87,13 +87,15 @@ module _ {S : Type 0} (W : Sink S) where
             let size = length (stored_bytes stored) in
             let text = line (before + at + size) (stored_text stored) in
             let later : drop (at + used) body ≡ says.0 =
-            rw (put.0, ← drop-drop size at body, says.1.begins.begins) (drop-append_seam (stored_bytes stored) says.0) in
+            rw (put.0, ← drop-drop size at body, says.1.begins.begins)
+            (drop-append_seam (stored_bytes stored) says.0) in
             let next : before + at + size ≡ before + (at + used) = omega (arith, put.0) in
             record {
               said = some.said ++ text;
               left = more;
               says = rw later says.2;
-              whole = whole ∙ sym (append_assoc some.said text _) ∙ ap (λ n. (some.said ++ text) ++ stored_lines n more) next;
+              whole = whole ∙ sym (append_assoc some.said text _)
+                  ∙ ap (λ n. (some.said ++ text) ++ stored_lines n more) next;
               puts = puts_then h i j a b c some.said text (Ok tt) some.puts (puts_as used tt put.1);
             }
 

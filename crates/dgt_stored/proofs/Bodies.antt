@@ -62,7 +62,8 @@ begins_time hours minutes seconds later h = record {
     ),
     omega (arith, h.0),
   );
-  begins = rw (← packed minutes h.1.1.1.0, ← packed seconds h.1.1.1.1) (ap (λ first. first ∷ minutes ∷ seconds ∷ later) (omega arith));
+  begins = rw (← packed minutes h.1.1.1.0, ← packed seconds h.1.1.1.1)
+      (ap (λ first. first ∷ minutes ∷ seconds ∷ later) (omega arith));
 }
 
 marked : (marks : List Mark) (byte : ℕ) → MarkBegins marks byte → (mark : Mark) × (mark_byte mark ≡ byte)

@@ -4,7 +4,8 @@ use crate::tests::fixtures::{new_board, world_of};
 use dgt_board::Board;
 use dgt_link::World;
 use dgt_text::{
-    RunFault, Shown, Sink, Source, commands, monitor, picture, serve, simulate, simulate_faults,
+    RunFault, Shown, Sink, Source, commands, log, monitor, picture, serve, simulate,
+    simulate_faults,
 };
 use std::alloc::Global;
 use std::test::Fail;
@@ -18,6 +19,7 @@ pub enum Engine<'a> {
     Monitor,
     /// `picture` with doubts or without, and with the clock or without.
     Picture(bool, bool),
+    Log,
     Commands,
     /// `serve` for a new board that took these bytes before.
     Serve(&'a [u8]),
@@ -40,6 +42,7 @@ impl<'a> Engine<'a> {
             Engine::Picture(doubts, clock) => {
                 picture(Shown { doubts, clock }, source, sink, limit)
             }
+            Engine::Log => log(source, sink, limit),
             Engine::Commands => commands(source, sink, limit),
             Engine::Serve(asked) => serve(&mut asked_board(asked)?, source, sink, limit),
             Engine::Simulate => simulate(&mut new_world(alloc)?, source, sink, limit),

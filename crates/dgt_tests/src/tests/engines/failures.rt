@@ -41,9 +41,10 @@ fn a_line_that_is_refused_at_each_byte(rt: HostRuntime) {
 }
 
 // What reads and writes of std that fail are tried with.
-const TRIED: [(Engine<'static>, &[u8]); 5] = [
+const TRIED: [(Engine<'static>, &[u8]); 6] = [
     (Engine::Monitor, &E4_FIELD),
     (Engine::Picture(false, false), &START_DUMP),
+    (Engine::Log, &[0x8f, 0x00, 0x04, 0x6b]),
     (Engine::Commands, &BEEP),
     (Engine::Serve(&[]), &[0x4d]),
     (Engine::Simulate, b"send\n"),
