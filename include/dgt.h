@@ -1021,6 +1021,116 @@ dgt_encoded dgt_encode_command(uint8_t code, uint8_t id, const uint8_t *carried,
 bool dgt_view_command(const uint8_t *word, size_t word_len, dgt_command *command)
     DGT_MUST_USE_ DGT_NONNULL_(3) DGT_READS_(1, 2) DGT_WRITES_(3);
 
+/* ---- What a board has stored, and names of bytes that messages carry unread. The published
+ * protocol leaves these bytes open: what is said here of them is what other programs read in them.
+ * No clock and no board was tried. */
+
+/* A board stores its pieces and its clock while no host listens. It sends all that after the byte
+ * 49, of which no call makes a command: write the byte to the line. The answer is a
+ * DGT_EVENT_OTHER with the code 0f. */
+
+/* dgt_stored.kind, and which members it sets. The other members are 0. */
+enum {
+    DGT_STORED_PIECE = 1,  /* this piece, or none, stands on this square now: square, piece, bit */
+    DGT_STORED_TIME = 2,   /* the time of one player: time, whose flags are 6 or 7, one for each */
+    DGT_STORED_MARK = 3,   /* a byte that stands by itself, one of the marks: byte */
+    DGT_STORED_UNKNOWN = 4 /* a byte that is none of these, or begins one that isn't whole: byte */
+};
+
+/* The marks. */
+enum {
+    DGT_MARK_NOTHING = 0x00,      /* nothing is stored here */
+    DGT_MARK_POWER_UP = 0x6a,     /* the board was switched on */
+    DGT_MARK_END = 0x6b,          /* the end of what is stored */
+    DGT_MARK_FOUR_ROWS = 0x6c,    /* pieces stand on four ranks, as before a game */
+    DGT_MARK_EMPTY_BOARD = 0x6d,  /* no piece is on the board */
+    DGT_MARK_DOWNLOADED = 0x6e,   /* all before this was sent to a host */
+    DGT_MARK_BEGIN = 0x6f,        /* the pieces stand as a game begins */
+    DGT_MARK_TURNED_BEGIN = 0x7a, /* the same, with the board turned */
+    DGT_MARK_TAG = 0x7b,          /* a tag */
+    DGT_MARK_WATCHDOG = 0x7c,     /* the board began anew by itself */
+    DGT_MARK_ERASED = 0x7f        /* nothing was stored here yet */
+};
+
+typedef struct dgt_stored {
+    uint8_t kind;
+    uint8_t square;
+    uint8_t piece;
+    uint8_t bit;  /* D4 of the byte of the piece, carried: 0 or 1 */
+    uint8_t byte;
+    dgt_time time;
+    uint8_t reserved[7]; /* each 0 */
+} dgt_stored;
+
+/* Writes what a body says first to `stored`, and returns how many of its bytes that takes, 1 to 3.
+ * Call again with the bytes that are left. Returns 0, and writes nothing, if there are none. */
+size_t dgt_stored_first(const uint8_t *body, size_t body_len, dgt_stored *stored)
+    DGT_MUST_USE_ DGT_NONNULL_(3) DGT_READS_(1, 2) DGT_WRITES_(3);
+
+/* dgt_signal.kind, and which members it sets. The other members are 0. */
+enum {
+    DGT_SIGNAL_DONE = 1,    /* the clock has done what the message with this id asks for: id */
+    DGT_SIGNAL_VERSION = 2, /* the version of the clock: main_number, sub_number */
+    DGT_SIGNAL_PRESSED = 3, /* this button was pressed, asked for or not: button */
+    DGT_SIGNAL_OFF = 4,     /* Ok was pressed with Back, which switches a clock off */
+    DGT_SIGNAL_READY = 5    /* the clock was switched on, and is ready */
+};
+
+/* The buttons. On a DGT 3000 they are, from left to right, Back, Minus, Run, Plus and Ok. */
+enum {
+    DGT_BUTTON_BACK = 0x31,
+    DGT_BUTTON_PLUS = 0x32,
+    DGT_BUTTON_RUN = 0x33,
+    DGT_BUTTON_MINUS = 0x34,
+    DGT_BUTTON_OK = 0x35
+};
+
+typedef struct dgt_signal {
+    uint8_t kind;
+    uint8_t id; /* one of the ids of clock messages */
+    uint8_t main_number;
+    uint8_t sub_number;
+    uint8_t button;
+    uint8_t reserved[3]; /* each 0 */
+} dgt_signal;
+
+/* Writes what the bytes of an acknowledgement say, dgt_event.ack, to `signal`. False, and nothing
+ * written, if that is unknown, or the first byte isn't 10, which is success. */
+bool dgt_signal_of(const uint8_t ack[4], dgt_signal *signal)
+    DGT_MUST_USE_ DGT_NONNULL_(1, 2) DGT_READS_(1) DGT_WRITES_(2);
+
+/* The bits of dgt_time.flags in the times of a clock. */
+enum {
+    DGT_FLAG_BLOCKED = 0x01,  /* the flag has fallen, and the clock stays at zero */
+    DGT_FLAG_PER_MOVE = 0x02, /* the time is one for each move */
+    DGT_FLAG_FALLEN = 0x04    /* the flag has fallen, and the clock shows that */
+};
+
+#define DGT_BATTERY_UNKNOWN 127 /* what isn't known of a battery */
+
+typedef struct dgt_battery {
+    uint8_t percent;      /* what is left of its charge, or DGT_BATTERY_UNKNOWN */
+    uint8_t hours_left;   /* how long that lasts, or after how long it is charged, or */
+    uint8_t minutes_left; /* DGT_BATTERY_UNKNOWN */
+    uint8_t hours_on;     /* how long the board has been on */
+    uint8_t minutes_on;
+    uint8_t days_resting; /* how long it has been resting */
+    uint8_t hours_resting;
+    uint8_t minutes_resting;
+    uint8_t charging;     /* 1 if it is, else 0 */
+    uint8_t discharging;
+    uint8_t reserved[6];  /* each 0 */
+} dgt_battery;
+
+/* Writes what the body of a DGT_EVENT_BATTERY says to `battery`. False, and nothing written, if it
+ * hasn't nine bytes. */
+bool dgt_battery_of(const uint8_t *body, size_t body_len, dgt_battery *battery)
+    DGT_MUST_USE_ DGT_NONNULL_(3) DGT_READS_(1, 2) DGT_WRITES_(3);
+
+/* Whether bytes, as those of a serial number or a trademark, are a text: at least one, and each a
+ * character of ASCII that prints. */
+bool dgt_is_text(const uint8_t *bytes, size_t n) DGT_READS_(1, 2);
+
 /* ---- Plain helpers. */
 
 #define DGT_NO_SUCH 255 /* no piece, no square, no segments */
@@ -1086,6 +1196,9 @@ DGT_SIZE_(dgt_identity, 256);
 DGT_SIZE_(dgt_taken, 16);
 DGT_SIZE_(dgt_polled, 16);
 DGT_SIZE_(dgt_encoded, 16);
+DGT_SIZE_(dgt_stored, 16);
+DGT_SIZE_(dgt_signal, 8);
+DGT_SIZE_(dgt_battery, 16);
 DGT_SIZE_(dgt_parsed, 16);
 #undef DGT_SIZE_
 #endif

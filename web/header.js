@@ -19,6 +19,13 @@ export const ASK = Object.freeze({ clockMessage: 0x2b, reset: 0x40, clock: 0x41,
 export const IDS = Object.freeze({ display: 0x01, icons: 0x02, end: 0x03, button: 0x08,
                                    version: 0x09, setAndRun: 0x0a, beep: 0x0b, text: 0x0c });
 export const MODES = Object.freeze({ idle: 0, update: 1, updateBoard: 2, updateNice: 3 });
+export const STORED = Object.freeze({ piece: 1, time: 2, mark: 3, unknown: 4 });
+export const MARKS = Object.freeze({ nothing: 0x00, powerUp: 0x6a, end: 0x6b, fourRows: 0x6c,
+                                     emptyBoard: 0x6d, downloaded: 0x6e, begin: 0x6f,
+                                     turnedBegin: 0x7a, tag: 0x7b, watchdog: 0x7c, erased: 0x7f });
+export const SIGNALS = Object.freeze({ done: 1, version: 2, pressed: 3, off: 4, ready: 5 });
+export const BUTTONS = Object.freeze({ back: 0x31, plus: 0x32, run: 0x33, minus: 0x34, ok: 0x35 });
+export const FLAGS = Object.freeze({ blocked: 0x01, perMove: 0x02, fallen: 0x04 });
 export const MAX_BODY = 16380;
 export const MAX_WORD = 257;
 export const MAX_PAYLOAD = 252;
@@ -50,6 +57,7 @@ export const NEED_ROOM = 2;
 export const ENCODED = 0;
 export const TOO_SHORT = 1;
 export const NOT_ENCODED = 2;
+export const BATTERY_UNKNOWN = 127;
 export const NO_SUCH = 255;
 
 // Of each struct: its size, and of each member its name, its place and its type.
@@ -84,6 +92,15 @@ export const STRUCTS = {
   taken: { size: 16, members: [["busy", 0, "bool"], ["used", 8, "wide"]] },
   polled: { size: 16, members: [["status", 0, "u8"], ["bytes", 8, "wide"]] },
   encoded: { size: 16, members: [["status", 0, "u8"], ["bytes", 8, "wide"]] },
+  stored: { size: 16, members: [["kind", 0, "u8"], ["square", 1, "u8"], ["piece", 2, "u8"],
+                                ["bit", 3, "u8"], ["byte", 4, "u8"], ["time", 5, "time"]] },
+  signal: { size: 8, members: [["kind", 0, "u8"], ["id", 1, "u8"], ["mainNumber", 2, "u8"],
+                               ["subNumber", 3, "u8"], ["button", 4, "u8"]] },
+  battery: { size: 16, members: [["percent", 0, "u8"], ["hoursLeft", 1, "u8"],
+                                 ["minutesLeft", 2, "u8"], ["hoursOn", 3, "u8"],
+                                 ["minutesOn", 4, "u8"], ["daysResting", 5, "u8"],
+                                 ["hoursResting", 6, "u8"], ["minutesResting", 7, "u8"],
+                                 ["charging", 8, "u8"], ["discharging", 9, "u8"]] },
   parsed: { size: 16, members: [["ok", 0, "bool"], ["at", 8, "wide"]] },
 };
 
@@ -180,6 +197,10 @@ export const CALLS = {
   dgt_event_text: "encoded,wide,wide,wide,wide,wide",
   dgt_encode_command: "encoded,u8,u8,wide,wide,wide,wide",
   dgt_view_command: "bool,wide,wide,wide",
+  dgt_stored_first: "wide,wide,wide,wide",
+  dgt_signal_of: "bool,wide,wide",
+  dgt_battery_of: "bool,wide,wide,wide",
+  dgt_is_text: "bool,wide,wide",
   dgt_piece_letter: "char,u8",
   dgt_piece_code: "u8,u8",
   dgt_square_name: "bool,u8,wide",

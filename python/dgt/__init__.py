@@ -57,9 +57,12 @@ from .following import BoardView, Following, SerialLine, follow, follow_async
 from .games import Games, GameStore
 from .host import Host
 from .moves import GameBegun, MoveEvent, MoveMade, MoveRecogniser, MoveTakenBack
+from .names import BatteryState, Button, ClockVersion, Done, Off, Pressed, Ready, Signal
 from .pgn import PgnGame, PgnMove, san
 from .rules import START_FEN, GameState
 from .serial_ports import SerialPort, ports
+from .stored import (STORED_REQUEST, Mark, Stored, StoredPiece, StoredTime, UnknownByte,
+                     read_stored)
 from .values import (LETTERS, SQUARES, Clock, NoClock, Position, Time, Times, piece_code, segment,
                      square_number)
 from .world import Outcome, World
@@ -68,14 +71,16 @@ __version__ = VERSION
 
 __all__ = [
     "Ack", "Ask", "Asked", "BadEnd", "BadFen", "BadLength", "BadPlacement", "BadSize", "BadStart",
-    "BadValue", "Battery", "Board", "BoardView", "Busy", "Clock", "ClockCommands", "ClockId",
-    "ClockMessage", "Closed", "Command", "CommandDecoder", "Cut", "Decoder", "DgtError", "Dump",
-    "Event", "Fault", "Field", "Follower", "Following", "GameBegun", "GameState", "GameStore",
-    "Games", "Host", "Identity", "IllegalMove", "KeptGame", "LETTERS", "Leds", "LongSerial",
-    "Message", "Mode", "MoveEvent", "MoveMade", "MoveRecogniser", "MoveTakenBack", "Nested",
-    "NoClock", "NoSuchCommand", "Other", "Outcome", "PgnFile", "PgnGame", "PgnMove", "Position",
-    "Refused", "SQUARES", "START_FEN", "Serial", "SerialLine", "SerialPort", "Stray", "StrayByte",
-    "Time", "Times", "TooManyAwaited", "Trademark", "Version", "Word", "World", "encode_command",
-    "encode_message", "follow", "follow_async", "piece_code", "ports", "san", "segment",
-    "square_number", "view_command", "view_message",
+    "BadValue", "Battery", "BatteryState", "Board", "BoardView", "Busy", "Button", "Clock",
+    "ClockCommands", "ClockId", "ClockMessage", "ClockVersion", "Closed", "Command",
+    "CommandDecoder", "Cut", "Decoder", "DgtError", "Done", "Dump", "Event", "Fault", "Field",
+    "Follower", "Following", "GameBegun", "GameState", "GameStore", "Games", "Host", "Identity",
+    "IllegalMove", "KeptGame", "LETTERS", "Leds", "LongSerial", "Mark", "Message", "Mode",
+    "MoveEvent", "MoveMade", "MoveRecogniser", "MoveTakenBack", "Nested", "NoClock",
+    "NoSuchCommand", "Off", "Other", "Outcome", "PgnFile", "PgnGame", "PgnMove", "Position",
+    "Pressed", "Ready", "Refused", "SQUARES", "START_FEN", "STORED_REQUEST", "Serial", "SerialLine",
+    "SerialPort", "Signal", "Stored", "StoredPiece", "StoredTime", "Stray", "StrayByte", "Time",
+    "Times", "TooManyAwaited", "Trademark", "UnknownByte", "Version", "Word", "World",
+    "encode_command", "encode_message", "follow", "follow_async", "piece_code", "ports",
+    "read_stored", "san", "segment", "square_number", "view_command", "view_message",
 ]

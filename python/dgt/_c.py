@@ -97,6 +97,35 @@ MODE_UPDATE_NICE = 3
 ENCODED = 0
 TOO_SHORT = 1
 NOT_ENCODED = 2
+STORED_PIECE = 1
+STORED_TIME = 2
+STORED_MARK = 3
+STORED_UNKNOWN = 4
+MARK_NOTHING = 0x00
+MARK_POWER_UP = 0x6a
+MARK_END = 0x6b
+MARK_FOUR_ROWS = 0x6c
+MARK_EMPTY_BOARD = 0x6d
+MARK_DOWNLOADED = 0x6e
+MARK_BEGIN = 0x6f
+MARK_TURNED_BEGIN = 0x7a
+MARK_TAG = 0x7b
+MARK_WATCHDOG = 0x7c
+MARK_ERASED = 0x7f
+SIGNAL_DONE = 1
+SIGNAL_VERSION = 2
+SIGNAL_PRESSED = 3
+SIGNAL_OFF = 4
+SIGNAL_READY = 5
+BUTTON_BACK = 0x31
+BUTTON_PLUS = 0x32
+BUTTON_RUN = 0x33
+BUTTON_MINUS = 0x34
+BUTTON_OK = 0x35
+FLAG_BLOCKED = 0x01
+FLAG_PER_MOVE = 0x02
+FLAG_FALLEN = 0x04
+BATTERY_UNKNOWN = 127
 NO_SUCH = 255
 
 
@@ -155,6 +184,36 @@ class Mode(IntEnum):
     UPDATE_NICE = 3
 
 
+class Mark(IntEnum):
+    """A byte that is stored by itself."""
+
+    __module__ = "dgt.stored"
+
+    NOTHING = 0x00
+    POWER_UP = 0x6a
+    END = 0x6b
+    FOUR_ROWS = 0x6c
+    EMPTY_BOARD = 0x6d
+    DOWNLOADED = 0x6e
+    BEGIN = 0x6f
+    TURNED_BEGIN = 0x7a
+    TAG = 0x7b
+    WATCHDOG = 0x7c
+    ERASED = 0x7f
+
+
+class Button(IntEnum):
+    """A button of a clock."""
+
+    __module__ = "dgt.names"
+
+    BACK = 0x31
+    PLUS = 0x32
+    RUN = 0x33
+    MINUS = 0x34
+    OK = 0x35
+
+
 class TimeStruct(Structure):
     _fields_ = [("hours", c_uint8), ("minutes", c_uint8), ("seconds", c_uint8), ("flags", c_uint8)]
 
@@ -206,6 +265,23 @@ class PolledStruct(Structure):
 
 class EncodedStruct(Structure):
     _fields_ = [("status", c_uint8), ("bytes", c_size_t)]
+
+
+class StoredStruct(Structure):
+    _fields_ = [("kind", c_uint8), ("square", c_uint8), ("piece", c_uint8), ("bit", c_uint8),
+                ("byte", c_uint8), ("time", TimeStruct), ("reserved", c_uint8 * 7)]
+
+
+class SignalStruct(Structure):
+    _fields_ = [("kind", c_uint8), ("id", c_uint8), ("main_number", c_uint8),
+                ("sub_number", c_uint8), ("button", c_uint8), ("reserved", c_uint8 * 3)]
+
+
+class BatteryStruct(Structure):
+    _fields_ = [("percent", c_uint8), ("hours_left", c_uint8), ("minutes_left", c_uint8),
+                ("hours_on", c_uint8), ("minutes_on", c_uint8), ("days_resting", c_uint8),
+                ("hours_resting", c_uint8), ("minutes_resting", c_uint8), ("charging", c_uint8),
+                ("discharging", c_uint8), ("reserved", c_uint8 * 6)]
 
 
 class ParsedStruct(Structure):
@@ -318,6 +394,10 @@ CALLS: dict[str, tuple[Any, ...]] = {
     "dgt_event_text": (EncodedStruct, c_void_p, c_void_p, c_size_t, c_void_p, c_size_t),
     "dgt_encode_command": (EncodedStruct, c_uint8, c_uint8, c_void_p, c_size_t, c_void_p, c_size_t),
     "dgt_view_command": (c_bool, c_void_p, c_size_t, POINTER(CommandStruct)),
+    "dgt_stored_first": (c_size_t, c_void_p, c_size_t, POINTER(StoredStruct)),
+    "dgt_signal_of": (c_bool, c_void_p, POINTER(SignalStruct)),
+    "dgt_battery_of": (c_bool, c_void_p, c_size_t, POINTER(BatteryStruct)),
+    "dgt_is_text": (c_bool, c_void_p, c_size_t),
     "dgt_piece_letter": (c_char, c_uint8),
     "dgt_piece_code": (c_uint8, c_uint8),
     "dgt_square_name": (c_bool, c_uint8, c_void_p),

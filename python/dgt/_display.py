@@ -4,6 +4,7 @@ from __future__ import annotations
 
 from .commands import ClockId
 from .events import Ack
+from .names import ClockVersion, Done
 from .values import segment
 
 _ANSWER_WAIT = 2.0
@@ -13,7 +14,6 @@ _VERSION_WAIT = 10.0
 _WITH_TEXT = 2
 """The first main version of a clock that shows text."""
 _BEEP = 3
-_DONE = 0x10
 _SEGMENTS = {"a": 0x5F, "b": 0x7C, "c": 0x58, "d": 0x5E, "e": 0x7B, "f": 0x71, "g": 0x3D, "h": 0x74,
              "n": 0x54, "q": 0x67, "r": 0x50}
 """The segments that show the letters of moves."""
@@ -22,8 +22,9 @@ Message = tuple[ClockId, bytes]
 
 
 def message_of(move: str, version: int) -> Message:
-    """Returns the message that makes a clock of this version show a move, with a short beep."""
-    if version >> 4 >= _WITH_TEXT:
+    """Returns the message that makes a clock of this main version show a move, with a short
+    beep."""
+    if version >= _WITH_TEXT:
         return ClockId.TEXT, move.ljust(8)[:8].encode() + bytes([_BEEP])
     a, b, c, d, e, f = (_SEGMENTS.get(each) or segment(each) for each in move.ljust(6)[:6])
     return ClockId.DISPLAY, bytes([c, b, a, f, e, d, 0, _BEEP])
@@ -71,11 +72,10 @@ class Display:
 
     def acknowledge(self, ack: Ack) -> None:
         """Notes what the clock acknowledges: what it was sent, or something else, as a button."""
-        if ack.ack[0] != _DONE:
-            return
-        if ack.ack[1] == ClockId.VERSION:
-            self._version = ack.ack[2]
-        if self._sent is None or ack.ack[1] != self._sent[0]:
+        signal = ack.signal
+        if isinstance(signal, ClockVersion):
+            self._version, signal = signal.main, Done(ClockId.VERSION)
+        if self._sent is None or signal != Done(self._sent[0]):
             return
         if self._sent == self._message:
             self._is_new, self._is_shown = False, self._move is not None

@@ -11,6 +11,7 @@ from dataclasses import dataclass
 
 from . import _c
 from ._c import EVENT_FIELD, EventStruct
+from .names import BatteryState, Signal, read_battery, read_signal, read_text
 from .values import LETTERS, SQUARES, NoClock, Position, Times, read_clock
 
 Fault = _c.Fault
@@ -49,10 +50,20 @@ class Field:
 
 @dataclass(frozen=True, slots=True)
 class Ack:
-    """The reply to a clock message. A first byte of hexadecimal 10 is success."""
+    """The reply to a clock message. A first byte of hexadecimal 10 is success. A clock also sends
+    one if a button is pressed.
+
+    >>> Ack(b"\\x10\\x88\\x02\\x33", 0).signal
+    Pressed(button=<Button.RUN: 51>)
+    """
 
     ack: bytes
     status: int
+
+    @property
+    def signal(self) -> Signal | None:
+        """What other programs read in these bytes, or `None` if that is unknown."""
+        return read_signal(self.ack)
 
     def __str__(self) -> str:
         return f"ack {self.ack.hex(' ')} {self.status:02x}"
@@ -64,6 +75,11 @@ class Serial:
 
     serial: bytes
     unasked: bool = False
+
+    @property
+    def text(self) -> str | None:
+        """The text that its bytes are, or `None` if one of them doesn't print."""
+        return read_text(self.serial)
 
     def __str__(self) -> str:
         return f"serial {_text(self.serial)}"
@@ -88,6 +104,11 @@ class Trademark:
     body: bytes
     unasked: bool = False
 
+    @property
+    def text(self) -> str | None:
+        """The text that its bytes are, or `None` if one of them doesn't print."""
+        return read_text(self.body)
+
     def __str__(self) -> str:
         return f"trademark {_text(self.body)}"
 
@@ -99,6 +120,11 @@ class Battery:
     body: bytes
     unasked: bool = False
 
+    @property
+    def state(self) -> BatteryState | None:
+        """What other programs read in the body, or `None` if it hasn't nine bytes."""
+        return read_battery(self.body)
+
     def __str__(self) -> str:
         return f"battery {_text(self.body)}"
 
@@ -109,6 +135,11 @@ class LongSerial:
 
     body: bytes
     unasked: bool = False
+
+    @property
+    def text(self) -> str | None:
+        """The text that its bytes are, or `None` if one of them doesn't print."""
+        return read_text(self.body)
 
     def __str__(self) -> str:
         return f"longserial {_text(self.body)}"

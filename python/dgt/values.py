@@ -200,6 +200,22 @@ class Time:
         for name, most in _TIME_FIELDS:
             object.__setattr__(self, name, number(getattr(self, name), most, name))
 
+    @property
+    def blocked(self) -> bool:
+        """Whether the flag has fallen, and the clock stays at zero. It is what other programs read
+        in `flags`, as are `per_move` and `fallen`: no clock was tried."""
+        return bool(self.flags & _c.FLAG_BLOCKED)
+
+    @property
+    def per_move(self) -> bool:
+        """Whether the time is one for each move."""
+        return bool(self.flags & _c.FLAG_PER_MOVE)
+
+    @property
+    def fallen(self) -> bool:
+        """Whether the flag has fallen, and the clock shows that."""
+        return bool(self.flags & _c.FLAG_FALLEN)
+
     def __str__(self) -> str:
         return f"{self.hours}:{self.minutes:02}:{self.seconds:02}"
 
@@ -295,13 +311,16 @@ class NoClock:
 Clock = Times | NoClock
 
 
+def read_time(told: TimeStruct) -> Time:
+    """Returns the time that the library has reported."""
+    return Time(told.hours, told.minutes, told.seconds, told.flags)
+
+
 def read_clock(told: ClockStruct) -> Clock:
     """Returns the clock that the library has reported. Its kind must not be 0."""
     if told.kind == _c.CLOCK_NONE:
         return NoClock(bytes(told.raw), told.status)
-    first, second = (Time(each.hours, each.minutes, each.seconds, each.flags)
-                     for each in (told.first, told.second))
-    return Times(first, second, told.status)
+    return Times(read_time(told.first), read_time(told.second), told.status)
 
 
 def byte(held: int, what: str) -> int:

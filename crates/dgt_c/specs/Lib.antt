@@ -11,6 +11,7 @@ pub mod ClockSending
 pub mod Encoding
 pub mod Texts
 pub mod Kinds
+pub mod Names
 pub mod Boards
 pub mod Starting
 pub mod PlainBoard

@@ -10,7 +10,8 @@ use crate::header::{CLOCK_NONE, CLOCK_TIMES, DgtClock, DgtTime, NO_TIME};
 use dgt_message::{Clock, NoClock, Reading, Status, Times};
 use dgt_values::SevenBit;
 
-fn time_for_c(reading: Reading) -> DgtTime
+/// The time of one player.
+pub(crate) fn time_for_c(reading: Reading) -> DgtTime
     ensures { result ≡ time_reported (time_seen reading) }
 {
     DgtTime {

@@ -123,6 +123,27 @@ pub const MODE_UPDATE_BOARD: u8 = 2;
 
 pub const MODE_UPDATE_NICE: u8 = 3;
 
+pub const STORED_PIECE: u8 = 1;
+
+pub const STORED_TIME: u8 = 2;
+
+pub const STORED_MARK: u8 = 3;
+
+pub const STORED_UNKNOWN: u8 = 4;
+
+pub const SIGNAL_DONE: u8 = 1;
+
+pub const SIGNAL_VERSION: u8 = 2;
+
+pub const SIGNAL_PRESSED: u8 = 3;
+
+pub const SIGNAL_OFF: u8 = 4;
+
+pub const SIGNAL_READY: u8 = 5;
+
+/// What a battery doesn't know of itself.
+pub const BATTERY_UNKNOWN: u8 = 127;
+
 /// The time of one player.
 #[repr(C)]
 #[derive(Clone, Copy)]
@@ -310,4 +331,67 @@ pub struct DgtPolled {
 pub struct DgtParsed {
     pub ok: bool,
     pub at: usize,
+}
+
+/// What is stored.
+#[repr(C)]
+#[derive(Clone, Copy)]
+pub struct DgtStored {
+    pub kind: u8,
+    pub square: u8,
+    pub piece: u8,
+    pub bit: u8,
+    pub byte: u8,
+    pub time: DgtTime,
+    pub reserved: [u8; 7],
+}
+
+/// A struct of no kind.
+pub const NO_STORED: DgtStored = DgtStored {
+    kind: 0,
+    square: 0,
+    piece: 0,
+    bit: 0,
+    byte: 0,
+    time: NO_TIME,
+    reserved: [0; 7],
+};
+
+/// What a clock signals.
+#[repr(C)]
+#[derive(Clone, Copy)]
+pub struct DgtSignal {
+    pub kind: u8,
+    pub id: u8,
+    pub main_number: u8,
+    pub sub_number: u8,
+    pub button: u8,
+    pub reserved: [u8; 3],
+}
+
+/// A struct of no kind.
+pub const NO_SIGNAL: DgtSignal = DgtSignal {
+    kind: 0,
+    id: 0,
+    main_number: 0,
+    sub_number: 0,
+    button: 0,
+    reserved: [0; 3],
+};
+
+/// The state of a battery.
+#[repr(C)]
+#[derive(Clone, Copy)]
+pub struct DgtBattery {
+    pub percent: u8,
+    pub hours_left: u8,
+    pub minutes_left: u8,
+    pub hours_on: u8,
+    pub minutes_on: u8,
+    pub days_resting: u8,
+    pub hours_resting: u8,
+    pub minutes_resting: u8,
+    pub charging: u8,
+    pub discharging: u8,
+    pub reserved: [u8; 6],
 }

@@ -53,6 +53,7 @@ mod header;
 mod hearing;
 pub mod laws;
 mod looking;
+mod names;
 mod placements;
 mod places;
 mod plain;
@@ -66,7 +67,7 @@ mod version;
 
 pub use handles::{DgtBoard, DgtCommandDecoder, DgtDecoder, DgtFollower, DgtHost};
 pub use header::{
-    DgtBody, DgtClock, DgtCommand, DgtEncoded, DgtEvent, DgtIdentity, DgtParsed, DgtPolled,
-    DgtSent, DgtTaken, DgtTime, DgtTold,
+    DgtBattery, DgtBody, DgtClock, DgtCommand, DgtEncoded, DgtEvent, DgtIdentity, DgtParsed,
+    DgtPolled, DgtSent, DgtSignal, DgtStored, DgtTaken, DgtTime, DgtTold,
 };
 pub use places::{BoardPlace, CommandDecoderPlace, DecoderPlace, FollowerPlace, HostPlace};

@@ -6,11 +6,15 @@ ghost use Rattle.dgt_command.specs.Content.{ClockContent, CommandContent};
 ghost use Rattle.dgt_command.specs.Ids.{id_number};
 ghost use Rattle.dgt_command.specs.Encoding.{command_code};
 ghost use Rattle.dgt_command.specs.declared.ids.KnownId.{KnownId};
+ghost use Rattle.dgt_names.specs.Names.{button_byte};
+ghost use Rattle.dgt_names.specs.declared.clock.Button.{Button};
+ghost use Rattle.dgt_stored.specs.Stored.{mark_byte};
+ghost use Rattle.dgt_stored.specs.declared.stored.Mark.{Mark};
 ghost use Rattle.dgt_c.specs.Layouts.{◌⊗◌, Ascend, FitsIn, LiesAs, bit_alone};
-ghost use Rattle.dgt_c.specs.contracts.header.{DgtTime.the_row as time_row, DgtClock.the_row as clock_row, DgtEvent.the_row as event_row, DgtCommand.the_row as command_row, DgtTold.the_row as told_row, DgtSent.the_row as sent_row, DgtBody.the_row as body_row, DgtIdentity.the_row as identity_row, DgtTaken.the_row as taken_row, DgtPolled.the_row as polled_row, DgtEncoded.the_row as encoded_row, DgtParsed.the_row as parsed_row};
-ghost use Rattle.dgt_c.specs.contracts.header.{DgtTime.the_type as time_type, DgtClock.the_type as clock_type, DgtEvent.the_type as event_type, DgtCommand.the_type as command_type, DgtTold.the_type as told_type, DgtSent.the_type as sent_type, DgtBody.the_type as body_type, DgtIdentity.the_type as identity_type, DgtTaken.the_type as taken_type, DgtPolled.the_type as polled_type, DgtEncoded.the_type as encoded_type, DgtParsed.the_type as parsed_type};
+ghost use Rattle.dgt_c.specs.contracts.header.{DgtTime.the_row as time_row, DgtClock.the_row as clock_row, DgtEvent.the_row as event_row, DgtCommand.the_row as command_row, DgtTold.the_row as told_row, DgtSent.the_row as sent_row, DgtBody.the_row as body_row, DgtIdentity.the_row as identity_row, DgtTaken.the_row as taken_row, DgtPolled.the_row as polled_row, DgtEncoded.the_row as encoded_row, DgtStored.the_row as stored_row, DgtSignal.the_row as signal_row, DgtBattery.the_row as battery_row, DgtParsed.the_row as parsed_row};
+ghost use Rattle.dgt_c.specs.contracts.header.{DgtTime.the_type as time_type, DgtClock.the_type as clock_type, DgtEvent.the_type as event_type, DgtCommand.the_type as command_type, DgtTold.the_type as told_type, DgtSent.the_type as sent_type, DgtBody.the_type as body_type, DgtIdentity.the_type as identity_type, DgtTaken.the_type as taken_type, DgtPolled.the_type as polled_type, DgtEncoded.the_type as encoded_type, DgtStored.the_type as stored_type, DgtSignal.the_type as signal_type, DgtBattery.the_type as battery_type, DgtParsed.the_type as parsed_type};
 ghost use Rattle.dgt_c.specs.contracts.places.{HostPlace.the_row as host_row, FollowerPlace.the_row as follower_row, DecoderPlace.the_row as decoder_row, CommandDecoderPlace.the_row as command_decoder_row, BoardPlace.the_row as board_row};
-ghost use Rattle.dgt_c.specs.declared.header.{DgtTime.DgtTime, DgtClock.DgtClock, DgtEvent.DgtEvent, DgtCommand.DgtCommand, DgtTold.DgtTold, DgtSent.DgtSent, DgtBody.DgtBody, DgtIdentity.DgtIdentity, DgtTaken.DgtTaken, DgtPolled.DgtPolled, DgtEncoded.DgtEncoded, DgtParsed.DgtParsed};
+ghost use Rattle.dgt_c.specs.declared.header.{DgtTime.DgtTime, DgtClock.DgtClock, DgtEvent.DgtEvent, DgtCommand.DgtCommand, DgtTold.DgtTold, DgtSent.DgtSent, DgtBody.DgtBody, DgtIdentity.DgtIdentity, DgtTaken.DgtTaken, DgtPolled.DgtPolled, DgtEncoded.DgtEncoded, DgtStored.DgtStored, DgtSignal.DgtSignal, DgtBattery.DgtBattery, DgtParsed.DgtParsed};
 
 use crate::header::*;
 use dgt_board::{MAX_KEPT_BODY, MAX_OWED, MAX_SENT};
@@ -20,7 +24,8 @@ use dgt_host::{MAX_AWAITED, RESTART_LENGTH};
 use dgt_values::MAX_BODY;
 
 /// The numbers of `dgt.h`, by their names in small letters and without `DGT_`. The bits of a status
-/// are those that `Status` of dgt_message reads.
+/// are those that `Status` of dgt_message reads, and those of flags are those that `Flags` of
+/// dgt_names does.
 pub fn limits()
     ensures max_body { MAX_BODY ≡ 16380 }
     ensures max_word { MAX_WORD ≡ 257 }
@@ -115,6 +120,35 @@ pub fn limits()
     ensures encoded { ENCODED ≡ 0 }
     ensures too_short { TOO_SHORT ≡ 1 }
     ensures not_encoded { NOT_ENCODED ≡ 2 }
+    ensures stored_piece { STORED_PIECE ≡ 1 }
+    ensures stored_time { STORED_TIME ≡ 2 }
+    ensures stored_mark { STORED_MARK ≡ 3 }
+    ensures stored_unknown { STORED_UNKNOWN ≡ 4 }
+    ensures mark_nothing { mark_byte Mark.Nothing ≡ 0x00 }
+    ensures mark_power_up { mark_byte Mark.PowerUp ≡ 0x6a }
+    ensures mark_end { mark_byte Mark.End ≡ 0x6b }
+    ensures mark_four_rows { mark_byte Mark.FourRows ≡ 0x6c }
+    ensures mark_empty_board { mark_byte Mark.EmptyBoard ≡ 0x6d }
+    ensures mark_downloaded { mark_byte Mark.Downloaded ≡ 0x6e }
+    ensures mark_begin { mark_byte Mark.Begin ≡ 0x6f }
+    ensures mark_turned_begin { mark_byte Mark.TurnedBegin ≡ 0x7a }
+    ensures mark_tag { mark_byte Mark.Tag ≡ 0x7b }
+    ensures mark_watchdog { mark_byte Mark.Watchdog ≡ 0x7c }
+    ensures mark_erased { mark_byte Mark.Erased ≡ 0x7f }
+    ensures signal_done { SIGNAL_DONE ≡ 1 }
+    ensures signal_version { SIGNAL_VERSION ≡ 2 }
+    ensures signal_pressed { SIGNAL_PRESSED ≡ 3 }
+    ensures signal_off { SIGNAL_OFF ≡ 4 }
+    ensures signal_ready { SIGNAL_READY ≡ 5 }
+    ensures button_back { button_byte Button.Back ≡ 0x31 }
+    ensures button_plus { button_byte Button.Plus ≡ 0x32 }
+    ensures button_run { button_byte Button.Run ≡ 0x33 }
+    ensures button_minus { button_byte Button.Minus ≡ 0x34 }
+    ensures button_ok { button_byte Button.Ok ≡ 0x35 }
+    ensures flag_blocked { bit_alone 0 ≡ 0x01 }
+    ensures flag_per_move { bit_alone 1 ≡ 0x02 }
+    ensures flag_fallen { bit_alone 2 ≡ 0x04 }
+    ensures battery_unknown { BATTERY_UNKNOWN ≡ 127 }
     ensures no_such { NONE ≡ 255 }
 {}
 
@@ -135,6 +169,9 @@ pub fn cases_differ()
     ensures polls { Ascend (POLLED_NOTHING ∷ POLLED_WROTE ∷ POLLED_NEED_ROOM ∷ []) }
     ensures modes { Ascend (MODE_IDLE ∷ MODE_UPDATE ∷ MODE_UPDATE_BOARD ∷ MODE_UPDATE_NICE ∷ []) }
     ensures encodings { Ascend (ENCODED ∷ TOO_SHORT ∷ NOT_ENCODED ∷ []) }
+    ensures stored { Ascend (STORED_PIECE ∷ STORED_TIME ∷ STORED_MARK ∷ STORED_UNKNOWN ∷ []) }
+    ensures signals { Ascend (SIGNAL_DONE ∷ SIGNAL_VERSION ∷ SIGNAL_PRESSED ∷ SIGNAL_OFF
+        ∷ SIGNAL_READY ∷ []) }
 {}
 
 /// How the structs of `dgt.h` lie in memory: how many bytes each takes, the multiple at which it
@@ -158,6 +195,9 @@ pub fn layouts()
     ensures taken { LiesAs taken_row 16 8 (0 ∷ 8 ∷ []) }
     ensures polled { LiesAs polled_row 16 8 (0 ∷ 8 ∷ []) }
     ensures encoded { LiesAs encoded_row 16 8 (0 ∷ 8 ∷ []) }
+    ensures stored { LiesAs stored_row 16 1 (0 ∷ 1 ∷ 2 ∷ 3 ∷ 4 ∷ 5 ∷ 9 ∷ []) }
+    ensures signal { LiesAs signal_row 8 1 (0 ∷ 1 ∷ 2 ∷ 3 ∷ 4 ∷ 5 ∷ []) }
+    ensures battery { LiesAs battery_row 16 1 (0 ∷ 1 ∷ 2 ∷ 3 ∷ 4 ∷ 5 ∷ 6 ∷ 7 ∷ 8 ∷ 9 ∷ 10 ∷ []) }
     ensures parsed { LiesAs parsed_row 16 8 (0 ∷ 8 ∷ []) }
 {}
 
@@ -182,6 +222,13 @@ pub fn members()
     ensures taken { (it : DgtTaken) → taken_type.as_values it ≡ it.busy ⊗ it.used ⊗ tt }
     ensures polled { (it : DgtPolled) → polled_type.as_values it ≡ it.status ⊗ it.bytes ⊗ tt }
     ensures encoded { (it : DgtEncoded) → encoded_type.as_values it ≡ it.status ⊗ it.bytes ⊗ tt }
+    ensures stored { (it : DgtStored) → stored_type.as_values it ≡ it.kind ⊗ it.square ⊗ it.piece
+        ⊗ it.bit ⊗ it.byte ⊗ it.time ⊗ it.reserved ⊗ tt }
+    ensures signal { (it : DgtSignal) → signal_type.as_values it ≡ it.kind ⊗ it.id ⊗ it.main_number
+        ⊗ it.sub_number ⊗ it.button ⊗ it.reserved ⊗ tt }
+    ensures battery { (it : DgtBattery) → battery_type.as_values it ≡ it.percent ⊗ it.hours_left
+        ⊗ it.minutes_left ⊗ it.hours_on ⊗ it.minutes_on ⊗ it.days_resting ⊗ it.hours_resting
+        ⊗ it.minutes_resting ⊗ it.charging ⊗ it.discharging ⊗ it.reserved ⊗ tt }
     ensures parsed { (it : DgtParsed) → parsed_type.as_values it ≡ it.ok ⊗ it.at ⊗ tt }
 {}
 
@@ -198,5 +245,8 @@ pub fn clone_is_same()
     ensures taken { CloneIsSame ⟦<DgtTaken as Clone>⟧ }
     ensures polled { CloneIsSame ⟦<DgtPolled as Clone>⟧ }
     ensures encoded { CloneIsSame ⟦<DgtEncoded as Clone>⟧ }
+    ensures stored { CloneIsSame ⟦<DgtStored as Clone>⟧ }
+    ensures signal { CloneIsSame ⟦<DgtSignal as Clone>⟧ }
+    ensures battery { CloneIsSame ⟦<DgtBattery as Clone>⟧ }
     ensures parsed { CloneIsSame ⟦<DgtParsed as Clone>⟧ }
 {}
