@@ -1,18 +1,30 @@
 //! What holds of what calls report to C. [`header`] has the laws of numbers and structs. Nothing
 //! here runs: each function stands for the fact that its contract states.
 
-ghost use Rattle.std.specs.Prelude.{◌≡◌, ◌⊎◌, ◌<◌, ◌∷◌, ℕ, List, [], map};
+ghost use Rattle.std.specs.Prelude.{◌≡◌, ◌⊎◌, ◌<◌, ◌∷◌, ◌↔◌, ℕ, List, [], map, replicate, None, Some, IsTrue};
 ghost use Rattle.dgt_values.specs.declared.pieces.Piece.{Piece as AnyPiece};
 ghost use Rattle.dgt_values.specs.Board.{piece_code};
-ghost use Rattle.dgt_message.specs.Clock.{Absence, Times};
+ghost use Rattle.dgt_command.specs.Ids.{id_number};
+ghost use Rattle.dgt_command.specs.declared.ids.KnownId.{KnownId};
+ghost use Rattle.dgt_message.specs.Clock.{Absence, Time, Times};
 ghost use Rattle.dgt_message.specs.Content.{Content, IsMessage};
 ghost use Rattle.dgt_message.specs.declared.viewing.BodyFault.{BodyFault};
 ghost use Rattle.dgt_message.specs.declared.viewing.BodyFault.TheVariants.{WrongSize, BadPiece, BadSquare, BadReading};
 ghost use Rattle.dgt_decode.specs.Grammar.{Message, Refused, Cut, BadLength, Stray};
-ghost use Rattle.dgt_c.specs.Clocks.{absence_said, times_said};
+ghost use Rattle.dgt_names.specs.Names.{button_byte};
+ghost use Rattle.dgt_names.specs.declared.battery.BatteryState.{BatteryState as AnyState};
+ghost use Rattle.dgt_names.specs.declared.clock.Button.{Button as AnyButton};
+ghost use Rattle.dgt_names.specs.declared.clock.Signal.{Signal as AnySignal};
+ghost use Rattle.dgt_stored.specs.Stored.{StoredContent, mark_byte};
+ghost use Rattle.dgt_stored.specs.declared.stored.Mark.{Mark as AnyMark};
+ghost use Rattle.dgt_c.specs.Clocks.{absence_said, time_said, times_said};
 ghost use Rattle.dgt_c.specs.Encoding.{IsMessageKind, SaysContent, SaysMessage};
 ghost use Rattle.dgt_c.specs.Once.{BusyBoardsStay, ClocksAreInRange, CommandsReserveZeros, EventsAreRead, EventsHaveTexts, IdentitiesAreInRange, MessagesAreEncoded, MessagesAreRead, NothingHasNoText, NothingIsEncoded, OneClock, OneEncoding, OneFeed, OneHearing, OneReportEach, OneStart, OneTaking, OneUse, OneWord, RefusedCommandsStay, ReportsAreSaid, ReportsReserveZeros, RoomIsLeft, TextsAreShown, ViewsReserveZeros};
+ghost use Rattle.dgt_c.specs.Names.{battery_reported, number_if_known, signal_reported, stored_reported};
+ghost use Rattle.dgt_c.specs.declared.header.DgtBattery.{DgtBattery};
 ghost use Rattle.dgt_c.specs.declared.header.DgtEvent.{DgtEvent};
+ghost use Rattle.dgt_c.specs.declared.header.DgtSignal.{DgtSignal};
+ghost use Rattle.dgt_c.specs.declared.header.DgtStored.{DgtStored};
 ghost use Rattle.dgt_c.specs.Texts.{SaysEvent, SaysFault};
 
 pub mod header;
@@ -45,6 +57,9 @@ pub fn reserved_members()
     ensures reports { ReportsReserveZeros }
     ensures views { ViewsReserveZeros }
     ensures commands { CommandsReserveZeros }
+    ensures stored { (said : StoredContent) → (stored_reported said).reserved ≡ replicate 7 0 }
+    ensures signals { (said : AnySignal) → (signal_reported said).reserved ≡ replicate 3 0 }
+    ensures batteries { (said : AnyState) → (battery_reported said).reserved ≡ replicate 6 0 }
 {}
 
 /// A struct of C says one clock or one board at most, whose values are in their ranges.
@@ -129,6 +144,46 @@ pub fn said_events()
         SaysEvent said body BadLength → said.kind ≡ 14 }
     ensures stray { (said : DgtEvent) (body : List ℕ) (byte : ℕ) →
         SaysEvent said body (Stray byte) → (said.kind ≡ 15) × (said.byte ≡ byte) }
+{}
+
+/// The kinds and the members with which a struct says what is stored, what a clock signals, and the
+/// state of a battery.
+pub fn said_names()
+    ensures piece { (said : DgtStored) (square bit : ℕ) (piece : AnyPiece) →
+        said ≡ stored_reported (StoredContent.piece square piece bit)
+        → (said.kind ≡ 1) × (said.square ≡ square) × (said.piece ≡ piece_code piece)
+        × (said.bit ≡ bit) }
+    ensures time { (said : DgtStored) (shown : Time) →
+        said ≡ stored_reported (StoredContent.time shown)
+        → (said.kind ≡ 2) × (shown ≡ time_said said.time) }
+    ensures mark { (said : DgtStored) (mark : AnyMark) →
+        said ≡ stored_reported (StoredContent.mark mark)
+        → (said.kind ≡ 3) × (said.byte ≡ mark_byte mark) }
+    ensures unknown { (said : DgtStored) (byte : ℕ) →
+        said ≡ stored_reported (StoredContent.unknown byte)
+        → (said.kind ≡ 4) × (said.byte ≡ byte) }
+    ensures done { (said : DgtSignal) (id : KnownId) → said ≡ signal_reported (AnySignal.Done id)
+        → (said.kind ≡ 1) × (said.id ≡ id_number id) }
+    ensures version { (said : DgtSignal) (main sub : ℕ) →
+        said ≡ signal_reported (AnySignal.Version main sub)
+        → (said.kind ≡ 2) × (said.main_number ≡ main) × (said.sub_number ≡ sub) }
+    ensures pressed { (said : DgtSignal) (button : AnyButton) →
+        said ≡ signal_reported (AnySignal.Pressed button)
+        → (said.kind ≡ 3) × (said.button ≡ button_byte button) }
+    ensures off { (signal_reported AnySignal.Off).kind ≡ 4 }
+    ensures ready { (signal_reported AnySignal.Ready).kind ≡ 5 }
+    ensures left { (said : DgtBattery) (state : AnyState) → said ≡ battery_reported state
+        → (number_if_known state.percent ≡ said.percent)
+        × (number_if_known state.hours_left ≡ said.hours_left)
+        × (number_if_known state.minutes_left ≡ said.minutes_left) }
+    ensures since { (said : DgtBattery) (state : AnyState) → said ≡ battery_reported state
+        → (state.hours_on ≡ said.hours_on) × (state.minutes_on ≡ said.minutes_on)
+        × (state.days_resting ≡ said.days_resting) × (state.hours_resting ≡ said.hours_resting)
+        × (state.minutes_resting ≡ said.minutes_resting) }
+    ensures bits { (said : DgtBattery) (state : AnyState) → said ≡ battery_reported state
+        → (IsTrue state.charging ↔ (said.charging ≡ 1))
+        × (IsTrue state.discharging ↔ (said.discharging ≡ 1)) }
+    ensures known { (number_if_known None ≡ 127) × ((n : ℕ) → number_if_known (Some n) ≡ n) }
 {}
 
 /// A command that is refused changes nothing, and a text is refused only for its characters.
