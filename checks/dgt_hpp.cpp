@@ -271,6 +271,63 @@ void encodings() {
     CHECK(!dgt::view_command(Bytes{0x60, 1}) && !dgt::view_command({}));
 }
 
+/* What a board has stored, as a text. */
+std::string text(const dgt::Stored &stored) {
+    return std::visit(
+        Overloaded{
+            [](const dgt::StoredPiece &it) {
+                return it.square.name() + dgt::letter(it.piece) + (it.bit ? "+" : "");
+            },
+            [](const dgt::StoredTime &it) {
+                return to_string(it.time) + " " + std::to_string(it.time.flags);
+            },
+            [](dgt::Mark it) { return hex(static_cast<std::uint8_t>(it)); },
+            [](const dgt::UnknownByte &it) { return "?" + hex(it.byte); },
+        },
+        stored);
+}
+
+/* What an acknowledgement says, as a text. */
+std::string signal_text(const std::array<std::uint8_t, 4> &ack) {
+    std::optional<dgt::Signal> signal = dgt::signal_of(dgt::Ack{ack, 0});
+    if (!signal) return "unknown";
+    return std::visit(
+        Overloaded{
+            [](const dgt::Done &it) { return "done " + hex(it.id); },
+            [](const dgt::ClockVersion &it) {
+                return std::to_string(it.main_number) + "." + std::to_string(it.sub_number);
+            },
+            [](const dgt::Pressed &it) { return hex(static_cast<std::uint8_t>(it.button)); },
+            [](const dgt::Off &) { return std::string("off"); },
+            [](const dgt::Ready &) { return std::string("ready"); },
+        },
+        *signal);
+}
+
+void names() {
+    using dgt::Bytes;
+    std::string stored;
+    for (const auto &each : dgt::read_stored(Bytes{0x6f, 0x40, 0x34, 0x51, 0x24, 0x61, 0x30, 5,
+                                                   0x71, 0x29, 0, 0x6b, 0x41, 0x7d}))
+        stored += text(each) + ";";
+    CHECK(stored == "6f;e2.;e4P+;1:30:05 6;1:29:00 7;6b;?41;?7d;");
+    CHECK(dgt::read_stored({}).empty());
+    CHECK(signal_text({0x10, 0x88, 2, 0x33}) == "33" && signal_text({0x10, 8, 0, 0x31}) == "31");
+    CHECK(signal_text({0x10, 0x88, 0x45, 0x35}) == "off");
+    CHECK(signal_text({0x10, 8, 0, 0}) == "done 08" && signal_text({0x10, 9, 0x21, 0}) == "2.1");
+    CHECK(signal_text({0x10, 0x81, 0, 0}) == "ready");
+    CHECK(signal_text({0x11, 9, 0x21, 0}) == "unknown");
+    auto state = dgt::state_of({Bytes{64, 127, 59, 1, 2, 3, 4, 5, 2}, false}).value();
+    CHECK(state.percent == 64 && !state.hours_left && state.minutes_left == 59);
+    CHECK(state.hours_on == 1 && state.minutes_on == 2 && state.days_resting == 3);
+    CHECK(state.hours_resting == 4 && state.minutes_resting == 5);
+    CHECK(!state.charging && state.discharging && !dgt::state_of({Bytes{64}, false}));
+    CHECK(dgt::text_of(Bytes{'D', ' ', '~'}) == "D ~" && !dgt::text_of({}) &&
+          !dgt::text_of(Bytes{'D', 127}));
+    dgt::Time time{0, 0, 0, 5};
+    CHECK(time.blocked() && !time.per_move() && time.fallen());
+}
+
 /* What only a later library reports is read as dgt.h says. */
 void later_kinds() {
     dgt_event event{};
@@ -584,6 +641,7 @@ int main(int count, char **words) {
     if (count == 3) return run(words[1], static_cast<std::size_t>(std::atoi(words[2])));
     values();
     encodings();
+    names();
     later_kinds();
     hosts();
     clock_commands(dgt::Host());

@@ -239,6 +239,11 @@ struct Time {
     std::uint8_t seconds = 0; ///< 0 to 59
     std::uint8_t flags = 0;   ///< 0 to 7
 
+    /// What the flags of a clock's time say, as DGT_FLAG_BLOCKED and its like.
+    bool blocked() const { return (flags & DGT_FLAG_BLOCKED) != 0; }
+    bool per_move() const { return (flags & DGT_FLAG_PER_MOVE) != 0; }
+    bool fallen() const { return (flags & DGT_FLAG_FALLEN) != 0; }
+
     friend bool operator==(const Time &a, const Time &b) { return a.all() == b.all(); }
     friend bool operator!=(const Time &a, const Time &b) { return !(a == b); }
 
@@ -371,11 +376,12 @@ enum class Mode : std::uint8_t {
 
 namespace detail {
 
+inline Time read_time(const dgt_time &time) {
+    return Time{time.hours, time.minutes, time.seconds, time.flags};
+}
+
 inline Times read_times(const dgt_clock &clock) {
-    auto side = [](const dgt_time &time) {
-        return Time{time.hours, time.minutes, time.seconds, time.flags};
-    };
-    return Times{side(clock.first), side(clock.second), clock.status};
+    return Times{read_time(clock.first), read_time(clock.second), clock.status};
 }
 
 inline NoClock read_no_clock(const dgt_clock &clock) {
@@ -711,6 +717,116 @@ inline std::optional<Word> view_command(ByteView word) {
     dgt_command command;
     if (!dgt_view_command(word.data(), word.size(), &command)) return std::nullopt;
     return detail::read_word(command, word.data());
+}
+
+// ---- What a board has stored, and names of bytes that messages carry unread. They are what other
+// programs read in these bytes: no clock and no board was tried.
+
+/// A byte that is stored by itself.
+enum class Mark : std::uint8_t {
+    nothing = DGT_MARK_NOTHING,
+    power_up = DGT_MARK_POWER_UP,
+    end = DGT_MARK_END,
+    four_rows = DGT_MARK_FOUR_ROWS,
+    empty_board = DGT_MARK_EMPTY_BOARD,
+    downloaded = DGT_MARK_DOWNLOADED,
+    begin = DGT_MARK_BEGIN,
+    turned_begin = DGT_MARK_TURNED_BEGIN,
+    tag = DGT_MARK_TAG,
+    watchdog = DGT_MARK_WATCHDOG,
+    erased = DGT_MARK_ERASED
+};
+
+/// This piece, or none, stood on this square then. `bit` is D4 of its byte, carried.
+struct StoredPiece { Square square; Piece piece; bool bit; };
+/// The time of one player. Its flags are 6 or 7, one for each.
+struct StoredTime { Time time; };
+/// A byte that is none of these, or begins one that isn't whole.
+struct UnknownByte { std::uint8_t byte; };
+
+using Stored = std::variant<StoredPiece, StoredTime, Mark, UnknownByte>;
+
+/// What the body of an Other with the code 0f says, in its order. A board sends that after the byte
+/// 49, of which no call makes a command: write the byte to the line.
+inline std::vector<Stored> read_stored(ByteView body) {
+    std::vector<Stored> read;
+    for (dgt_stored it; !body.empty();) {
+        body = body.after(dgt_stored_first(body.data(), body.size(), &it));
+        switch (it.kind) {
+        case DGT_STORED_PIECE:
+            read.push_back(StoredPiece{Square(it.square), static_cast<Piece>(it.piece),
+                                       it.bit != 0});
+            break;
+        case DGT_STORED_TIME: read.push_back(StoredTime{detail::read_time(it.time)}); break;
+        case DGT_STORED_MARK: read.push_back(static_cast<Mark>(it.byte)); break;
+        default: read.push_back(UnknownByte{it.byte});
+        }
+    }
+    return read;
+}
+
+/// A button of a clock.
+enum class Button : std::uint8_t {
+    back = DGT_BUTTON_BACK,
+    plus = DGT_BUTTON_PLUS,
+    run = DGT_BUTTON_RUN,
+    minus = DGT_BUTTON_MINUS,
+    ok = DGT_BUTTON_OK
+};
+
+/// The clock has done what the message with this id asks for, as DGT_ID_BEEP.
+struct Done { std::uint8_t id; };
+struct ClockVersion { std::uint8_t main_number, sub_number; };
+/// This button was pressed, asked for or not.
+struct Pressed { Button button; };
+/// Ok was pressed with Back, which switches a clock off.
+struct Off {};
+/// The clock was switched on, and is ready.
+struct Ready {};
+
+using Signal = std::variant<Done, ClockVersion, Pressed, Off, Ready>;
+
+/// What an acknowledgement says, if that is known.
+inline std::optional<Signal> signal_of(const Ack &ack) {
+    dgt_signal it;
+    if (!dgt_signal_of(ack.ack.data(), &it)) return std::nullopt;
+    switch (it.kind) {
+    case DGT_SIGNAL_DONE: return Done{it.id};
+    case DGT_SIGNAL_VERSION: return ClockVersion{it.main_number, it.sub_number};
+    case DGT_SIGNAL_PRESSED: return Pressed{static_cast<Button>(it.button)};
+    case DGT_SIGNAL_OFF: return Off{};
+    case DGT_SIGNAL_READY: return Ready{};
+    default: return std::nullopt;
+    }
+}
+
+/// What a battery says of itself.
+struct BatteryState {
+    std::optional<std::uint8_t> percent; ///< what is left of its charge, if that is known
+    /// How long that lasts, or after how long it is charged.
+    std::optional<std::uint8_t> hours_left, minutes_left;
+    std::uint8_t hours_on, minutes_on; ///< how long the board has been on
+    std::uint8_t days_resting, hours_resting, minutes_resting; ///< how long it has been resting
+    bool charging, discharging;
+};
+
+/// What the body of a battery message says, if it has nine bytes.
+inline std::optional<BatteryState> state_of(const Battery &battery) {
+    dgt_battery it;
+    if (!dgt_battery_of(battery.body.data(), battery.body.size(), &it)) return std::nullopt;
+    auto known = [](std::uint8_t n) {
+        return n == DGT_BATTERY_UNKNOWN ? std::nullopt : std::optional(n);
+    };
+    return BatteryState{known(it.percent), known(it.hours_left), known(it.minutes_left),
+                        it.hours_on, it.minutes_on, it.days_resting, it.hours_resting,
+                        it.minutes_resting, it.charging != 0, it.discharging != 0};
+}
+
+/// The text that bytes are, as those of a serial number or a trademark. None if there are none, or
+/// one of them is no character of ASCII that prints.
+inline std::optional<std::string> text_of(ByteView bytes) {
+    if (!dgt_is_text(bytes.data(), bytes.size())) return std::nullopt;
+    return std::string(bytes.begin(), bytes.end());
 }
 
 // ---- The commands for the clock.

@@ -752,6 +752,62 @@ static void helpers(void) {
     CHECK(!dgt_placement(pieces, text));
 }
 
+/* What bodies say first. */
+static const struct { uint8_t body[4]; size_t n, used; dgt_stored said; } STORED[] = {
+    {{0x41, 0x34, 0x6b}, 3, 2, {.kind = DGT_STORED_PIECE, .square = 0x34, .piece = 1}},
+    {{0x50, 0x3f}, 2, 2, {.kind = DGT_STORED_PIECE, .square = 0x3f, .bit = 1}},
+    {{0x61, 0x30, 0x05, 0}, 4, 3, {.kind = DGT_STORED_TIME, .time = {1, 30, 5, 6}}},
+    {{0x79, 0x59, 0x59}, 3, 3, {.kind = DGT_STORED_TIME, .time = {9, 59, 59, 7}}},
+    {{0x6b, 0x34}, 2, 1, {.kind = DGT_STORED_MARK, .byte = DGT_MARK_END}},
+    {{0}, 1, 1, {.kind = DGT_STORED_MARK, .byte = DGT_MARK_NOTHING}},
+    {{0x6a, 0x30, 0x60}, 3, 1, {.kind = DGT_STORED_MARK, .byte = DGT_MARK_POWER_UP}},
+    {{0x41}, 1, 1, {.kind = DGT_STORED_UNKNOWN, .byte = 0x41}},
+    {{0x41, 64}, 2, 1, {.kind = DGT_STORED_UNKNOWN, .byte = 0x41}},
+    {{0x61, 0x30}, 2, 1, {.kind = DGT_STORED_UNKNOWN, .byte = 0x61}},
+    {{0x61, 0x60, 0}, 3, 1, {.kind = DGT_STORED_UNKNOWN, .byte = 0x61}},
+    {{0xff, 0, 0}, 3, 1, {.kind = DGT_STORED_UNKNOWN, .byte = 0xff}},
+};
+
+/* What acknowledgements say. No kind is none. */
+static const struct { uint8_t ack[4]; dgt_signal said; } SIGNALS[] = {
+    {{0x10, 0x88, 2, 0x33}, {.kind = DGT_SIGNAL_PRESSED, .button = DGT_BUTTON_RUN}},
+    {{0x10, 0x08, 0x42, 0x35}, {.kind = DGT_SIGNAL_PRESSED, .button = DGT_BUTTON_OK}},
+    {{0x10, 0x88, 0x44, 0x35}, {.kind = DGT_SIGNAL_OFF}},
+    {{0x10, 0x08, 0, 0}, {.kind = DGT_SIGNAL_DONE, .id = DGT_ID_BUTTON}},
+    {{0x10, 0x0a, 1, 2}, {.kind = DGT_SIGNAL_DONE, .id = DGT_ID_SET_AND_RUN}},
+    {{0x10, 0x09, 0x21, 0}, {.kind = DGT_SIGNAL_VERSION, .main_number = 2, .sub_number = 1}},
+    {{0x10, 0x81, 0, 0}, {.kind = DGT_SIGNAL_READY}},
+    {{0x10, 0x88, 2, 0x36}, {0}},
+    {{0x10, 0x04, 0, 0}, {0}},
+    {{0x11, 0x0b, 0, 0}, {0}},
+};
+
+static void names(void) {
+    for (size_t i = 0; i < sizeof STORED / sizeof *STORED; i++) {
+        uint8_t *body = copy(STORED[i].body, STORED[i].n);
+        dgt_stored *said = room(sizeof *said);
+        CHECK(dgt_stored_first(body, STORED[i].n, said) == STORED[i].used);
+        CHECK(!memcmp(said, &STORED[i].said, sizeof *said));
+        CHECK(dgt_stored_first(NULL, 0, said) == 0);
+        CHECK(!memcmp(said, &STORED[i].said, sizeof *said));
+        free(body), free(said);
+    }
+    for (size_t i = 0; i < sizeof SIGNALS / sizeof *SIGNALS; i++) {
+        dgt_signal said = {0};
+        CHECK(dgt_signal_of(SIGNALS[i].ack, &said) == (SIGNALS[i].said.kind != 0));
+        CHECK(!memcmp(&said, &SIGNALS[i].said, sizeof said));
+    }
+    dgt_battery state = {0}, right = {64, DGT_BATTERY_UNKNOWN, 59, 1, 2, 3, 4, 5, 0, 1, {0}};
+    CHECK(!dgt_battery_of(BYTES(64), &state) && state.percent == 0);
+    CHECK(dgt_battery_of(BYTES(64, 127, 59, 1, 2, 3, 4, 5, 2), &state));
+    CHECK(!memcmp(&state, &right, sizeof state));
+    CHECK(dgt_battery_of(BYTES(0, 0, 0, 0, 0, 0, 0, 0, 0x7d), &state));
+    CHECK(state.charging == 1 && state.discharging == 0);
+    CHECK(dgt_is_text(BYTES(0x20, 0x7e)) && !dgt_is_text(NULL, 0));
+    CHECK(!dgt_is_text(BYTES('a', 0x7f)) && !dgt_is_text(BYTES(0x1f)));
+    CHECK(DGT_FLAG_BLOCKED + DGT_FLAG_PER_MOVE + DGT_FLAG_FALLEN == 7);
+}
+
 /* Whether the message that an event says has these bytes, and is viewed as that event. */
 static bool is_encoded(const dgt_event *said, const uint8_t *carried, size_t carried_len,
                        const uint8_t *bytes, size_t n) {
@@ -1099,6 +1155,7 @@ int main(void) {
     commands();
     differing();
     helpers();
+    names();
     no_bytes_of_hosts();
     no_bytes_for_commands();
     no_bytes_of_followers();

@@ -15,10 +15,11 @@
  * 1 to 6, the black ones 7 to 12, and no piece is 0. Times are milliseconds.
  */
 
-import { ASK, CALLS, CLOCKS, EVENTS, FAULTS, IDS, MAX_BODY, MODES, NO_COMMAND, NO_SUCH, NOT_ENCODED,
-         PLACEMENT_ROOM, STATUS, STRUCTS, TOO_MANY, VERSION, WORDS, WROTE } from "./header.js";
+import { ASK, BATTERY_UNKNOWN, BUTTONS, CALLS, CLOCKS, EVENTS, FAULTS, FLAGS, IDS, MARKS, MAX_BODY,
+         MODES, NO_COMMAND, NO_SUCH, NOT_ENCODED, PLACEMENT_ROOM, SIGNALS, STATUS, STORED, STRUCTS,
+         TOO_MANY, VERSION, WORDS, WROTE } from "./header.js";
 
-export { ASK, IDS, MODES, STATUS };
+export { ASK, FLAGS, IDS, MODES, STATUS };
 
 /** What is wrong with a call. Nothing was done if one is thrown. */
 export class DgtError extends Error {
@@ -73,6 +74,23 @@ export class BadPlacement extends DgtError {
  *   {type: "strayByte", byte: number}
  * )} Command
  *
+ * @typedef {(
+ *   {type: "piece", square: number, piece: number, bit: boolean} |
+ *   {type: "time", time: Time} |
+ *   {type: "mark", mark: keyof typeof MARKS} |
+ *   {type: "unknown", byte: number}
+ * )} Stored  by a board while no host listens: this piece, or none, stands on this square; the time
+ *   of one player, whose flags are 6 or 7, one for each; or a byte
+ * @typedef {(
+ *   {type: "done", id: number} |
+ *   {type: "version", mainNumber: number, subNumber: number} |
+ *   {type: "pressed", button: keyof typeof BUTTONS} |
+ *   {type: "off" | "ready"}
+ * )} Signal  of a clock
+ * @typedef {{percent: number | null, hoursLeft: number | null, minutesLeft: number | null,
+ *   hoursOn: number, minutesOn: number, daysResting: number, hoursResting: number,
+ *   minutesResting: number, charging: boolean, discharging: boolean}} BatteryState  null is unknown
+ *
  * @typedef {{serial: ArrayLike<number>, mainNumber: number, subNumber: number,
  *   clockVersion: number, trademark: ArrayLike<number>, battery: ArrayLike<number>,
  *   longSerial: ArrayLike<number>}} Identity
@@ -98,10 +116,11 @@ const OF_ALL = ["kind", "unasked", "place", "bodyLen"];
 /** @type {Record<string, Map<string, any[]>>} the members of each struct by their names */
 const PLACES = Object.fromEntries(Object.entries(STRUCTS).map(([struct, { members }]) =>
   [struct, new Map(members.map(([name, ...how]) => [name, how]))]));
-const names = (/** @type {Record<string, number>} */ object) =>
-  Object.fromEntries(Object.entries(object).map(([name, n]) => [n, name]));
+/** @type {<N extends string>(object: Readonly<Record<N, number>>) => Record<number, N>} */
+const names = object => Object.fromEntries(Object.entries(object).map(([name, n]) => [n, name]));
 const EVENT_NAMES = names(EVENTS), FAULT_NAMES = names(FAULTS), CLOCK_NAMES = names(CLOCKS);
 const WORD_NAMES = names(WORDS);
+const MARK_NAMES = names(MARKS), BUTTON_NAMES = names(BUTTONS);
 
 /** @param {number} value */
 function byte(value) {
@@ -485,6 +504,77 @@ export class Library {
     const command = { type, ...this.read("command", this.small, MEMBERS[type]) };
     if (type === "command") command.word = this.bytes(word, wordLen);
     return command;
+  }
+
+  // Names of bytes that messages carry: what other programs read in them. No board was tried.
+
+  /**
+   * Writes a body to `body`, and returns what a call takes for it.
+   * @param {ArrayLike<number>} body
+   * @returns {[number, number]}
+   */
+  #putBody(body) {
+    if (checked(body).length > MAX_BODY) throw new BadValue(`more than ${MAX_BODY} bytes`);
+    return [this.put(this.body, body), body.length];
+  }
+
+  /**
+   * What the body of a message with the code 0f says, in its order. A board sends that after the
+   * byte 49, of which no call makes a command.
+   * @param {ArrayLike<number>} body
+   */
+  readStored(body) {
+    const [begin, length] = this.#putBody(body);
+    /** @type {Stored[]} */
+    const found = [];
+    for (let at = 0; at < length;) {
+      at += this.calls.stored_first(begin + at, length - at, this.small);
+      const { kind, square, piece, bit, byte, time } = this.read("stored", this.small);
+      if (kind === STORED.piece) found.push({ type: "piece", square, piece, bit: bit === 1 });
+      else if (kind === STORED.time) found.push({ type: "time", time });
+      else if (kind === STORED.mark) found.push({ type: "mark", mark: MARK_NAMES[byte] });
+      else found.push({ type: "unknown", byte });
+    }
+    return found;
+  }
+
+  /**
+   * What the four bytes of an acknowledgement say, or null if that is unknown.
+   * @param {ArrayLike<number>} ack
+   * @returns {Signal | null}
+   */
+  signalOf(ack) {
+    if (!this.calls.signal_of(this.put(this.in, checked(ack, 4)), this.small)) return null;
+    const { kind, id, mainNumber, subNumber, button } = this.read("signal", this.small);
+    switch (kind) {
+      case SIGNALS.done: return { type: "done", id };
+      case SIGNALS.version: return { type: "version", mainNumber, subNumber };
+      case SIGNALS.pressed: return { type: "pressed", button: BUTTON_NAMES[button] };
+      default: return { type: kind === SIGNALS.off ? "off" : "ready" };
+    }
+  }
+
+  /**
+   * What the body of a battery message says, or null if it hasn't nine bytes.
+   * @param {ArrayLike<number>} body
+   * @returns {BatteryState | null}
+   */
+  batteryOf(body) {
+    if (!this.calls.battery_of(...this.#putBody(body), this.small)) return null;
+    const it = this.read("battery", this.small);
+    const known = (/** @type {number} */ n) => n === BATTERY_UNKNOWN ? null : n;
+    return { ...it, percent: known(it.percent), hoursLeft: known(it.hoursLeft),
+             minutesLeft: known(it.minutesLeft), charging: it.charging === 1,
+             discharging: it.discharging === 1 };
+  }
+
+  /**
+   * The text that bytes are, or null if there are none, or one is no character that prints.
+   * @param {ArrayLike<number>} bytes
+   */
+  textOf(bytes) {
+    const isOne = this.calls.is_text(...this.#putBody(bytes));
+    return isOne ? String.fromCharCode(...Array.from(bytes)) : null;
   }
 
   /**

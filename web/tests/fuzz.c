@@ -227,6 +227,34 @@ static void helpers(void) {
     say_code(dgt_piece_code(c)), say_code(dgt_segment(c)), say_code(dgt_square_number(c, d));
 }
 
+static void stored(const dgt_stored *it) {
+    say_number(it->kind);
+    switch (it->kind) {
+    case DGT_STORED_PIECE: say("%d %d %d ", it->square, it->piece, it->bit); break;
+    case DGT_STORED_TIME:
+        say("%d %d %d %d ", it->time.hours, it->time.minutes, it->time.seconds, it->time.flags);
+        break;
+    default: say_number(it->byte);
+    }
+}
+
+static void names(void) {
+    uint8_t ack[4];
+    dgt_stored first;
+    dgt_signal signal;
+    dgt_battery state;
+    get_all(ack, 4);
+    size_t n = get_bytes(1);
+    for (size_t at = 0; at < n; stored(&first))
+        at += dgt_stored_first(bytes + at, n - at, &first);
+    if (dgt_signal_of(ack, &signal))
+        say("%d %d %d %d %d ", signal.kind, signal.id, signal.main_number, signal.sub_number,
+            signal.button);
+    if (dgt_battery_of(bytes, n, &state))
+        for (size_t at = 0; at < 10; at++) say_number(((const uint8_t *)&state)[at]);
+    say_number(dgt_is_text(bytes, n));
+}
+
 static void note(unsigned which) {
     switch (which) {
     case 0: dgt_host_line_lost(&host); break;
@@ -371,6 +399,7 @@ static int act(int op) {
     case 21: any_message(); break;
     case 22: view_command(); break;
     case 23: helpers(); break;
+    case 24: names(); break;
     case 254: look(); break;
     case 255: printf(is_loud ? "\n%08x\n" : "%08x\n", hash); break;
     default: return 3;

@@ -6,7 +6,7 @@ import { execFileSync } from "node:child_process";
 import { readFileSync } from "node:fs";
 import { load, Board, BadPlacement, BadValue, CommandDecoder, Decoder, Follower, Host,
          TooManyAwaited } from "../dgt.js";
-import { CLOCKS, EVENTS, FAULTS, WORDS } from "../header.js";
+import { BUTTONS, CLOCKS, EVENTS, FAULTS, MARKS, SIGNALS, STORED, WORDS } from "../header.js";
 import { chance } from "./random.mjs";
 
 Error.stackTraceLimit = 0; // many are thrown
@@ -74,6 +74,19 @@ function sayCommand(c) {
     sayBytes(c.word);
   }
   if (c.type === "strayByte") sayNumbers(c.byte);
+}
+function sayStored(it) {
+  sayNumbers(STORED[it.type]);
+  switch (it.type) {
+    case "piece": return sayNumbers(it.square, it.piece, it.bit);
+    case "time": return sayNumbers(it.time.hours, it.time.minutes, it.time.seconds, it.time.flags);
+    case "mark": return sayNumbers(MARKS[it.mark]);
+    default: return sayNumbers(it.byte);
+  }
+}
+function saySignal(it) {
+  const { type, id = 0, mainNumber = 0, subNumber = 0, button } = it;
+  sayNumbers(SIGNALS[type], id, mainNumber, subNumber, button ? BUTTONS[button] : 0);
 }
 // Says what a call returns, or that it throws.
 function sayResult(act, then = sayBytes) {
@@ -310,6 +323,18 @@ const ACTS = [
     sayResult(() => dgt.pieceCode(letter), sayNumbers);
     sayResult(() => dgt.segment(letter), sayNumbers);
     sayResult(() => dgt.squareNumber(letter + next), sayNumbers);
+  }],
+  [2, () => {
+    const near = () => pick([0x08, 0x09, 0x10, 0x31, 0x35, 0x44, 0x61, 0x88, random(128)]);
+    const body = Array.from({ length: pick([0, 4, 9, random(60)]) }, near);
+    const ack = [random(9) ? 0x10 : random(256), near(), near(), near()];
+    ops.push(24, ...ack);
+    short(body);
+    dgt.readStored(body).forEach(sayStored);
+    const signal = dgt.signalOf(ack), state = dgt.batteryOf(body);
+    if (signal) saySignal(signal);
+    if (state) sayNumbers(...Object.values(state).map(n => n ?? 127));
+    sayNumbers(dgt.textOf(body) !== null);
   }],
 ];
 const OTHERS = [

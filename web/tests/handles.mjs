@@ -61,6 +61,27 @@ const dgt = await load(bytes);
   assert.equal(follower.inDoubt, true);
   assert.equal(new Follower(dgt, { patience: 2 ** 32 - 1 }).heartbeatsLeft, 2 ** 32 - 1);
 }
+{ // What a board has stored, and names of bytes that messages carry.
+  assert.deepEqual(dgt.readStored([0x6f, 0x40, 0x34, 0x51, 0x24, 0x61, 0x30, 5, 0x41]), [
+    { type: "mark", mark: "begin" },
+    { type: "piece", square: 52, piece: 0, bit: false },
+    { type: "piece", square: 36, piece: 1, bit: true },
+    { type: "time", time: { hours: 1, minutes: 30, seconds: 5, flags: 6 } },
+    { type: "unknown", byte: 0x41 },
+  ]);
+  for (const [ack, signal] of [
+    [[0x10, 0x88, 2, 0x33], { type: "pressed", button: "run" }],
+    [[0x10, 0x08, 0x44, 0x35], { type: "off" }], [[0x10, 0x81, 0, 0], { type: "ready" }],
+    [[0x10, 0x0b, 0, 0], { type: "done", id: 0x0b }],
+    [[0x10, 0x09, 0x21, 0], { type: "version", mainNumber: 2, subNumber: 1 }],
+    [[0x11, 0x09, 0x21, 0], null],
+  ]) assert.deepEqual(dgt.signalOf(ack), signal);
+  assert.deepEqual(dgt.batteryOf([64, 127, 59, 1, 2, 3, 4, 5, 2]), {
+    percent: 64, hoursLeft: null, minutesLeft: 59, hoursOn: 1, minutesOn: 2, daysResting: 3,
+    hoursResting: 4, minutesResting: 5, charging: false, discharging: true });
+  assert.equal(dgt.batteryOf([64]), null);
+  assert.deepEqual([[0x44, 0x7e], [], [0x44, 0x7f]].map(it => dgt.textOf(it)), ["D~", null, null]);
+}
 { // Wrong arguments do nothing.
   const board = new Board(dgt), host = new Host(dgt), follower = new Follower(dgt);
   const wrong = [
@@ -84,7 +105,9 @@ const dgt = await load(bytes);
     () => dgt.encodeCommand(ASK.dump, 0, [1]), () => dgt.encodeCommand(0x20),
     () => lighting(1), () => lighting(64, 1), () => host.sendDisplay("abcdef"),
     () => host.sendLeds(new Uint8Array(256)), () => host.sendClock(1, new Uint8Array(253)),
-    () => host.sendSetAndRun([1, 2], [1, 2, 3], 0),
+    () => host.sendSetAndRun([1, 2], [1, 2, 3], 0), () => dgt.readStored([256]),
+    () => dgt.readStored(new Uint8Array(16381)), () => dgt.signalOf([16, 8, 0]),
+    () => dgt.batteryOf("text"), () => dgt.textOf([-1]),
   ];
   wrong.forEach((act, n) => assert.throws(act, BadValue, `wrong ${n}`));
   assert.throws(() => dgt.parsePlacement("8/8/8/8/8/8/8/9"), error =>
