@@ -1,6 +1,7 @@
 """Checks the values of the package for Python. A position is a sequence of letters. A time, a
 clock and an identity are refused when they are made with a value out of its range. Calls refuse
-wrong arguments by the errors that their docstrings name, and objects refuse to be copied."""
+wrong arguments by the errors that their docstrings name, and objects refuse to be copied. What a
+board has stored, and bytes that messages carry, have their names."""
 
 import collections.abc
 import copy
@@ -128,7 +129,9 @@ def calls(dgt):
         (world.hand_clock, times), (world.host_sends, dgt.Ask.DUMP), (world.to_board, 1),
         (world.to_host, 1), (world.garble_up, b""), (world.garble_down, b""),
         (dgt.encode_message, times), (dgt.encode_command, dgt.Leds(b"")),
-        (dgt.view_message, 1, b""), (dgt.view_command, b""),
+        (dgt.view_message, 1, b""), (dgt.view_command, b""), (dgt.read_stored, b""),
+        (lambda ack: dgt.Ack(ack, 0).signal, bytes(4)), (lambda body: dgt.Battery(body).state, b""),
+        (lambda serial: dgt.Serial(serial).text, b""),
         (dgt.Position, position.codes), (dgt.Position.parse, START), (position.changes, position),
         (dgt.Position.of_letters, LETTERS), (position.differ, position),
         (dgt.square_number, "e2"), (dgt.piece_code, "P"), (dgt.segment, "1"),
@@ -214,9 +217,46 @@ def check_copies(dgt):
         wanted("the moves", (other.moves, first.moves, first.due), (["e2e4"], [], None))
 
 
+# ---- Names of bytes
+
+
+def check_names(dgt):
+    time, mark, button = dgt.Time, dgt.Mark, dgt.Button
+    body = bytes.fromhex("6f 40 34 51 24 61 30 05 71 29 00 00 41 7c 6b 7d 80 41")
+    wanted("what is stored", dgt.read_stored(body), [
+        mark.BEGIN, dgt.StoredPiece("e2", "."), dgt.StoredPiece("e4", "P", True),
+        dgt.StoredTime(time(1, 30, 5, 6)), dgt.StoredTime(time(1, 29, 0, 7)), mark.NOTHING,
+        dgt.UnknownByte(0x41), mark.WATCHDOG, mark.END, dgt.UnknownByte(0x7D),
+        dgt.UnknownByte(0x80), dgt.UnknownByte(0x41)])
+    wanted("nothing", dgt.read_stored(b""), [])
+    for ack, signal in [
+        ("10 88 02 33", dgt.Pressed(button.RUN)), ("10 08 44 31", dgt.Pressed(button.BACK)),
+        ("10 88 45 35", dgt.Off()), ("10 88 41 35", dgt.Pressed(button.OK)),
+        ("10 08 00 00", dgt.Done(dgt.ClockId.BUTTON)), ("10 0c 01 02", dgt.Done(dgt.ClockId.TEXT)),
+        ("10 09 21 00", dgt.ClockVersion(2, 1)), ("10 81 00 00", dgt.Ready()),
+        ("11 09 21 00", None), ("10 88 02 36", None), ("10 04 00 00", None), ("10 09 21", None),
+    ]:
+        wanted(f"signal {ack}", dgt.Ack(bytes.fromhex(ack), 0).signal, signal)
+    for body, state in [
+        ("40 7f 3b 01 02 03 04 05 02",
+         dgt.BatteryState(64, None, 59, 1, 2, 3, 4, 5, charging=False, discharging=True)),
+        ("7f 00 7f 00 00 00 00 00 7d",
+         dgt.BatteryState(None, 0, None, 0, 0, 0, 0, 0, charging=True, discharging=False)),
+        ("40", None), ("", None),
+    ]:
+        wanted(f"battery {body}", dgt.Battery(bytes.fromhex(body)).state, state)
+    for carried, text in [(b"00001", "00001"), (b" ~", " ~"), (b"", None), (b"a\x7f", None),
+                          (b"\x1f", None)]:
+        wanted(f"text {carried}", (dgt.Serial(carried).text, dgt.Trademark(carried).text,
+                                   dgt.LongSerial(carried).text), 3 * (text,))
+    flags = [(one.blocked, one.per_move, one.fallen) for one in (time(flags=n) for n in range(8))]
+    wanted("flags", flags, [(n % 2 == 1, n // 2 % 2 == 1, n > 3) for n in range(8)])
+
+
 def check(dgt):
     """Returns how many values were tried."""
     check_position(dgt)
+    check_names(dgt)
     check_refusals(dgt)
     check_copies(dgt)
     return check_fields(dgt) + check_calls(dgt)

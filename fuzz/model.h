@@ -30,6 +30,14 @@ typedef struct model_decoder {
 size_t model_feed(model_decoder *decoder, const uint8_t *bytes, size_t n, dgt_event *event,
                   uint8_t body[DGT_MAX_BODY]);
 
+/* ---- What a board has stored, and names. */
+
+/* As the calls of dgt.h. If there is nothing, or nothing known, the struct has zeros. */
+size_t model_stored_first(const uint8_t *body, size_t n, dgt_stored *stored);
+bool model_signal_of(const uint8_t ack[4], dgt_signal *signal);
+bool model_battery_of(const uint8_t *body, size_t n, dgt_battery *battery);
+bool model_is_text(const uint8_t *bytes, size_t n);
+
 /* ---- Commands. */
 
 typedef struct model_reader {
