@@ -94,6 +94,44 @@ export class BadPlacement extends DgtError {
  * @typedef {{serial: ArrayLike<number>, mainNumber: number, subNumber: number,
  *   clockVersion: number, trademark: ArrayLike<number>, battery: ArrayLike<number>,
  *   longSerial: ArrayLike<number>}} Identity
+ *
+ * @typedef {typeof ASK[keyof typeof ASK]} CommandCode
+ * @typedef {Exclude<CommandCode, typeof ASK.clockMessage | typeof ASK.leds>} ByteCommand  it
+ *   carries nothing
+ * @typedef {typeof MODES[keyof typeof MODES]} Mode
+ * @typedef {Exclude<Mode, typeof MODES.idle>} ReportingMode
+ */
+
+// The types of calls and structs, from the words of header.js.
+/** @typedef {typeof CALLS} Calls @typedef {typeof STRUCTS} Structs */
+/**
+ * @template S
+ * @typedef {S extends "u8" | "u32" | "char" | "wide" ? number : S extends "bool" ? boolean :
+ *   S extends "void" ? void : S extends number ? Uint8Array : S extends "clock" ? Clock :
+ *   S extends keyof Structs ? Struct<S> : never} Value
+ */
+/**
+ * @template {keyof Structs} S
+ * @typedef {{[M in Structs[S]["members"][number] as M[0]]: Value<M[2]>}} Struct
+ */
+/**
+ * @template S
+ * @typedef {S extends `${infer W},${infer More}` ? [Value<W>, ...Values<More>] : [Value<S>]} Values
+ */
+/**
+ * @template S
+ * @typedef {S extends `${infer W},${infer More}` ? (...values: Values<More>) => Value<W> :
+ *   () => Value<S>} Call
+ */
+/**
+ * @typedef {{[N in keyof Calls as N extends `dgt_${infer M}` ? M : never]: Call<Calls[N]>}} Named
+ */
+/** @typedef {"host" | "follower" | "decoder" | "command_decoder" | "board"} Kind  of a handle */
+/**
+ * What a call of a handle takes after it, and what it returns.
+ * @template {string} N
+ * @typedef {N extends keyof Named ?
+ *   Named[N] extends (at: number, ...more: infer M) => infer R ? [M, R] : never : never} OfHandle
  */
 
 const CHUNK = 4096; // as many bytes are handed in at once
@@ -113,7 +151,7 @@ const MEMBERS = {
 /** @type {Record<string, string[]>} the same of a clock */
 const OF_CLOCKS = { unknown: [], times: ["status", "first", "second"], none: ["status", "raw"] };
 const OF_ALL = ["kind", "unasked", "place", "bodyLen"];
-/** @type {Record<string, Map<string, any[]>>} the members of each struct by their names */
+/** @type {Record<string, Map<string, [number, any]>>} the members of each struct by their names */
 const PLACES = Object.fromEntries(Object.entries(STRUCTS).map(([struct, { members }]) =>
   [struct, new Map(members.map(([name, ...how]) => [name, how]))]));
 /** @type {<N extends string>(object: Readonly<Record<N, number>>) => Record<number, N>} */
@@ -172,14 +210,13 @@ function latin(text, length = 0) {
  * module has no instruction for that.
  */
 export class Library {
+  /** @type {{buffer: ArrayBuffer, grow(pages: number | bigint): unknown}} */
   #memory;
   #top;
   #bytes;
   #view;
   /** @type {Map<number, number[]>} places that were given back, by their size */
   #free = new Map();
-  /** @type {Record<string, (...values: any[]) => any>} by their names without `dgt_` */
-  calls = {};
 
   /** @param {WebAssembly.Instance} instance */
   constructor(instance) {
@@ -188,10 +225,12 @@ export class Library {
     this.#top = Number(exports.__heap_base.value);
     this.#bytes = new Uint8Array(this.#memory.buffer);
     this.#view = new DataView(this.#memory.buffer);
-    for (const [name, words] of Object.entries(CALLS)) {
-      const [gives, ...takes] = words.split(",");
-      this.calls[name.slice(4)] = this.#caller(exports[name], gives, takes);
-    }
+    /** @type {Named} by their names without `dgt_` */
+    this.calls = /** @type {any} */ (Object.fromEntries(
+      Object.entries(CALLS).map(([name, words]) => {
+        const [gives, ...takes] = words.split(",");
+        return [name.slice(4), this.#caller(exports[name], gives, takes)];
+      })));
     this.version = this.calls.version();
     if (this.version < VERSION || Math.trunc(this.version / 1e6) !== Math.trunc(VERSION / 1e6)) {
       throw new DgtError(`the module has version ${this.version}, and dgt.js is for ${VERSION}`);
@@ -208,23 +247,23 @@ export class Library {
 
   /**
    * A call with the numbers of JavaScript. A struct is written to a place that is handed in first.
-   * @param {(...values: any[]) => any} call
+   * @param {(...values: (number | bigint)[]) => any} call
    * @param {string} gives
    * @param {string[]} takes
+   * @returns {(...values: number[]) => unknown}
    */
   #caller(call, gives, takes) {
     const isWide = takes.map(each => each === "wide");
-    const handed = (/** @type {any[]} */ values) =>
+    const handed = (/** @type {number[]} */ values) =>
       values.map((value, n) => isWide[n] ? BigInt(value) : value);
     switch (gives) {
-      case "wide": return (/** @type {any[]} */ ...values) => Number(call(...handed(values)));
-      case "u32": return (/** @type {any[]} */ ...values) => call(...handed(values)) >>> 0;
-      case "bool": return (/** @type {any[]} */ ...values) => Boolean(call(...handed(values)));
-      case "u8": case "char": case "void":
-        return (/** @type {any[]} */ ...values) => call(...handed(values));
-      default: return (/** @type {any[]} */ ...values) => {
+      case "wide": return (...values) => Number(call(...handed(values)));
+      case "u32": return (...values) => call(...handed(values)) >>> 0;
+      case "bool": return (...values) => Boolean(call(...handed(values)));
+      case "u8": case "char": case "void": return (...values) => call(...handed(values));
+      default: return (...values) => {
         call(BigInt(this.result), ...handed(values));
-        return this.read(gives, this.result);
+        return this.read(/** @type {keyof Structs} */ (gives), this.result);
       };
     }
   }
@@ -246,7 +285,7 @@ export class Library {
   }
 
   // A memory of 64 bits takes a BigInt, and one of 32 bits a number: each refuses the other.
-  /** @param {any} pages */
+  /** @param {number} pages */
   #grow(pages) {
     try {
       this.#memory.grow(pages);
@@ -304,23 +343,34 @@ export class Library {
   }
 
   /**
-   * The members of a struct, all of them or those of these names.
-   * @param {string} struct
+   * The members of a struct.
+   * @template {keyof Structs} S
+   * @param {S} struct
    * @param {number} at
-   * @param {string[]} [wanted]
+   * @returns {Struct<S>}
    */
-  read(struct, at, wanted) {
-    /** @type {any} */
+  read(struct, at) {
+    return /** @type {any} */ (this.#members(struct, at, PLACES[struct].keys()));
+  }
+
+  /**
+   * Those of these names.
+   * @param {keyof Structs} struct
+   * @param {number} at
+   * @param {Iterable<string>} wanted
+   */
+  #members(struct, at, wanted) {
+    /** @type {Record<string, any>} */
     const found = {};
-    for (const name of wanted ?? PLACES[struct].keys()) {
+    for (const name of wanted) {
       const [place, kind] = PLACES[struct].get(name) ?? [];
-      if (kind) found[name] = this.#member(kind, at + place);
+      if (place !== undefined) found[name] = this.#member(kind, at + place);
     }
     return found;
   }
 
   /**
-   * @param {string | number} kind
+   * @param {any} kind  a word or a length
    * @param {number} at
    */
   #member(kind, at) {
@@ -335,21 +385,20 @@ export class Library {
 
   /**
    * Writes these members of a struct, with zeros in the others, and returns where.
-   * @param {string} struct
+   * @param {keyof Structs} struct
    * @param {number} at
-   * @param {any} values
+   * @param {Record<string, unknown>} values
    */
   write(struct, at, values) {
-    const { size, members } = STRUCTS[struct];
-    this.#bytes.fill(0, at, at + size);
-    for (const [name, place, kind] of members) {
+    this.#bytes.fill(0, at, at + STRUCTS[struct].size);
+    for (const [name, [place, kind]] of PLACES[struct]) {
       if (values[name] !== undefined) this.#writeMember(kind, at + place, values[name]);
     }
     return at;
   }
 
   /**
-   * @param {string | number} kind
+   * @param {any} kind  a word or a length
    * @param {number} at
    * @param {any} value
    */
@@ -375,7 +424,7 @@ export class Library {
    */
   clock(at) {
     const kind = CLOCK_NAMES[this.#bytes[at]];
-    return { kind, ...this.read("clock", at, OF_CLOCKS[kind]) };
+    return /** @type {any} */ ({ kind, ...this.#members("clock", at, OF_CLOCKS[kind]) });
   }
 
   /**
@@ -397,12 +446,12 @@ export class Library {
    * @returns {Event | null}
    */
   event(at, before) {
-    const { kind, unasked, place, bodyLen } = this.read("event", at, OF_ALL);
+    const { kind, unasked, place, bodyLen } = this.#members("event", at, OF_ALL);
     if (kind === EVENTS.none) return null;
     const type = EVENT_NAMES[kind] ?? "other";
     /** @type {any} */
     const event = { type, offset: before + place, unasked: unasked === 1,
-                    ...this.read("event", at, MEMBERS[type]) };
+                    ...this.#members("event", at, MEMBERS[type]) };
     if (type === "refused") event.fault = FAULT_NAMES[event.fault];
     if (MEMBERS[type] === CARRIED) event.body = this.bytes(this.body, bodyLen);
     return event;
@@ -410,15 +459,16 @@ export class Library {
 
   /**
    * Writes a message, and its body to `body`. Returns what a call takes for both.
-   * @param {any} message
+   * @param {Message} message
+   * @returns {[number, number, number]}
    */
   #writeMessage(message) {
-    const { type } = message, members = MEMBERS[type] ?? [];
+    /** @type {Record<string, any>} */
+    const given = message, { type } = message, members = MEMBERS[type] ?? [];
     if (!(type in EVENTS)) throw new BadValue(`no message: ${type}`);
-    /** @type {any} */
-    const said = Object.fromEntries(members.map(name => [name, message[name]]));
+    const said = Object.fromEntries(members.map(name => [name, given[name]]));
     if (Object.values(said).includes(undefined)) throw new BadValue(`a ${type} lacks a part`);
-    if (said.fault !== undefined) said.fault = FAULTS[said.fault];
+    if ("fault" in message) said.fault = FAULTS[message.fault];
     const body = "body" in message ? checked(message.body) : [];
     if (body.length > MAX_BODY) throw new BadValue(`a body of more than ${MAX_BODY} bytes`);
     this.write("event", this.events, { ...said, kind: EVENTS[type] });
@@ -426,12 +476,10 @@ export class Library {
   }
 
   /**
-   * What a call of these arguments writes to `out`.
-   * @param {string} name
-   * @param {any[]} values
+   * What a call has written to `out`.
+   * @param {Struct<"encoded">} encoded
    */
-  #encoded(name, ...values) {
-    const { status, bytes } = this.calls[name](...values, this.out, ROOM);
+  #encoded({ status, bytes }) {
     if (status === NOT_ENCODED) throw new BadValue("a part is out of its range");
     return this.bytes(this.out, bytes);
   }
@@ -441,7 +489,7 @@ export class Library {
    * @param {Message} message
    */
   encodeMessage(message) {
-    return this.#encoded("encode_message", ...this.#writeMessage(message));
+    return this.#encoded(this.calls.encode_message(...this.#writeMessage(message), this.out, ROOM));
   }
 
   /**
@@ -449,8 +497,8 @@ export class Library {
    * @param {Message} event
    */
   eventText(event) {
-    return String.fromCharCode(...this.#encoded("event_text", ...this.#writeMessage(event)))
-      .slice(0, -1);
+    return String.fromCharCode(...this.#encoded(
+      this.calls.event_text(...this.#writeMessage(event), this.out, ROOM))).slice(0, -1);
   }
 
   /**
@@ -470,15 +518,15 @@ export class Library {
   }
 
   /**
-   * The bytes of a command: one of ASK, and what it carries.
-   * @param {number} code
+   * The bytes of a command, and what it carries.
+   * @param {CommandCode} code
    * @param {number} id  of a clock message, one of IDS
    * @param {ArrayLike<number>} carried
    */
   encodeCommand(code, id = 0, carried = []) {
     if (checked(carried).length > 255) throw new BadValue("more bytes than a command carries");
-    return this.#encoded("encode_command", byte(code), byte(id), this.put(this.other, carried),
-                         carried.length);
+    return this.#encoded(this.calls.encode_command(
+      byte(code), byte(id), this.put(this.other, carried), carried.length, this.out, ROOM));
   }
 
   /**
@@ -497,11 +545,11 @@ export class Library {
    * @returns {Command | null}
    */
   command(word) {
-    const { kind, wordLen } = this.read("command", this.small, ["kind", "wordLen"]);
+    const { kind, wordLen } = this.read("command", this.small);
     if (kind === WORDS.noWord) return null;
     const type = WORD_NAMES[kind] ?? "strayByte";
     /** @type {any} */
-    const command = { type, ...this.read("command", this.small, MEMBERS[type]) };
+    const command = { type, ...this.#members("command", this.small, MEMBERS[type]) };
     if (type === "command") command.word = this.bytes(word, wordLen);
     return command;
   }
@@ -657,12 +705,13 @@ export class Library {
   }
 
   /**
-   * @param {string} name
+   * @param {"piece_code" | "square_number" | "segment"} name
    * @param {string} text
    * @param {number} length
    */
   #such(name, text, length) {
-    const found = text.length === length ? this.calls[name](...latin(text)) : NO_SUCH;
+    /** @type {(...values: number[]) => number} */
+    const call = this.calls[name], found = text.length === length ? call(...latin(text)) : NO_SUCH;
     if (found === NO_SUCH) throw new BadValue(`no such ${name.split("_")[0]}: ${text}`);
     return found;
   }
@@ -703,32 +752,39 @@ export function lighting(...squares) {
 /** @type {FinalizationRegistry<{dgt: Library, at: number, size: number}>} */
 const forgotten = new FinalizationRegistry(({ dgt, at, size }) => dgt.giveBack(at, size));
 
-/** What all handles have. Their memory is given back by `close`, or once nobody has them. */
+/**
+ * What all handles have. Their memory is given back by `close`, or once nobody has them.
+ * @template {Kind} K
+ */
 class Handle {
   #at;
   #size;
 
   /**
    * @param {Library} dgt
-   * @param {"host" | "follower" | "decoder" | "command_decoder" | "board"} kind
+   * @param {K} kind
    */
   constructor(dgt, kind) {
     this.dgt = dgt;
     this.kind = kind;
-    this.#size = dgt.calls[`${kind}_size`]();
+    this.#size = dgt.calls[/** @type {`${Kind}_size`} */ (`${kind}_size`)]();
     this.#at = dgt.take(this.#size);
-    dgt.calls[`${kind}_init`](this.#at);
+    dgt.calls[/** @type {`${Kind}_init`} */ (`${kind}_init`)](this.#at);
     forgotten.register(this, { dgt, at: this.#at, size: this.#size }, this);
   }
 
   /**
    * A call with this handle first.
-   * @param {string} name
-   * @param {any[]} values
+   * @template {string} N
+   * @param {N} name
+   * @param {OfHandle<`${K}_${N}`>[0]} values
+   * @returns {OfHandle<`${K}_${N}`>[1]}
    */
   call(name, ...values) {
     if (!this.#at) throw new Closed(`the ${this.kind} was closed`);
-    return this.dgt.calls[`${this.kind}_${name}`](this.#at, ...values);
+    /** @type {Record<string, any>} */
+    const { calls } = this.dgt;
+    return calls[`${this.kind}_${name}`](this.#at, ...values);
   }
 
   /** Ends its use. */
@@ -741,23 +797,16 @@ class Handle {
 }
 
 /**
- * What the clock of a host or a board shows.
- * @param {Handle} handle
+ * A reader of a board's bytes.
+ * @extends {Handle<"host" | "follower" | "decoder">}
  */
-function clockOf(handle) {
-  const { dgt } = handle;
-  handle.call("clock", dgt.small);
-  return dgt.clock(dgt.small);
-}
-
-/** A reader of a board's bytes. */
 class Reader extends Handle {
   /** How many bytes were used since it was made. */
   total = 0;
 
   /**
    * The events of a chunk.
-   * @param {string} name  of the call
+   * @param {"feed_all" | "hear_all"} name  of the call
    * @param {Uint8Array} bytes
    * @returns {Event[]}
    */
@@ -766,8 +815,8 @@ class Reader extends Handle {
     chunk(bytes);
     for (let from = 0; from < bytes.length;) {
       const part = bytes.subarray(from, from + CHUNK);
-      const { used, count } = this.call(name, dgt.put(dgt.in, part), part.length, dgt.events,
-                                        MOST_EVENTS, dgt.body, MAX_BODY);
+      const { used, count } = /** @type {Struct<"told">} */ (this.call(
+        name, dgt.put(dgt.in, part), part.length, dgt.events, MOST_EVENTS, dgt.body, MAX_BODY));
       for (let n = 0; n < count; n++) {
         found.push(/** @type {Event} */ (dgt.event(dgt.events + n * size, this.total)));
       }
@@ -779,10 +828,10 @@ class Reader extends Handle {
 
   /**
    * The same, one after another: a byte is used once the event before it was taken.
-   * @param {string} name
+   * @param {"feed" | "hear"} name
    * @param {Uint8Array} bytes
-   * @param {number[]} before  what the call takes before the bytes
-   * @returns {Generator<Event, void>}
+   * @param {[] | [number]} before  what the call takes before the bytes
+   * @returns {Generator<Event, void, undefined>}
    */
   *each(name, bytes, ...before) {
     const { dgt } = this;
@@ -838,12 +887,14 @@ export class Decoder extends Reader {
  */
 class Sender extends Reader {
   /**
-   * @param {string} name
-   * @param {any[]} values
+   * @template {string} N
+   * @param {N} name
+   * @param {OfHandle<`${"host" | "follower"}_${N}`>[0] extends [...infer M, number, number] ? M :
+   *   never} values  all but where to write, and the room there
    */
   sent(name, ...values) {
-    const { dgt } = this;
-    const { status, bytes } = this.call(name, ...values, dgt.out, ROOM);
+    const { dgt } = this, given = /** @type {any} */ ([...values, dgt.out, ROOM]);
+    const { status, bytes } = /** @type {Struct<"sent">} */ (this.call(name, ...given));
     if (status === TOO_MANY) throw new TooManyAwaited("16 replies are awaited already");
     if (status === NO_COMMAND) throw new BadValue("there is no such command");
     return dgt.bytes(dgt.out, bytes);
@@ -859,8 +910,8 @@ class Sender extends Reader {
   }
 
   /**
-   * A command of one byte, one of ASK.
-   * @param {number} code
+   * A command of one byte.
+   * @param {ByteCommand} code
    */
   send(code) {
     return this.sent("send", byte(code));
@@ -949,7 +1000,9 @@ class Sender extends Reader {
 
   /** What the board reported last of its clock. */
   get clock() {
-    return clockOf(this);
+    const { dgt } = this;
+    this.call("clock", dgt.small);
+    return dgt.clock(dgt.small);
   }
 
   /** How many bytes were heard of an unfinished message. */
@@ -1006,7 +1059,7 @@ export class Host extends Sender {
 export class Follower extends Sender {
   /**
    * @param {Library} dgt
-   * @param {{period?: number, patience?: number, mode?: number, confirm?: boolean,
+   * @param {{period?: number, patience?: number, mode?: ReportingMode, confirm?: boolean,
    *   identify?: boolean}} [options]
    */
   constructor(dgt, options = {}) {
@@ -1039,7 +1092,7 @@ export class Follower extends Sender {
     return this.#time("last_heard");
   }
 
-  /** @param {string} name */
+  /** @param {"due_at" | "last_heard"} name */
   #time(name) {
     return this.call(name, this.dgt.small) ? this.dgt.wide(this.dgt.small) : null;
   }
@@ -1072,9 +1125,9 @@ export class Follower extends Sender {
     return this.each("hear", bytes, whole(now));
   }
 
-  /** What each asking asks the board to report by itself: one of MODES, but idle. */
+  /** What each asking asks the board to report by itself. */
   get mode() {
-    return this.call("mode");
+    return /** @type {ReportingMode} */ (this.call("mode"));
   }
 
   set mode(mode) {
@@ -1107,7 +1160,10 @@ export class Follower extends Sender {
   }
 }
 
-/** Reports the commands in a host's bytes. */
+/**
+ * Reports the commands in a host's bytes.
+ * @extends {Handle<"command_decoder">}
+ */
 export class CommandDecoder extends Handle {
   /** @param {Library} dgt */
   constructor(dgt) {
@@ -1141,7 +1197,10 @@ export class CommandDecoder extends Handle {
   }
 }
 
-/** A board, as a host meets it on the line. */
+/**
+ * A board, as a host meets it on the line.
+ * @extends {Handle<"board">}
+ */
 export class Board extends Handle {
   /** @param {Library} dgt */
   constructor(dgt) {
@@ -1222,9 +1281,8 @@ export class Board extends Handle {
     return this.call("partial");
   }
 
-  /** One of MODES. */
   get mode() {
-    return this.call("mode");
+    return /** @type {Mode} */ (this.call("mode"));
   }
 
   get position() {
@@ -1234,7 +1292,9 @@ export class Board extends Handle {
   }
 
   get clock() {
-    return clockOf(this);
+    const { dgt } = this;
+    this.call("clock", dgt.small);
+    return dgt.clock(dgt.small);
   }
 
   lineLost() {

@@ -1,6 +1,7 @@
 // Draws a board as SVG.
 
 const SVG = "http://www.w3.org/2000/svg";
+/** @type {Record<string, string>} */
 const SHAPES = { // of each piece: its path in a square of 100 by 100
   p: "M50 22a13 13 0 0 1 8 23q10 12 11 30h6v11H25V75h6q1-18 11-30a13 13 0 0 1 8-23z",
   r: "M24 86V75h8l3-31-9-8V16h12v8h7v-8h10v8h7v-8h12v20l-9 8 3 31h8v11z",
@@ -16,13 +17,15 @@ const SHAPES = { // of each piece: its path in a square of 100 by 100
 };
 const SQUARES = [...Array(64).keys()];
 
+/** @param {string} name @param {Record<string, string | number>} attributes */
 function element(name, attributes, text = "") {
   const made = document.createElementNS(SVG, name);
-  for (const [key, value] of Object.entries(attributes)) made.setAttribute(key, value);
+  for (const [key, value] of Object.entries(attributes)) made.setAttribute(key, String(value));
   made.textContent = text;
   return made;
 }
 
+/** @param {Element} node @param {string} letter */
 function shape(node, letter) {
   const small = letter.toLowerCase();
   node.setAttribute("d", SHAPES[small] ?? "");
@@ -30,6 +33,7 @@ function shape(node, letter) {
 }
 
 export class Drawing {
+  /** @param {SVGElement} svg */
   constructor(svg) {
     this.svg = svg;
     this.letters = ".".repeat(64);
@@ -40,7 +44,7 @@ export class Drawing {
     for (let n = 0; n < 8; n++) {
       const end = { class: "coordinate", x: 100 * n + 94, y: 789, "text-anchor": "end" };
       svg.append(element("text", end, "abcdefgh"[n]),
-                 element("text", { class: "coordinate", x: 7, y: 100 * n + 25 }, 8 - n));
+                 element("text", { class: "coordinate", x: 7, y: 100 * n + 25 }, `${8 - n}`));
     }
     this.frames = element("path", { class: "frames" });
     this.pieces = element("g", { class: "pieces" });
@@ -51,20 +55,29 @@ export class Drawing {
     svg.append(this.frames, this.pieces);
   }
 
-  // Draws the pieces that have changed; the label is for who doesn't see them.
+  /**
+   * Draws the pieces that have changed; the label is for who doesn't see them.
+   * @param {string} letters @param {string} label
+   */
   draw(letters, label) {
     for (const n of SQUARES) if (letters[n] !== this.letters[n]) shape(this.nodes[n], letters[n]);
     this.letters = letters;
     if (this.svg.getAttribute("aria-label") !== label) this.svg.setAttribute("aria-label", label);
   }
 
-  // Frames these squares.
+  /**
+   * Frames these squares.
+   * @param {number[]} squares
+   */
   frame(squares) {
     const d = squares.map(n => `M${n % 8}04 ${n >> 3}04h92v92h-92z`).join("");
     if (this.frames.getAttribute("d") !== d) this.frames.setAttribute("d", d);
   }
 
-  // The square and the place under a pointer; null beside the board.
+  /**
+   * The square and the place under a pointer; null beside the board.
+   * @param {PointerEvent} event
+   */
   at(event) {
     const box = this.svg.getBoundingClientRect();
     const x = (event.clientX - box.left) / box.width * 800;
@@ -73,7 +86,10 @@ export class Drawing {
     return { x, y, square: isOn ? 8 * Math.floor(y / 100) + Math.floor(x / 100) : null };
   }
 
-  // Shows a piece under a pointer, or none.
+  /**
+   * Shows a piece under a pointer, or none.
+   * @param {string} letter
+   */
   hold(letter, { x, y } = { x: 0, y: 0 }) {
     shape(this.held, letter);
     this.held.setAttribute("transform", `translate(${x - 50} ${y - 50})`);

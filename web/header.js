@@ -62,8 +62,7 @@ export const NO_SUCH = 255;
 
 // Of each struct: its size, and of each member its name, its place and its type.
 // That is a number of bytes or a word. `wide` is 64 bits: a number or a pointer.
-/** @type {Record<string, {size: number, members: [string, number, string | number][]}>} */
-export const STRUCTS = {
+export const STRUCTS = /** @type {const} */ ({
   host: { size: 22528, members: [] },
   follower: { size: 23552, members: [] },
   decoder: { size: 21504, members: [] },
@@ -102,10 +101,10 @@ export const STRUCTS = {
                                  ["hoursResting", 6, "u8"], ["minutesResting", 7, "u8"],
                                  ["charging", 8, "u8"], ["discharging", 9, "u8"]] },
   parsed: { size: 16, members: [["ok", 0, "bool"], ["at", 8, "wide"]] },
-};
+});
 
 // What each call returns, and what it takes.
-export const CALLS = {
+export const CALLS = /** @type {const} */ ({
   dgt_version: "u32",
   dgt_host_size: "wide",
   dgt_host_init: "void,wide",
@@ -209,4 +208,4 @@ export const CALLS = {
   dgt_differ: "bool,wide,wide,wide",
   dgt_parse_placement: "parsed,wide,wide,wide",
   dgt_segment: "u8,u8",
-};
+});

@@ -6,8 +6,11 @@ import { Session, lettersOf } from "./session.js";
 import { SimulatedPort } from "./simulated.js";
 import { Theorem } from "./theorem.js";
 
-const find = id => document.getElementById(id);
-const wait = ms => new Promise(done => setTimeout(done, ms));
+const find = (/** @type {string} */ id) =>
+  /** @type {HTMLElement} */ (document.getElementById(id));
+const drawing = (/** @type {string} */ id) =>
+  new Drawing(/** @type {SVGElement} */ (document.querySelector(`#${id} svg`)));
+const wait = (/** @type {number} */ ms) => new Promise(done => setTimeout(done, ms));
 const asked = new URLSearchParams(location.search);
 const PERIODS = { serial: Number(asked.get("period")) || 10000, simulated: 2000 }; // milliseconds
 const START = "rnbqkbnr/pppppppp/8/8/8/8/PPPPPPPP/RNBQKBNR";
@@ -17,16 +20,25 @@ const STATES = {
   asking: "asking the board", doubt: "in doubt: asking again", known: "not confirmed yet",
   confirmed: "confirmed",
 };
-const seen = new Drawing(document.querySelector("#seen svg"));
-const table = new Drawing(document.querySelector("#table svg"));
-let library, session = null, simulated = null, theorem = null, isDrawing = false;
+const seen = drawing("seen"), table = drawing("table");
+/** @type {import("./dgt.js").Library} */
+let library;
+/** @type {Session | null} */
+let session = null;
+/** @type {SimulatedPort | null} */
+let simulated = null;
+/** @type {Theorem | null} */
+let theorem = null;
+let isDrawing = false;
 
+/** @param {Element} node @param {string} text */
 function write(node, text) {
   if (node.textContent !== text) node.textContent = text;
 }
 
+/** @param {Element} button @param {boolean} isPressed @param {string} text @param {string} other */
 function press(button, isPressed, text, other) {
-  button.setAttribute("aria-pressed", isPressed);
+  button.setAttribute("aria-pressed", String(isPressed));
   write(button, isPressed ? other : text);
 }
 
@@ -44,22 +56,23 @@ function drawNow() {
   const state = session ? session.state : "none";
   drawState(state);
   drawClock(session?.clock, state);
-  const game = session?.game, moves = game?.moves ?? [];
-  write(find("moves"), [...moves, moves.length ? game.ended : ""].join(" "));
+  const { moves, ended } = session?.game ?? { moves: [], ended: "" };
+  write(find("moves"), [...moves, ended].join(" "));
   find("record").hidden = !moves.length;
   find("connect").hidden = find("try").hidden = Boolean(session);
   find("end").hidden = find("sends").hidden = !session;
   find("table").hidden = find("acts").hidden = !simulated;
-  document.querySelector("main").classList.toggle("trying", Boolean(simulated));
+  document.querySelector("main")?.classList.toggle("trying", Boolean(simulated));
   write(find("title"), simulated ? "What this page knows" : "The board");
-  if (simulated) drawTable();
+  if (simulated) drawTable(simulated);
 }
 
+/** @param {keyof STATES} state */
 function drawState(state) {
   const picture = session?.picture, fen = picture ? library.placement(picture) : "";
   find("state").dataset.state = state;
-  write(find("state").firstElementChild, STATES[state]);
-  const age = state === "confirmed" ? performance.now() - session.confirmedAt : NaN;
+  write(/** @type {Element} */ (find("state").firstElementChild), STATES[state]);
+  const age = state === "confirmed" ? performance.now() - (session?.confirmedAt ?? 0) : NaN;
   write(find("age"), age >= 1000 ? ` ${Math.floor(age / 1000)} s ago` : "");
   seen.draw(picture ? lettersOf(library, picture) : NO_PIECES,
             fen ? `${STATES[state]}. FEN: ${fen}` : STATES[state]);
@@ -69,8 +82,8 @@ function drawState(state) {
   find("copy").hidden = !fen;
 }
 
-function drawTable() {
-  const { pieces, lit, shown, carried, altered, isPlugged, isOn, noise } = simulated;
+/** @param {SimulatedPort} simulated */
+function drawTable({ pieces, lit, shown, carried, altered, isPlugged, isOn, noise }) {
   table.draw(lettersOf(library, pieces), `The board on the table: ${library.placement(pieces)}`);
   table.frame(lit);
   seen.frame(session?.picture ? library.differ(pieces, session.picture) : []);
@@ -81,22 +94,26 @@ function drawTable() {
   press(find("noise"), noise > 0, "Noise", "End the noise");
 }
 
-const timeText = ({ hours, minutes, seconds }) =>
+const timeText = (/** @type {import("./dgt.js").Time} */ { hours, minutes, seconds }) =>
   `${hours}:${String(minutes).padStart(2, "0")}:${String(seconds).padStart(2, "0")}`;
 
-// The sides of the clock, not the colours: a board doesn't say whose is which.
+/**
+ * The sides of the clock, not the colours: a board doesn't say whose is which.
+ * @param {import("./dgt.js").Clock | null | undefined} clock @param {keyof STATES} state
+ */
 function drawClock(clock, state) {
-  const node = find("clock"), isThere = clock?.kind === "times";
+  const node = find("clock"), times = clock?.kind === "times" ? clock : null;
   const key = JSON.stringify([clock, state === "confirmed"]);
   node.hidden = !clock;
   if (!clock || node.dataset.key === key) return;
   node.dataset.key = key;
-  const runs = isThere && clock.status & STATUS.running && ["confirmed", "known"].includes(state);
+  const status = times && ["confirmed", "known"].includes(state) ? times.status : 0;
   const turns = [STATUS.whiteTurn, STATUS.blackTurn];
-  node.replaceChildren(...(isThere ? [clock.first, clock.second] : [null]).map((time, side) => {
+  node.replaceChildren(...(times ? [times.first, times.second] : [null]).map((time, side) => {
     const made = document.createElement("span");
     made.textContent = time ? timeText(time) : "no clock is connected";
-    made.className = !time ? "absent" : runs && clock.status & turns[side] ? "runs" : "";
+    const runs = status & STATUS.running && status & turns[side];
+    made.className = !time ? "absent" : runs ? "runs" : "";
     return made;
   }));
 }
@@ -104,29 +121,35 @@ function drawClock(clock, state) {
 /* The messages. */
 
 const KEPT = 300; // lines
-const log = []; // all lines, for a test and for the console
+/** @type {string[]} all lines, for a test and for the console */
+const log = [];
 
+/** @param {string} kind @param {string} text */
 function note(kind, text, key = "") {
-  const lines = find("lines"), last = lines.firstElementChild;
+  const lines = find("lines"), last = lines.querySelector("li");
   showLines(true);
-  const isSame = key && last?.dataset.key === key; // a clock that runs is one line
-  const made = isSame ? last : document.createElement("li");
+  const same = key && last?.dataset.key === key ? last : null; // a clock that runs is one line
+  const made = same ?? document.createElement("li");
   made.className = kind;
   made.textContent = text;
   if (key) made.dataset.key = key;
-  if (!isSame) lines.prepend(made);
-  if (lines.childElementCount > KEPT) lines.lastElementChild.remove();
+  if (!same) lines.prepend(made);
+  if (lines.childElementCount > KEPT) lines.lastElementChild?.remove();
   log.push(text);
   if (log.length > 10 * KEPT) log.splice(0, KEPT);
 }
 
-// The messages, or how to begin.
+/**
+ * The messages, or how to begin.
+ * @param {boolean} isShown
+ */
 function showLines(isShown) {
   find("hint").hidden = isShown;
   find("lines").hidden = find("order").hidden = !isShown;
   write(find("heading"), isShown ? "Messages" : "How it works");
 }
 
+/** @param {string} text */
 function say(text) {
   find("says").hidden = !text;
   write(find("says"), text);
@@ -134,6 +157,7 @@ function say(text) {
 
 /* Sessions. */
 
+/** @param {SerialPort} port @param {EventTarget} ports @param {number} period */
 function begin(port, ports, period) {
   say("");
   find("lines").replaceChildren();
@@ -143,10 +167,12 @@ function begin(port, ports, period) {
 }
 
 async function connect() {
+  const { serial } = navigator;
   try {
-    begin(await navigator.serial.requestPort(), navigator.serial, PERIODS.serial);
+    if (serial) begin(await serial.requestPort(), serial, PERIODS.serial);
   } catch (error) {
-    if (error.name !== "NotFoundError") say(`The port was not chosen: ${error.message}`);
+    const { name, message } = /** @type {Error} */ (error);
+    if (name !== "NotFoundError") say(`The port was not chosen: ${message}`);
   }
 }
 
@@ -206,34 +232,41 @@ const clock = {
 
 /* Pieces are moved on the table. */
 
-// The squares of a move as "e2e4", or null.
+/**
+ * The squares of a move as "e2e4", or null.
+ * @param {string} text
+ * @returns {[number, number] | null}
+ */
 function squaresOf(text) {
   const found = /^([a-h][1-8])([a-h][1-8])$/.exec(text.trim().toLowerCase());
-  return found && found.slice(1).map(name => library.squareNumber(name));
+  return found && [library.squareNumber(found[1]), library.squareNumber(found[2])];
 }
 
+/** @param {number} square @param {number} piece */
 function put(square, piece) {
   const isLast = square < 8 || square > 55; // a pawn that comes to the other end is a queen then
-  const queens = { 1: 6, 7: 12 };
-  simulated.change(square, isLast && queens[piece] ? queens[piece] : piece);
+  const isPawn = piece === 1 || piece === 7;
+  simulated?.change(square, isLast && isPawn ? piece + 5 : piece);
 }
 
+/** @param {SVGElement} svg */
 function dragging(svg) {
+  /** @type {{from: number, piece: number} | null} */
   let held = null;
   svg.addEventListener("pointerdown", event => {
-    const place = table.at(event), piece = simulated?.pieces[place.square ?? 64];
+    const place = table.at(event), from = place.square ?? 64, piece = simulated?.pieces[from];
     if (held || !piece) return;
     svg.setPointerCapture(event.pointerId);
-    held = { from: place.square, piece };
+    held = { from, piece };
     table.hold(library.pieceLetter(piece), place);
-    simulated.change(place.square, 0);
+    simulated?.change(from, 0);
     draw();
   });
   svg.addEventListener("pointermove", event => {
     if (held) table.hold(library.pieceLetter(held.piece), table.at(event));
   });
-  const drop = square => {
-    if (held && simulated && square !== null) put(square, held.piece);
+  const drop = (/** @type {number | null} */ square) => {
+    if (held && square !== null) put(square, held.piece);
     table.hold("");
     held = null;
     draw();
@@ -242,13 +275,14 @@ function dragging(svg) {
   svg.addEventListener("pointercancel", () => drop(held?.from ?? null));
 }
 
+/** @param {[number, number]} squares */
 async function move([from, to], pause = 0) {
-  const piece = simulated.pieces[from];
+  const piece = simulated?.pieces[from];
   if (!piece || from === to) return;
-  simulated.change(from, 0);
+  simulated?.change(from, 0);
   draw();
   if (pause) await wait(pause);
-  if (simulated) put(to, piece);
+  put(to, piece);
   draw();
 }
 
@@ -256,13 +290,12 @@ async function move([from, to], pause = 0) {
 const GAME = ("e2e4 e7e5 g1f3 d7d6 d2d4 c8g4 d4e5 g4f3 d1f3 d6e5 f1c4 g8f6 f3b3 d8e7 b1c3 c7c6 " +
   "c1g5 b7b5 c3b5 c6b5 c4b5 b8d7 e1c1,a1d1 a8d8 d1d7 d8d7 h1d1 e7e6 b5d7 f6d7 b3b8 d7b8 d1d8")
   .split(" ");
-let game = null; // the one that is played
+/** @type {{} | null} the one that is played */
+let game = null;
 
 function setUp() {
   const pieces = library.parsePlacement(START);
-  for (const square of library.differ(pieces, simulated.pieces)) {
-    simulated.change(square, pieces[square]);
-  }
+  pieces.forEach((piece, square) => simulated?.change(square, piece));
 }
 
 function stopGame() {
@@ -279,7 +312,8 @@ async function play() {
     await wait(900);
     for (const part of ply.split(",")) {
       if (game !== mine) return;
-      await move(squaresOf(part), 250);
+      const squares = squaresOf(part);
+      if (squares) await move(squares, 250);
     }
     clock.press();
   }
@@ -288,7 +322,10 @@ async function play() {
 
 /* What the user does. */
 
-// Sends what a call of the follower returns.
+/**
+ * Sends what a call of the follower returns.
+ * @param {string} text @param {(follower: import("./dgt.js").Follower) => Uint8Array} command
+ */
 async function send(text, command) {
   if (!session?.isOpen) return;
   try {
@@ -304,12 +341,13 @@ async function send(text, command) {
 function save() {
   const link = document.createElement("a");
   const type = "application/x-chess-pgn";
-  link.href = URL.createObjectURL(new Blob([session.game.pgn], { type }));
+  link.href = URL.createObjectURL(new Blob([session?.game.pgn ?? ""], { type }));
   link.download = "game.pgn";
   link.click();
   setTimeout(() => URL.revokeObjectURL(link.href), 1000);
 }
 
+/** @param {string} id @param {() => void} act */
 function on(id, act) {
   find(id).addEventListener("click", () => {
     act();
@@ -317,9 +355,12 @@ function on(id, act) {
   });
 }
 
-// A form with one field; `act` gets its text, and returns false if it makes no sense.
+/**
+ * A form with one field; `act` gets its text, and returns false if it makes no sense.
+ * @param {string} id @param {(text: string) => false | void} act
+ */
 function onText(id, act) {
-  const form = find(id), field = form.querySelector("input");
+  const form = find(id), field = /** @type {HTMLInputElement} */ (form.querySelector("input"));
   form.addEventListener("submit", event => {
     event.preventDefault();
     if (act(field.value) === false) field.select();
@@ -331,12 +372,12 @@ function onText(id, act) {
 on("connect", connect);
 on("try", tryIt);
 on("end", end);
-on("garble", () => simulated.garble());
-on("frame", () => simulated.frame());
-on("noise", () => simulated.makeNoise(simulated.noise === 0));
-on("cable", () => simulated.plug(!simulated.isPlugged));
+on("garble", () => simulated?.garble());
+on("frame", () => simulated?.frame());
+on("noise", () => simulated?.makeNoise(simulated.noise === 0));
+on("cable", () => simulated?.plug(!simulated.isPlugged));
 on("power", () => {
-  simulated.power(!simulated.isOn);
+  simulated?.power(!simulated.isOn);
   clock.hand();
 });
 on("press", () => clock.press());
@@ -345,7 +386,7 @@ on("anew", () => {
   stopGame();
   setUp();
 });
-on("copy", () => navigator.clipboard?.writeText(find("fen").textContent));
+on("copy", () => navigator.clipboard?.writeText(find("fen").textContent ?? ""));
 on("save", save);
 onText("move", text => {
   const squares = squaresOf(text);
@@ -373,7 +414,7 @@ async function openAllowed() {
       "A browser gives serial ports only to pages from https, localhost or a disk.");
     return;
   }
-  find("connect").disabled = false;
+  find("connect").removeAttribute("disabled");
   const ports = await navigator.serial.getPorts(); // those that this page was allowed before
   if (ports.length === 1) begin(ports[0], navigator.serial, PERIODS.serial);
 }
@@ -393,9 +434,9 @@ async function start() {
   library = await load(Uint8Array.from(text, letter => letter.charCodeAt(0)));
   const parts = [1e6, 1e3, 1].map(n => Math.trunc(library.version / n) % 1000);
   write(find("version"), `version ${parts.join(".")}, ${isNarrow ? 32 : 64} bits`);
-  find("try").disabled = false;
-  find("theorem").addEventListener("toggle", ({ target }) => {
-    theorem ??= new Theorem(library, target);
+  find("try").removeAttribute("disabled");
+  find("theorem").addEventListener("toggle", () => {
+    theorem ??= new Theorem(library, find("theorem"));
   });
   await openAllowed();
 }
@@ -403,11 +444,11 @@ async function start() {
 try {
   await start();
 } catch (error) {
-  say(`The library could not be started: ${error.message}`);
+  say(`The library could not be started: ${error}`);
 }
 keep();
 draw();
 globalThis.page = { // for tests and the console
-  get session() { return session; }, get simulated() { return simulated; }, log, library, seen,
-  squaresOf, move, get theorem() { return theorem; },
+  get session() { return session; }, get simulated() { return simulated; },
+  get library() { return library; }, get theorem() { return theorem; }, log, seen, squaresOf, move,
 };

@@ -11,16 +11,20 @@ const LATE = 100; // milliseconds after a fault of the line in which bytes may b
 export class Session {
   isOpen = false;
   hasEnded = false;
-  picture = null; // the last one that was known
-  clock = null; // the same
+  /** @type {Uint8Array | null} the last one that was known */
+  picture = null;
+  /** @type {import("./dgt.js").Clock | null} the same */
+  clock = null;
   confirmedAt = 0;
   game = new Game();
   #askedAt = -Infinity;
   #askedBefore = -Infinity;
   #disturbedUntil = 0;
   #isWriting = false;
+  /** @type {ReadableStreamDefaultReader<Uint8Array> | null} */
   #reader = null;
-  #writer = null;
+  /** @type {WritableStreamDefaultWriter<Uint8Array> | undefined} */
+  #writer;
   #timer = 0;
   #wake = () => {};
   #why = "";
@@ -28,12 +32,16 @@ export class Session {
   /**
    * @param {import("./dgt.js").Library} dgt
    * @param {SerialPort} port  or one that is simulated
-   * @param {Serial} ports  says that a port has come; of a simulated one it is the port
+   * @param {EventTarget & Partial<Serial>} ports  says that a port has come; of a simulated one it
+   *   is the port
    * @param {number} period  milliseconds
    * @param {{note: (kind: string, text: string, key?: string) => void, changed: () => void}} page
    */
   constructor(dgt, port, ports, period, page) {
-    Object.assign(this, { dgt, port, ports, page });
+    this.dgt = dgt;
+    this.port = port;
+    this.ports = ports;
+    this.page = page;
     this.follower = new Follower(dgt, { period, patience: PATIENCE, mode: MODES.updateNice,
                                         confirm: true });
     this.info = JSON.stringify(port.getInfo());
@@ -61,8 +69,9 @@ export class Session {
     try {
       await this.port.open(SERIAL);
     } catch (error) {
-      if (error.name !== "InvalidStateError") { // else it is open
-        const why = `the port does not open: ${error.message}`;
+      const { name, message } = /** @type {Error} */ (error);
+      if (name !== "InvalidStateError") { // else it is open
+        const why = `the port does not open: ${message}`;
         if (this.#why !== why) this.page.note("fault", why);
         this.#why = why;
         return false;
@@ -75,7 +84,7 @@ export class Session {
 
   async #talk() {
     this.isOpen = true;
-    this.#writer = this.port.writable.getWriter();
+    this.#writer = this.port.writable?.getWriter();
     this.#isWriting = false;
     this.#drive();
     for (let chunk; (chunk = await this.#next());) this.#hear(chunk);
@@ -86,7 +95,7 @@ export class Session {
     try {
       this.#reader?.releaseLock();
       this.#reader = null;
-      this.#writer.releaseLock();
+      this.#writer?.releaseLock();
       await this.port.close();
     } catch { /* it has gone already */ }
     if (!this.hasEnded) this.page.note("fault", "the port has gone");
@@ -103,14 +112,16 @@ export class Session {
       } catch (error) {
         this.#reader.releaseLock();
         this.#reader = null;
-        if (this.port.readable) this.#disturbed(error.name);
+        if (this.port.readable) this.#disturbed(/** @type {Error} */ (error).name);
       }
     }
     return null;
   }
 
-  // FramingError, BufferOverrunError, ParityError or BreakError. A dump that is heard a short time
-  // later may be older, so that it ends no doubt.
+  /**
+   * A dump that is heard a short time later may be older, so that it ends no doubt.
+   * @param {string} fault  FramingError, BufferOverrunError, ParityError or BreakError
+   */
   #disturbed(fault) {
     this.page.note("fault", `line: ${fault}`);
     this.#disturbedUntil = performance.now() + LATE;
@@ -119,6 +130,7 @@ export class Session {
     this.page.changed();
   }
 
+  /** @param {Uint8Array} chunk */
   #hear(chunk) {
     const now = performance.now();
     for (const event of this.follower.hearEach(now, chunk)) this.#note(event, now);
@@ -127,13 +139,15 @@ export class Session {
     this.page.changed();
   }
 
+  /** @param {import("./dgt.js").Event} event @param {number} now */
   #note(event, now) {
     const { follower, dgt } = this, isNonsense = NONSENSE.includes(event.type);
     this.page.note(isNonsense ? "fault" : "",
                    `${String(event.offset).padStart(8, "0")} ${dgt.eventText(event)}`,
                    event.type === "times" ? "times" : "");
-    if (event.clock) this.clock = event.clock;
-    if (event.fault === "badReading") this.clock = null; // it shows no digits, as while it is set
+    if ("clock" in event) this.clock = event.clock;
+    // It shows no digits, as while it is set.
+    if ("fault" in event && event.fault === "badReading") this.clock = null;
     if (event.type === "dump" && follower.confirmed) this.confirmedAt = now;
     const { picture } = follower;
     if (!picture) return;
@@ -159,11 +173,14 @@ export class Session {
     }, Math.min(500, Math.max(10, Math.ceil(this.follower.dueAt - now))));
   }
 
-  /** Writes bytes, as of a call of `follower`. */
+  /**
+   * Writes bytes, as of a call of `follower`.
+   * @param {Uint8Array} bytes
+   */
   async send(bytes) {
     this.#isWriting = true;
     try {
-      await this.#writer.write(bytes);
+      await this.#writer?.write(bytes);
     } catch { /* it has gone: the reader says so */ }
     this.#isWriting = false;
   }
@@ -172,7 +189,7 @@ export class Session {
   async #comesBack() {
     this.page.changed();
     const over = new AbortController();
-    await new Promise(done => {
+    await new Promise((/** @type {(value?: unknown) => void} */ done) => {
       this.#wake = done;
       this.ports.addEventListener("connect", done, { signal: over.signal });
       setTimeout(done, 1000);
@@ -195,11 +212,15 @@ export class Session {
 
 const NONSENSE = ["refused", "cut", "badLength", "stray"];
 
+/** @param {Uint8Array} bytes */
 function hex(bytes) {
   return Array.from(bytes, one => one.toString(16).padStart(2, "0")).join(" ");
 }
 
-/** The letters of 64 pieces. */
+/**
+ * The letters of 64 pieces.
+ * @param {import("./dgt.js").Library} dgt @param {ArrayLike<number>} pieces
+ */
 export function lettersOf(dgt, pieces) {
   return Array.from(pieces, one => dgt.pieceLetter(one)).join("");
 }

@@ -7,22 +7,29 @@ const GARBLED = 8; // bytes
 const NOISE = .04; // of the bytes
 
 export class SimulatedPort extends EventTarget {
+  /** @type {ReadableStream<Uint8Array> | null} */
   readable = null;
+  /** @type {WritableStream<Uint8Array> | null} */
   writable = null;
   isPlugged = true;
   isOn = true;
   noise = 0;
   shown = ""; // on the clock
-  lit = []; // squares
+  /** @type {number[]} squares */
+  lit = [];
   carried = 0; // bytes, both ways
   altered = 0;
   #garbled = 0; // of the next bytes
+  /** @type {number[]} */
   #toBoard = [];
+  /** @type {number[]} */
   #toHost = [];
-  #out = null; // the controller of the readable stream
+  /** @type {ReadableStreamController<Uint8Array> | null} of the readable stream */
+  #out = null;
   #since = 0;
   #timer = 0;
 
+  /** @param {import("./dgt.js").Library} dgt @param {Uint8Array} pieces */
   constructor(dgt, pieces) {
     super();
     this.board = new Board(dgt);
@@ -52,6 +59,7 @@ export class SimulatedPort extends EventTarget {
     this.#timer = 0;
   }
 
+  /** @param {number} square @param {number} piece */
   change(square, piece) {
     this.pieces[square] = piece;
     if (this.isOn) this.board.change(square, piece);
@@ -71,10 +79,12 @@ export class SimulatedPort extends EventTarget {
     out.error(new DOMException("A framing error has been detected.", "FramingError"));
   }
 
+  /** @param {boolean} isNoisy */
   makeNoise(isNoisy) {
     this.noise = isNoisy ? NOISE : 0;
   }
 
+  /** @param {boolean} isPlugged */
   plug(isPlugged) {
     this.isPlugged = isPlugged;
     if (!isPlugged) this.#pull();
@@ -88,7 +98,10 @@ export class SimulatedPort extends EventTarget {
     out?.error(new DOMException("The device has been lost.", "NetworkError"));
   }
 
-  // The line stays, as with a serial adapter, but nobody replies while the board is off.
+  /**
+   * The line stays, as with a serial adapter, but nobody replies while the board is off.
+   * @param {boolean} isOn
+   */
   power(isOn) {
     this.isOn = isOn;
     this.#drop();
@@ -110,29 +123,40 @@ export class SimulatedPort extends EventTarget {
     if (!this.#out) return;
     this.#hearHost(this.#disturb(this.#toBoard.splice(0, count)));
     if (!this.isOn) return;
-    while (this.#toHost.length < count && this.board.owes) this.#toHost.push(...this.board.poll());
+    while (this.#toHost.length < count && this.board.owes) this.#send();
     const sent = this.#disturb(this.#toHost.splice(0, count));
     if (sent.length) this.#out.enqueue(Uint8Array.from(sent));
   }
 
+  #send() {
+    this.#toHost.push(...this.board.poll() ?? []);
+  }
+
+  /** @param {number[]} sent */
   #hearHost(sent) {
     if (!this.isOn) return;
     for (let left = Uint8Array.from(sent); left.length;) {
       const { used, commands } = this.board.take(left);
       left = left.subarray(used);
       commands.forEach(command => this.#obey(command));
-      if (left.length) this.#toHost.push(...this.board.poll()); // it owes eight replies
+      if (left.length) this.#send(); // it owes eight replies
     }
   }
 
-  #obey({ code, id, word }) {
+  /** @param {import("./dgt.js").Command} command */
+  #obey(command) {
+    if (command.type !== "command") return;
+    const { code, id, word } = command;
     if (code === ASK.leds) this.lit = word[2] === 1 ? [...word.subarray(3, 5)] : [];
     if (code !== ASK.clockMessage) return;
     if (id === IDS.text) this.shown = String.fromCharCode(...word.subarray(4, 12)).trim();
     if (id === IDS.end) this.shown = "";
   }
 
-  // What comes of these bytes: one of them is lost, altered or doubled here and there.
+  /**
+   * What comes of these bytes: one of them is lost, altered or doubled here and there.
+   * @param {number[]} bytes
+   */
   #disturb(bytes) {
     this.carried += bytes.length;
     if (!this.noise && !this.#garbled) return bytes;

@@ -5,15 +5,19 @@ import { lettersOf } from "./session.js";
 import { World } from "./world.js";
 
 const KEPT_LINES = 200;
-const hexText = bytes => bytes.map(one => one.toString(16).padStart(2, "0")).join("");
+const hexText = (/** @type {number[]} */ bytes) =>
+  bytes.map(one => one.toString(16).padStart(2, "0")).join("");
 
 export class Theorem {
   #dgt;
   #world;
   #node;
+  /** @type {Drawing} */
   #board;
+  /** @type {Drawing} */
   #host;
-  script = []; // all lines, for `dgt simulate`
+  /** @type {string[]} all lines, for `dgt simulate` */
+  script = [];
 
   /** @param {import("./dgt.js").Library} dgt @param {HTMLElement} node */
   constructor(dgt, node) {
@@ -22,10 +26,11 @@ export class Theorem {
     this.#world = new World(dgt);
     [this.#board, this.#host] = Array.from(node.querySelectorAll("svg"), svg => new Drawing(svg));
     node.addEventListener("click", ({ target }) => {
-      for (const line of target.dataset?.acts?.split(",") ?? []) this.#press(line);
+      const { acts } = /** @type {HTMLElement} */ (target).dataset;
+      if (acts) this.#press(acts);
       this.#draw();
     });
-    const form = this.#find("form"), field = this.#find("input");
+    const form = this.#find("form"), field = /** @type {HTMLInputElement} */ (this.#find("input"));
     form.addEventListener("submit", event => {
       event.preventDefault();
       if (this.#move(field.value)) field.value = "";
@@ -34,10 +39,12 @@ export class Theorem {
     this.#draw();
   }
 
+  /** @param {string} selector */
   #find(selector) {
-    return this.#node.querySelector(selector);
+    return /** @type {HTMLElement} */ (this.#node.querySelector(selector));
   }
 
+  /** @param {string} line */
   #press(line) {
     const { up, down } = this.#world;
     if (line === "settle") for (const each of this.#world.settling()) this.act(each);
@@ -46,7 +53,10 @@ export class Theorem {
     else this.act(line);
   }
 
-  // Moves a piece, as "e2e4".
+  /**
+   * Moves a piece, as "e2e4".
+   * @param {string} text
+   */
   #move(text) {
     const found = /^([a-h][1-8])([a-h][1-8])$/.exec(text.trim().toLowerCase());
     if (!found) return false;
@@ -58,14 +68,17 @@ export class Theorem {
     return true;
   }
 
-  /** Does an act of a script, and lists it with its outcome. */
+  /**
+   * Does an act of a script, and lists it with its outcome.
+   * @param {string} line
+   */
   act(line) {
     const outcome = this.#world.act(line), list = this.#find("ol");
     const made = document.createElement("li");
     this.script.push(line);
     made.textContent = `${line} → ${outcome}`;
     list.prepend(made);
-    if (list.childElementCount > KEPT_LINES) list.lastElementChild.remove();
+    if (list.childElementCount > KEPT_LINES) list.lastElementChild?.remove();
   }
 
   #draw() {
@@ -85,6 +98,7 @@ export class Theorem {
     for (const [name, isSo] of Object.entries(facts)) this.#write(name, isSo ? "yes" : "no");
   }
 
+  /** @param {string} name @param {string} text */
   #write(name, text) {
     const node = this.#find(`[data-shows=${name}]`);
     if (node.textContent !== text) node.textContent = text;
@@ -107,7 +121,10 @@ export class Theorem {
   }
 }
 
-// Bytes of a line, of which one is lost or altered. On an empty line there is one that is stray.
+/**
+ * Bytes of a line, of which one is lost or altered. On an empty line there is one that is stray.
+ * @param {number[]} bytes
+ */
 function garbled(bytes) {
   const made = bytes.slice(0, 250), at = Math.floor(Math.random() * made.length);
   if (!made.length) return [Math.floor(Math.random() * 128)];

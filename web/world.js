@@ -11,7 +11,9 @@ const UPDATE_MODES = [ASK.update, ASK.updateBoard, ASK.updateNice];
 const hexBytes = (text = "-") => (text.match(/[0-9a-f]{2}/g) ?? []).map(two => parseInt(two, 16));
 
 export class World {
+  /** @type {number[]} */
   up = [];
+  /** @type {number[]} */
   down = [];
   /** What counts of the host's commands, as docs/PROMISES.md says. */
   counted = { isInStep: true, dump: false, updates: false, hadFault: false };
@@ -33,16 +35,16 @@ export class World {
    * @param {string} line
    */
   act(line) {
-    const [word, ...values] = line.split(" ");
-    const outcome = ACTS[word](this, ...values) ?? "done";
-    if (outcome === "done") this.#count(word, values[0]);
+    const [word, value, other] = line.split(" ");
+    const outcome = ACTS[word](this, value, other) ?? "done";
+    if (outcome === "done") this.#count(word, value);
     return outcome;
   }
 
   /** @param {string} word @param {string} value */
   #count(word, value) {
     const { counted } = this;
-    const set = (isInStep, isAsked) =>
+    const set = (/** @type {boolean} */ isInStep, /** @type {boolean} */ isAsked) =>
       Object.assign(counted, { isInStep, dump: isAsked, updates: isAsked });
     if (word === "restart" || word === "hostbreak") set(true, true);
     if (word === "break") set(true, false);

@@ -1,0 +1,64 @@
+// A site that uses the package, for the compiler only. Each line after a @ts-expect-error is wrong:
+// the compiler has to refuse it.
+
+import { ASK, Board, CommandDecoder, Follower, Host, IDS, MODES, lighting, load,
+         type Command, type Event, type Library } from "dgt-board";
+import { Game } from "dgt-board/moves.js";
+
+const dgt: Library = await load(new URL("https://example.org/dgt64.wasm"));
+const follower = new Follower(dgt, { period: 2000, mode: MODES.updateNice, confirm: true });
+const game = new Game();
+
+function describe(event: Event): string {
+  switch (event.type) {
+    case "field": return dgt.squareName(event.square) + dgt.pieceLetter(event.piece);
+    case "times": return `${event.clock.first.hours}:${event.clock.second.minutes}`;
+    case "refused": return event.fault === "badPiece" ? "a piece" : `byte ${event.at}`;
+    default: return `${event.offset} ${dgt.eventText(event)}`;
+  }
+}
+
+export function hear(now: number, chunk: Uint8Array): string[] {
+  const asked: Uint8Array | null = follower.ask(now), said: string[] = [];
+  if (asked) console.log(asked.length, follower.dueAt - now);
+  for (const event of follower.hearEach(now, chunk)) said.push(describe(event));
+  const placement: string | null = follower.placement, isRight: boolean = !follower.inDoubt;
+  if (isRight && follower.confirmed && placement && game.see(placement)) console.log(game.pgn);
+  return said;
+}
+
+export const sent: Uint8Array[] = [
+  follower.send(ASK.battery), follower.sendClock(IDS.end), follower.sendLeds(lighting(52, 36)),
+  new Host(dgt).restart(), dgt.encodeCommand(ASK.leds, 0, lighting(1, 2)),
+];
+const board = new Board(dgt);
+export const commands: Command[] = new CommandDecoder(dgt).feed(sent[0]);
+const { used }: { used: number } = board.take(sent[0]);
+follower.mode = MODES.update;
+
+// @ts-expect-error LEDs aren't a command of one byte
+follower.send(ASK.leds);
+// @ts-expect-error nor is this a command
+follower.send(7);
+// @ts-expect-error a command is no text
+dgt.encodeCommand("dump");
+// @ts-expect-error a follower has the board report
+follower.mode = MODES.idle;
+// @ts-expect-error a chunk is bytes
+follower.hear(0, "text");
+// @ts-expect-error the time comes first
+follower.hearEach(sent[0]);
+// @ts-expect-error there is no such event
+export const is = (event: Event): boolean => event.type === "dumps";
+// @ts-expect-error not each event has a square
+export const square = (event: Event): number => event.square;
+// @ts-expect-error the placement may not be known
+export const { length } = follower.placement;
+// @ts-expect-error a board has no placement
+board.placement;
+// @ts-expect-error it is a number
+used.length;
+// @ts-expect-error a field has its piece
+dgt.encodeMessage({ type: "field", square: 1 });
+// @ts-expect-error no call of the library has this name
+dgt.calls.host_hears;
