@@ -247,8 +247,7 @@ export class Library {
 
   /**
    * A call with the numbers of JavaScript. A struct is written to a place that is handed in first.
-   * @param {(...values: (number | bigint)[]) => any} call
-   * @param {string} gives
+   * @param {(...values: (number | bigint)[]) => any} call @param {string} gives
    * @param {string[]} takes
    * @returns {(...values: number[]) => unknown}
    */
@@ -297,10 +296,7 @@ export class Library {
     this.#view = new DataView(this.#memory.buffer);
   }
 
-  /**
-   * @param {number} at
-   * @param {number} size
-   */
+  /** @param {number} at @param {number} size */
   giveBack(at, size) {
     this.#free.set(size, [...this.#free.get(size) ?? [], at]);
   }
@@ -312,8 +308,7 @@ export class Library {
 
   /**
    * A copy of bytes.
-   * @param {number} at
-   * @param {number} size
+   * @param {number} at @param {number} size
    */
   bytes(at, size) {
     return this.#bytes.slice(at, at + size);
@@ -321,8 +316,7 @@ export class Library {
 
   /**
    * Writes bytes, and returns where.
-   * @param {number} at
-   * @param {ArrayLike<number>} values
+   * @param {number} at @param {ArrayLike<number>} values
    */
   put(at, values) {
     this.#bytes.set(values, at);
@@ -344,9 +338,7 @@ export class Library {
 
   /**
    * The members of a struct.
-   * @template {keyof Structs} S
-   * @param {S} struct
-   * @param {number} at
+   * @template {keyof Structs} S @param {S} struct @param {number} at
    * @returns {Struct<S>}
    */
   read(struct, at) {
@@ -355,9 +347,7 @@ export class Library {
 
   /**
    * Those of these names.
-   * @param {keyof Structs} struct
-   * @param {number} at
-   * @param {Iterable<string>} wanted
+   * @param {keyof Structs} struct @param {number} at @param {Iterable<string>} wanted
    */
   #members(struct, at, wanted) {
     /** @type {Record<string, any>} */
@@ -385,9 +375,7 @@ export class Library {
 
   /**
    * Writes these members of a struct, with zeros in the others, and returns where.
-   * @param {keyof Structs} struct
-   * @param {number} at
-   * @param {Record<string, unknown>} values
+   * @param {keyof Structs} struct @param {number} at @param {Record<string, unknown>} values
    */
   write(struct, at, values) {
     this.#bytes.fill(0, at, at + STRUCTS[struct].size);
@@ -399,8 +387,7 @@ export class Library {
 
   /**
    * @param {any} kind  a word or a length
-   * @param {number} at
-   * @param {any} value
+   * @param {number} at @param {any} value
    */
   #writeMember(kind, at, value) {
     switch (kind) {
@@ -427,10 +414,7 @@ export class Library {
     return /** @type {any} */ ({ kind, ...this.#members("clock", at, OF_CLOCKS[kind]) });
   }
 
-  /**
-   * @param {number} at
-   * @param {Clock} clock
-   */
+  /** @param {number} at @param {Clock} clock */
   writeClock(at, clock) {
     /** @type {Record<string, any>} */
     const given = clock, members = OF_CLOCKS[clock.kind];
@@ -503,8 +487,7 @@ export class Library {
 
   /**
    * The message with this code and this body, or what is wrong with the body.
-   * @param {number} code
-   * @param {ArrayLike<number>} body
+   * @param {number} code @param {ArrayLike<number>} body
    * @returns {Message}
    */
   viewMessage(code, body) {
@@ -650,8 +633,7 @@ export class Library {
 
   /**
    * The squares on which two positions differ.
-   * @param {ArrayLike<number>} pieces
-   * @param {ArrayLike<number>} others
+   * @param {ArrayLike<number>} pieces @param {ArrayLike<number>} others
    */
   differ(pieces, others) {
     const [one, other] = [this.put(this.in, checked(pieces, 64)),
@@ -705,8 +687,7 @@ export class Library {
   }
 
   /**
-   * @param {"piece_code" | "square_number" | "segment"} name
-   * @param {string} text
+   * @param {"piece_code" | "square_number" | "segment"} name @param {string} text
    * @param {number} length
    */
   #such(name, text, length) {
@@ -760,10 +741,7 @@ class Handle {
   #at;
   #size;
 
-  /**
-   * @param {Library} dgt
-   * @param {K} kind
-   */
+  /** @param {Library} dgt @param {K} kind */
   constructor(dgt, kind) {
     this.dgt = dgt;
     this.kind = kind;
@@ -775,9 +753,7 @@ class Handle {
 
   /**
    * A call with this handle first.
-   * @template {string} N
-   * @param {N} name
-   * @param {OfHandle<`${K}_${N}`>[0]} values
+   * @template {string} N @param {N} name @param {OfHandle<`${K}_${N}`>[0]} values
    * @returns {OfHandle<`${K}_${N}`>[1]}
    */
   call(name, ...values) {
@@ -815,7 +791,7 @@ class Reader extends Handle {
     chunk(bytes);
     for (let from = 0; from < bytes.length;) {
       const part = bytes.subarray(from, from + CHUNK);
-      const { used, count } = /** @type {Struct<"told">} */ (this.call(
+      const { used, count } = /** @type {{used: number, count: number}} */ (this.call(
         name, dgt.put(dgt.in, part), part.length, dgt.events, MOST_EVENTS, dgt.body, MAX_BODY));
       for (let n = 0; n < count; n++) {
         found.push(/** @type {Event} */ (dgt.event(dgt.events + n * size, this.total)));
@@ -828,8 +804,7 @@ class Reader extends Handle {
 
   /**
    * The same, one after another: a byte is used once the event before it was taken.
-   * @param {"feed" | "hear"} name
-   * @param {Uint8Array} bytes
+   * @param {"feed" | "hear"} name @param {Uint8Array} bytes
    * @param {[] | [number]} before  what the call takes before the bytes
    * @returns {Generator<Event, void, undefined>}
    */
@@ -887,8 +862,7 @@ export class Decoder extends Reader {
  */
 class Sender extends Reader {
   /**
-   * @template {string} N
-   * @param {N} name
+   * @template {string} N @param {N} name
    * @param {OfHandle<`${"host" | "follower"}_${N}`>[0] extends [...infer M, number, number] ? M :
    *   never} values  all but where to write, and the room there
    */
@@ -949,9 +923,7 @@ class Sender extends Reader {
 
   /**
    * Sets the times of both sides: hours, minutes and seconds.
-   * @param {ArrayLike<number>} left
-   * @param {ArrayLike<number>} right
-   * @param {number} control
+   * @param {ArrayLike<number>} left @param {ArrayLike<number>} right @param {number} control
    */
   sendSetAndRun(left, right, control) {
     const { dgt } = this;
@@ -1104,8 +1076,7 @@ export class Follower extends Sender {
 
   /**
    * Hears bytes that came at this time.
-   * @param {number} now
-   * @param {Uint8Array} bytes
+   * @param {number} now @param {Uint8Array} bytes
    */
   hear(now, bytes) {
     const { dgt } = this, at = whole(now);
@@ -1118,8 +1089,7 @@ export class Follower extends Sender {
 
   /**
    * The events of bytes that came at this time. A byte is heard once the event before it was taken.
-   * @param {number} now
-   * @param {Uint8Array} bytes
+   * @param {number} now @param {Uint8Array} bytes
    */
   hearEach(now, bytes) {
     return this.each("hear", bytes, whole(now));
@@ -1209,9 +1179,7 @@ export class Board extends Handle {
 
   /**
    * Makes the board anew, idle.
-   * @param {ArrayLike<number>} pieces
-   * @param {Clock} clock
-   * @param {Identity} identity
+   * @param {ArrayLike<number>} pieces @param {Clock} clock @param {Identity} identity
    */
   start(pieces, clock, identity) {
     const { dgt } = this;
@@ -1223,8 +1191,7 @@ export class Board extends Handle {
 
   /**
    * Puts a piece, or 0 for none, on a square.
-   * @param {number} square
-   * @param {number} piece
+   * @param {number} square @param {number} piece
    */
   change(square, piece) {
     if (!this.call("change", byte(square), byte(piece))) throw new BadValue("no square or piece");

@@ -41,10 +41,11 @@ export class Drawing {
     const path = dark.map(n => `M${n % 8}00 ${n >> 3}00h100v100h-100z`).join("");
     svg.append(element("path", { class: "light", d: "M0 0h800v800H0z" }),
                element("path", { class: "dark", d: path }));
+    const coordinate = { class: "coordinate", "aria-hidden": "true" }; // the label has a FEN
     for (let n = 0; n < 8; n++) {
-      const end = { class: "coordinate", x: 100 * n + 94, y: 789, "text-anchor": "end" };
+      const end = { ...coordinate, x: 100 * n + 94, y: 789, "text-anchor": "end" };
       svg.append(element("text", end, "abcdefgh"[n]),
-                 element("text", { class: "coordinate", x: 7, y: 100 * n + 25 }, `${8 - n}`));
+                 element("text", { ...coordinate, x: 7, y: 100 * n + 25 }, `${8 - n}`));
     }
     this.frames = element("path", { class: "frames" });
     this.pieces = element("g", { class: "pieces" });

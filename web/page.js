@@ -57,14 +57,26 @@ function drawNow() {
   drawState(state);
   drawClock(session?.clock, state);
   const { moves, ended } = session?.game ?? { moves: [], ended: "" };
-  write(find("moves"), [...moves, ended].join(" "));
-  find("record").hidden = !moves.length;
+  drawMoves([...moves, ended].filter(Boolean));
+  find("save").hidden = !moves.length;
   find("connect").hidden = find("try").hidden = Boolean(session);
   find("end").hidden = find("sends").hidden = !session;
   find("table").hidden = find("acts").hidden = !simulated;
   document.querySelector("main")?.classList.toggle("trying", Boolean(simulated));
   write(find("title"), simulated ? "What this page knows" : "The board");
   if (simulated) drawTable(simulated);
+}
+
+/**
+ * Each in a node of its own: a screen reader says those that are new.
+ * @param {string[]} moves
+ */
+function drawMoves(moves) {
+  const node = find("moves");
+  while (node.childElementCount > moves.length) node.lastElementChild?.remove();
+  moves.forEach((text, n) => {
+    write(node.children[n] ?? node.appendChild(document.createElement("span")), `${text} `);
+  });
 }
 
 /** @param {keyof STATES} state */
@@ -409,8 +421,8 @@ dragging(table.svg);
 async function openAllowed() {
   if (!navigator.serial) {
     say(isSecureContext ?
-      "This browser gives no page a serial port. On a computer, Chrome, Edge and other Chromium " +
-      "browsers do. Here you can try the page without a board." :
+      "This browser gives no page a serial port. On a computer, Chrome, Edge and new versions of " +
+      "Firefox do. Here you can try the page without a board." :
       "A browser gives serial ports only to pages from https, localhost or a disk.");
     return;
   }

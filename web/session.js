@@ -10,6 +10,7 @@ const LATE = 100; // milliseconds after a fault of the line in which bytes may b
 
 export class Session {
   isOpen = false;
+  wasTried = false; // whether the port was there at first is known
   hasEnded = false;
   /** @type {Uint8Array | null} the last one that was known */
   picture = null;
@@ -49,7 +50,9 @@ export class Session {
 
   async run() {
     while (!this.hasEnded) {
-      if (await this.#open()) await this.#talk();
+      const isThere = await this.#open();
+      this.wasTried = true;
+      if (isThere) await this.#talk();
       if (!this.hasEnded) await this.#comesBack();
     }
     this.follower.close();
@@ -203,7 +206,7 @@ export class Session {
   /** What is to be said of the picture. The board is silent after two askings without a reply. */
   get state() {
     const { follower } = this;
-    if (!this.isOpen) return "gone";
+    if (!this.isOpen) return this.wasTried ? "gone" : "asking";
     if (this.#askedBefore > (follower.lastHeard ?? -Infinity)) return "silent";
     if (!follower.picture) return "asking";
     return follower.inDoubt ? "doubt" : follower.confirmed ? "confirmed" : "known";
