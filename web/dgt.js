@@ -128,6 +128,11 @@ export class BadPlacement extends DgtError {
  */
 /** @typedef {"host" | "follower" | "decoder" | "command_decoder" | "board"} Kind  of a handle */
 /**
+ * The names of the calls of handles of a kind.
+ * @template {Kind} K
+ * @typedef {{[N in keyof Named]: N extends `${K}_${infer M}` ? M : never}[keyof Named]} NameOf
+ */
+/**
  * What a call of a handle takes after it, and what it returns.
  * @template {string} N
  * @typedef {N extends keyof Named ?
@@ -753,7 +758,7 @@ class Handle {
 
   /**
    * A call with this handle first.
-   * @template {string} N @param {N} name @param {OfHandle<`${K}_${N}`>[0]} values
+   * @template {NameOf<K>} N @param {N} name @param {OfHandle<`${K}_${N}`>[0]} values
    * @returns {OfHandle<`${K}_${N}`>[1]}
    */
   call(name, ...values) {
@@ -862,7 +867,7 @@ export class Decoder extends Reader {
  */
 class Sender extends Reader {
   /**
-   * @template {string} N @param {N} name
+   * @template {NameOf<"host" | "follower">} N @param {N} name
    * @param {OfHandle<`${"host" | "follower"}_${N}`>[0] extends [...infer M, number, number] ? M :
    *   never} values  all but where to write, and the room there
    */
