@@ -1,8 +1,10 @@
-"""Programs that follow a board on a port: the trainers and the programs of README.md, in each
+"""Programs that follow a board on a port: the trainers and the programs of the pages, in each
 language. checks/c_library, checks/cargo and checks/examples try these cases. The line of the board
 is that of ports.py."""
 
 import contextlib
+import pathlib
+import re
 import signal
 import subprocess
 import threading
@@ -15,6 +17,8 @@ ANSWERED = PUT.replace("pppppppp/8/8", "ppp1pppp/8/3p4")
 FIELD = bytes([0x8E, 0, 5, 36, 1])  # a pawn on e4
 ASKED_FIRST = bytes(255) + b"\x44\x42\x4b\x41"
 CLOCK = "clock 1:00:00 0:59:30"
+ROOT = pathlib.Path(__file__).resolve().parent.parent
+PORT = "/dev/ttyUSB0"
 
 
 class Program(contextlib.ExitStack):
@@ -134,7 +138,17 @@ def a_trainer_waits(dgt, line, words):
         trainer.end()
 
 
-# ---- The programs of README.md
+# ---- The programs of the pages
+
+
+def first_program(language, port):
+    """The one program of README.md and docs/USING.md in a language that names a port, for this
+    port."""
+    text = "\n".join((ROOT / page).read_text() for page in ("README.md", "docs/USING.md"))
+    blocks = re.findall(rf"^```{language}\n(.*?)^```", text, re.M | re.S)
+    [program] = [block for block in blocks if PORT in block] or [""]
+    wanted(f"ports in the program in {language}", program.count(PORT), 1)
+    return program.replace(PORT, str(port))
 
 
 def a_first_program(_, line, words, status=None):
