@@ -1,8 +1,9 @@
-"""Compares the section `What one more takes` of docs/ARCHITECTURE.md with the files in git.
+"""Compares crates/ONE_MORE.md, the map of what one more message or command takes, with the files in
+git.
 
-Each path of the section is that of a file. The crate of a path is named before it, with a colon, or
+Each path of the map is that of a file. The crate of a path is named before it, with a colon, or
 after it, with `of`. The long serial number is both a message and a question: each file that names
-it is in the section, or needs no change (STAYS). Each file that any message code takes names it or
+it is in the map, or needs no change (STAYS). Each file that any message code takes names it or
 its code. In each item of the list these files come before an `If`.
 
 checks/promises_stand runs it; `python3 checks/mapped.py` prints what any message code takes."""
@@ -14,11 +15,11 @@ import subprocess
 import sys
 
 ROOT = pathlib.Path(__file__).resolve().parent.parent
-PAGE, HEAD = "docs/ARCHITECTURE.md", "## What one more takes\n"
+PAGE = "crates/ONE_MORE.md"
 NAME, CODE = "long_?serial", "0x22"
 # Laws, tests and altered lines that are about it, and documents.
 STAYS = re.compile(
-    r"docs/.*|lib/test\.c|checks/(c_library|divisions|altered_models\.txt)"
+    r"docs/.*|crates/\w+\.md|lib/test\.c|checks/(c_library|divisions|altered_models\.txt)"
     r"|.*(\.edits?|/laws.*|/fixtures\.rt)"
 )
 # A crate and a colon, a crate after `of`, words in backticks; a sentence or a list that begins.
@@ -62,8 +63,8 @@ def always(part: str) -> set[str]:
 
 
 def check_map() -> list[str]:
-    """Returns what any message code takes. It fails if the section is wrong."""
-    section = (ROOT / PAGE).read_text().partition(HEAD)[2]
+    """Returns what any message code takes. It fails if the map is wrong."""
+    section = (ROOT / PAGE).read_text()
     each, message = section.split("\n\n**")[:2]
     taken, named, naming = always(each) | always(message), {*paths(section)}, files(NAME)
     wrong = [f"no file {path}" for path in named if not (ROOT / path).is_file()]
