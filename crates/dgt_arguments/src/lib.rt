@@ -14,6 +14,9 @@
 //! ```
 #![tactic(auto)]
 
+// This is a crate of its own because code that calls clap takes three times as long to prove next
+// to the libraries of the engines.
+
 mod command_line;
 pub mod help;
 

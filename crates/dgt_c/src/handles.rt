@@ -19,6 +19,9 @@ use dgt_follow::Follower;
 use dgt_host::Host;
 use std::marker::{Model, Send};
 
+// The handles are five structs with one proof: a struct with type arguments can't cross to C, and
+// the gate refuses an impl that a macro wrote.
+
 /// A host in memory of C's.
 #[repr(C)]
 #[derive(Drop)]

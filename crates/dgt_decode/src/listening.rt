@@ -10,7 +10,8 @@ use crate::event::Event;
 /// Contracts see what a listener makes of an event as a relation, `hears`, which each listener
 /// states for itself.
 pub trait Listener {
-    // the listener before an event, the event with its place, and the listener after it
+    // the listener before an event, the event with its place, and the listener after it; a closure
+    // would need a `requires`, and a default would promise nothing
     ghost hears: { Self → Placed → Self → Type 0 };
 
     /// Hears an event. Its place is how many bytes of the chunk come up to and including the one

@@ -20,6 +20,7 @@ pub enum RunFault {
     BadLine { line: u64, at: usize },
 }
 
+// Written by hand: the code that `thiserror` derives has no contract.
 impl fmt::Display for RunFault {
     ghost output = { λ fault. Some (run_fault_text fault) };
 

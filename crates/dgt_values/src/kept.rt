@@ -5,6 +5,8 @@ ghost use Rattle.std.specs.Prelude.{◌≡◌, ◌≤◌, ◌<◌, ◌+◌, [], 
 use std::marker::Model;
 use std::simd::prelude::*;
 
+// An `ArrayVec` would write a blank over each byte that goes, so this is an array and a length.
+
 // No more bytes than this are copied in one step, with bytes after them if there are some.
 const FEW: usize = 8;
 

@@ -9,6 +9,7 @@ use crate::refusals::NoSquare;
 #[derive(Clone, Copy, Debug, PartialEq, Eq)]
 pub struct Square {
     index: u8,
+    // There is no `Model`: a call on `&mut self` whose result has one can't state what it leaves.
     ghost small: { index < 64 },
 }
 
