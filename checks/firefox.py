@@ -30,7 +30,7 @@ def find() -> str | None:
 
 def plain(remote: dict[str, Any]) -> Any:
     """The value of the page that this describes."""
-    value = remote.get("value")
+    value: Any = remote.get("value")
     if remote["type"] == "array":
         return [plain(each) for each in value]
     if remote["type"] == "object":
@@ -134,17 +134,17 @@ class Firefox:
     def be_phone(self, width: int, height: int) -> None:
         self.resize(width, height)
 
-    def act(self, *actions: dict[str, object], **source: object) -> None:
+    def act(self, *actions: Any, **source: object) -> None:
         """A source of input does this."""
         self.do("input.performActions", context=self.context, actions=[
             source | {"id": str(source), "actions": actions}])
 
     def point(self, act: str, x: float, y: float, with_touch: bool = False) -> None:
         """A mouse or a finger goes down, moves or goes up."""
-        acts = {"down": [{"type": "pointerDown", "button": 0}], "move": [],
-                "up": [{"type": "pointerUp", "button": 0}]}
-        self.act({"type": "pointerMove", "x": round(x), "y": round(y)}, *acts[act],
-                 type="pointer", parameters={"pointerType": "touch" if with_touch else "mouse"})
+        press: list[Any] = ([] if act == "move" else
+                            [{"type": f"pointer{act.capitalize()}", "button": 0}])
+        self.act({"type": "pointerMove", "x": round(x), "y": round(y)}, *press, type="pointer",
+                 parameters={"pointerType": "touch" if with_touch else "mouse"})
 
     def enter(self, text: str) -> None:
         """Types a text, and presses Enter."""
