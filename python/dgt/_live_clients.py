@@ -1,4 +1,52 @@
-"""The clients of `dgt-livechess`, and the messages that they and the server exchange."""
+"""The clients of `dgt-livechess`, and the messages that they and the server exchange.
+
+Each text message of the WebSocket ws://localhost:1982/api/v1.0 is one JSON object. A client calls,
+and the server responds; after `subscribe` it also sends a message at once and after each change:
+
+    {"id":1,"call":"eboards"}
+    {"response":"call","id":1,"param":[{"serialnr":"12345","state":"ACTIVE",..}],"time":..}
+    {"id":2,"call":"subscribe","param":{"feed":"eboardevent","id":1,"param":{"serialnr":"12345"}}}
+    {"response":"call","id":2,"param":null,"time":..}
+    {"response":"feed","id":1,"param":{"serialnr":"12345","flipped":false,"board":"rnbq..",
+        "clock":..,"match":true,"san":["e4"]},"time":..}
+    {"id":3,"call":"call","param":{"id":1,"method":"setup","param":{"fen":"rnbq.. w KQkq - 0 1"}}}
+    {"id":4,"call":"unsubscribe","param":{"id":1}}
+    {"response":"error","id":..,"param":TEXT,..}
+
+`serialnr` is the board's number, or the name of its port before the number is known; `subscribe`
+also takes the path of the port, as `source` has it. A feed that names a board by its number stays
+with it at another port. `board` is null until the board has reported its squares, and while another
+board is on its port.
+
+Each feed has a game of its own, which begins without moves. `setup` begins a new list of moves:
+
+- If the game has reached this position, or one a move before it, its moves so far stay known. If
+  they are taken back, there is no `san` until the board shows the position again.
+- Else the position is awaited, also on a turned board. Until then there is no `san`.
+- If the board shows for a second what one or two legal moves lead to, the list has these moves:
+  they were made while the page or the program was away. After the program was restarted the second
+  one has to be a capture, a pawn's move or castling: else the board may lack the site's last two.
+
+The maker's description of the interface was not at hand: this is from knowledge of it, and of the
+code of lichess.org. Sure are:
+
+- path, port, calls and their parameters, `response`, `id`, and that `serialnr` is a text
+- `board` as White sees it, and `time` in milliseconds since 1970
+- `state` ACTIVE or INACTIVE (the port is away)
+- that `san` has all moves since `setup`, and gets shorter if moves are taken back
+
+The names `flipped` (White's pieces began on the ranks 8 and 7), `source`, `battery` and `comment`
+(null) are fairly sure. Not sure are:
+
+- when `san` is empty and when absent, and whether `board` turns with the board
+- the meaning of `match`: here, that the board shows the position after `san`
+- `state` DELAYED (in doubt) or NOTRESPONDING
+- `clock`: `white` and `black` in seconds, `run`, `time`; lichess.org doesn't read it
+- the form of errors, which other calls, feeds and methods get
+
+A site that may not connect gets the status 403. A client that is one too many, or doesn't read its
+messages, is closed with the code 1013, and one with too long a message with 1009.
+"""
 
 from __future__ import annotations
 

@@ -3,7 +3,7 @@
 This program speaks as LiveChess does, the program of the boards' maker: on this
 machine it has a WebSocket, ws://localhost:1982/api/v1.0. A site such as
 https://lichess.org/dgt connects to it, and gets each move that is made on the
-board. LICHESS.md is a guide for players.
+board. The section "Play on Lichess" of GUIDE.md is for players.
 
 Without a PORT it follows each serial port that is likely a board's by its USB
 device, also one that is plugged in later. With --broker it hears the boards
