@@ -57,7 +57,7 @@ def named(state: dgt.GameState, word: str) -> str:
     fits = [each for each in fits if each in state.moves()]
     if len(fits) == 1:
         return fits[0]
-    why = "may be several moves" if fits else "is no move"
+    why = "may be several moves" if fits else "isn't a legal move"
     raise Refused(f"{word} {why} at {state.number}{'.' if state.white else '...'}")
 
 
@@ -201,9 +201,9 @@ def check_address(url: str) -> str:
     except ValueError as fault:
         raise Refused(f"{url!r}: {fault}") from None
     if not parts.hostname or parts.scheme not in ("http", "https") or parts.username is not None:
-        raise Refused(f"{url!r} is no address, as https://example.org/push")
+        raise Refused(f"not an address such as https://example.org/push: {url!r}")
     if parts.scheme == "http" and parts.hostname not in LOCAL:
-        raise Refused("a token is sent by https alone, but to this machine")
+        raise Refused("an address of another machine has to begin with https")
     return url
 
 
@@ -234,7 +234,7 @@ def read_names(text: str) -> Names:
                     raise topics.Refused
                 names.players[name] = list(topics.read_players(value))
             except topics.Refused:
-                wrong.append(f"line {number}: {line.strip()[:80]!r} is no NAME = WHITE - BLACK")
+                wrong.append(f"line {number}: not `BOARD = WHITE - BLACK`: {line.strip()[:80]!r}")
             except Refused as fault:
                 wrong.append(f"line {number}: {fault}")
     if wrong:

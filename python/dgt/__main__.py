@@ -1,4 +1,4 @@
-"""The programs of the package: `python -m dgt game PORT`, `python -m dgt uci [PORT]` and others."""
+"""The programs of the package, such as `python -m dgt game PORT`."""
 
 import sys
 from collections.abc import Callable
@@ -9,13 +9,17 @@ _PROGRAMS: dict[str, Callable[[list[str]], None]] = {
     "game": game.main, "uci": uci.main, "livechess": livechess.main, "ports": serial_ports.main,
     "doctor": doctor.main, "record": record.main, "replay": replay.main}
 _USAGE = """\
-usage: python -m dgt game PORT           (python -m dgt game --help describes it)
-       python -m dgt uci [PORT]          (python -m dgt uci --help describes it)
-       python -m dgt livechess [PORT..]  (python -m dgt livechess --help describes it)
-       python -m dgt ports               (python -m dgt ports --help describes it)
-       python -m dgt doctor PORT         (python -m dgt doctor --help describes it)
-       python -m dgt record PORT FILE    (python -m dgt record --help describes it)
-       python -m dgt replay FILE         (python -m dgt replay --help describes it)"""
+usage: python -m dgt PROGRAM ..
+
+  game PORT         prints the moves made on a board, and keeps a PGN file
+  uci [PORT]        plays in chess programs, as a UCI engine
+  livechess [PORT]  plays on lichess.org and other sites that use LiveChess
+  ports             lists the serial ports that may be boards
+  doctor PORT       examines a board, and writes a report
+  record PORT FILE  records what a board and a program send
+  replay FILE       plays a recorded session
+
+`python -m dgt PROGRAM --help` describes a program."""
 
 if __name__ == "__main__":
     if sys.argv[1:2] and sys.argv[1] in _PROGRAMS:

@@ -148,7 +148,7 @@ def read_session(text: str) -> tuple[list[Entry], bool]:
         if entry is None and number == len(lines) + 1:
             break  # it was cut off there
         if entry is None or entry.mark != "#" and entry.seconds < last:
-            raise BadSession(f"line {number}: no chunk of bytes, or before its time: {line[:60]!r}")
+            raise BadSession(f"line {number}: not a session's line, or out of order: {line[:60]!r}")
         last = max(last, entry.seconds)
         entries.append(entry)
     count = sum(entry.mark != "#" for entry in entries)

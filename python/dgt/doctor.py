@@ -1,14 +1,14 @@
-"""Examines a board: opens its port, asks it everything, and has you do twelve
-things, each of which is checked as it happens.
+"""Examines a board: requests everything from it, and has you do twelve things.
 
 Set up the pieces, play a move, press the clock, pull the cable, and so on: each
-step says what to do. Press s and Enter to skip one, and q and Enter to end
-early. Without a clock the steps with it are left out.
+step says what to do, and is checked as it happens. Press s and Enter to skip
+one, and q and Enter to end early. Steps with the clock are left out if there is
+none.
 
-The report is a text file for a bug report. It has the board's model and
+The report is a text file for a bug report. It contains the board's model and
 versions, what was found and what to do about it, which statements of
-docs/PROTOCOL.md held, and the whole session, byte by byte. It has the board's
-serial numbers, too.
+docs/PROTOCOL.md held, and the whole session, byte by byte. So it contains the
+board's serial numbers, too.
 
 Exit status: 0 if nothing was found, and 1 if something was, or if the port
 can't be opened.
@@ -186,8 +186,8 @@ def main(arguments: list[str] | None = None) -> None:
         formatter_class=argparse.RawDescriptionHelpFormatter)
     parser.add_argument("port", help="the board's serial port, such as /dev/ttyUSB0")
     parser.add_argument("--report", metavar="FILE", default=time.strftime(
-        "dgt-doctor-%Y%m%d-%H%M%S.txt"), help="the file that gets the report, a new one; it is "
-        "named by the time if nothing is said")
+        "dgt-doctor-%Y%m%d-%H%M%S.txt"), help="the file for the report; it must not exist yet "
+        "(dgt-doctor-DATE-TIME.txt)")
     words = parser.parse_args(arguments)
     what = words.report
     try:

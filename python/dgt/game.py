@@ -1,42 +1,42 @@
-"""The games on a board, printed move by move and kept in a PGN file.
+"""Prints the moves that are made on a board, and keeps the games in a PGN file.
 
-Standard output has a line for each thing that happens:
+Standard output gets a line for each event:
 
     game FEN                    a game begins with this position
-    1. e4 e2e4 1:30:00 1:30:00  a move: its number, its short and its long name,
-                                and the times of White and Black, if the board
-                                has a clock
+    1. e4 e2e4 1:30:00 1:30:00  a move: its number, short and long notation, and
+                                the times of White and Black, if the board has a
+                                clock
     undo 1. e4 e2e4             a move was taken back, or is replaced by that of
                                 the next line
     result 1-0 kings            the result, by the kings, mate or stalemate
     broken off                  the board was away, and came back with other
                                 pieces
 
-All pieces on their first squares begin a game, also on a turned board. So does
-another position that the board shows at the start, or that is set up with the
-kings last, for five seconds. A move is reported once it has rested for 0.3
-seconds and the board has confirmed it by a report of all squares, or it was
-answered. Pieces may be lifted in any order, slid, and put on wrong squares.
-Moves may be taken back.
+A game begins when all pieces stand on their first squares, on either side of
+the board. So does any other position that stands for five seconds at the start,
+or after it was set up with the kings placed last. A move is printed once it has
+rested for 0.3 seconds and the board has confirmed it by a report of all
+squares, or once it was answered. Pieces may be lifted in any order, slid, and
+put right. Moves may be taken back.
 
-The players give the result by their kings. They lift both, and put them for a
+The players give the result with their kings. They lift both, and put them for a
 second on
 
     e4 and d5             White wins
     e5 and d4             Black wins
     e4 and e5, or d4, d5  a draw
 
-whichever king is where, and wherever the other pieces are. Mate and stalemate
-end a game by themselves. After that no moves are kept until a new game begins.
+Either king may be on either square, and the other pieces don't matter. Mate and
+stalemate end a game by themselves. After the end no moves are kept until a new
+game begins.
 
-The PGN file is written after each move. What else it has stays, and games are
-added at its end. If it can't be written, standard error says so. The game goes
+The PGN file is written after each move. Its other contents stay, and games are
+added at its end. If it can't be written, standard error says so, the game goes
 on, and each move tries again.
 
-If the port goes, it is looked for every two seconds, and the game goes on once
-it is back, with up to two moves that were made meanwhile. If the board shows
-another position for five seconds, the game is broken off, and another begins
-there.
+If the port disappears, it is looked for every two seconds. The game then goes
+on with up to two moves that were made meanwhile. If the board shows another
+position for five seconds, the game is broken off, and another begins there.
 """
 
 from __future__ import annotations
@@ -127,14 +127,14 @@ def _read_words(arguments: list[str] | None) -> argparse.Namespace:
         prog="dgt-game", description=__doc__, allow_abbrev=False,
         formatter_class=argparse.RawDescriptionHelpFormatter)
     parser.add_argument("port", help="the board's serial port, such as /dev/ttyUSB0")
-    parser.add_argument("--pgn", metavar="FILE", help="the file that gets the games")
+    parser.add_argument("--pgn", metavar="FILE", help="the file for the games")
     for name in _TAGS:
-        said = "; today, if it isn't given" if name == "date" else ""
+        said = " (today)" if name == "date" else ""
         parser.add_argument(f"--{name}", metavar="TEXT", help=f"a tag of each game{said}")
     parser.add_argument("--white-clock", choices=("left", "right"), default="left",
                         help="the side of the clock that has White's time (%(default)s). Left is "
                         "the side that the clock reports first")
-    parser.add_argument("--fen", help="the game begins with this position, in place of any other")
+    parser.add_argument("--fen", help="the game begins with this position")
     parser.add_argument("--period", type=_period, default=_PERIOD, metavar="SECONDS",
                         help="how often the board is asked for all squares (%(default)s)")
     return parser.parse_args(arguments)

@@ -1,22 +1,22 @@
-"""Boards for lichess.org and other sites and programs that know LiveChess.
+"""Serves boards to lichess.org and other sites that use the program LiveChess.
 
-This program speaks as LiveChess does, the program of the boards' maker: on this
-machine it has a WebSocket, ws://localhost:1982/api/v1.0. A site such as
+It takes the place of LiveChess, the program of the boards' maker, and opens the
+same WebSocket on this machine: ws://localhost:1982/api/v1.0. A site such as
 https://lichess.org/dgt connects to it, and gets each move that is made on the
 board. The section "Play on Lichess" of GUIDE.md is for players.
 
-Without a PORT it follows each serial port that is likely a board's by its USB
-device, also one that is plugged in later. With --broker it hears the boards
-that dgt-broadcast publishes, so that dgt-page and others have them, too.
+Without a PORT it follows each serial port whose USB device is likely a board,
+also one that is plugged in later. With --broker it gets the boards that
+dgt-broadcast publishes, so that dgt-page and others can show them, too.
 
-A move is sent once it has rested and the board has confirmed it, and the list
-of moves gets shorter if one is taken back. A position that a client sets up
-goes on from the moves so far, or else begins a game once the board shows it.
+A move is sent once it has rested and the board has confirmed it. If it is taken
+back, the list of moves gets shorter. A position that a site sets up goes on
+from the moves so far, or begins a game once the board shows it.
 
 Only pages of https://lichess.org may connect, and programs that aren't pages.
 
-At most there are 32 clients with 8 feeds each, and 256 messages that wait for a
-client to read them. A message of a client has 65536 bytes at most.
+There are at most 32 clients with 8 feeds each, and 256 messages that wait for a
+client to read them. A message of a client is at most 65536 bytes long.
 """
 
 from __future__ import annotations
@@ -174,7 +174,7 @@ class Server:
 def _a_port(text: str) -> int:
     if text.isdecimal() and 0 < int(text) < 65536:
         return int(text)
-    raise argparse.ArgumentTypeError(f"no number from 1 to 65535: {text!r}")
+    raise argparse.ArgumentTypeError(f"not a number from 1 to 65535: {text!r}")
 
 
 def _an_origin(text: str) -> str:
@@ -187,7 +187,7 @@ def _an_origin(text: str) -> str:
                 and not parts.query and not parts.fragment):
             host = f"[{parts.hostname}]" if ":" in parts.hostname else parts.hostname
             return f"{parts.scheme}://{host}" + ("" if port is None else f":{port}")
-    raise argparse.ArgumentTypeError(f"no origin such as https://example.org: {text!r}")
+    raise argparse.ArgumentTypeError(f"not an origin such as https://example.org: {text!r}")
 
 
 def _read_words(arguments: Sequence[str] | None) -> argparse.Namespace:
@@ -200,18 +200,18 @@ def _read_words(arguments: Sequence[str] | None) -> argparse.Namespace:
                         help="the broker to which dgt-broadcast publishes the boards")
     parser.add_argument("--broker-port", type=_a_port, default=1883, metavar="PORT",
                         help="its port (%(default)s)")
-    parser.add_argument("--user", help="a user of the broker; MQTT_PASSWORD has the password")
+    parser.add_argument("--user", help="a user of the broker; MQTT_PASSWORD contains the password")
     parser.add_argument("--port", type=_a_port, default=_PORT, metavar="PORT",
                         help="the port of the WebSocket (%(default)s)")
     parser.add_argument("--origin", action="append", type=_an_origin, default=[], metavar="ORIGIN",
                         help="another site that may connect, such as https://example.org")
     parser.add_argument("--clock", action="store_true",
-                        help="the board's clock shows a move that a client has set up, until it "
+                        help="the board's clock shows a move that a site has set up, until it "
                         "is made on the board")
-    parser.add_argument("--leds", action="store_true", help="so do the lights of the board")
+    parser.add_argument("--leds", action="store_true", help="the board's lights show it, too")
     words = parser.parse_args(arguments)
     if words.broker and (words.ports or words.clock or words.leds):
-        parser.error("with --broker there is no PORT, --clock or --leds")
+        parser.error("--broker can't be combined with a PORT, --clock or --leds")
     return words
 
 

@@ -1,15 +1,13 @@
 """Records the bytes between a host and a board, with their times.
 
-The file that it writes is a session: each chunk of bytes is a line, with its
-time and its direction. Each line that you type is noted there, such as what you
-do on the board. Ctrl-C ends it.
+The file is a session: each chunk of bytes is a line, with its time and its
+direction. Each line that you type becomes a note, such as what you do on the
+board. Each new position and each fault of the line is noted, too. Ctrl-C ends
+it. docs/SESSIONS.md describes the file, and dgt-replay plays it.
 
-It follows the board by itself. With --pass it asks nothing, and prints the name
-of a pseudo-terminal instead: have a program open that in place of the board's
-port, and what both say is passed on, and recorded.
-
-It notes each new position, and each fault of the line. docs/SESSIONS.md
-describes the file, which dgt-replay plays.
+It follows the board by itself. With --pass it prints the name of a
+pseudo-terminal instead. Have a program open that in place of the board's port:
+the bytes of both are passed on, and recorded.
 """
 
 from __future__ import annotations
@@ -119,7 +117,7 @@ def main(arguments: list[str] | None = None) -> None:
         prog="dgt-record", description=__doc__, allow_abbrev=False,
         formatter_class=argparse.RawDescriptionHelpFormatter)
     parser.add_argument("port", help="the board's serial port, such as /dev/ttyUSB0")
-    parser.add_argument("file", help="the file that gets the session, a new one")
+    parser.add_argument("file", help="the file for the session; it must not exist yet")
     parser.add_argument("--pass", dest="passes", action="store_true",
                         help="pass the port on to a program")
     words = parser.parse_args(arguments)

@@ -1,14 +1,15 @@
 """Plays a session that dgt-record or dgt-doctor has written.
 
 It prints the name of a pseudo-terminal, for a program to open in place of a
-board's port. The session begins once the program has sent its first bytes. What
-the board said then comes byte for byte, in its time. A report of all squares
-waits until the program has asked for it, for a second at most: so a program
-that asks as the recorded one did finds each answer after its question.
+board's port. The session begins once the program has sent its first bytes. Then
+the program gets what the board sent, byte for byte and at the same times. A
+report of all squares waits until the program has requested it, for a second at
+most. So a program that asks as the recorded one did gets each answer after its
+request.
 
-It ends once the program has read all.
+It ends once the program has read everything.
 
-Exit status: 0, or 1 if the file is no session, or one that was cut off.
+Exit status: 0, or 1 if the file is not a session, or one that was cut off.
 """
 
 from __future__ import annotations
@@ -89,7 +90,7 @@ def _speed(text: str) -> float:
     with contextlib.suppress(ValueError):
         if 0.001 <= (speed := float(text)) <= 1_000_000:
             return speed
-    raise argparse.ArgumentTypeError(f"not 0.001 to 1000000: {text!r}")
+    raise argparse.ArgumentTypeError(f"not a number from 0.001 to 1000000: {text!r}")
 
 
 def main(arguments: list[str] | None = None) -> None:

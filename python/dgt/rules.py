@@ -115,7 +115,7 @@ class GameState:
         whose turn it isn't is in check."""
         is_text = isinstance(letters, str) and len(letters) == 64
         if not is_text or set(letters) - set(".PRNBKQprnbkq"):
-            raise BadFen(f"no 64 letters of pieces: {letters!r}")
+            raise BadFen(f"not 64 letters of pieces: {letters!r}")
         if (letters.count("K"), letters.count("k")) != (1, 1):
             raise BadFen("not one king of each side")
         if set(letters[:8] + letters[56:]) & set("Pp"):
@@ -126,7 +126,7 @@ class GameState:
             and letters[castling.corner] == ("R" if right.isupper() else "r"))
         state = cls(letters, white, castlings)
         if state._in_check(letters, not white):
-            raise BadFen("the side whose turn it isn't is in check")
+            raise BadFen("the side that isn't to move is in check")
         return state
 
     @classmethod
@@ -135,7 +135,7 @@ class GameState:
         A castling without its king and rook is left out. `BadFen` if the text is none, or for the
         reasons of `place`."""
         if not isinstance(fen, str):
-            raise BadFen(f"no text: {fen!r}")
+            raise BadFen(f"not a text: {fen!r}")
         fields = fen.split()
         fields += ["8/8/8/8/8/8/8/8", "w", "-", "-", "0", "1"][len(fields):]
         placement, turn, castlings, passed, *counts = fields
@@ -145,9 +145,9 @@ class GameState:
         except DgtError as wrong:
             raise BadFen(f"{wrong}: {fen!r}") from None
         if turn not in ("w", "b") or set(castlings) - set("KQkq-"):
-            raise BadFen(f"no turn, or no castlings: {fen!r}")
+            raise BadFen(f"not a turn (w or b) and castlings (of KQkq, or -): {fen!r}")
         if len(counts) != 2 or not all(re.fullmatch("[0-9]{1,9}", each) for each in counts):
-            raise BadFen(f"no two counts at the end: {fen!r}")
+            raise BadFen(f"not two numbers at the end: {fen!r}")
         if square is not None and not state._was_passed(square):
             raise BadFen(f"no pawn has just passed {passed}: {fen!r}")
         kept = "".join(right for right in state.castlings if right in castlings)
@@ -177,7 +177,7 @@ class GameState:
         for candidate in self._candidates():
             if _name(self, *candidate) == move and (state := self._made(*candidate)):
                 return state
-        raise IllegalMove(f"{move!r} in {self.fen}")
+        raise IllegalMove(f"not a legal move in {self.fen}: {move!r}")
 
     def _in_check(self, letters: str, white: bool) -> bool:
         return _attacks(letters, not white, letters.index("K" if white else "k"))

@@ -1,14 +1,13 @@
-"""A board as a UCI engine, whose moves a person makes on the board.
+"""Plays the moves that you make on a board, as a UCI engine.
 
-A chess program starts it as it starts any engine: `dgt-uci /dev/ttyUSB0`, or
-`python -m dgt uci /dev/ttyUSB0`. It speaks UCI on its standard input and
-output, opens the port when the first position comes, and closes it at the end.
-What the player has to do comes as `info string` and on standard error; the
-clock of the board shows the move of the other side.
+A chess program starts it like any engine: `dgt-uci /dev/ttyUSB0`, or
+`python -m dgt uci /dev/ttyUSB0`. It opens the port when the chess program sends
+the first position, and closes it at the end. What you have to do on the board
+appears as `info string` and on standard error. The clock of the board shows the
+move of the other side.
 
-A pawn becomes the piece that is put on its last square. A rook there is a rook,
-also upside down: for a queen, put a queen there, or leave the pawn for two
-seconds.
+To promote, put the new piece on the last rank. A rook counts as a rook even
+upside down. For a queen you may also leave the pawn there for two seconds.
 
 Options that the chess program shows in its engine settings:
 
@@ -114,7 +113,7 @@ class Game:
         where, moves = words[:at], words[at + 1:]
         fen = START_FEN if where[:1] == ["startpos"] else " ".join(where[1:])
         if where[:1] not in (["startpos"], ["fen"]):
-            raise BadFen("neither startpos nor fen")
+            raise BadFen("not startpos or fen")
         if fen != self._fen or moves[:len(self._moves)] != self._moves or self.state is None:
             self.state = None
             self.first, self.before, self.last_move = GameState.parse(fen), None, None
@@ -437,7 +436,7 @@ def _period(text: str) -> float:
     with contextlib.suppress(ValueError):
         if 1 <= (seconds := float(text)) <= 3600:
             return seconds
-    raise argparse.ArgumentTypeError(f"not 1 to 3600 seconds: {text!r}")
+    raise argparse.ArgumentTypeError(f"not a number of seconds from 1 to 3600: {text!r}")
 
 
 def main(arguments: list[str] | None = None) -> None:
