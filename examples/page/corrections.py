@@ -57,7 +57,7 @@ def named(state: dgt.GameState, word: str) -> str:
     fits = [each for each in fits if each in state.moves()]
     if len(fits) == 1:
         return fits[0]
-    why = "may be several moves" if fits else "isn't a legal move"
+    why = "may be several moves" if fits else "is not a legal move"
     raise Refused(f"{word} {why} at {state.number}{'.' if state.white else '...'}")
 
 

@@ -113,7 +113,7 @@ class Game:
         where, moves = words[:at], words[at + 1:]
         fen = START_FEN if where[:1] == ["startpos"] else " ".join(where[1:])
         if where[:1] not in (["startpos"], ["fen"]):
-            raise BadFen("not startpos or fen")
+            raise BadFen("neither startpos nor fen")
         if fen != self._fen or moves[:len(self._moves)] != self._moves or self.state is None:
             self.state = None
             self.first, self.before, self.last_move = GameState.parse(fen), None, None
