@@ -141,7 +141,7 @@ def read_session(text: str) -> tuple[list[Entry], bool]:
     in its middle. `BadSession` if it is none."""
     first, *lines = [line.rstrip() for line in text.splitlines()] or [""]
     if first != HEAD:
-        raise BadSession(f"line 1: not {HEAD!r}")
+        raise BadSession(f"line 1: not a session, which begins with {HEAD!r}")
     entries, last = list[Entry](), 0.0
     for number, line in enumerate(lines, 2):
         entry = _read_line(line)
