@@ -6,10 +6,10 @@ FINDINGS = {
     "bus mode": "it answered nothing until it was switched off and on. So most likely another "
     "program had left it in bus mode, in which it hears only its bus address. Do the same when a "
     "program says that the board doesn't answer",
-    "draughts board": "its report of all squares has 103 bytes, as that of a board for draughts "
-    "has, and 67 is that of a chess board. These programs read chess boards only",
-    "wrong size of dump": "its report of all squares hasn't 67 bytes, so no position is known. Put "
-    "this report into a bug report: the board may be of another kind",
+    "draughts board": "its report of all squares is 103 bytes long, as on a draughts board; that "
+    "of a chess board is 67 bytes long. These programs read only chess boards",
+    "wrong size of dump": "its report of all squares isn't 67 bytes long, so no position is known. "
+    "Attach this report to a bug report: the board may be of another kind",
     "late answers": "an answer took more than a second. Programs take it for lost, and ask again. "
     "Try another cable or socket, without a hub; bring a Bluetooth board closer",
     "mode lost": "it stopped reporting changes by itself, and did so again once it was asked to. "
@@ -23,11 +23,11 @@ FINDINGS = {
     "altered bytes": "bytes were lost, altered or inserted on the line. Try another cable or "
     "socket, without a hub; end other programs that may read this port",
     "another board's code": "it sends a message of a code that docs/PROTOCOL.md doesn't describe, "
-    "as a newer board or one of another maker may. Put this report into a bug report",
-    "new beginning": "it doesn't answer after zeros in the middle of a command. Programs that lost "
-    "a byte don't get on without its power being switched. Put this report into a bug report",
+    "as a newer board or one of another maker may. Attach this report to a bug report",
+    "new beginning": "it doesn't answer after zeros that complete a half-sent command. If a byte "
+    "is lost, switch it off and on. Attach this report to a bug report",
     "failed steps": "what the board showed isn't what was done. Each step says what to do",
-    "port gone": "the port has gone in the middle of it. Check the cable, and start again",
+    "port gone": "the port disappeared during the examination. Check the cable, and start again",
 }
 """What each finding means, and what to do."""
 

@@ -70,8 +70,8 @@ def _pairs(text: str) -> list[tuple[str, str]]:
 def _differences(shown: Position, right: Position) -> str:
     """Which squares are wrong, if any."""
     if shown.letters == right.letters[::-1]:
-        return "the board is turned: turn it by half, and put the pieces as before"
-    named = [f"{square} has {shown[square]} in place of {letter}"
+        return "the board is turned: turn it round, and put the pieces as before"
+    named = [f"{square} shows {shown[square]} instead of {letter}"
              for square, letter in shown.changes(right).items()]
     return ", ".join(named[:_NAMED] + ["and so on"] * (len(named) > _NAMED))
 
@@ -201,7 +201,7 @@ def _is_back(board: Examination) -> bool:
     return False
 
 
-_SEND = "put the report into a bug report"
+_SEND = "attach the report to a bug report"
 _CHOOSE = "switch the clock on, and choose its mode for a connected board"
 STEPS = [
     Step("set up", "set up all pieces for a game", "each piece has its own code: look at the "
