@@ -13,8 +13,8 @@ a host ask the board again and again. This program shows the position after each
     rnbqkbnr/pppppppp/8/8/8/8/PPPP1PPP/RNBQKBNR
     rnbqkbnr/pppppppp/8/8/4P3/8/PPPP1PPP/RNBQKBNR
 
-Nothing else in this package opens a line. A `Host` gives each event of the bytes that it is handed.
-With pyserial:
+Nothing else in this package opens a port. A `Host` returns each event in the bytes that it is
+given. With pyserial:
 
     >>> import serial
     >>> line = serial.Serial("/dev/ttyUSB0", 9600, timeout=1)
@@ -32,6 +32,18 @@ With pyserial:
 for those that are there (`in_waiting`), or else for one. `hear_each` hears a byte once the event
 before it was taken, so that the picture is the picture after that event; `hear` hears the whole
 chunk first.
+
+What there is:
+
+    follow, ports   follow the board on a port, and list the ports
+    Host            makes commands, takes in a board's bytes, keeps the picture and the clock
+    Follower        is a host that repeats its requests, so that its picture becomes right again
+    Decoder         turns a board's bytes into events; CommandDecoder a host's into commands
+    Board, World    simulate a board, and a board and a host on lines that may fail
+    encode_message  and view_message, encode_command, view_command need no object
+    ClockCommands   are calls of `follow`, Host and Follower for the board's clock
+    MoveRecogniser  finds the moves of a game in the host's pictures; GameState knows the rules
+    Games, PgnFile  make games of a board, and keep them in a file; PgnGame and san write PGN
 
 The objects are those of the library libdgt, in memory that Python owns. The Rattle code of libdgt
 is proved; this layer is tested. Each object has a lock, so that threads may share it: a call waits
