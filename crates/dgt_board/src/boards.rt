@@ -130,16 +130,16 @@ impl Board {
         if self.state.owed.is_full() {
             return Err(Busy);
         }
+        if let Some(command) = self.framer.front_command(chunk) {
+            self.state.obey_command(&command);
+            let event = Some(CommandEvent::Command(command));
+            return Ok(Taken { used: 1, event });
+        }
         let advanced = self.framer.advance(chunk);
         let used = advanced.used;
         let Some(found) = advanced.found else {
             return Ok(Taken { used, event: None });
         };
-        if let Some(command) = self.framer.bare_command(found) {
-            self.state.obey_command(&command);
-            let event = Some(CommandEvent::Command(command));
-            return Ok(Taken { used, event });
-        }
         let event = self.framer.event(found).unwrap();
         self.state.obey(&event);
         Ok(Taken {

@@ -8,7 +8,7 @@ ghost use Rattle.dgt_command.specs.Framing.{rest_after};
 ghost use Rattle.dgt_command.specs.Words.{IsPartial, IsWord};
 
 use crate::command::CommandEvent;
-use crate::framer::{MAX_WORD, WordFramer};
+use crate::framer::{AdvancedWord, MAX_WORD, WordFramer};
 use std::marker::Model;
 
 /// What [`CommandDecoder::feed`] did with a chunk.
@@ -62,15 +62,14 @@ impl CommandDecoder {
         ensures none { IfNone result.event
             ((result.used ≡ length chunk.now) × IsPartial (self.old ++ chunk.now)) }
     {
-        let advanced = self.framer.advance(chunk);
-        let used = advanced.used;
-        let Some(found) = advanced.found else {
+        if let Some(command) = self.framer.front_command(chunk) {
+            let event = Some(CommandEvent::Command(command));
+            return CommandFed { used: 1, event };
+        }
+        let AdvancedWord { used, found } = self.framer.advance(chunk);
+        let Some(found) = found else {
             return CommandFed { used, event: None };
         };
-        if let Some(command) = self.framer.bare_command(found) {
-            let event = Some(CommandEvent::Command(command));
-            return CommandFed { used, event };
-        }
         let event = self.framer.event(found);
         CommandFed { used, event }
     }

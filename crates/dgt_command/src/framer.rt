@@ -216,22 +216,24 @@ impl WordFramer {
         }
     }
 
-    /// The command that `advance` found last, if it is one of one byte.
+    /// The command of one byte that the chunk begins with, if no frame is unfinished. It is none of
+    /// the framer's bytes: a caller that takes it goes on behind it.
     ///
-    /// A caller that reads many commands asks this before it asks for an [`event`](Self::event):
-    /// copying an event takes longer than reading one byte.
+    /// A caller that reads many commands asks this before it asks to `advance`.
     #[inline(always)]
-    pub fn bare_command(&self, found: FoundWord) -> Option<Command<'static>>
-        ensures command { (found ≡ FoundWord.Command → IsEncoding self.now.word)
-            → IfSome result (λ command.
-            Read (command_content command) ≡ word_found_in self.now.word found) }
-        ensures byte { OnSome result (length self.now.word ≡ 1) }
-        ensures none { (found ≡ FoundWord.Command → IsEncoding self.now.word)
-            → IfNone result (found ≡ FoundWord.Command → length self.now.word ≢ 1) }
+    pub fn front_command(&self, chunk: &[u8]) -> Option<Command<'static>>
+        ensures command { IfSome result (λ command. (rest_of self.now ≡ [])
+            × IsWord (Read (command_content command)) (take 1 chunk.now)) }
+        ensures within { OnSome result (0 < length chunk.now) }
+        ensures none { IfNone result (rest_of self.now ≡ [] → (command : CommandContent) →
+            ¬ (EncodesCommand command (take 1 chunk.now))) }
     {
-        match (found, self.word.as_slice()) {
-            (FoundWord::Command, [byte]) => command_of_byte(*byte),
-            _ => None,
+        if self.partial() != 0 {
+            return None;
+        }
+        match chunk {
+            [byte, ..] => command_of_byte(*byte),
+            [] => None,
         }
     }
 }

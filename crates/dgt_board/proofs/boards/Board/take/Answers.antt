@@ -1,6 +1,6 @@
-use Rattle.std.proofs.Common.{rules, ◌≡◌, [], ◌++◌, take}
+use Rattle.std.proofs.Common.{rules, ◌≡◌, refl, [], ◌++◌, take}
 use Rattle.dgt_command.specs.Content.{EventContent, Read, command_content, command_event_content}
-use Rattle.dgt_command.specs.Framing.{rest_of, word_found_in}
+use Rattle.dgt_command.specs.Framing.{rest_of}
 use Rattle.dgt_command.specs.Words.{IsWord}
 use Rattle.dgt_board.specs.State.{effect}
 use Rattle.dgt_board.specs.Kept.{state_of}
@@ -9,7 +9,7 @@ use Rattle.dgt_board.proofs.TakingLemmas.{takes_word}
 use Rattle.dgt_board.proofs.boards.Board.take.Goals as goal
 
 pub invariant_of-self-2 : goal.invariant_of-self-2
-invariant_of-self-2 c = rw (c.advance-advanced.ensures.held, c.in-Some.is) c.parts_of_words.ensures.nothing
+invariant_of-self-2 c = rw (c.advance-advanced.ensures.held, c.in-Some-found.is) c.parts_of_words.ensures.nothing
 
 pub returns : goal.returns
 returns c =
@@ -17,29 +17,24 @@ returns c =
     let event = command_event_content c.unwrap-event.result in
     let is = (rw c.unwrap-event.ensures at c.event.ensures).1 in
     let word : IsWord event (c.args.self.now.partial ++ bytes) =
-    rw (is, ← c.self.view_is) (rw c.in-Some.is at c.advance-advanced.ensures.first) in
+    rw (is, ← c.self.view_is) (rw c.in-Some-found.is at c.advance-advanced.ensures.first) in
     let state : state_of c.obey.new.self ≡ effect c.args.self.now.state event =
     rw (← c.self.view_is) c.obey.ensures in
-    let rest : rest_of c.advance-advanced.new.self ≡ [] = rw c.in-Some.is at c.advance-advanced.ensures.held in
+    let rest : rest_of c.advance-advanced.new.self ≡ [] = rw c.in-Some-found.is at c.advance-advanced.ensures.held in
     let after : BoardView = record { state = state_of c.obey.new.self; partial = rest_of c.advance-advanced.new.self }
     in
     let both = takes_word c.parts_of_words.ensures.nothing c.args.self.now after bytes event word state rest in
     search rules
 
-pub returns-in-Some-bare_command : goal.returns-in-Some-bare_command
-returns-in-Some-bare_command c =
-    let bytes = take c.advance-advanced.result.used c.args.chunk.now in
-    let event : EventContent = Read (command_content c.in-Some-bare_command.command) in
-    let is : event ≡ word_found_in c.advance-advanced.new.self.word c.in-Some.found =
-    c.in-Some-bare_command.ensures.command (λ command. search rules) in
-    let word : IsWord event (c.args.self.now.partial ++ bytes) =
-    rw (is, ← c.self.view_is) (rw c.in-Some.is at c.advance-advanced.ensures.first) in
+pub returns-in-Some : goal.returns-in-Some
+returns-in-Some c =
+    let bytes = take 1 c.args.chunk.now in
+    let event : EventContent = Read (command_content c.in-Some.command) in
+    let front = c.in-Some.ensures.command in
+    let before : c.args.self.now.partial ≡ [] = rw (← c.self.view_is) front.0 in
+    let word : IsWord event (c.args.self.now.partial ++ bytes) = rw before front.1 in
     let state : state_of c.obey_command.new.self ≡ effect c.args.self.now.state event =
     rw (← c.self.view_is) c.obey_command.ensures in
-    let rest : rest_of c.advance-advanced.new.self ≡ [] = rw c.in-Some.is at c.advance-advanced.ensures.held in
-    let after : BoardView = record {
-      state = state_of c.obey_command.new.self;
-      partial = rest_of c.advance-advanced.new.self;
-    } in
-    let both = takes_word c.parts_of_words.ensures.nothing c.args.self.now after bytes event word state rest in
+    let after : BoardView = record { state = state_of c.obey_command.new.self; partial = [] } in
+    let both = takes_word c.parts_of_words.ensures.nothing c.args.self.now after bytes event word state refl in
     search rules
