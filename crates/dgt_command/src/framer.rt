@@ -217,7 +217,7 @@ impl WordFramer {
     }
 
     /// The command of one byte that the chunk begins with, if no frame is unfinished. It is none of
-    /// the framer's bytes: a caller that takes it goes on behind it.
+    /// the framer's bytes: a caller that takes it goes on after it.
     ///
     /// A caller that reads many commands asks this before it asks to `advance`.
     #[inline(always)]

@@ -21,7 +21,8 @@ module _ {S : Type 0} {W : Sink S} where
   puts_as x y p = record { output = p.output; dropped = tt; no_flush = p.no_flush; waits = p.waits }
 
   pub stops_as : {A B : Type 0} {held : List ℕ × List ℕ} {a b : S} {text : List ℕ} (e : RunFault)
-      (r : Result B RunFault) → IsErrAnd r (λ y. y ≡ e) → Puts {A = A} W held a b (Err e) text → Puts {A = B} W held a b r text
+      (r : Result B RunFault) → IsErrAnd r (λ y. y ≡ e) → Puts {A = A} W held a b (Err e) text
+      → Puts {A = B} W held a b r text
   stops_as e (Ok x) k p = absurd k
   stops_as e (Err y) k p =
       record { output = (k ∙ p.output.0, p.output.1); dropped = p.dropped; no_flush = p.no_flush; waits = tt }

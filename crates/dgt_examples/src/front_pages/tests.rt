@@ -1,6 +1,6 @@
 use super::{
-    finding, greeting, helping, listing, monitoring, moving, pausing, playing, printing, putting, reporting,
-    requesting, settling, storing, taking_turns,
+    finding, greeting, helping, listing, monitoring, moving, pausing, playing, printing, putting,
+    reporting, requesting, settling, storing, taking_turns,
 };
 use crate::tests::{CAME, DUMP, GONE, board};
 use dgt_board::{Identity, simulated_clock};
