@@ -261,7 +261,7 @@ def stored(body):
 
 def log(data):
     """What `dgt log` writes."""
-    decoder, lines = Decoder(), []
+    lines, decoder = [], Decoder()
     for offset, byte in enumerate(data, 1):
         decoder.take(byte)
         code, rest = decoder.message or (None, b"")

@@ -210,7 +210,7 @@ pub fn what_log_leaves()
     ensures { (r : Result (Unit {0}) RunFault) (bytes out text : List ℕ) →
         IsLogged r bytes out → HasLog (events bytes) text → IsInSink r text text out }
 {
-    one_log();
+    dgt_stored::laws::bodies_are_read();
 }
 
 /// The lines of bytes in a row are those of the first ones, and then those of the chunk after them.
