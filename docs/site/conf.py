@@ -40,8 +40,8 @@ GROUPS = {
     "Use": ["docs/GUIDE", "docs/PROGRAM", "docs/USING", "python/*", "rust/*", "web/*", "examples/*",
             "adapters/*", "packaging/*"],
     "Look up": ["docs/site/*", "docs/PROTOCOL", "docs/SESSIONS"],
-    "Trust": ["docs/PROMISES", "crates/*", "docs/ARCHITECTURE", "docs/TESTING", "docs/DECISIONS",
-              "bench/*", "fuzz/*"],
+    "Trust": ["docs/PROMISES", "crates/PROMISES", "docs/ARCHITECTURE", "docs/TESTING",
+              "docs/DECISIONS", "bench/*", "fuzz/*"],
     "Take part": ["CONTRIBUTING", "*"],
 }
 # What Sphinx doesn't make.
