@@ -191,7 +191,7 @@ def check_refusals(dgt):
          "settle must be a number of seconds, 0.0 or more: -1"),
         (lambda: dgt.MoveRecogniser().see(None, 0.0), TypeError, "this must be a Position: None"),
         (lambda: dgt.Games(len, len, white_clock="top"), dgt.BadValue,
-         "white_clock must be left or right: 'top'"),
+         "white_clock must be left, right or learn: 'top'"),
         (lambda: dgt.PgnGame(result=1).text(), dgt.BadValue,
          "result must be one of 1-0, 0-1, 1/2-1/2, *: 1"),
         (lambda: dgt.PgnFile("\0"), OSError, "[Errno 2] there is no such file: '\\x00'"),

@@ -16,7 +16,7 @@ import dgt
 import collector
 import corrections
 import topics
-from collector import Said, Table, report, said_of
+from collector import Table, report, said_of
 from corrections import DESK, Entry, Refused
 
 Players = dict[str, tuple[str, str]]
@@ -41,12 +41,11 @@ class Corrected(collector.Collector):
                  tell: collector.Tell, name: Callable[[Players], None], state: collector.State,
                  is_last: bool) -> None:
         self.names: Players = {}
-        self.name, self.usual = name, side
+        self.name = name
         self.sides: dict[str, str] = {}  # of each clock, if it isn't the usual one
-        self.learners: dict[str, tuple[int, corrections.Learner]] = {}  # with the game's number
         self.targets: dict[str, str] = {}  # the address that gets the games of a round
         self.late: Corrected | None = None  # which makes the same games some time later
-        super().__init__(shelf, tags, "left" if side == "learn" else side, tell, state, is_last)
+        super().__init__(shelf, tags, side, tell, state, is_last)
 
     def hear(self, said: collector.Heard) -> None:
         super().hear(said)
@@ -219,44 +218,11 @@ class Corrected(collector.Collector):
 
     def side(self, name: str) -> str:
         """White's side of a board's clock, or that it is learned."""
-        return self.sides.get(name, self.usual)
+        return self.sides.get(name, self.white_clock)
 
     def set_side(self, table: Table) -> None:
         """White's side of a board's clock is this one from now on, also in the game under way."""
-        side = self.side(table.place.board)
-        if side != "learn":
-            table.games.white_clock = side
-        self.learn(table)
-
-    def see(self, journal: str, said: Said, table: Table) -> None:
-        super().see(journal, said, table)
-        if said.is_sure:
-            turned = table.games.recogniser.turned
-            self.learner(table).see(said.letters[::-1] if turned else said.letters, said.clock)
-        self.learn(table)
-
-    def wait(self, now: float, table: Table) -> None:
-        super().wait(now, table)
-        self.learn(table)
-
-    def learner(self, table: Table) -> corrections.Learner:
-        """Learns of the game that is under way, and of no other: clocks are turned in between."""
-        name = table.place.board
-        number, learner = self.learners.get(name, (0, corrections.Learner()))
-        if number != table.place.count:
-            learner = corrections.Learner(before=learner.before)
-            if self.side(name) == "learn":
-                table.games.white_clock = self.white_clock
-        self.learners[name] = table.place.count, learner
-        return learner
-
-    def learn(self, table: Table) -> None:
-        """Sets the clock's side as it was learned, if it has to be."""
-        game = table.games.game
-        if game is not None and self.side(table.place.board) == "learn":
-            side = self.learner(table).side(game)
-            if side is not None and side != table.games.white_clock:
-                table.games.white_clock = side
+        table.games.white_clock = self.side(table.place.board)
 
     def move_to(self, journal: str, number: int, table: Table) -> None:
         """The game goes on at another board, of which a journal has said something last with this

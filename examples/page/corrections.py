@@ -23,8 +23,6 @@ SIDES = ("left", "right", "learn")
 FILE_TAGS = ("Event", "Site", "Date", "Round")
 LOOK = 1.0  # seconds between two looks at the time of a file
 MOST_FILE = 1 << 20  # bytes
-MOST_COUNTED = 60  # seconds of a clock from one time to the next
-MOST_SHOWN = 200  # positions
 LOCAL = ("localhost", "127.0.0.1", "::1")
 WORDS = re.compile(r"\{([^}]*)\}|(\d+\.+|\S+)")
 SAN = re.compile(r"([KQRBN]?)([a-h]?)([1-8]?)[x:-]?([a-h])([1-8])(?:=?([QRBNqrbn]))?")
@@ -154,41 +152,6 @@ def correct_live(games: dgt.Games, entry: Entry, at: float) -> None:
     elif "result" in entry:
         games.end(entry["result"], at)
     games.set_tags({}, True)
-
-
-# ---- The clock's side
-
-
-@dataclass
-class Learner:
-    """Learns which side of a clock is White's, of the sides that count while the board shows each
-    position of a game. A clock may be pressed late, so that most positions decide, and some with
-    each player's turn have to be seen."""
-
-    counted: dict[str, int] = field(default_factory=dict)  # the side, by what the board showed
-    turns: dict[int, tuple[bool, int]] = field(default_factory=dict)  # whose turn it was, and that
-    before: topics.Clock | None = None
-
-    def see(self, letters: str, clock: topics.Clock | None) -> None:
-        """Notes what the board shows, and its clock."""
-        before, self.before = self.before, clock
-        if clock is not None and before is not None:
-            counts = [before.left - clock.left, before.right - clock.right]
-            if min(counts) == 0 < max(counts) < MOST_COUNTED:
-                self.counted[letters] = counts.index(max(counts))
-                if len(self.counted) > MOST_SHOWN:
-                    del self.counted[next(iter(self.counted))]
-
-    def side(self, game: dgt.PgnGame) -> str | None:
-        """White's side, as far as the game has been seen, or `None` if that isn't known yet."""
-        states = [(len(game.moves), game.state)]
-        states += [(len(game.moves) - 1, game.moves[-1].before)] if game.moves else []
-        self.turns |= {ply: (state.white, self.counted[state.letters]) for ply, state in states
-                       if state.letters in self.counted}
-        right = sum(1 if white == (side == 1) else -1 for white, side in self.turns.values())
-        if not right or len({white for white, _ in self.turns.values()}) < 2:
-            return None
-        return "right" if right > 0 else "left"
 
 
 # ---- The file of names

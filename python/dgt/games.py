@@ -8,6 +8,7 @@ from collections.abc import Callable, Sequence
 from dataclasses import replace
 from typing import Protocol
 
+from ._clock_side import SIDES, Learner
 from ._handle import Uncopied
 from ._turn import to_put
 from .errors import BadValue
@@ -82,9 +83,11 @@ class Games(Uncopied):
                  file: GameStore | None = None, tags: dict[str, str] | None = None,
                  white_clock: str = "left", fen: str | None = None, port: str = "") -> None:
         """`file` gets each game as PGN, with these tags. `white_clock` is the side of the clock
-        that has White's time, `left` or `right`. `fen` is that of `MoveRecogniser`, and `port` what
-        the board is called in a warning. `BadFen` if the FEN is none, `BadValue` if the side is."""
-        self._is_white_left = _is_left(white_clock)
+        that has White's time, `left` or `right`, or `learn`: then it is found for each game, and
+        left until then. `fen` is that of `MoveRecogniser`, and `port` what the board is called in a
+        warning. `BadFen` if the FEN is none, `BadValue` if the side is."""
+        self._is_white_left, self._learns = _is_left(white_clock), white_clock == "learn"
+        self._learner, self._fallen = Learner(), set[str]()
         self.recogniser = MoveRecogniser(fen, set_up=_SET_UP_WAIT)
         self.game: PgnGame | None = None
         self._text = _GameText(PgnGame())
@@ -140,11 +143,14 @@ class Games(Uncopied):
         is_lost = self.recogniser.lost
         self._take(self.recogniser.see(view.picture, now, view.confirmed), is_lost, now)
         self._look_at_kings(now)
+        self._learner.see(self._shown, self._clock)
+        self._learn()
 
     def wait(self, now: float) -> None:
         """Notes that the board shows until this time what it showed last."""
         is_lost = self.recogniser.lost
         self._take(self.recogniser.wait(now), is_lost, now)
+        self._learn()
         if self._result and now >= self._result_at and self._is_confirmed:
             self._end(self._result, "kings", now)
         if self._hint_at is not None and now >= self._hint_at:
@@ -163,13 +169,19 @@ class Games(Uncopied):
 
     @property
     def white_clock(self) -> str:
-        """The side of the clock that has White's time, `left` or `right`. Set it at any time: the
-        clocks of all moves of the game follow. `BadValue` if the side is none."""
-        return "left" if self._is_white_left else "right"
+        """The side of the clock that has White's time, `left` or `right`. Set it at any time, also
+        to `learn`: the clocks of all moves of the game follow. `BadValue` if the side is none."""
+        return SIDES[not self._is_white_left]
 
     @white_clock.setter
     def white_clock(self, side: str) -> None:
-        self._is_white_left = _is_left(side)
+        is_left, self._learns = _is_left(side), side == "learn"
+        if not self._learns:
+            self._set_side(is_left)
+        self._learn()
+
+    def _set_side(self, is_left: bool) -> None:
+        self._is_white_left = is_left
         for made in self.game.moves if self.game else ():
             made.clock = self._left(made.times, made) or made.clock
         self._text.change(0)
@@ -249,6 +261,7 @@ class Games(Uncopied):
 
     def _note_clock(self, clock: Clock | None, now: float) -> None:
         self._clock = clock if isinstance(clock, Times) else None
+        self._note_flags()
         if self.game is None or len(self.game.moves) == self._settled:
             return
         last = self.game.moves[-1]
@@ -258,6 +271,27 @@ class Games(Uncopied):
         if left is not None and left != last.clock and self._is_as_told:
             last.clock, last.times, self._save_at = left, self._clock, now + _CLOCK_WAIT
             self._text.change(len(self.game.moves) - 1)
+
+    def _note_flags(self) -> None:
+        """Says once that a flag has fallen. That is no result: the arbiter gives it."""
+        if self._clock is None:
+            return
+        times = zip(SIDES, (self._clock.first, self._clock.second))
+        fallen = {side for side, time in times if time.blocked or time.fallen}
+        for side in sorted(fallen - self._fallen) if self.game and not self._is_over else ():
+            colour = "White" if side == self.white_clock else "Black"
+            self._warn(f"{colour}'s flag has fallen, which is no result by itself")
+        self._fallen = fallen
+
+    def _learn(self) -> None:
+        """White's side of the clock is that which was learned."""
+        if self.game is None:
+            return
+        self._learner.look_at(self.game)
+        side = self._learner.side if self._learns else None
+        if side is not None and side != self.white_clock:
+            self._set_side(side == "left")
+            self._warn(f"White's time is that of the clock's {side} side")
 
     def _runs_for(self, made: PgnMove) -> bool:
         """Whether the clock of the player who has made a move still runs. It does if the clock
@@ -334,6 +368,8 @@ class Games(Uncopied):
         self._settled = self._fixed = 0
         self._result = ""
         self._seen.clear()
+        self._learner = Learner(before=self._learner.before)  # clocks are turned between games
+        self._is_white_left |= self._learns
         if self._file is not None:
             self._file.begin()
         self._tell(f"game {event.state.fen}")
@@ -462,9 +498,11 @@ class Games(Uncopied):
 
 
 def _is_left(side: str) -> bool:
-    if side not in ("left", "right"):
-        raise BadValue(f"white_clock must be left or right: {side!r}")
-    return side == "left"
+    """Returns whether White's time is the first one, as far as this says it. `BadValue` if it is no
+    side."""
+    if side not in (*SIDES, "learn"):
+        raise BadValue(f"white_clock must be left, right or learn: {side!r}")
+    return side != "right"
 
 
 def _misplaced(shown: str, state: GameState, most: int) -> str:
