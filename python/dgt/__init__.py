@@ -68,6 +68,7 @@ from .follower import Follower
 from .following import BoardView, Following, SerialLine, follow, follow_async
 from .games import Games, GameStore
 from .host import Host
+from .logging_board import LoggingBoard
 from .moves import GameBegun, MoveEvent, MoveMade, MoveRecogniser, MoveTakenBack
 from .names import BatteryState, Button, ClockVersion, Done, Off, Pressed, Ready, Signal
 from .pgn import PgnGame, PgnMove, san
@@ -87,8 +88,8 @@ __all__ = [
     "ClockCommands", "ClockId", "ClockMessage", "ClockVersion", "Closed", "Command",
     "CommandDecoder", "Cut", "Decoder", "DgtError", "Done", "Dump", "Event", "Fault", "Field",
     "Follower", "Following", "GameBegun", "GameState", "GameStore", "Games", "Host", "Identity",
-    "IllegalMove", "KeptGame", "LETTERS", "Leds", "LongSerial", "Mark", "Message", "Mode",
-    "MoveEvent", "MoveMade", "MoveRecogniser", "MoveTakenBack", "Nested", "NoClock",
+    "IllegalMove", "KeptGame", "LETTERS", "Leds", "LoggingBoard", "LongSerial", "Mark", "Message",
+    "Mode", "MoveEvent", "MoveMade", "MoveRecogniser", "MoveTakenBack", "Nested", "NoClock",
     "NoSuchCommand", "Off", "Other", "Outcome", "PgnFile", "PgnGame", "PgnMove", "Position",
     "Pressed", "Ready", "Refused", "SQUARES", "START_FEN", "STORED_REQUEST", "Serial", "SerialLine",
     "SerialPort", "Signal", "Stored", "StoredPiece", "StoredTime", "Stray", "StrayByte", "Time",

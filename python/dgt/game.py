@@ -37,6 +37,26 @@ on, and each move tries again.
 If the port disappears, it is looked for every two seconds. The game then goes
 on with up to two moves that were made meanwhile. If the board shows another
 position for five seconds, the game is broken off, and another begins there.
+
+A flag of the clock that falls is named on standard error, once. It is no result
+by itself.
+
+With --log the games are those that the board has kept while no host listened,
+if it keeps a log (the command 49). Such a log says what was put on which
+square, in order, and now and then the time of a side of the clock. So:
+
+- A game begins where the pieces stand on their first squares, either way round.
+- What stood on the board before the log begins, or after it was switched on or
+  began anew by itself, is unknown until then. What was moved there is in no
+  game, and standard error counts it.
+- A game ends before the next one, without a result where the log ends, or the
+  board was switched on or began anew. If changes are missing, or no moves lead
+  to what was moved, it has the moves until then, and a comment that says so.
+- A time is that of the player whose move came before it.
+- Unknown bytes are passed over, and standard error names them.
+
+The date of these games isn't known. A game that was kept before is kept again.
+If no byte comes for five seconds, that is said, and the status is 1.
 """
 
 from __future__ import annotations
@@ -49,6 +69,8 @@ import sys
 import time
 
 from ._board_with_clock import _PATIENCE
+from ._clock_side import SIDES
+from ._logged import LoggedGames, NoLog, Stopped, ask_for_log
 from ._pgn_file import PgnFile
 from .board import Mode
 from .errors import BadFen
@@ -131,43 +153,75 @@ def _read_words(arguments: list[str] | None) -> argparse.Namespace:
     for name in _TAGS:
         said = " (today)" if name == "date" else ""
         parser.add_argument(f"--{name}", metavar="TEXT", help=f"a tag of each game{said}")
-    parser.add_argument("--white-clock", choices=("left", "right"), default="left",
+    parser.add_argument("--white-clock", choices=(*SIDES, "learn"), default="left",
                         help="the side of the clock that has White's time (%(default)s). Left is "
-                        "the side that the clock reports first")
+                        "the side that the clock reports first. With learn it is found by which "
+                        "side counts when")
     parser.add_argument("--fen", help="the game begins with this position")
-    parser.add_argument("--period", type=_period, default=_PERIOD, metavar="SECONDS",
-                        help="how often the board is asked for all squares (%(default)s)")
-    return parser.parse_args(arguments)
+    parser.add_argument("--period", type=_period, metavar="SECONDS",
+                        help=f"how often the board is asked for all squares ({_PERIOD})")
+    parser.add_argument("--log", action="store_true", help="keep the games of the board's log, "
+                        "without following the board")
+    words = parser.parse_args(arguments)
+    if words.log and (words.fen or words.period):
+        parser.error("--log takes no --fen and no --period")
+    return words
 
 
-def _open(words: argparse.Namespace, output: _Output, notes: _Output) -> tuple[Following, Games]:
-    """Opens the port and the file. `SystemExit` that says what is wrong with one of them."""
-    tags = {name.capitalize(): value for name in _TAGS
-            if (value := getattr(words, name)) is not None}
-    what = words.pgn
+def _follow(words: argparse.Namespace, file: PgnFile | None, tags: dict[str, str],
+            output: _Output, notes: _Output) -> bool:
+    """Keeps the games on the board. Returns whether the file has all of them."""
+    games = Games(output.say, lambda text: notes.say(f"dgt-game: {text}"), file, tags,
+                  words.white_clock, words.fen, words.port)
     try:
-        file = None if words.pgn is None else PgnFile(words.pgn)
-        games = Games(output.say, lambda text: notes.say(f"dgt-game: {text}"), file, tags,
-                      words.white_clock, words.fen, words.port)
-        what = words.port
-        return follow(words.port, words.period, patience=_PATIENCE, mode=Mode.UPDATE_NICE,
-                      confirm=True), games
-    except BadFen as wrong:
-        raise SystemExit(f"dgt-game: {wrong}") from None
+        with follow(words.port, words.period or _PERIOD, patience=_PATIENCE, mode=Mode.UPDATE_NICE,
+                    confirm=True) as board:
+            _record(board, games, output, notes)
+    finally:
+        is_whole = games.close()
+    return is_whole
+
+
+def _read_log(words: argparse.Namespace, file: PgnFile | None, tags: dict[str, str],
+              output: _Output, notes: _Output) -> bool:
+    """Keeps the games of the board's log. Returns whether the file has all of them."""
+    log = ask_for_log(words.port, _stopping())
+    logged = LoggedGames(output.say, lambda text: notes.say(f"dgt-game: {text}"), tags,
+                         words.white_clock)
+    logged.read(log)
+    if file is None:
+        return True
+    for game in logged.games:
+        file.put(game.text(), file.begin())
+    try:
+        file.save()
     except OSError as refused:
-        raise SystemExit(f"dgt-game: {what}: {refused.strerror}") from None
+        notes.say(f"dgt-game: {file.name} can't be written: {refused.strerror or refused}\n"
+                  f"dgt-game: {file.name} lacks this:\n{file.unsaved}")
+        return False
+    return True
 
 
 def main(arguments: list[str] | None = None) -> None:
     """Runs the program `dgt-game` with these arguments, or those of the process."""
     words = _read_words(arguments)
     output, notes = _Output(1), _Output(2)
-    board, games = _open(words, output, notes)
+    tags = {name.capitalize(): value for name in _TAGS
+            if (value := getattr(words, name)) is not None}
+    what, is_whole = words.pgn, False
     try:
-        with board:
-            _record(board, games, output, notes)
+        file = None if words.pgn is None else PgnFile(words.pgn)
+        what = words.port
+        is_whole = (_read_log if words.log else _follow)(words, file, tags, output, notes)
+    except Stopped:
+        pass
+    except BadFen as wrong:
+        notes.say(f"dgt-game: {wrong}")
+    except NoLog as fault:
+        notes.say(f"dgt-game: {what}: {fault}")
+    except OSError as refused:
+        notes.say(f"dgt-game: {what}: {refused.strerror}")
     finally:
-        is_whole = games.close()
         if not output.send(1.0):
             notes.say(f"dgt-game: standard output: {output.fault or 'nobody reads it'}")
             is_whole = False

@@ -207,6 +207,11 @@ class MoveRecogniser:
         return self._due if self._is_confirmed else None
 
     @property
+    def _goes_on(self) -> bool:
+        """Whether what is due takes no move back."""
+        return isinstance(self._next, _Reading) and self._next.kept == len(self._moves)
+
+    @property
     def unconfirmed(self) -> bool:
         """Whether what the board shows now is to be reported once it is confirmed."""
         return self._due is not None and not self._is_confirmed

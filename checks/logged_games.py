@@ -1,0 +1,508 @@
+"""Checks the games that `python -m dgt game --log` makes of a board's log, and the log that a
+`dgt.LoggingBoard` keeps. checks/games runs these cases.
+
+A log is written as text here: `e4P` is a piece that was put, `e2.` one that was lifted, `L1:29:50`
+and `R1:29:50` are times of the clock's first and second side, `7d` is a byte, and words are marks.
+"""
+
+import contextlib
+import os
+import pathlib
+import re
+import signal
+import subprocess
+import sys
+import tempfile
+import time
+
+import pgn_games
+import ports
+import tables
+from wrong import Wrong, wanted
+
+ROOT = pathlib.Path(__file__).resolve().parent.parent
+PROGRAM = [sys.executable, "-m", "dgt"]
+SESSION = ROOT / "sessions" / "simulated_log.txt"
+SECONDS = 60
+MARKS = {"nothing": 0x00, "on": 0x6A, "end": 0x6B, "rows": 0x6C, "empty": 0x6D, "sent": 0x6E,
+         "begin": 0x6F, "turned": 0x7A, "tag": 0x7B, "dog": 0x7C, "erased": 0x7F}
+ON = "broken off: the board was switched on after this"
+DOG = "broken off: the board began anew after this"
+GAP = "broken off: the log lacks what was moved after this"
+UNTOLD = "no moves lead to what the log has after this"
+ITALIAN = "e2. e4P e7. e5p g1. f3N b8. c6n f1. c4B f8. c5b"
+PROMOTION = "a2. a4P b7. b5p a4. b5. b5P a7. a6p b5. a6. a6P c8. b7b a6. b7. b7P h7. h6p b7. a8."
+BACK = "g1N f3. f1B c4. e2P e4. b8n c6. f8b c5. e7p e5."
+SET_UP = " ".join(f"{file}{rank}{piece}" for rank, pieces in (
+    (8, "rnbqkbnr"), (7, "pppppppp"), (2, "PPPPPPPP"), (1, "RNBQKBNR"))
+    for file, piece in zip("abcdefgh", pieces))
+# What a log says; of each game its moves, its result and its comment; and what is said of it.
+LOGS = [
+    ("", [], ["the log is empty"]),
+    ("on end", [], []),
+    ("begin", [], []),
+    ("begin end e2. e4P", [], [2, 2]),
+    ("begin e2. e4P end", ["e4 *"], []),
+    # The last move was made if another piece was lifted after it, or nothing was.
+    ("begin e2. e4P e7. on", [f"e4 * {ON}"], []),
+    ("begin e2. e4P e7.", ["e4 *"], []),
+    (f"begin {ITALIAN} h1. f1R e1. g1K", ["e4 e5 Nf3 Nc6 Bc4 Bc5 O-O *"], []),
+    (f"begin {ITALIAN} e1. g1K h1. f1R d7. d6p", ["e4 e5 Nf3 Nc6 Bc4 Bc5 O-O d6 *"], []),
+    ("begin e2. e4P a7. a6p e4. e5P d7. d5p d5. e5. d6P", ["e4 a6 e5 d5 exd6 *"], []),
+    ("begin e2. e4P a7. a6p e4. e5P d7. d5p e5. d6P d5. c7. d6p", ["e4 a6 e5 d5 exd6 cxd6 *"], []),
+    (f"begin {PROMOTION} a8N",
+     ["a4 b5 axb5 a6 bxa6 Bb7 axb7 h6 bxa8=N *"], []),
+    (f"begin {PROMOTION} a8P a8. a8Q",
+     ["a4 b5 axb5 a6 bxa6 Bb7 axb7 h6 bxa8=Q *"], []),
+    # Slid over squares, put on wrong ones, taken back, and answered before they were put down.
+    ("begin e2. e3P e3. e4P d7. d6p d6. d5p e4. d5. d5P d8. d7q d7. d6q d6. d5. d5q",
+     ["e4 d5 exd5 Qxd5 *"], []),
+    ("begin e2. e4P g8. g6n g6. f6n", ["e4 Nf6 *"], []),
+    ("begin e2. e4P e7. e5p g1. f3N f3. g1N b1. c3N", ["e4 e5 Nc3 *"], []),
+    ("begin e2. e4P e4. e2P begin d2. d4P", ["d4 *"], []),
+    ("begin e2. e7. e4P e5p g1. f3N", ["e4 e5 Nf3 *"], []),
+    # Results.
+    ("begin f2. f3P e7. e5p g2. g4P d8. h4q", ["f3 e5 g4 Qh4# 0-1"], []),
+    (f"begin {ITALIAN} e1. e8. e4. c5. c5K d5k d5. c5. e4k d5K", ["e4 e5 Nf3 Nc6 Bc4 Bc5 1-0"], []),
+    ("begin e1. e8. d4K d5k", [" 1/2-1/2"], []),
+    # Marks in the middle.
+    ("begin e2. e4P sent tag nothing erased rows e7. e5p", ["e4 e5 *"], []),
+    ("begin e2. e4P dog e7. e5p", [f"e4 * {DOG}"], [2, 6]),
+    ("begin e2. on e4P e7. on e5p begin d2. d4P", ["d4 *"], [3, 4]),
+    (f"begin {ITALIAN} on on begin d2. d4P", [f"e4 e5 Nf3 Nc6 Bc4 Bc5 * {ON}", "d4 *"], []),
+    # Another game, also without its mark, or without what leads to it.
+    (f"begin {ITALIAN} e1. e8. {BACK} e8k e1K begin d2. d4P", ["e4 e5 Nf3 Nc6 Bc4 Bc5 *", "d4 *"],
+     []),
+    (f"begin {ITALIAN} e1. e8. {BACK} e8k e1K d2. d4P", ["e4 e5 Nf3 Nc6 Bc4 Bc5 *", "d4 *"], []),
+    ("begin e2. e4P begin d2. d4P", [f"e4 * {GAP}", "d4 *"], []),
+    ("begin e2. e4P empty begin d2. d4P", [f"e4 * {GAP}", "d4 *"], []),
+    (f"begin e2. e4P empty {SET_UP} d2. d4P", [f"e4 * {GAP}", "d4 *"], []),
+    # A position on the way to that is none of a game.
+    (f"empty e1K e8k L1:00:00 R1:00:00 e1. e2K L0:59:00 R0:59:00 e2. e8. {SET_UP} begin c2. c4P",
+     ["c4 *"], []),
+    ("turned d7. d5P d2. d4p", ["e4 e5 *"], []),
+    ("begin e2. e4P turned d7. d5P d2. d4p", [f"e4 * {GAP}", "e4 e5 *"], []),
+    # Nothing leads to what comes later: a change is missing, or was made while a host listened.
+    ("begin e2. e4P e5p g1. f3N b8. c6n end", [f"e4 * {UNTOLD}"], []),
+    ("begin e2. e4P e7. e5p f1. e5. e5B on", [f"e4 e5 * {UNTOLD}"], []),
+    # Bytes that are unknown, and a log that begins in the middle of what was stored.
+    ("7d begin e2. 3f e4P 7e 41", ["e4 *"],
+     ["bytes of the log that are unknown were passed over: 7d at 0, 3f at 4, 7e at 7, 41 at 8"]),
+    ("24 e7. e5p begin d2. d4P", ["d4 *"],
+     ["bytes of the log that are unknown were passed over: 24 at 0", 2, 1]),
+    ("05 30 begin d2. d4P", ["d4 *"],
+     ["bytes of the log that are unknown were passed over: 05 at 0, 30 at 1"]),
+    (" ".join(["7d"] * 22), [], ["bytes of the log that are unknown were passed over: "
+                                 + ", ".join(f"7d at {at}" for at in range(20)) + " and 2 more"]),
+]
+# A log, White's side of the clock, and the time after each move.
+TIMED = [
+    ("L1:30:00 R1:30:00 begin e2. e4P L1:29:50 e7. e5p R1:29:40 g1. f3N L1:29:30", "left",
+     "1:29:50 1:29:40 1:29:30"),
+    ("L1:30:00 R1:30:00 begin e2. e4P L1:29:50 e7. e5p R1:29:40 g1. f3N L1:29:30", "learn",
+     "1:29:50 1:29:40 1:29:30"),
+    ("L1:30:00 R1:30:00 begin e2. e4P R1:29:50 e7. e5p L1:29:40 g1. f3N R1:29:30", "right",
+     "1:29:50 1:29:40 1:29:30"),
+    ("L1:30:00 R1:30:00 begin e2. e4P R1:29:50 e7. e5p L1:29:40 g1. f3N R1:29:30", "learn",
+     "1:29:50 1:29:40 1:29:30"),
+    ("L1:30:00 R1:30:00 begin e2. e4P R1:29:50 e7. e5p L1:29:40 g1. f3N R1:29:30", "left", "- - -"),
+    # Both times after each move, of which one is new.
+    ("begin L1:30:00 R1:30:00 e2. e4P L1:29:50 R1:30:00 e7. e5p L1:29:50 R1:30:20", "learn",
+     "1:29:50 1:30:20"),
+    # A clock that isn't stored, or of one side alone, gives no time.
+    ("L1:30:00 R1:30:00 begin e2. e4P L1:29:50 e7. e5p g1. f3N L1:29:30 b8. c6n R1:20:00", "left",
+     "1:29:50 - 1:29:30 1:20:00"),
+    ("begin e2. e4P L1:29:50 e7. e5p g1. f3N L1:29:30", "left", "- - -"),
+    # The answer was lifted before the clock was pressed, and a move taken back after it.
+    ("L0:10:00 R0:10:00 begin e2. e4P e7. L0:09:50 e5p R0:09:40 g1. f3N", "left",
+     "0:09:50 0:09:40 -"),
+    ("L0:10:00 R0:10:00 begin e2. e4P L0:09:50 e4. e2P d2. d4P L0:09:30", "left", "0:09:30"),
+    # A flag in the time is no part of it; the clock is set for the next game.
+    ("L0:10:00 R0:10:00 begin e2. e4P L0:00:00 on L0:10:00 R0:10:00 begin d2. d4P", "left",
+     "0:00:00 -"),
+]
+
+
+def logged(dgt, text):
+    """The bytes of a log."""
+    body = b""
+    for word in text.split():
+        left = re.fullmatch(r"([LR])(\d):(\d\d):(\d\d)", word)
+        if word in MARKS:
+            body += bytes([MARKS[word]])
+        elif left:
+            side, hours, *packed = left.groups()
+            body += bytes([(0x60 if side == "L" else 0x70) + int(hours)])
+            body += bytes(int(each, 16) for each in packed)
+        elif re.fullmatch("[0-9a-f]{2}", word):
+            body += bytes.fromhex(word)
+        else:
+            body += bytes([0x40 + dgt.piece_code(word[2]), dgt.square_number(word[:2])])
+    return body
+
+
+def read(dgt, body, white_clock="left", tags=None):
+    """The games of a log, the lines, and what is said of it."""
+    from dgt._logged import LoggedGames
+
+    told, warned = [], []
+    games = LoggedGames(told.append, warned.append, tags or {}, white_clock)
+    games.read(body)
+    return games.games, told, warned
+
+
+def outside(said):
+    """What is said of changes that are of no game: how many, and the place of the first."""
+    words = [each for each in said if isinstance(each, str)]
+    if count := [each for each in said if not isinstance(each, str)]:
+        words.append(f"{count[0]} changes of squares are of no game, from byte {count[1]} of the "
+                     "log on: what stood on the board is unknown")
+    return words
+
+
+def logs(dgt):
+    """Each log has these games. So has one whose pieces have the other bit set."""
+    for text, right, said in LOGS:
+        body = logged(dgt, text)
+        for bit in (0, 0x10):
+            games, told, warned = read(dgt, bytes(
+                byte | bit if 0x40 <= byte < 0x60 and at + 1 < len(body) and body[at + 1] < 64
+                else byte for at, byte in enumerate(body)))
+            got = [" ".join([*(made.san for made in game.moves)] + [game.result])
+                   + (f" {game.comment}" if game.comment else "") for game in games]
+            wanted(f"games of {text}", got, [each.strip() for each in right])
+            wanted(f"what is said of {text}", warned, outside(said))
+            broken = sum("broken off" == line for line in told)
+            wanted(f"lines of {text}: {told}", broken, sum(bool(each.comment) for each in games))
+    [game], *_ = read(dgt, logged(dgt, "begin e2. e4P"), tags={"White": "Ann"})
+    wanted("tags", game.tags, {"Date": "????.??.??", "White": "Ann"})
+
+
+def log_times(dgt):
+    for text, side, right in TIMED:
+        games, *_ = read(dgt, logged(dgt, text), side)
+        got = [str(made.clock or "-") for game in games for made in game.moves]
+        wanted(f"times of {text}, {side}", got, right.split())
+
+
+def any_logs(dgt):
+    """Any bytes, and each cut of a log, are read to their end. No game has a move that its log
+    lacks: as far as the cut goes, the moves are those of the whole."""
+    import random
+
+    chance = random.Random(5)
+    for length in (1, 10, 300, 3000):
+        read(dgt, bytes(chance.choice([chance.randrange(256), 0x6F, 0x40, chance.randrange(64)])
+                        for _ in range(length)))
+    body = logged(dgt, f"on begin {ITALIAN} e1. g1K h1. f1R d7. d6p f3. g5N")
+    whole = [made.move for made in read(dgt, body)[0][0].moves]
+    for at in range(len(body)):
+        games, *_ = read(dgt, body[:at])
+        moves = [made.move for game in games for made in game.moves]
+        wanted(f"moves of {at} bytes", moves, whole[:len(moves)])
+    for at in range(2, len(body)):
+        games, *_ = read(dgt, body[at:])
+        wanted(f"games from byte {at} on", games, [])
+
+
+# ---- The board that keeps a log
+
+
+def sent(board, asked=b"\x49"):
+    return [bytes(each) for each in board.answers(asked)]
+
+
+def body_of(board):
+    """What a board has logged."""
+    messages = [each for each in sent(board) if each[0] not in (0x8D, 0x8E)]
+    for each in messages:
+        wanted("its length", (each[0], 128 * each[1] + each[2]), (0x8F, len(each)))
+    return b"".join(each[3:] for each in messages)
+
+
+def logging_board(dgt):
+    """What a board logs, and when."""
+    board = dgt.LoggingBoard(clock=dgt.NoClock())
+    wanted("a new one", body_of(board), logged(dgt, "on begin end"))
+    board.change("e2", ".")
+    board.change("e2", ".")
+    board.change("e4", "P")
+    wanted("a move", body_of(board), logged(dgt, "on begin sent e2. e4P end"))
+    for mode, is_logged in ((b"\x44", False), (b"\x43", False), (b"\x4b", False), (b"\x40", True)):
+        board.clear_log()
+        sent(board, mode)
+        board.change("e7", ".")
+        board.change("e7", "p")
+        board.hand_clock(dgt.Times(dgt.Time(1), status=mode[0] & 1))
+        got = body_of(board)
+        wanted(f"after {mode.hex()}", got, logged(dgt, "e7. e7p L1:00:00 R0:00:00 end"
+                                                  if is_logged else "end"))
+    board = dgt.LoggingBoard()
+    board.clear_log()
+    wanted("the order", [each[0] & 0x7F for each in sent(board, b"\x4d\x49\x4d\x49")],
+           [0x13, 0x0F, 0x13, 0x0F])
+    wanted("no command", sent(board, b"\x2b\x04\x03\x0b\x49\x00")[0][0], 0x8D)
+    board.take(b"\x49")
+    wanted("whether it owes that", (board.owes, board.owed_len), (True, 0))
+    board.line_lost()
+    wanted("and after a loss of power", (board.owes, body_of(board)[-3:]),
+           (False, logged(dgt, "on begin end")))
+    marks(dgt)
+    clock_log(dgt)
+    room(dgt)
+
+
+def marks(dgt):
+    """How the pieces stand is logged each time that they do."""
+    start = dgt.Position.start()
+    board = dgt.LoggingBoard(dgt.Position.parse("8/8/8/8/8/8/8/8"))
+    wanted("an empty one", body_of(board), logged(dgt, "on empty end"))
+    for letters, mark in ((start.letters, "begin"), (start.letters[::-1], "turned"),
+                          (start.letters.swapcase(), "rows"), ("." * 64, "empty")):
+        board.clear_log()
+        for square, piece in zip(dgt.SQUARES, letters):
+            if board.position[square] != ".":
+                board.change(square, ".")
+        for square, piece in zip(dgt.SQUARES, letters):
+            if piece != ".":
+                board.change(square, piece)
+        wanted(f"the last mark, {mark}", body_of(board)[-2:], logged(dgt, f"{mark} end"))
+
+
+def clock_log(dgt):
+    """A clock is logged once it stands, or is pressed."""
+    board, runs = dgt.LoggingBoard(), []
+    board.clear_log()
+    for first, second, status in ((600, 600, 0), (600, 600, 0x11), (599, 600, 0x11),
+                                  (590, 600, 0x11), (595, 600, 0x09), (595, 590, 0x09),
+                                  (595, 580, 0), (595, 580, 0x11)):
+        board.hand_clock(dgt.Times(*(dgt.Time(0, *divmod(each, 60)) for each in (first, second)),
+                                   status))
+        runs.append(len(body_of(board)))
+    board.hand_clock(dgt.NoClock())
+    got = body_of(board).replace(b"\x6e", b"")
+    wanted("times", got, logged(dgt, "L0:10:00 R0:10:00 L0:09:55 R0:09:40 end"))
+
+
+def room(dgt):
+    """The oldest are dropped, each whole, and a long log is several messages."""
+    for size in (3, 4, 10, 200):
+        board = dgt.LoggingBoard(room=size)
+        for number in range(300):
+            board.change("e4", "Pp"[number % 2])
+            if number % 3 == 0:
+                board.hand_clock(dgt.Times(dgt.Time(0, number // 60, number % 60)))
+        got = body_of(board)
+        wanted(f"the room of {size}", size - 2 <= len(got) - 1 <= size, True)
+        wanted("what is unknown", [each for each in dgt.read_stored(got)
+                                   if isinstance(each, dgt.UnknownByte)], [])
+    board = dgt.LoggingBoard(room=65536)
+    for number in range(20000):
+        board.change("e4", "Pp"[number % 2])
+    messages = sent(board)
+    wanted("the messages", [len(each) - 3 for each in messages], [16380, 16380, 7243])
+    for size in (-1, 2, 65537, 3.5, None):
+        with contextlib.suppress(dgt.BadValue):
+            dgt.LoggingBoard(room=size)
+            raise Wrong(f"a room of {size!r}")
+
+
+# ---- Games made by chance
+
+
+class LoggedTable(tables.AtGame):
+    """A table with a second board, which logs what happens, and to which nobody listens."""
+
+    logging = None
+
+    def __init__(self, dgt, *how):
+        super().__init__(dgt, *how)
+        self.logging = dgt.LoggingBoard(self.position())
+
+    def show(self):
+        super().show()
+        for square, piece in self.logging.position.changes(self.position()).items() \
+                if self.logging else ():
+            self.logging.change(square, piece)
+
+    def show_clock(self):
+        super().show_clock()
+        if self.logging:
+            self.logging.hand_clock(self.timer.times)
+
+
+class LoggedGame(tables.Played):
+    """A game at such a table. A move that is taken back and made again has two times in the log, so
+    that moves are taken back in every second game alone."""
+
+    def sit_down(self, turned):
+        self.side = "left" if self.chance.random() < 0.7 else "right"
+        timer = tables.Timer(self.dgt, is_white_left=self.side == "left")
+        table = LoggedTable(self.dgt, self.state.letters, self.fen, turned, self.file, timer,
+                            self.side, {"Round": "1"})
+        table.game = self
+        timer.run(0, table.time)
+        return table
+
+    def take_back(self):
+        if self.takes_back:
+            super().take_back()
+
+
+def play(dgt, seeds, most):
+    """Plays games, one for each seed, and reads them from the log. Returns how many moves."""
+    made = 0
+    for seed in seeds:
+        with tempfile.TemporaryDirectory(dir=tables.room()) as folder:
+            game = LoggedGame(dgt, seed, None, dgt.PgnFile(str(pathlib.Path(folder, "games.pgn"))))
+            game.takes_back = bool(seed % 2)
+            while game.made < most and game.step():
+                pass
+            result = game.finish()
+        games, told, warned = read(dgt, body_of(game.hand.logging),
+                                   "learn" if seed % 3 == 0 else game.side)
+        wanted(f"game {seed}, games and what is said", (len(games), warned), (1, []))
+        moves = [each.move for each in games[0].moves]
+        if moves != game.moves:
+            raise Wrong(f"game {seed}, moves: {tables.differing(moves, game.moves)}\n"
+                        + "\n".join(told[-8:]))
+        wanted(f"game {seed}, result", (games[0].result, games[0].comment), (result, ""))
+        clocks = [each.clock and str(each.clock) for each in games[0].moves]
+        # A press after which the clock shows what it showed before isn't logged.
+        right = [None if clocks[at] is None and at > 1 and game.clocks[at - 2] == clock else clock
+                 for at, clock in enumerate(game.clocks)]
+        if clocks != right and not game.takes_back:
+            raise Wrong(f"game {seed}, clocks: {tables.differing(clocks, right)}")
+        made += len(moves)
+    return made
+
+
+# ---- The program
+
+
+def ran(*words, seconds=SECONDS):
+    env = os.environ | {"PYTHONPATH": str(ROOT / "python"), "PYTHONDONTWRITEBYTECODE": "1"}
+    got = subprocess.run([*PROGRAM, *map(str, words)], capture_output=True, text=True, check=False,
+                         timeout=seconds, stdin=subprocess.DEVNULL, cwd="/", env=env)
+    wanted(f"a traceback of {words}: {got.stderr}", "Traceback" in got.stderr, False)
+    return got
+
+
+@contextlib.contextmanager
+def a_line(dgt, board=None):
+    """A board on a line, and a name for a file of games."""
+    with ports.a_line(dgt) as line, tempfile.TemporaryDirectory() as folder:
+        line.board = board or dgt.LoggingBoard()
+        yield line, pathlib.Path(folder, "games.pgn")
+
+
+def program_log(dgt):
+    """The games of a board's log are printed, and added to a file. The board isn't changed."""
+    with a_line(dgt) as (line, path):
+        for word in f"{ITALIAN} e1. e8. d4K d5k".split():
+            line.put((word[:2], word[2]))
+        path.write_text("old *\n")
+        got = ran("game", line.path, "--log", "--pgn", path, "--white", "Ann")
+        wanted(f"its status, {got.stderr}", (got.returncode, got.stderr), (0, ""))
+        wanted("its lines", got.stdout.splitlines()[-2:], ["3... Bc5 f8c5", "result 1/2-1/2 kings"])
+        wanted("the old", path.read_text().partition("\n\n")[0], "old *")
+        [game] = pgn_games.read(dgt, path.read_text().partition("\n\n")[2])
+        wanted("the game", (game.tags["White"], game.tags["Date"], game.result, len(game.moves)),
+               ("Ann", "????.??.??", "1/2-1/2", 6))
+        wanted("the mode", line.board.mode, dgt.Mode.IDLE)
+        full = path.parent / "full"
+        full.symlink_to("/dev/full")
+        for words, status, said in [
+                (("--fen", dgt.START_FEN), 2, "--log takes no --fen and no --period"),
+                (("--period", "3"), 2, "--log takes no --fen and no --period"),
+                (("--pgn", full), 1, "not a file")]:
+            got = ran("game", line.path, "--log", *words)
+            wanted(f"{words}, {got.stderr}", (got.returncode, said in got.stderr), (status, True))
+    with a_line(dgt) as (line, path):
+        line.board.clear_log()
+        line.spoil = lambda message: message.replace(b"\x8f\x00\x04\x6b", b"\x8f\x00\x03")
+        got = ran("game", line.path, "--log", "--pgn", path)
+        wanted("an empty log", (got.returncode, got.stderr, path.exists()),
+               (0, "dgt-game: the log is empty\n", False))
+
+
+def program_long_log(dgt):
+    """A log of several messages, between which something is under way."""
+    board = dgt.LoggingBoard(room=65536)
+    for _ in range(5000):
+        board.change("e5", "X")
+        board.change("e5", ".")
+    for word in ITALIAN.split():
+        board.change(word[:2], word[2])
+    with a_line(dgt, board) as (line, path):
+        line.transmit = slowly(line)
+        got = ran("game", line.path, "--log", "--pgn", path)
+        wanted(f"its lines, {got.stderr}", (got.returncode, len(got.stdout.splitlines())), (0, 7))
+
+
+def slowly(line):
+    """Sends bytes so that a program has to read them while they come."""
+    def transmit(data):
+        while data:
+            with contextlib.suppress(BlockingIOError):
+                data = data[os.write(line.ends[0], data[:2000]):]
+            time.sleep(0.005)
+    return transmit
+
+
+def program_no_log(dgt):
+    """Boards that send no log, a part of one, or one that the line alters; and a signal."""
+    with a_line(dgt, dgt.Board()) as (line, path):
+        begun = time.monotonic()
+        got = ran("game", line.path, "--log", "--pgn", path)
+        passed = time.monotonic() - begun
+        wanted(f"its status, {got.stderr}", (got.returncode, got.stdout, path.exists()),
+               (1, "", False))
+        wanted("what it says", got.stderr,
+               f"dgt-game: {line.path}: the board sent no log within 5 seconds. Not every board "
+               "keeps one. Switch it off and on, and try again; dgt-doctor finds out whether it "
+               "answers\n")
+        wanted(f"whether it waits, {passed}", 5 <= passed < 5 + ports.LATE + 3, True)
+    for spoil, said in [(lambda message: message[:-1], "a message was cut off after 7 bytes"),
+                        (lambda message: b"\x8f\x01" + message, "cut 2")]:
+        with a_line(dgt) as (line, path):
+            line.spoil = spoil
+            got = ran("game", line.path, "--log", "--pgn", path)
+            wanted(f"{said}, {got.stderr}", (got.returncode, got.stdout, path.exists()),
+                   (1, "", False))
+            wanted("what it says", got.stderr.partition(": the line ")[2],
+                   f"altered or lost bytes, in each of 3 tries: {said}. Try another cable or "
+                   "socket, without a hub\n")
+    with a_line(dgt) as (line, path):
+        spoiled = iter([lambda message: message[:-1] + b"\x86", lambda message: b"\x05" + message])
+        line.spoil = lambda message: next(spoiled, bytes)(message)
+        line.board.change("e2", ".")
+        line.board.change("e4", "P")
+        got = ran("game", line.path, "--log")
+        wanted(f"the third time, {got.stderr}", (got.returncode, got.stdout.splitlines()[1:]),
+               (0, ["1. e4 e2e4"]))
+    with a_line(dgt, dgt.Board()) as (line, path):
+        env = os.environ | {"PYTHONPATH": str(ROOT / "python")}
+        with subprocess.Popen([*PROGRAM, "game", line.path, "--log"], env=env, cwd="/",
+                              stderr=subprocess.PIPE, text=True) as got:
+            end = time.monotonic() + SECONDS
+            while not line.asked and time.monotonic() < end:
+                time.sleep(0.01)
+            got.send_signal(signal.SIGTERM)
+            wanted("after a signal", (got.wait(SECONDS), got.stderr.read()), (1, ""))
+
+
+def replayed_log(dgt):
+    """The session of sessions/ with a log."""
+    env = os.environ | {"PYTHONPATH": str(ROOT / "python")}
+    with subprocess.Popen([*PROGRAM, "replay", "--speed", "100", SESSION], env=env, cwd="/",
+                          stdout=subprocess.PIPE, text=True) as replay:
+        got = ran("game", replay.stdout.readline().strip(), "--log")
+        wanted(f"its status, {got.stderr}", (got.returncode, replay.wait(SECONDS)), (0, 0))
+    lines = [line.removeprefix("# prints ") for line in SESSION.read_text().splitlines()
+             if line.startswith("# prints ")]
+    wanted("its lines", got.stdout.splitlines(), lines)
+
+
+LOGIC = [logs, log_times, any_logs, logging_board]
+CASES = [program_log, program_long_log, program_no_log, replayed_log]

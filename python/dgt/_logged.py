@@ -1,0 +1,279 @@
+"""The log that a board keeps while no host listens, and the games in it."""
+
+from __future__ import annotations
+
+import time
+from collections.abc import Callable, Sequence
+from dataclasses import replace
+
+from ._clock_side import SIDES, Learner
+from ._port import Port
+from ._session import FAULTS
+from .decoder import Decoder
+from .events import Other
+from .following import BoardView, _has_input
+from .games import Games
+from .pgn import PgnGame
+from .rules import START_FEN
+from .stored import STORED_REQUEST, Mark, StoredPiece, StoredTime, UnknownByte, read_stored
+from .values import SQUARES, Position, Time, Times
+
+_LOG = 0x0F
+"""The code of a message with the log."""
+_BEGINS = bytes(255) + b"\x40"
+"""What ends an unfinished command, and has the board report nothing else."""
+SILENCE = 5.0
+"""After how many seconds without a byte the board is taken not to send a log, or no more of it."""
+_AFTER = 1.0
+"""The same once a message with a part of the log is whole: another may follow."""
+_LONGEST = 60.0
+"""For how many seconds a message with the log is awaited at most. The longest one takes 17."""
+_LOOK = 0.1
+"""How often it is looked whether the program is to end, in seconds."""
+_TRIES = 3
+_SLID, _STEP, _MOST_STEP, _REST = 0.1, 0.4, 1.0, 4.0
+"""For how many seconds a position is taken to rest before the piece that was just put is lifted
+again, at least and at most before any other change or a time, and before the end of what is known
+of the board."""
+_WHY = {Mark.POWER_UP: "broken off: the board was switched on after this",
+        Mark.WATCHDOG: "broken off: the board began anew after this", Mark.END: ""}
+_GAP = "broken off: the log lacks what was moved after this"
+_UNTOLD = "no moves lead to what the log has after this"
+_MOST_UNKNOWN = 20
+_STARTS = {Mark.BEGIN: Position.start().letters, Mark.TURNED_BEGIN: Position.start().letters[::-1],
+           Mark.EMPTY_BOARD: "." * 64}
+_HOMES = frozenset((at, letter) for letters in _STARTS.values()
+                   for at, letter in enumerate(letters))
+"""What pieces that are put away leave on squares."""
+
+
+# ---- Asking for it
+
+
+class NoLog(Exception):
+    """The board has sent no whole log. The text says what to do."""
+
+
+class Stopped(Exception):
+    """A signal ended the program meanwhile."""
+
+
+def ask_for_log(name: str, stop: int) -> bytes:
+    """Returns what the board on a port has stored: the bodies of its messages, in their order. If
+    the line alters or loses bytes the board is asked three times. `NoLog` if it sends no log,
+    `Stopped` once the descriptor has something to read, `OSError` if the port can't be opened or
+    goes."""
+    port = Port(name, stop)
+    try:
+        for _ in range(_TRIES):
+            body, fault = _heard(port, stop)
+            if not fault:
+                return body
+    finally:
+        port.close()
+    raise NoLog(f"the line altered or lost bytes, in each of {_TRIES} tries: {fault}. Try another "
+                "cable or socket, without a hub")
+
+
+def _heard(port: Port, stop: int) -> tuple[bytes, str]:
+    """Asks for the log. Returns it, and what was seen to be wrong with it."""
+    decoder, bodies, fault = Decoder(), list[bytes](), ""
+    port.write(_BEGINS + STORED_REQUEST)
+    begun = heard = now = time.monotonic()
+    while now < min(begun + _LONGEST, heard + (_AFTER if bodies and not decoder.rest else SILENCE)):
+        try:
+            chunk = port.exchange(_LOOK)
+        except OSError:
+            if bodies and not decoder.rest:
+                break  # it has gone after all was heard
+            raise
+        if _has_input(stop, 0.0):
+            raise Stopped
+        now = time.monotonic()
+        heard = now if chunk else heard
+        for event in decoder.feed(chunk):
+            if isinstance(event, Other) and event.code == _LOG:
+                bodies.append(event.body)
+                begun = now
+            elif isinstance(event, FAULTS):
+                fault = str(event)
+        if port.is_disturbed(now):
+            fault = "the system has counted errors"
+    if decoder.rest:
+        fault = fault or f"a message was cut off after {decoder.rest} bytes"
+    if not bodies and not fault:
+        raise NoLog(f"the board sent no log within {SILENCE:g} seconds. Not every board keeps one. "
+                    "Switch it off and on, and try again; dgt-doctor finds out whether it answers")
+    return b"".join(bodies), fault
+
+
+# ---- Its games
+
+
+class LoggedGames:
+    """Makes games of what a log says. `tell` gets each line, as of `Games`, and `warn` what one
+    should know. A clock's side is as that of `Games`. `games` has those with a move or a result."""
+
+    def __init__(self, tell: Callable[[str], None], warn: Callable[[str], None],
+                 tags: dict[str, str], white_clock: str) -> None:
+        self.games = list[PgnGame]()
+        self._tell, self._warn, self._white_clock = tell, warn, white_clock
+        self._tags = {"Date": "????.??.??", **tags}
+        self._keeper: Games | None = None
+        self._game: PgnGame | None = None
+        self._letters = ""  # what stands on the squares, if that is known
+        self._put = -1  # the square on which a piece was put last
+        self._is_put = self._is_untold = False
+        self._now = self._shown_at = 0.0
+        self._left = list[Time | None]([None, None])  # of each side of the clock, if it is known
+        self._begun_with: Sequence[Time | None] = self._left[:]
+        self._learner = Learner()
+        self._outside, self._unknown = list[int](), list[str]()
+
+    def read(self, body: bytes) -> None:
+        """Makes the games of a whole log."""
+        place = 0
+        for stored in read_stored(body):
+            if isinstance(stored, StoredPiece):
+                self._change(SQUARES.index(stored.square), stored.piece, place)
+            elif isinstance(stored, StoredTime):
+                self._note_time(stored.time)
+            elif isinstance(stored, UnknownByte):
+                self._unknown.append(f"{stored.byte:02x} at {place}")
+            elif stored in _WHY:
+                self._end(_WHY[stored])
+                self._left = [None, None]
+            elif stored in _STARTS and self._letters != _STARTS[stored]:
+                self._end(_GAP)
+                self._begin(_STARTS[stored])
+            place += 2 if isinstance(stored, StoredPiece) else 3 if isinstance(stored, StoredTime) \
+                else 1
+        self._end("")
+        self._report(place)
+
+    def _report(self, size: int) -> None:
+        """Says what of the log is in no game."""
+        if not size:
+            self._warn("the log is empty")
+        if self._unknown:
+            more = len(self._unknown) - _MOST_UNKNOWN
+            listed = ", ".join(self._unknown[:_MOST_UNKNOWN])
+            self._warn(f"bytes of the log that are unknown were passed over: {listed}"
+                       + (f" and {more} more" if more > 0 else ""))
+        if self._outside:
+            self._warn(f"{len(self._outside)} changes of squares are of no game, from byte "
+                       f"{self._outside[0]} of the log on: what stood on the board is unknown")
+
+    def _begin(self, letters: str) -> None:
+        """The board shows this, whatever it showed before."""
+        # No other position than that of all games may begin one.
+        self._keeper = Games(self._tell, lambda _: None, None, self._tags, self._side, START_FEN)
+        self._letters, self._put = letters, -1
+        self._now += _REST
+        self._show()
+
+    def _show(self) -> None:
+        """What is known of the board from now on."""
+        assert self._keeper is not None
+        first, second = self._left
+        clock = Times(first, second) if first and second else None
+        position = Position.of_letters(self._letters)
+        self._keeper.see(BoardView(position, clock, confirmed=True), self._now)
+        self._look()
+
+    def _change(self, square: int, piece: str, place: int) -> None:
+        if self._keeper is None:
+            self._outside.append(place)
+            return
+        if square == self._put and piece == ".":
+            self._wait(self._now + _SLID)
+        else:
+            self._step()
+        self._letters = self._letters[:square] + piece + self._letters[square + 1:]
+        self._is_put = piece != "."
+        self._put = square if self._is_put else self._put
+        self._shown_at = self._now
+        self._show()
+        if self._keeper._is_as_told or self._keeper.recogniser.due is not None:
+            self._is_untold = False
+        elif (square, piece) not in _HOMES and not self._keeper._is_over:
+            self._is_untold = True
+        if self._keeper._result:
+            self._rest()
+
+    def _wait(self, until: float) -> None:
+        """Nothing changes until this time."""
+        keeper = self._keeper
+        while keeper is not None and keeper.due is not None and keeper.due <= until:
+            keeper.wait(keeper.due)
+            self._look()
+        self._now = max(self._now, until)
+
+    def _step(self) -> None:
+        """The position has rested: for longer if moves lead to it, none is taken back, and a piece
+        was put last. Pieces that are only lifted may look as if one had taken another."""
+        recogniser = self._keeper.recogniser if self._keeper and self._is_put else None
+        due = recogniser.due if recogniser and recogniser._goes_on else None
+        least, most = self._shown_at + _STEP, self._shown_at + _MOST_STEP
+        self._wait(min(max(least, due or least), most))
+
+    def _rest(self) -> None:
+        self._wait(self._shown_at + _REST)
+
+    def _look(self) -> None:
+        """Notes which game is under way."""
+        assert self._keeper is not None
+        if self._keeper.game is not self._game:
+            self._finish("")
+            self._game, self._begun_with = self._keeper.game, self._left[:]
+            self._learner = Learner()
+
+    def _note_time(self, left: Time) -> None:
+        """The position has rested a little, and this is what one side of the clock shows. The side
+        whose time is another one after a move is that of its player."""
+        self._step()
+        side, left = left.flags - 6, replace(left, flags=0)
+        if left == self._left[side]:
+            return
+        if self._game is not None and self._game.moves and self._left[side] is not None:
+            self._learner.turns[len(self._game.moves)] = self._game.moves[-1].before.white, side
+        self._left[side] = left
+        if self._keeper is not None:
+            if self._side != self._keeper.white_clock:
+                self._keeper.white_clock = self._side
+            self._show()
+
+    @property
+    def _side(self) -> str:
+        """White's side of the clock."""
+        is_learned = self._white_clock == "learn"
+        return self._learner.side or SIDES[0] if is_learned else self._white_clock
+
+    def _end(self, why: str) -> None:
+        """What the board shows from now on isn't known."""
+        self._rest()
+        self._finish(why)
+        self._keeper, self._game, self._letters = None, None, ""
+
+    def _finish(self, why: str) -> None:
+        """The game is over. If it has no result, it says why."""
+        game, is_untold, self._is_untold = self._game, self._is_untold, False
+        if game is None:
+            return
+        self._set_clocks(game)
+        if game.result == "*":
+            game.comment = _UNTOLD if is_untold else why if game.moves else ""
+            if game.comment:
+                self._tell("broken off")
+        if game.moves or game.result != "*":
+            self.games.append(game)
+
+    def _set_clocks(self, game: PgnGame) -> None:
+        """Each move has the time of its player, but only if that was stored after the move before
+        it: then it is another object."""
+        before = self._begun_with
+        for made in game.moves:
+            of = int(made.before.white != (self._side == SIDES[0]))
+            shown = [made.times.first, made.times.second] if made.times else before
+            made.clock = None if shown[of] is before[of] else shown[of]
+            before = shown

@@ -1,0 +1,136 @@
+"""A simulated board that keeps a log while no host listens."""
+
+from __future__ import annotations
+
+from collections import deque
+
+from ._c import MAX_BODY
+from ._handle import Bytes
+from .board import Board, Identity, Mode
+from .commands import StrayByte, Word
+from .errors import BadValue
+from .stored import STORED_REQUEST, Mark
+from .values import Clock, Position, Time, Times, number, piece_code, square_number
+
+_CODE = 0x8F
+_HEAD = 3
+_START = Position.start().letters
+_MARKS = {_START: Mark.BEGIN, _START[::-1]: Mark.TURNED_BEGIN, "." * 64: Mark.EMPTY_BOARD}
+
+
+def _packed(number: int) -> int:
+    return 16 * (number // 10) + number % 10
+
+
+class LoggingBoard(Board):
+    r"""A `Board` that also keeps a log, as boards are said to do, and sends it after the byte 49.
+
+    >>> board = LoggingBoard()
+    >>> board.change("e2", "."), board.change("e4", "P")
+    (None, None)
+    >>> [message.hex(" ") for message in board.answers(STORED_REQUEST)]
+    ['8f 00 0a 6a 6f 40 34 41 24 6b']
+
+    What it logs is a choice of this project; no board was tried:
+
+    - It logs in the mode `IDLE`: no host has asked for updates since it was switched on (made, or
+      `line_lost`), or one has sent 40. What changes in another mode is in no log.
+    - Of a change of a square it logs what stands there now, and a mark if the pieces then stand as
+      a game begins, on four ranks, or nowhere. When it is switched on, it logs that, and such a
+      mark.
+    - Of a clock that is handed in it logs each side whose time is another than it logged last, but
+      not while the clock only counts: if it runs, and its status is as before.
+    - The log has at most `room` bytes. The oldest things in it are dropped, each whole.
+    - What is sent ends with a mark of the end. It is one message, or several if one has no room for
+      it, each with whole things. Then the log gets a mark that it was sent, and keeps the rest.
+    """
+
+    def __init__(self, position: Position | None = None, clock: Clock | None = None,
+                 identity: Identity | None = None, room: int = 8192) -> None:
+        """As of `Board`. `BadValue` if the room is no number from 3 to 65536."""
+        self._log_room = number(room, 1 << 16, "room")
+        if room < _HEAD:
+            raise BadValue(f"room must be 3 or more: {room!r}")
+        super().__init__(position, clock, identity)
+        self._log, self._log_size = deque[bytes](), 0
+        self._unsent = deque[bytes]()
+        self._status: int | None = None
+        self._times: list[Time | None] = [None, None]
+        self._switch_on()
+
+    def change(self, square: str, piece: str) -> None:
+        """As of `Board`, and logs it."""
+        before = self.position[square]
+        super().change(square, piece)
+        if before != piece and self.mode == Mode.IDLE:
+            self._add(bytes([0x40 + piece_code(piece), square_number(square)]))
+            self._mark_position()
+
+    def hand_clock(self, clock: Clock) -> None:
+        """As of `Board`, and logs it."""
+        super().hand_clock(clock)
+        if not isinstance(clock, Times):
+            return
+        counts = clock.running and clock.status == self._status
+        self._status = clock.status
+        if counts or self.mode != Mode.IDLE:
+            return
+        for side, shown in enumerate((clock.first, clock.second)):
+            if shown != self._times[side]:
+                self._times[side] = shown
+                self._add(bytes([0x60 + 16 * side + shown.hours, _packed(shown.minutes),
+                                 _packed(shown.seconds)]))
+
+    def take(self, chunk: Bytes) -> tuple[int, Word | None]:
+        """As of `Board`, and the byte 49 asks for the log. It stays a `StrayByte`."""
+        used, word = super().take(chunk)
+        if word == StrayByte(STORED_REQUEST[0]):
+            self._send_log()
+        return used, word
+
+    def poll(self) -> bytes | None:
+        """As of `Board`, and then the next message with the log."""
+        return super().poll() or (self._unsent.popleft() if self._unsent else None)
+
+    @property
+    def owes(self) -> bool:
+        """As of `Board`, with the log."""
+        return super().owes or bool(self._unsent)
+
+    def line_lost(self) -> None:
+        """As of `Board`: it is switched off and on, which it logs."""
+        super().line_lost()
+        self._unsent.clear()
+        self._switch_on()
+
+    def clear_log(self) -> None:
+        """Empties the log."""
+        self._log.clear()
+        self._log_size = 0
+
+    def _switch_on(self) -> None:
+        self._add(bytes([Mark.POWER_UP]))
+        self._mark_position()
+
+    def _mark_position(self) -> None:
+        letters = self.position.letters
+        if mark := _MARKS.get(letters):
+            self._add(bytes([mark]))
+        elif "." not in letters[:16] + letters[48:] and not letters[16:48].strip("."):
+            self._add(bytes([Mark.FOUR_ROWS]))
+
+    def _add(self, thing: bytes) -> None:
+        self._log.append(thing)
+        self._log_size += len(thing)
+        while self._log_size > self._log_room:
+            self._log_size -= len(self._log.popleft())
+
+    def _send_log(self) -> None:
+        bodies = [b""]
+        for thing in [*self._log, bytes([Mark.END])]:
+            if len(bodies[-1]) + len(thing) > MAX_BODY:
+                bodies.append(b"")
+            bodies[-1] += thing
+        for body in bodies:
+            self._unsent.append(bytes([_CODE, *divmod(_HEAD + len(body), 128)]) + body)
+        self._add(bytes([Mark.DOWNLOADED]))
