@@ -46,6 +46,8 @@ LOGS = [
     # The last move was made if another piece was lifted after it, or nothing was.
     ("begin e2. e4P e7. on", [f"e4 * {ON}"], []),
     ("begin e2. e4P e7.", ["e4 *"], []),
+    ("begin e2. e7. e4P e5p g1. on", [f"e4 e5 * {ON}"], []),
+    ("begin e2. e4P b8. a6n g1. g1N a6. c6n g1. on", [f"e4 Nc6 * {ON}"], []),
     (f"begin {ITALIAN} h1. f1R e1. g1K", ["e4 e5 Nf3 Nc6 Bc4 Bc5 O-O *"], []),
     (f"begin {ITALIAN} e1. g1K h1. f1R d7. d6p", ["e4 e5 Nf3 Nc6 Bc4 Bc5 O-O d6 *"], []),
     ("begin e2. e4P a7. a6p e4. e5P d7. d5p d5. e5. d6P", ["e4 a6 e5 d5 exd6 *"], []),
@@ -58,13 +60,20 @@ LOGS = [
     ("begin e2. e3P e3. e4P d7. d6p d6. d5p e4. d5. d5P d8. d7q d7. d6q d6. d5. d5q",
      ["e4 d5 exd5 Qxd5 *"], []),
     ("begin e2. e4P g8. g6n g6. f6n", ["e4 Nf6 *"], []),
+    # Two pieces are lifted, as if one took a pawn and the other one took it.
+    ("begin e2. e4P g8. f6n d2. d3P f6. d3. L0:10:00 d3P g8n on", [f"e4 Nf6 d3 Ng8 * {ON}"], []),
+    ("begin e2. e4P g8. f6n d2. d3P f6. d3. L0:10:00 on", [f"e4 Nf6 d3 * {ON}"], []),
+    ("begin e2. e4P g8. f6n d2. d3P f6. d3. on", [f"e4 Nf6 d3 * {ON}"], []),
     ("begin e2. e4P e7. e5p g1. f3N f3. g1N b1. c3N", ["e4 e5 Nc3 *"], []),
     ("begin e2. e4P e4. e2P begin d2. d4P", ["d4 *"], []),
+    ("begin g1. f3N g8. f6n f3. g1N f6. g8n begin e2. e4P", ["Nf3 Nf6 Ng1 Ng8 e4 *"], []),
     ("begin e2. e7. e4P e5p g1. f3N", ["e4 e5 Nf3 *"], []),
     # Results.
     ("begin f2. f3P e7. e5p g2. g4P d8. h4q", ["f3 e5 g4 Qh4# 0-1"], []),
     (f"begin {ITALIAN} e1. e8. e4. c5. c5K d5k d5. c5. e4k d5K", ["e4 e5 Nf3 Nc6 Bc4 Bc5 1-0"], []),
     ("begin e1. e8. d4K d5k", [" 1/2-1/2"], []),
+    ("begin e2. e4P e1. e8. d4K d5k d5. e8k d4. e1K e4. e2P begin d2. d4P", ["e4 1/2-1/2", "d4 *"],
+     []),
     # Marks in the middle.
     ("begin e2. e4P sent tag nothing erased rows e7. e5p", ["e4 e5 *"], []),
     ("begin e2. e4P dog e7. e5p", [f"e4 * {DOG}"], [2, 6]),
@@ -80,6 +89,8 @@ LOGS = [
     # A position on the way to that is none of a game.
     (f"empty e1K e8k L1:00:00 R1:00:00 e1. e2K L0:59:00 R0:59:00 e2. e8. {SET_UP} begin c2. c4P",
      ["c4 *"], []),
+    ("empty e1K e8k e4P on", [], []),
+    ("begin e2. e4P e1. e8. e3K e6k on", [f"e4 * {UNTOLD}"], []),
     ("turned d7. d5P d2. d4p", ["e4 e5 *"], []),
     ("begin e2. e4P turned d7. d5P d2. d4p", [f"e4 * {GAP}", "e4 e5 *"], []),
     # Nothing leads to what comes later: a change is missing, or was made while a host listened.
@@ -90,6 +101,7 @@ LOGS = [
      ["bytes of the log that are unknown were passed over: 7d at 0, 3f at 4, 7e at 7, 41 at 8"]),
     ("24 e7. e5p begin d2. d4P", ["d4 *"],
      ["bytes of the log that are unknown were passed over: 24 at 0", 2, 1]),
+    ("L1:00:00 7d 6a", [], ["bytes of the log that are unknown were passed over: 7d at 3"]),
     ("05 30 begin d2. d4P", ["d4 *"],
      ["bytes of the log that are unknown were passed over: 05 at 0, 30 at 1"]),
     (" ".join(["7d"] * 22), [], ["bytes of the log that are unknown were passed over: "
@@ -107,8 +119,8 @@ TIMED = [
      "1:29:50 1:29:40 1:29:30"),
     ("L1:30:00 R1:30:00 begin e2. e4P R1:29:50 e7. e5p L1:29:40 g1. f3N R1:29:30", "left", "- - -"),
     # Both times after each move, of which one is new.
-    ("begin L1:30:00 R1:30:00 e2. e4P L1:29:50 R1:30:00 e7. e5p L1:29:50 R1:30:20", "learn",
-     "1:29:50 1:30:20"),
+    ("begin L1:30:00 R1:30:00 e2. e4P L1:29:50 R1:30:00 e7. e5p L1:29:50 R1:30:20 g1. f3N "
+     "L1:29:30 R1:30:20", "learn", "1:29:50 1:30:20 1:29:30"),
     # A clock that isn't stored, or of one side alone, gives no time.
     ("L1:30:00 R1:30:00 begin e2. e4P L1:29:50 e7. e5p g1. f3N L1:29:30 b8. c6n R1:20:00", "left",
      "1:29:50 - 1:29:30 1:20:00"),
@@ -117,6 +129,7 @@ TIMED = [
     ("L0:10:00 R0:10:00 begin e2. e4P e7. L0:09:50 e5p R0:09:40 g1. f3N", "left",
      "0:09:50 0:09:40 -"),
     ("L0:10:00 R0:10:00 begin e2. e4P L0:09:50 e4. e2P d2. d4P L0:09:30", "left", "0:09:30"),
+    ("L0:10:00 R0:10:00 begin e2. e4P L0:09:00 R0:10:00 e7. e5p on", "left", "0:09:00 -"),
     # A flag in the time is no part of it; the clock is set for the next game.
     ("L0:10:00 R0:10:00 begin e2. e4P L0:00:00 on L0:10:00 R0:10:00 begin d2. d4P", "left",
      "0:00:00 -"),
@@ -174,6 +187,10 @@ def logs(dgt):
             wanted(f"what is said of {text}", warned, outside(said))
             broken = sum("broken off" == line for line in told)
             wanted(f"lines of {text}: {told}", broken, sum(bool(each.comment) for each in games))
+            wanted(f"beginnings of {text}", [line for line in told if line.startswith("game")
+                                             and line != f"game {dgt.START_FEN}"], [])
+    _, told, _ = read(dgt, logged(dgt, "begin e2. e3P e3. e4P e7. e5p g1. f3N"))
+    wanted("lines", told, [f"game {dgt.START_FEN}", "1. e4 e2e4", "1... e5 e7e5", "2. Nf3 g1f3"])
     [game], *_ = read(dgt, logged(dgt, "begin e2. e4P"), tags={"White": "Ann"})
     wanted("tags", game.tags, {"Date": "????.??.??", "White": "Ann"})
 
@@ -183,6 +200,8 @@ def log_times(dgt):
         games, *_ = read(dgt, logged(dgt, text), side)
         got = [str(made.clock or "-") for game in games for made in game.moves]
         wanted(f"times of {text}, {side}", got, right.split())
+        wanted(f"flags of {text}", {made.clock.flags for game in games for made in game.moves
+                                    if made.clock} <= {0}, True)
 
 
 def any_logs(dgt):
@@ -287,15 +306,18 @@ def clock_log(dgt):
 def room(dgt):
     """The oldest are dropped, each whole, and a long log is several messages."""
     for size in (3, 4, 10, 200):
-        board = dgt.LoggingBoard(room=size)
+        board, things = dgt.LoggingBoard(room=size), []
         for number in range(300):
             board.change("e4", "Pp"[number % 2])
+            things.append(logged(dgt, f"e4{'Pp'[number % 2]}"))
             if number % 3 == 0:
-                board.hand_clock(dgt.Times(dgt.Time(0, number // 60, number % 60)))
-        got = body_of(board)
-        wanted(f"the room of {size}", size - 2 <= len(got) - 1 <= size, True)
-        wanted("what is unknown", [each for each in dgt.read_stored(got)
-                                   if isinstance(each, dgt.UnknownByte)], [])
+                left = dgt.Time(0, number // 60, number % 60)
+                board.hand_clock(dgt.Times(left))
+                things += [logged(dgt, f"L{left}")] + [logged(dgt, "R0:00:00")] * (number == 0)
+        last = b""
+        while len(things[-1]) + len(last) <= size:
+            last = things.pop() + last
+        wanted(f"the room of {size}", body_of(board), last + logged(dgt, "end"))
     board = dgt.LoggingBoard(room=65536)
     for number in range(20000):
         board.change("e4", "Pp"[number % 2])
@@ -427,7 +449,7 @@ def program_log(dgt):
 
 
 def program_long_log(dgt):
-    """A log of several messages, between which something is under way."""
+    """A log of several messages, with a pause after each."""
     board = dgt.LoggingBoard(room=65536)
     for _ in range(5000):
         board.change("e5", "X")
@@ -441,12 +463,16 @@ def program_long_log(dgt):
 
 
 def slowly(line):
-    """Sends bytes so that a program has to read them while they come."""
+    """Sends messages, each in parts that the port has room for."""
     def transmit(data):
         while data:
-            with contextlib.suppress(BlockingIOError):
-                data = data[os.write(line.ends[0], data[:2000]):]
-            time.sleep(0.005)
+            size = 128 * data[1] + data[2]
+            message, data = data[:size], data[size:]
+            while message:
+                with contextlib.suppress(BlockingIOError):
+                    message = message[os.write(line.ends[0], message[:2000]):]
+                time.sleep(0.005)
+            time.sleep(0.3)
     return transmit
 
 
@@ -497,12 +523,32 @@ def replayed_log(dgt):
     env = os.environ | {"PYTHONPATH": str(ROOT / "python")}
     with subprocess.Popen([*PROGRAM, "replay", "--speed", "100", SESSION], env=env, cwd="/",
                           stdout=subprocess.PIPE, text=True) as replay:
-        got = ran("game", replay.stdout.readline().strip(), "--log")
+        with tempfile.TemporaryDirectory() as folder:
+            path = pathlib.Path(folder, "games.pgn")
+            got = ran("game", replay.stdout.readline().strip(), "--log", "--pgn", path)
+            games = pgn_games.compare(path, dgt)
         wanted(f"its status, {got.stderr}", (got.returncode, replay.wait(SECONDS)), (0, 0))
+        wanted("its games", [(len(game.moves), game.clocks[-1], game.result) for game in games],
+               [(7, "0:04:32", "*"), (4, "0:04:42", "0-1")])
     lines = [line.removeprefix("# prints ") for line in SESSION.read_text().splitlines()
              if line.startswith("# prints ")]
     wanted("its lines", got.stdout.splitlines(), lines)
 
 
+def example_log(dgt):
+    """examples/board.py keeps a log."""
+    pipes = {"stdin": subprocess.PIPE, "stdout": subprocess.PIPE}
+    with subprocess.Popen([sys.executable, ROOT / "examples" / "board.py"], text=True, **pipes,
+                          env=os.environ | {"PYTHONDONTWRITEBYTECODE": "1"}) as board:
+        board.stdin.write("clock 0:05:00 0:05:00\ne2e4\nclock 0:04:50 0:05:00\ne7e5\n"
+                          "clock 0:04:50 0:04:51\noff\ng1f3\n")
+        board.stdin.flush()
+        port = board.stdout.readline().strip()
+        time.sleep(1)  # for the moves
+        got = ran("game", port, "--log")
+    wanted(f"its lines, {got.stderr}", got.stdout.splitlines()[1:],
+           ["1. e4 e2e4 0:05:00 0:05:00", "1... e5 e7e5 0:04:50 0:05:00", "broken off"])
+
+
 LOGIC = [logs, log_times, any_logs, logging_board]
-CASES = [program_log, program_long_log, program_no_log, replayed_log]
+CASES = [program_log, program_long_log, program_no_log, replayed_log, example_log]

@@ -31,10 +31,10 @@ _LONGEST = 60.0
 _LOOK = 0.1
 """How often it is looked whether the program is to end, in seconds."""
 _TRIES = 3
-_SLID, _STEP, _MOST_STEP, _REST = 0.1, 0.4, 1.0, 4.0
+_SLID, _STEP, _LONG_STEP, _REST = 0.1, 0.4, 1.0, 4.0
 """For how many seconds a position is taken to rest before the piece that was just put is lifted
-again, at least and at most before any other change or a time, and before the end of what is known
-of the board."""
+again, before any other change or a time, the same if moves lead to the position and none is taken
+back, and before the end of what is known of the board."""
 _WHY = {Mark.POWER_UP: "broken off: the board was switched on after this",
         Mark.WATCHDOG: "broken off: the board began anew after this", Mark.END: ""}
 _GAP = "broken off: the log lacks what was moved after this"
@@ -142,7 +142,6 @@ class LoggedGames:
                 self._unknown.append(f"{stored.byte:02x} at {place}")
             elif stored in _WHY:
                 self._end(_WHY[stored])
-                self._left = [None, None]
             elif stored in _STARTS and self._letters != _STARTS[stored]:
                 self._end(_GAP)
                 self._begin(_STARTS[stored])
@@ -194,9 +193,9 @@ class LoggedGames:
         self._put = square if self._is_put else self._put
         self._shown_at = self._now
         self._show()
-        if self._keeper._is_as_told or self._keeper.recogniser.due is not None:
+        if self._keeper._is_as_told or self._keeper.recogniser._reading:
             self._is_untold = False
-        elif (square, piece) not in _HOMES and not self._keeper._is_over:
+        elif (square, piece) not in _HOMES:
             self._is_untold = True
         if self._keeper._result:
             self._rest()
@@ -211,14 +210,15 @@ class LoggedGames:
 
     def _step(self) -> None:
         """The position has rested: for longer if moves lead to it, none is taken back, and a piece
-        was put last. Pieces that are only lifted may look as if one had taken another."""
-        recogniser = self._keeper.recogniser if self._keeper and self._is_put else None
-        due = recogniser.due if recogniser and recogniser._goes_on else None
-        least, most = self._shown_at + _STEP, self._shown_at + _MOST_STEP
-        self._wait(min(max(least, due or least), most))
+        was put last. Pieces that were lifted may look as if one had taken another."""
+        rest, recogniser = _STEP, self._keeper.recogniser if self._keeper else None
+        if recogniser and self._is_put and (reading := recogniser._reading):
+            rest = _LONG_STEP if reading.kept == len(recogniser.moves) else _STEP
+        self._wait(self._shown_at + rest)
 
     def _rest(self) -> None:
-        self._wait(self._shown_at + _REST)
+        """The position has rested for long, unless pieces are in the hand."""
+        self._wait(self._shown_at + (_REST if self._is_put else _STEP))
 
     def _look(self) -> None:
         """Notes which game is under way."""

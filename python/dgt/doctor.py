@@ -34,6 +34,7 @@ from ._version import VERSION
 from .commands import Ask, ClockId
 from .events import Battery, Dump, Event, LongSerial, Serial, Trademark, Version
 from .game import _stopping
+from .names import BatteryState
 from .serial_ports import ports
 from .values import NoClock, Times
 
@@ -93,12 +94,21 @@ def _ask_all(board: Examination) -> None:
 
 
 def _shown(answer: Event | None) -> str:
-    """An answer as text: that of its body, if all of that can be printed."""
-    if isinstance(answer, (Trademark, LongSerial, Serial)):
-        body = answer.serial if isinstance(answer, Serial) else answer.body
-        if body.isascii() and (text := body.decode()).isprintable():
-            return text
+    """An answer as text: that of its body, if all of that can be printed, and what a battery
+    says."""
+    if isinstance(answer, (Trademark, LongSerial, Serial)) and answer.text is not None:
+        return answer.text
+    if isinstance(answer, Battery) and answer.state is not None:
+        return f"{answer}, {_charge(answer.state)}"
     return "no answer" if answer is None else str(answer)
+
+
+def _charge(state: BatteryState) -> str:
+    said = ["charge unknown" if state.percent is None else f"{state.percent} %"]
+    if state.hours_left is not None:
+        said.append(f"{state.hours_left}:{state.minutes_left or 0:02} hours left")
+    said += ["charging"] * state.charging + ["discharging"] * state.discharging
+    return ", ".join(said)
 
 
 def _examine(board: Examination) -> None:

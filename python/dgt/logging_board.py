@@ -38,8 +38,8 @@ class LoggingBoard(Board):
     - Of a change of a square it logs what stands there now, and a mark if the pieces then stand as
       a game begins, on four ranks, or nowhere. When it is switched on, it logs that, and such a
       mark.
-    - Of a clock that is handed in it logs each side whose time is another than it logged last, but
-      not while the clock only counts: if it runs, and its status is as before.
+    - Of a clock that is handed in it logs each side whose time is another than it logged last. It
+      logs none of a clock that only counts: it runs, and its status is as before.
     - The log has at most `room` bytes. The oldest things in it are dropped, each whole.
     - What is sent ends with a mark of the end. It is one message, or several if one has no room for
       it, each with whole things. Then the log gets a mark that it was sent, and keeps the rest.

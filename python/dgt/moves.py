@@ -207,9 +207,9 @@ class MoveRecogniser:
         return self._due if self._is_confirmed else None
 
     @property
-    def _goes_on(self) -> bool:
-        """Whether what is due takes no move back."""
-        return isinstance(self._next, _Reading) and self._next.kept == len(self._moves)
+    def _reading(self) -> _Reading | None:
+        """What is due, if it is no beginning."""
+        return self._next if self.due is not None and isinstance(self._next, _Reading) else None
 
     @property
     def unconfirmed(self) -> bool:
