@@ -15,7 +15,9 @@ happens on the board from standard input, a line each:
                            second, to 0:00:00
     clock stop             stops the clock
     wait 0.5               lets half a second pass; 3600 at most
-    off                    switches the board off and on; the port stays open
+    off                    switches the board off and on; the port stays open.
+                           The board logs this, and what happens while no host
+                           has asked for updates: see dgt-game --log
     gone                   unplugs the board
     back                   plugs it in again, on another terminal
     half                   sends half of the next message, and unplugs the board
@@ -283,7 +285,7 @@ def main() -> None:
     for ending in (signal.SIGINT, signal.SIGPIPE):
         signal.signal(ending, signal.SIG_DFL)
     port = Port(words.link)
-    with dgt.Board() as board:
+    with dgt.LoggingBoard() as board:
         simulation = Simulation(board, port)
         simulation.say("ready")
         for happening in simulation.lines():

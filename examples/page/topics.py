@@ -26,9 +26,10 @@ AT_START = time.time() - time.monotonic()
 NEAR = 1.5  # seconds by which a clock may differ from what a page makes of its last reading
 # A line of `dgt picture`: how many bytes had come, and where the pieces stand.
 LINE = re.compile(r"(\d{8,20}) (\S+)")
-# One of `dgt picture --clock`.
+# One of `dgt picture --clock`, and the sides whose flag has fallen.
 TIME = r"(\d{1,3}:[0-5]\d:[0-5]\d)"
-TIMES = re.compile(rf"\d{{8,20}} clock {TIME} {TIME} (running|stopped) (white|black|-)( low)?")
+TIMES = re.compile(rf"\d{{8,20}} clock {TIME} {TIME} (running|stopped) (white|black|-)( low)?"
+                   r"(?: (left) flag)?(?: (right) flag)?")
 NO_CLOCK = re.compile(r"\d{8,20} clock none")
 
 
@@ -46,6 +47,7 @@ class Clock:
     running: bool = False
     turn: str | None = None
     low: bool = False
+    fallen: tuple[str, ...] = ()  # the sides whose flag has fallen
 
 
 def read_position(text: str) -> tuple[int, dgt.Position]:
@@ -68,9 +70,9 @@ def read_clock(text: str) -> Clock:
         return Clock()
     if not (found := TIMES.fullmatch(text)):
         raise Refused
-    left, right, runs, turn, low = found.groups()
+    left, right, runs, turn, low, *fallen = found.groups()
     return Clock(False, seconds(left), seconds(right), runs == "running",
-                 None if turn == "-" else turn, bool(low))
+                 None if turn == "-" else turn, bool(low), tuple(filter(None, fallen)))
 
 
 def read_state(text: str) -> str:
@@ -294,7 +296,7 @@ class Board:
             "players": players and {"white": players[0], "black": players[1]},
             "clock": None if clock is None else {"none": True} if clock.is_none else {
                 "left": clock.left, "right": clock.right, "running": clock.running,
-                "turn": clock.turn, "low": clock.low, "runs": self.runs,
+                "turn": clock.turn, "low": clock.low, "fallen": clock.fallen, "runs": self.runs,
                 "at": moment(self.clock_at)},
             "game": self.game,
         }
@@ -313,7 +315,7 @@ def is_foreseen(told: dict[str, Any] | None, event: dict[str, Any]) -> bool:
         return False
     if not old or not new or "none" in old or "none" in new:
         return bool(old == new)
-    if any(old[key] != new[key] for key in ("running", "turn", "low", "runs")):
+    if any(old[key] != new[key] for key in ("running", "turn", "low", "fallen", "runs")):
         return False
     passed = (new["at"] - old["at"]) / 1000 if event["state"] == "following" else 0
     return all(

@@ -40,9 +40,11 @@ def packed(number):
     return 16 * (number // 10) + number % 10
 
 
-def clock_message(left, right, status):
-    """What a board sends of its clock: the seconds of its two sides, and its status."""
-    sides = [[side // 3600, packed(side // 60 % 60), packed(side % 60)] for side in (left, right)]
+def clock_message(left, right, status, flags=(0, 0)):
+    """What a board sends of its clock: the seconds of its two sides, its status, and the flags of
+    both."""
+    sides = [[side // 3600 | flag << 4, packed(side // 60 % 60), packed(side % 60)]
+             for side, flag in zip((left, right), flags)]
     return bytes([0x8D, 0, 10, *sides[0], *sides[1], status])
 
 
@@ -119,10 +121,10 @@ class Board(Port):
             if self.ends and self.is_on and self.tells:
                 self.write(bytes([0x8E, 0, 5, square(name), code]))
 
-    def show_clock(self, left, right, status):
+    def show_clock(self, left, right, status, flags=(0, 0)):
         """The clock shows other times, in seconds. They are sent if somebody listens."""
         with self.lock:
-            self.clock = left, right, status
+            self.clock = left, right, status, flags
             if self.ends and self.is_on and self.tells_clock:
                 self.write(clock_message(*self.clock))
 

@@ -43,7 +43,7 @@ def clock(left: int, right: int, **more: Any) -> Said:
     """A clock that runs on White's side, which is the left one. It showed these times `age` ms
     ago."""
     times = {"left": left, "right": right, "running": True, "turn": "white", "low": False,
-             "at": now() - more.pop("age", 0)} | more
+             "fallen": [], "at": now() - more.pop("age", 0)} | more
     sides = {"white": "left", "black": "right"}
     return {"runs": sides[times["turn"]] if times["running"] else None} | times
 
