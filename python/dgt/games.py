@@ -285,10 +285,10 @@ class Games(Uncopied):
 
     def _learn(self) -> None:
         """White's side of the clock is that which was learned."""
-        if self.game is None:
+        if self.game is None or not self._learns:
             return
         self._learner.look_at(self.game)
-        side = self._learner.side if self._learns else None
+        side = self._learner.side
         if side is not None and side != self.white_clock:
             self._set_side(side == "left")
             self._warn(f"White's time is that of the clock's {side} side")
