@@ -57,9 +57,6 @@ pub fn reserved_members()
     ensures reports { ReportsReserveZeros }
     ensures views { ViewsReserveZeros }
     ensures commands { CommandsReserveZeros }
-    ensures stored { (said : StoredContent) → (stored_reported said).reserved ≡ replicate 7 0 }
-    ensures signals { (said : AnySignal) → (signal_reported said).reserved ≡ replicate 3 0 }
-    ensures batteries { (said : AnyState) → (battery_reported said).reserved ≡ replicate 6 0 }
 {}
 
 /// A struct of C says one clock or one board at most, whose values are in their ranges.
@@ -147,7 +144,7 @@ pub fn said_events()
 {}
 
 /// The kinds and the members with which a struct says what is stored, what a clock signals, and the
-/// state of a battery.
+/// state of a battery. The reserved members are 0.
 pub fn said_names()
     ensures piece { (said : DgtStored) (square bit : ℕ) (piece : AnyPiece) →
         said ≡ stored_reported (StoredContent.piece square piece bit)
@@ -184,6 +181,9 @@ pub fn said_names()
         → (IsTrue state.charging ↔ (said.charging ≡ 1))
         × (IsTrue state.discharging ↔ (said.discharging ≡ 1)) }
     ensures known { (number_if_known None ≡ 127) × ((n : ℕ) → number_if_known (Some n) ≡ n) }
+    ensures stored { (said : StoredContent) → (stored_reported said).reserved ≡ replicate 7 0 }
+    ensures signals { (said : AnySignal) → (signal_reported said).reserved ≡ replicate 3 0 }
+    ensures batteries { (said : AnyState) → (battery_reported said).reserved ≡ replicate 6 0 }
 {}
 
 /// A command that is refused changes nothing, and a text is refused only for its characters.
