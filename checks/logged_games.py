@@ -6,6 +6,7 @@ and `R1:29:50` are times of the clock's first and second side, `7d` is a byte, a
 """
 
 import contextlib
+import fcntl
 import os
 import pathlib
 import re
@@ -460,6 +461,16 @@ def program_long_log(dgt):
         line.transmit = slowly(line)
         got = ran("game", line.path, "--log", "--pgn", path)
         wanted(f"its lines, {got.stderr}", (got.returncode, len(got.stdout.splitlines())), (0, 7))
+    board = dgt.LoggingBoard()
+    for word in 100 * "g1. f3N g8. f6n f3. g1N f6. g8n ".split():
+        board.change(word[:2], word[2])
+    with a_line(dgt, board) as (line, path), subprocess.Popen(
+            [*PROGRAM, "game", line.path, "--log"], stdout=subprocess.PIPE, text=True, cwd="/",
+            env=os.environ | {"PYTHONPATH": str(ROOT / "python")}) as got:
+        fcntl.fcntl(got.stdout, fcntl.F_SETPIPE_SZ, 4096)
+        time.sleep(8)
+        lines = got.stdout.read().splitlines()
+        wanted("lines that are read late", (got.wait(SECONDS), len(lines)), (0, 401))
 
 
 def slowly(line):

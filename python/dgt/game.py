@@ -52,7 +52,9 @@ square, in order, and now and then the time of a side of the clock. So:
 - A game ends before the next one, without a result where the log ends, or the
   board was switched on or began anew. If changes are missing, or no moves lead
   to what was moved, it has the moves until then, and a comment that says so.
-- A time is that of the player whose move came before it.
+- A time is that of the player whose move came before it. One whose byte of the
+  hours begins with 6 is taken for the clock's left side, and with 7 for the
+  right one.
 - Unknown bytes are passed over, and standard error names them.
 
 The date of these games isn't known. A game that was kept before is kept again.
@@ -185,10 +187,13 @@ def _follow(words: argparse.Namespace, file: PgnFile | None, tags: dict[str, str
 def _read_log(words: argparse.Namespace, file: PgnFile | None, tags: dict[str, str],
               output: _Output, notes: _Output) -> bool:
     """Keeps the games of the board's log. Returns whether the file has all of them."""
-    log = ask_for_log(words.port, _stopping())
+    stop = _stopping()
+    log = ask_for_log(words.port, stop)
     logged = LoggedGames(output.say, lambda text: notes.say(f"dgt-game: {text}"), tags,
                          words.white_clock)
     logged.read(log)
+    while not output.send(_OUTPUT_WAIT) and not output.fault and not _has_input(stop, 0.0):
+        pass  # its reader is slow
     if file is None:
         return True
     for game in logged.games:
@@ -220,7 +225,7 @@ def main(arguments: list[str] | None = None) -> None:
     except NoLog as fault:
         notes.say(f"dgt-game: {what}: {fault}")
     except OSError as refused:
-        notes.say(f"dgt-game: {what}: {refused.strerror}")
+        notes.say(f"dgt-game: {what}: {refused.strerror or refused}")
     finally:
         if not output.send(1.0):
             notes.say(f"dgt-game: standard output: {output.fault or 'nobody reads it'}")
