@@ -30,6 +30,9 @@ pub fn length(message: &Message<'_>) -> usize
 ///
 /// An acknowledgement has several encodings. The one that is written has the mark in byte 3 and in
 /// byte 6 of the whole, and D6 of both clear.
+///
+/// It is inlined: a caller that makes the message just before then has the code of its case alone.
+#[inline(always)]
 pub fn encode(message: &Message<'_>, out: &mut [u8]) -> Result<usize, NoRoom>
     ensures written { WritesPrefix (encoding (content message.now)) out.old out.new result }
     ensures encodes { Encodes (content message.now) (encoding (content message.now)) }
