@@ -80,6 +80,12 @@ fn after_byte(left: usize) -> (FramerState, Option<Found>)
     }
 }
 
+// Whether the second byte of a chunk begins a message, as every other one among random bytes does.
+#[inline(always)]
+fn is_cut_at_once(chunk: &[u8]) -> bool {
+    matches!(chunk, [_, second, ..] if *second >= TOP_BIT)
+}
+
 // Appends the bytes at the front of the chunk whose top bit isn't set, no more than are missing.
 // Returns how many they are.
 fn append_run(kept: &mut Kept<MAX_TOTAL>, missing: usize, chunk: &[u8]) -> usize
@@ -219,19 +225,19 @@ impl Framer {
         requires { 0 < length rest.now }
         ensures { FramesPrefix self.old rest.now result.used self.new result.found }
     {
-        if !self.is_between() {
-            if rest[0] >= TOP_BIT {
-                let found = self.begin_message(rest[0]);
-                return Advanced { used: 1, found };
-            }
-            return self.take_run(rest);
-        }
         if rest[0] < TOP_BIT {
+            if !self.is_between() {
+                return self.take_run(rest);
+            }
             self.reset();
             return Advanced {
                 used: 1,
                 found: Some(Found::Stray(rest[0])),
             };
+        }
+        if !self.is_between() || is_cut_at_once(rest) {
+            let found = self.begin_message(rest[0]);
+            return Advanced { used: 1, found };
         }
         if !begins_with_field(rest) {
             return self.take_run(rest);
