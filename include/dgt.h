@@ -194,7 +194,7 @@ typedef struct dgt_time {
     uint8_t hours;   /* 0 to 9 */
     uint8_t minutes; /* 0 to 59 */
     uint8_t seconds; /* 0 to 59 */
-    uint8_t flags;   /* 0 to 7, carried: D4 to D6 of the byte of the hours */
+    uint8_t flags;   /* 0 to 7, carried: D4 to D6 of the byte of the hours, as DGT_FLAG_BLOCKED */
 } dgt_time;
 
 /* dgt_clock.kind */
@@ -1106,12 +1106,12 @@ enum {
     DGT_FLAG_FALLEN = 0x04    /* the flag has fallen, and the clock shows that */
 };
 
-#define DGT_BATTERY_UNKNOWN 127 /* what isn't known of a battery */
+#define DGT_BATTERY_UNKNOWN 127 /* one of the first three numbers of a battery isn't known */
 
 typedef struct dgt_battery {
-    uint8_t percent;      /* what is left of its charge, or DGT_BATTERY_UNKNOWN */
-    uint8_t hours_left;   /* how long that lasts, or after how long it is charged, or */
-    uint8_t minutes_left; /* DGT_BATTERY_UNKNOWN */
+    uint8_t percent;      /* what is left of its charge */
+    uint8_t hours_left;   /* how long that lasts, or after how long it is charged */
+    uint8_t minutes_left;
     uint8_t hours_on;     /* how long the board has been on */
     uint8_t minutes_on;
     uint8_t days_resting; /* how long it has been resting */
