@@ -1,1 +1,2 @@
 mod SaidOnce
+pub mod SaidOrNot

@@ -9,7 +9,7 @@ once : (one other : Signal) (down pressed : ℕ) → ArePressed one down pressed
     → ArePressed other down pressed → one ≡ other
 once one other down pressed p q = search rules
 
-none_pressed : (signal : Signal) (down pressed : ℕ) → IsNoButton pressed
+pub none_pressed : (signal : Signal) (down pressed : ℕ) → IsNoButton pressed
     → ArePressed signal down pressed → ⊥
 none_pressed (Signal.Pressed button) down pressed none p = none button (sym p.0)
 none_pressed Signal.Off down pressed none p = none Button.Ok (sym p.0)

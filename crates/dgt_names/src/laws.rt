@@ -1,9 +1,11 @@
 //! What holds of names as such. Nothing here runs: each function stands for the facts that its
 //! contract states.
 
-ghost use Rattle.std.specs.Prelude.{◌≡◌, ℕ, List, [], ◌∷◌, map, None, Some, replicate, ◌++◌, codes};
+ghost use Rattle.std.specs.Prelude.{◌≡◌, ℕ, List, [], ◌∷◌, map, None, Some, codes, false, true};
 ghost use Rattle.dgt_values.specs.Equality.{CloneIsSame, EqualIsSame};
+ghost use Rattle.dgt_names.specs.declared.battery.BatteryState.{BatteryState as AnyState};
 ghost use Rattle.dgt_names.specs.declared.clock.Button.{Button as AnyButton};
+ghost use Rattle.dgt_names.specs.declared.clock.Flags.{Flags as AnyFlags};
 ghost use Rattle.dgt_names.specs.declared.clock.Signal.{Signal as AnySignal};
 ghost use Rattle.dgt_command.specs.declared.ids.KnownId.{KnownId};
 ghost use Rattle.dgt_names.specs.Names.{AreFlags, ArePressed, IsBattery, IsKnownAs, IsSignal, IsText, button_byte};
@@ -50,6 +52,62 @@ pub fn signals_by_example()
     ensures version { IsSignal (0x10 ∷ 0x09 ∷ 0x21 ∷ 0x00 ∷ []) (AnySignal.Version 2 1) }
     ensures ready { IsSignal (0x10 ∷ 0x81 ∷ 0x00 ∷ 0x00 ∷ []) AnySignal.Ready }
     ensures done { IsSignal (0x10 ∷ 0x0b ∷ 0x00 ∷ 0x00 ∷ []) (AnySignal.Done KnownId.Beep) }
+    ensures not_ok { ¬ (IsSignal (0x10 ∷ 0x88 ∷ 0x45 ∷ 0x35 ∷ []) (AnySignal.Pressed AnyButton.Ok)) }
+    ensures not_done { ¬ (IsSignal (0x10 ∷ 0x08 ∷ 0x06 ∷ 0x31 ∷ []) (AnySignal.Done KnownId.Button)) }
+    ensures no_version { ¬ (IsSignal (0x10 ∷ 0x09 ∷ 0x21 ∷ 0x00 ∷ []) (AnySignal.Done KnownId.Version)) }
     ensures failed { (signal : AnySignal) → ¬ (IsSignal (0x11 ∷ 0x0b ∷ 0x00 ∷ 0x00 ∷ []) signal) }
     ensures unknown { (signal : AnySignal) → ¬ (IsSignal (0x10 ∷ 0x88 ∷ 0x02 ∷ 0x36 ∷ []) signal) }
+{}
+
+/// The bits of a time say one thing, and so do the bytes of a battery.
+pub fn one_is_meant()
+    ensures flags { (carried : ℕ) (one other : AnyFlags) →
+        AreFlags carried one → AreFlags carried other → one ≡ other }
+    ensures battery { (bytes : List ℕ) (one other : AnyState) →
+        IsBattery bytes one → IsBattery bytes other → one ≡ other }
+{}
+
+/// What the flags of times say, by example.
+pub fn flags_by_example()
+    ensures blocked { AreFlags 1 (record { blocked = true; per_move = false; fallen = false }) }
+    ensures per_move { AreFlags 2 (record { blocked = false; per_move = true; fallen = false }) }
+    ensures fallen { AreFlags 4 (record { blocked = false; per_move = false; fallen = true }) }
+{}
+
+/// What batteries say, by example: one that is at 73 percent and lasts for 4:20 hours, and one that
+/// says nothing of that. The boards were on for 1:05 hours, and had rested for 2 days and 3:10.
+pub fn batteries_by_example()
+    ensures known { IsBattery (73 ∷ 4 ∷ 20 ∷ 1 ∷ 5 ∷ 2 ∷ 3 ∷ 10 ∷ 2 ∷ []) (record {
+      percent = Some 73;
+      hours_left = Some 4;
+      minutes_left = Some 20;
+      hours_on = 1;
+      minutes_on = 5;
+      days_resting = 2;
+      hours_resting = 3;
+      minutes_resting = 10;
+      charging = false;
+      discharging = true;
+    }) }
+    ensures unknown { IsBattery (0x7f ∷ 0x7f ∷ 0x7f ∷ 1 ∷ 5 ∷ 2 ∷ 3 ∷ 10 ∷ 1 ∷ []) (record {
+      percent = None;
+      hours_left = None;
+      minutes_left = None;
+      hours_on = 1;
+      minutes_on = 5;
+      days_resting = 2;
+      hours_resting = 3;
+      minutes_resting = 10;
+      charging = true;
+      discharging = false;
+    }) }
+    ensures short { (state : AnyState) → ¬ (IsBattery (0x64 ∷ []) state) }
+{}
+
+/// Bytes are a text if there is one, and each prints.
+pub fn texts_by_example()
+    ensures text { IsText (codes "DGT ~") }
+    ensures none { ¬ (IsText []) }
+    ensures below { ¬ (IsText (0x44 ∷ 0x1f ∷ [])) }
+    ensures above { ¬ (IsText (0x44 ∷ 0x7f ∷ [])) }
 {}

@@ -71,6 +71,7 @@ generated! {
     stored "generated/stored/mod.rs",
     decode "generated/decode/mod.rs",
     command "generated/command/mod.rs",
+    names "generated/names/mod.rs",
     board "generated/board/mod.rs",
     host "generated/host/mod.rs",
     follow "generated/follow/mod.rs",
