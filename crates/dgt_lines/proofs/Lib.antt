@@ -14,9 +14,11 @@ pub mod Pictured
 pub mod Listed
 pub mod Logged
 pub mod StoredLines
+pub mod NamedLemmas
 pub mod ClosingLemmas
 pub mod PrintedWords
 mod ClockLemmas
+mod NameLaws
 mod DoubtLemmas
 mod ReportLemmas
 mod ShownLemmas

@@ -7,25 +7,21 @@ use Rattle.dgt_lines.specs.Marks.{Waits}
 use Rattle.dgt_lines.specs.Writing.{Gathered, Gathers}
 use Rattle.dgt_lines.proofs.GatherLemmas.{gathers_via}
 
--- after what is held comes a line: its offset, its text up to the bytes that are carried, these bytes and the line's
--- end
-pub line-parts : (offset : ℕ) (held start said text bytes : List ℕ) → start ≡ held ++ (offset_text offset ++ 32 ∷ [])
+-- after what is held come an offset, a text up to the bytes that are carried, and these bytes
+text-parts : (offset : ℕ) (held start said text bytes : List ℕ) → start ≡ held ++ (offset_text offset ++ 32 ∷ [])
     → text ++ bytes ≡ start ++ said
-    → text ++ (bytes ++ codes "\n") ≡ held ++ line offset said
-line-parts offset held start said text bytes s e =
-    sym (append_assoc text bytes (codes "\n"))
-    ∙ ap (λ l. l ++ codes "\n")
-    (e ∙ ap (λ l. l ++ said) s ∙ append_assoc held (offset_text offset ++ 32 ∷ []) said ∙ ap (λ l. held ++ l)
-    (append_assoc (offset_text offset) (32 ∷ []) said))
-    ∙ append_assoc held (offset_text offset ++ 32 ∷ said) (codes "\n")
+    → text ++ bytes ≡ held ++ (offset_text offset ++ 32 ∷ said)
+text-parts offset held start said text bytes s e =
+    e ∙ ap (λ l. l ++ said) s ∙ append_assoc held (offset_text offset ++ 32 ∷ []) said
+    ∙ ap (λ l. held ++ l) (append_assoc (offset_text offset) (32 ∷ []) said)
 
--- room was made for a line, it was added up to the bytes that are carried, and then a call gathers the rest of it
-pub gathers_line : {S A : Type 0} (W : Sink S) (offset : ℕ) (held left start said text bytes after : List ℕ)
+-- room was made for a line, it was added up to the bytes that are carried, and then a call gathers these bytes
+pub gathers_text : {S A : Type 0} (W : Sink S) (offset : ℕ) (held left start said text bytes after : List ℕ)
     (a b c : S) (r : Result A RunFault) → Gathered W held left a b []
     → start ≡ left ++ (offset_text offset ++ 32 ∷ []) → text ++ bytes ≡ start ++ said
-    → Gathers W (text, after) b c r (bytes ++ codes "\n") → Gathers W (held, after) a c r (line offset said)
-gathers_line W offset held left start said text bytes after a b c r room began pushed rest =
-    gathers_via W held left text after a b c _ _ r room (line-parts offset left start said text bytes began pushed) rest
+    → Gathers W (text, after) b c r bytes → Gathers W (held, after) a c r (offset_text offset ++ 32 ∷ said)
+gathers_text W offset held left start said text bytes after a b c r room began pushed rest =
+    gathers_via W held left text after a b c _ _ r room (text-parts offset left start said text bytes began pushed) rest
 
 -- what ends with a line waits for a flush
 pub line_waits : (held : List ℕ) (offset : ℕ) (said all : List ℕ) (flushed : Bool) → all ≡ held ++ line offset said

@@ -21,6 +21,17 @@ turn_text _ _ = codes "-"
 abbrev pub low_text : ℕ → List ℕ
 low_text status = if has_bit status 2 then codes " low" else []
 
+-- two words in a row, if it is so
+abbrev pub text_if : Bool → (first second : List ℕ) → List ℕ
+text_if is first second = if is then first ++ second else []
+
+-- a word after the side for each flag of a time that is set: D4, D5 and D6 of the byte of the hours
+abbrev pub flags_text : (side per_move fallen : List ℕ) → ℕ → List ℕ
+flags_text side per_move fallen flags =
+    text_if (has_bit flags 0) side (codes "blocked")
+    ++ text_if (has_bit flags 1) side per_move
+    ++ text_if (has_bit flags 2) side fallen
+
 -- D3 says that it is black's turn, and D4 that it is white's
 unfoldable pub clock_text : ClockState → List ℕ
 clock_text (ClockState.times t) =

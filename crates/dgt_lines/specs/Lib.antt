@@ -1,6 +1,7 @@
 -- what public contracts cite
 pub mod Lines
 pub mod Clocks
+pub mod NamedLines
 pub mod Pictures
 pub mod Reports
 pub mod FaultText

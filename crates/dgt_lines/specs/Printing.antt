@@ -1,6 +1,6 @@
 -- What an engine prints of the bytes that it reads.
-use Rattle.std.specs.Prelude.{◌≡◌, ℕ, false, List, [], ◌++◌, length, take, Result, IfOk, OnErr, OnOk}
-use Rattle.dgt_decode.specs.Grammar.{events, unfinished_message}
+use Rattle.std.specs.Prelude.{◌≡◌, ℕ, false, List, [], ◌++◌, length, take, Option, Result, IfOk, OnErr, OnOk}
+use Rattle.dgt_decode.specs.Grammar.{Event, at_place, events, unfinished_message}
 use Rattle.dgt_lines.specs.declared.doubts.PictureState.{PictureState}
 use Rattle.dgt_lines.specs.declared.streams.Sink.{Ghosts as Sink}
 use Rattle.dgt_lines.specs.declared.faults.RunFault.{RunFault}
@@ -11,6 +11,7 @@ use Rattle.dgt_lines.specs.Marks.{Waits}
 use Rattle.dgt_lines.specs.Writing.{Gathers, Writes}
 use Rattle.dgt_lines.specs.CommandLines.{Prints}
 use Rattle.dgt_lines.specs.Monitoring.{IsInSink}
+use Rattle.dgt_lines.specs.NamedLines.{AreNamedLines, IsNamed, name_text, named_line}
 
 -- what stands in the sink, if the bytes that were read have these lines, and a last one for what
 -- is unfinished at their end
@@ -66,6 +67,35 @@ HasEventLines bytes text last =
 -- the text is the lines of the bytes, and a framer that keeps `kept` holds what is unfinished
 pub record HasPrintedEvents (kept bytes text : List ℕ) : Type 0 where
   pub said : text ≡ lines bytes
+  pub held : unfinished_message kept ≡ unfinished_message bytes
+
+-- ---- The lines of events with names
+
+-- a call that gathers a text of which this holds
+pub record GathersOne {S A : Type 0} (W : Sink S) (held : List ℕ × List ℕ) (old new : S)
+    (r : Result A RunFault) (IsText : List ℕ → Type 0) : Type 0 where
+  pub text : List ℕ
+  pub is : IsText text
+  pub gathers : Gathers W held old new r text
+
+-- the name of an event, with a colon and a space before it; none if it has none
+abbrev pub IsNameText : Event → List ℕ → Type 0
+IsNameText event text = (name : Option (List ℕ)) × IsNamed event name × (text ≡ name_text name)
+
+-- the line of an event that ends after this many bytes
+abbrev pub IsNamedLine : ℕ → Event → List ℕ → Type 0
+IsNamedLine offset event text =
+    (name : Option (List ℕ)) × IsNamed event name
+    × (text ≡ named_line (at_place offset event) name)
+
+abbrev pub HasNamedLines : List ℕ → List ℕ → List ℕ → Type 0
+HasNamedLines bytes text last =
+    AreNamedLines (events bytes) text
+    × (last ≡ unfinished_line (length bytes) (unfinished_message bytes))
+
+-- the text is the lines of the bytes, and a framer that keeps `kept` holds what is unfinished
+pub record HasPrintedNames (kept bytes text : List ℕ) : Type 0 where
+  pub said : AreNamedLines (events bytes) text
   pub held : unfinished_message kept ≡ unfinished_message bytes
 
 -- ---- The lines that show the board, from this state on

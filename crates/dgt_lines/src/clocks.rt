@@ -1,14 +1,15 @@
 //! The text of a board's clock, and whether it is news.
 
-ghost use Rattle.std.specs.Prelude.{◌≡◌, ◌+◌, ◌≤◌, ℕ, [], ◌++◌, codes, length, if◌then◌else◌};
+ghost use Rattle.std.specs.Prelude.{◌≡◌, ◌+◌, ◌*◌, ◌≤◌, ℕ, [], ◌++◌, codes, length, if◌then◌else◌};
 ghost use Rattle.dgt_message.specs.Content.{clock_seen, status_code, time_seen, times_seen};
 ghost use Rattle.dgt_message.specs.Clock.{ClockState};
-ghost use Rattle.dgt_lines.specs.Clocks.{clock_text, has_bit, low_text, running_text, turn_text};
+ghost use Rattle.dgt_lines.specs.Clocks.{clock_text, flags_text, has_bit, low_text, running_text, text_if, turn_text};
 ghost use Rattle.dgt_lines.specs.Lines.{shown_time};
 ghost use Rattle.dgt_lines.specs.Reports.{clock_known_at, clock_reports, shown_after};
 
 use crate::gathering::Outgoing;
 use dgt_message::{Clock, Reading, Status, Times};
+use dgt_names::Flags;
 
 /// Room for the text of a clock.
 pub(crate) const CLOCK_ROOM: usize = 40;
@@ -116,5 +117,43 @@ fn push_low(text: &mut Outgoing<CLOCK_ROOM>, status: Status)
 {
     if status.battery_low() {
         text.push(b" low");
+    }
+}
+
+/// Adds a word after the side for each of these flags of a time that is set.
+pub(crate) fn push_flags<const ROOM: usize>(
+    text: &mut Outgoing<ROOM>,
+    side: &[u8],
+    per_move: &[u8],
+    fallen: &[u8],
+    carried: u8,
+)
+    requires { length text.old + 3 * length side.now + length per_move.now
+        + length fallen.now + 7 ≤ ROOM }
+    ensures text { text.new ≡ text.old
+        ++ flags_text side.now per_move.now fallen.now carried }
+    ensures len { length text.new ≤ length text.old + 3 * length side.now
+        + length per_move.now + length fallen.now + 7 }
+{
+    let flags = Flags::of(carried);
+    push_if(text, flags.blocked, side, b"blocked");
+    push_if(text, flags.per_move, side, per_move);
+    push_if(text, flags.fallen, side, fallen);
+}
+
+/// Adds two words in a row, if it is so.
+pub(crate) fn push_if<const ROOM: usize>(
+    text: &mut Outgoing<ROOM>,
+    is: bool,
+    first: &[u8],
+    second: &[u8],
+)
+    requires { length text.old + length first.now + length second.now ≤ ROOM }
+    ensures text { text.new ≡ text.old ++ text_if is first.now second.now }
+    ensures len { length text.new ≤ length text.old + length first.now + length second.now }
+{
+    if is {
+        text.push(first);
+        text.push(second);
     }
 }

@@ -3,6 +3,7 @@
 ghost use Rattle.dgt_lines.specs.Commanding.{IsListed};
 ghost use Rattle.dgt_lines.specs.Logging.{IsLogged};
 ghost use Rattle.dgt_lines.specs.Monitoring.{IsMonitored};
+ghost use Rattle.dgt_lines.specs.NamedLines.{AreMonitored};
 ghost use Rattle.dgt_lines.specs.Picturing.{IsPictured};
 ghost use Rattle.dgt_lines.specs.Turns.{change, InTurns, Ran, RunsInTurns};
 
@@ -12,6 +13,7 @@ use crate::doubts::{PictureState, Shown};
 use crate::faults::RunFault;
 use crate::gathering::Outgoing;
 use crate::log_chunks::{LOG_ROOM, Log};
+use crate::named_chunks::Named;
 use crate::picture_chunks::{PICTURES_ROOM, Pictures};
 use crate::printers::print_input;
 use crate::streams::{Sink, Source};
@@ -44,6 +46,32 @@ pub fn monitor<R: Source, W: Sink>(
 {
     let mut outgoing = Outgoing::<LINES_ROOM>::new();
     print_input(&mut Framer::new(), &mut outgoing, reader, writer, limit)
+}
+
+/// Writes the lines of [`monitor`], with names: after the text of an event come `: ` and what other
+/// programs read in the bytes that it carries, as in `00000010 ack 10 88 06 31 00: back pressed`.
+/// No clock and no board was tried. An event without a name has the line of [`monitor`].
+///
+/// Its errors are those of [`monitor`].
+pub fn monitor_names<R: Source, W: Sink>(
+    reader: &mut R,
+    writer: &mut W,
+    limit: u32,
+) -> Result<(), RunFault>
+    // what was read, and what was written of it
+    ensures output { Ran R.Source W.Sink
+        (change reader.old reader.new) (change writer.old writer.new)
+        (InTurns limit result (AreMonitored result)) }
+
+    // how often it reads, when it stops, and which marks it leaves
+    ensures in_turns { RunsInTurns R.Source W.Sink (change reader.old reader.new)
+        (change writer.old writer.new) limit result }
+{
+    let mut named = Named {
+        framer: Framer::new(),
+    };
+    let mut outgoing = Outgoing::<LINES_ROOM>::new();
+    print_input(&mut named, &mut outgoing, reader, writer, limit)
 }
 
 /// Writes a line for each command and each fault of the bytes that the reader gives, in at most

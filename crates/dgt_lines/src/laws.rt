@@ -1,19 +1,29 @@
 //! What holds of lines, writes and runs as such. Nothing here runs: each function stands for the
 //! facts that its contract states.
 
-ghost use Rattle.std.specs.Prelude.{◌≡◌, ◌≤◌, ◌⊎◌, [], ◌∷◌, ◌++◌, ℕ, Bool, List, Ok, Err, Result, Some, false, length, true};
+ghost use Rattle.std.specs.Prelude.{◌≡◌, ◌≤◌, ◌⊎◌, [], ◌∷◌, ◌++◌, ℕ, Bool, List, Ok, Err, Option, Result, Some, None, codes, map, false, length, true};
 ghost use Rattle.std.specs.Io.KnownBytes.{IsAtEnd};
 ghost use Rattle.dgt_values.specs.Equality.{CloneIsSame, EqualIsSame};
-ghost use Rattle.dgt_decode.specs.Grammar.{Placed, events, unfinished_message};
+ghost use Rattle.dgt_message.specs.declared.known.KnownCode.{KnownCode};
+ghost use Rattle.dgt_message.specs.Clock.{Times as BothTimes, time_of, times_of};
+ghost use Rattle.dgt_message.specs.Content.{carried_as};
+ghost use Rattle.dgt_message.specs.Content.Content.{carried, times};
+ghost use Rattle.dgt_decode.specs.Grammar.{Cut, Event, Message, Placed, at_place, events, unfinished_message};
+ghost use Rattle.dgt_command.specs.declared.ids.KnownId.{KnownId};
+ghost use Rattle.dgt_names.specs.declared.battery.BatteryState.{BatteryState};
+ghost use Rattle.dgt_names.specs.declared.clock.Button.{Button};
+ghost use Rattle.dgt_names.specs.declared.clock.Signal.{Signal};
+ghost use Rattle.dgt_names.specs.Names.{IsBattery, IsSignal};
 ghost use Rattle.dgt_lines.specs.CommandLaws.{EachCharacterIsShown, EachIsPrinted, EachIsPrintedOnce, OthersAreQuestionMarks, TextsAppend};
 ghost use Rattle.dgt_lines.specs.CommandLines.{Prints};
 ghost use Rattle.dgt_lines.specs.Commanding.{IsListed};
 ghost use Rattle.dgt_lines.specs.Device.{IsNewDevice};
-ghost use Rattle.dgt_lines.specs.Lines.{events_after, lines, lines_after, monitor_text, unfinished_line};
+ghost use Rattle.dgt_lines.specs.Lines.{events_after, lines, lines_after, monitor_text, placed_line, unfinished_line};
 ghost use Rattle.dgt_lines.specs.Logging.{IsLogged};
 ghost use Rattle.dgt_lines.specs.Logs.{HasLog};
 ghost use Rattle.dgt_lines.specs.Marks.{GivesEnd, TookSome};
 ghost use Rattle.dgt_lines.specs.Monitoring.{IsInSink, IsMonitored};
+ghost use Rattle.dgt_lines.specs.NamedLines.{AreMonitored, AreNamedLines, IsNamed, acknowledged, battery_text, named_line, signal_text, times_name};
 ghost use Rattle.dgt_lines.specs.Picturing.{IsPictured};
 ghost use Rattle.dgt_lines.specs.RunLaws.{RunsThreeTurns};
 ghost use Rattle.dgt_lines.specs.Turns.{InTurns, Ran, change};
@@ -212,6 +222,120 @@ pub fn what_log_leaves()
 {
     dgt_stored::laws::bodies_are_read();
 }
+
+/// What a sink has of the bytes that `monitor_names` read is the one text that their events have,
+/// by its answer with a last line for what is unfinished or without.
+pub fn what_monitor_names_leaves()
+    ensures { (r : Result (Unit {0}) RunFault) (bytes out text : List ℕ) →
+        AreMonitored r bytes out → AreNamedLines (events bytes) text →
+        IsInSink r text (text ++ unfinished_line (length bytes) (unfinished_message bytes)) out }
+{
+    one_name();
+}
+
+/// An event has one name or none, and events have one text. One without a name has the line that it
+/// has without names.
+pub fn one_name()
+    ensures name { (event : Event) (one other : Option (List ℕ)) →
+        IsNamed event one → IsNamed event other → one ≡ other }
+    ensures some { (placed : List Placed) → (text : List ℕ) × AreNamedLines placed text }
+    ensures once { (placed : List Placed) (one other : List ℕ) →
+        AreNamedLines placed one → AreNamedLines placed other → one ≡ other }
+    ensures without { (x : Placed) → named_line x None ≡ placed_line x }
+{
+    dgt_names::laws::one_is_said();
+    dgt_names::laws::one_is_meant();
+}
+
+/// The names of what clocks signal.
+#[tactic(auto, unfolding(crate::specs::NamedLines::signal_text))]
+pub fn signals_by_example()
+    ensures said { (ack : List ℕ) (signal : Signal) → IsSignal ack signal →
+        IsNamed (acknowledged ack) (Some (signal_text signal)) }
+    ensures none { (ack : List ℕ) → ((signal : Signal) → ¬ (IsSignal ack signal)) →
+        IsNamed (acknowledged ack) None }
+    ensures some { (ack : List ℕ) (signal : Signal) → IsSignal ack signal →
+        ¬ (IsNamed (acknowledged ack) None) }
+    ensures off { signal_text Signal.Off ≡ codes "switched off" }
+    ensures ready { signal_text Signal.Ready ≡ codes "ready" }
+    ensures version { signal_text (Signal.Version 2 1) ≡ codes "version 2.1" }
+    ensures pressed { map (λ button. signal_text (Signal.Pressed button)) (Button.Back ∷ Button.Plus
+        ∷ Button.Run ∷ Button.Minus ∷ Button.Ok ∷ []) ≡ codes "back pressed" ∷ codes "plus pressed"
+        ∷ codes "run pressed" ∷ codes "minus pressed" ∷ codes "ok pressed" ∷ [] }
+    ensures done { map (λ id. signal_text (Signal.Done id)) (KnownId.Display ∷ KnownId.Icons
+        ∷ KnownId.End ∷ KnownId.Button ∷ KnownId.SetAndRun ∷ KnownId.Beep ∷ KnownId.Text ∷ [])
+        ≡ codes "display done" ∷ codes "icons done" ∷ codes "end done" ∷ codes "button done"
+        ∷ codes "setandrun done" ∷ codes "beep done" ∷ codes "text done" ∷ [] }
+{}
+
+/// A line with a name, by example. Lines stand in the order of their events.
+pub fn named_lines_by_example()
+    ensures two { (x y : Placed) (one other : Option (List ℕ)) → IsNamed x.event one →
+        IsNamed y.event other →
+        AreNamedLines (x ∷ y ∷ []) (named_line x one ++ named_line y other) }
+    ensures line { named_line (at_place 9 (acknowledged (0x10 ∷ 0x81 ∷ 0x00 ∷ 0x00 ∷ [])))
+        (Some (codes "ready")) ≡ codes "00000009 ack 10 81 00 00 07: ready\n" }
+{}
+
+/// The names of times, by example.
+#[tactic(auto, unfolding(crate::specs::NamedLines::times_name))]
+pub fn times_by_example()
+    ensures named { (t : BothTimes) → IsNamed (Message (times t)) (Some (times_name t)) }
+    ensures right { times_name (times_of (time_of 1 30 0 0) (time_of 0 0 1 0) 0x01)
+        ≡ codes "lever right down" }
+    ensures left { times_name (times_of (time_of 1 30 0 1) (time_of 0 0 0 6) 0x02)
+        ≡ codes "lever left down, first blocked, second per move, second flag fallen" }
+{}
+
+/// The names of batteries, by example. What is unknown is left out.
+#[tactic(auto, unfolding(crate::specs::NamedLines::battery_text))]
+pub fn batteries_by_example()
+    ensures said { (body : List ℕ) (state : BatteryState) → IsBattery body state →
+        IsNamed (Message (carried_as KnownCode.Battery body)) (Some (battery_text state)) }
+    ensures none { (body : List ℕ) → ((state : BatteryState) → ¬ (IsBattery body state)) →
+        IsNamed (Message (carried_as KnownCode.Battery body)) None }
+    ensures known { battery_text (record {
+      percent = Some 7;
+      hours_left = Some 4;
+      minutes_left = Some 5;
+      hours_on = 1;
+      minutes_on = 6;
+      days_resting = 2;
+      hours_resting = 3;
+      minutes_resting = 8;
+      charging = false;
+      discharging = true;
+    })
+        ≡ codes "7 percent, 4:05 left, on 1:06, rested 2 days 3:08, discharging" }
+    ensures unknown { battery_text (record {
+      percent = None;
+      hours_left = Some 4;
+      minutes_left = None;
+      hours_on = 1;
+      minutes_on = 6;
+      days_resting = 2;
+      hours_resting = 3;
+      minutes_resting = 8;
+      charging = true;
+      discharging = false;
+    })
+        ≡ codes "on 1:06, rested 2 days 3:08, charging" }
+{}
+
+/// The names of messages that carry a text are these texts.
+pub fn texts_by_example()
+    ensures serial { IsNamed (Message (carried_as KnownCode.Serial (codes "00001")))
+        (Some (codes "00001")) }
+    ensures long_serial { IsNamed (Message (carried_as KnownCode.LongSerial (codes "3.00")))
+        (Some (codes "3.00")) }
+    ensures trademark { IsNamed (Message (carried_as KnownCode.Trademark (codes "DGT ~")))
+        (Some (codes "DGT ~")) }
+    ensures no_text { IsNamed (Message (carried_as KnownCode.Trademark (0x0d ∷ 0x0a ∷ []))) None }
+    ensures no_name { (name : List ℕ) →
+        ¬ (IsNamed (Message (carried_as KnownCode.Trademark (0x0d ∷ 0x0a ∷ []))) (Some name)) }
+    ensures other { IsNamed (Message (carried 0x0f (codes "DGT"))) None }
+    ensures fault { (have : ℕ) → IsNamed (Cut have) None }
+{}
 
 /// The lines of bytes in a row are those of the first ones, and then those of the chunk after them.
 pub fn lines_append()

@@ -9,6 +9,7 @@
 //! | write the line of a command, as `00000001 dump` | [`write_command`] |
 //! | write how a board and a host are at the end | [`write_closing`] |
 //! | write the lines of all that a source gives | [`monitor`], [`commands`], [`picture`], [`log`] |
+//! | write these with names, as `ack 10 88 06 31 00: back pressed` | [`monitor_names`] |
 //!
 //! ```rust
 //! use dgt_decode::Event;
@@ -62,6 +63,8 @@ pub mod laws;
 mod lines;
 mod log_chunks;
 mod logs;
+mod named_chunks;
+mod naming;
 mod picture_chunks;
 mod pictures;
 mod printers;
@@ -76,7 +79,7 @@ pub use closing::write_closing;
 pub use command_chunks::COMMANDS_ROOM;
 pub use command_lines::write_command;
 pub use doubts::{Doubt, PictureState, Shown};
-pub use engines::{commands, log, monitor, picture};
+pub use engines::{commands, log, monitor, monitor_names, picture};
 pub use faults::RunFault;
 pub use formatting::format_event;
 pub use gathering::{flush, put};

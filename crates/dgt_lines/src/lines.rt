@@ -5,7 +5,7 @@ ghost use Rattle.hex.specs.Hex.{encode_lower};
 ghost use Rattle.dgt_decode.specs.Grammar.{message_event};
 ghost use Rattle.dgt_decode.specs.Feeding.{IsWholeMessage, event_content, event_found_in};
 ghost use Rattle.dgt_lines.specs.Writing.{Gathers, Writes};
-ghost use Rattle.dgt_lines.specs.Lines.{bytes_text, event_line, line, offset_text, padded_decimal, unfinished_line, unfinished_text};
+ghost use Rattle.dgt_lines.specs.Lines.{bytes_text, event_line, event_text, line, offset_text, padded_decimal, unfinished_line, unfinished_text};
 ghost use Rattle.dgt_lines.specs.Marks.{Waits};
 
 use crate::faults::RunFault;
@@ -121,17 +121,28 @@ pub(crate) fn put_event<W: Sink, const ROOM: usize>(
     ensures no_flush { W.flushed writer.old ≡ false → W.flushed writer.new ≡ false }
     ensures waits { OnOk result (Waits outgoing.new (W.flushed writer.new)) }
 {
+    put_text(outgoing, writer, offset, event)?;
+    outgoing.add(writer, b"\n")
+}
+
+/// Gathers that line without its end.
+pub(crate) fn put_text<W: Sink, const ROOM: usize>(
+    outgoing: &mut Outgoing<ROOM>,
+    writer: &mut W,
+    offset: u64,
+    event: &Event<'_>,
+) -> Result<(), RunFault>
+    requires { LINE_ROOM ≤ ROOM }
+    ensures output { Gathers W.Sink (outgoing.old, outgoing.new) writer.old writer.new
+        result (offset_text offset ++ 32 ∷ event_text (event_content event.now)) }
+    ensures dropped { OnErr result (outgoing.new ≡ []) }
+    ensures no_flush { W.flushed writer.old ≡ false → W.flushed writer.new ≡ false }
+{
     outgoing.make_room(writer, LINE_ROOM)?;
     push_offset(outgoing, offset);
     match push_event(outgoing, event) {
-        None => {
-            outgoing.push(b"\n");
-            Ok(())
-        }
-        Some(body) => {
-            put_bytes(outgoing, writer, body.bytes())?;
-            outgoing.add(writer, b"\n")
-        }
+        None => Ok(()),
+        Some(body) => put_bytes(outgoing, writer, body.bytes()),
     }
 }
 

@@ -33,10 +33,11 @@ fn acknowledgements_are_signals() {
 #[test]
 fn fields_of_messages_have_names() {
     let times = [0x8d, 0x00, 0x0a, 0x01, 0x30, 0x00, 0x70, 0x00, 0x00, 0x00];
-    let flags = with_message(&times, |message| match message {
-        Message::Times(times) => [times.first(), times.second()].map(|time| Flags::of(time.flags())),
+    let times = with_message(&times, |message| match message {
+        Message::Times(times) => *times,
         _ => panic!("no times"),
     });
+    let flags = [times.first(), times.second()].map(|time| Flags::of(time.flags()));
     let all = Flags { blocked: true, per_move: true, fallen: true };
     assert_eq!(flags, [Flags { blocked: false, per_move: false, fallen: false }, all]);
     let battery = [0xa0, 0x00, 0x0c, 73, 4, 0x7f, 1, 5, 2, 3, 10, 2];

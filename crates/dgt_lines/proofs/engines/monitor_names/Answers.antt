@@ -1,0 +1,11 @@
+use Rattle.std.proofs.Common.{arith}
+use Rattle.dgt_lines.proofs.NamedLemmas.{monitored_names, named_none}
+use Rattle.dgt_lines.proofs.Printed.{ran_with}
+use Rattle.dgt_lines.proofs.engines.monitor_names.Goals as goal
+
+pub print_input-requires : goal.print_input-requires
+print_input-requires g c = (omega arith, (named_none _ c.new.ensures, c.new-outgoing.ensures))
+
+pub returns-clause-output : goal.returns-clause-output
+returns-clause-output g c =
+    ran_with g.R.Source g.W.Sink _ _ _ _ c.args.limit _ _ _ (monitored_names _) c.print_input.ensures.output
