@@ -219,7 +219,11 @@ def shown_clock(body):
     turn = {0x08: "black", 0x10: "white"}.get(status & 0x18, "-")
     words = [f"clock {b3 & 0x0F}:{b4:02x}:{b5:02x} {b6 & 0x0F}:{b7:02x}:{b8:02x}"]
     words += ["running" if status & 0x01 else "stopped", turn]
-    return " ".join(words + ["low"] * bool(status & 0x04))
+    words += ["low"] * bool(status & 0x04)
+    words += [side + flag for side, hours in (("left", b3), ("right", b6))
+              for bit, flag in ((0x10, "blocked"), (0x20, "permove"), (0x40, "fallen"))
+              if hours & bit]
+    return " ".join(words)
 
 
 def picture(data, doubt=False, clock=False):

@@ -26,10 +26,11 @@ AT_START = time.time() - time.monotonic()
 NEAR = 1.5  # seconds by which a clock may differ from what a page makes of its last reading
 # A line of `dgt picture`: how many bytes had come, and where the pieces stand.
 LINE = re.compile(r"(\d{8,20}) (\S+)")
-# One of `dgt picture --clock`, and the sides whose flag has fallen.
+# One of `dgt picture --clock`, and the words of its flags.
 TIME = r"(\d{1,3}:[0-5]\d:[0-5]\d)"
+FLAGS = [side + flag for side in SIDES for flag in ("blocked", "permove", "fallen")]
 TIMES = re.compile(rf"\d{{8,20}} clock {TIME} {TIME} (running|stopped) (white|black|-)( low)?"
-                   r"(?: (left) flag)?(?: (right) flag)?")
+                   + "".join(f"(?: ({flag}))?" for flag in FLAGS))
 NO_CLOCK = re.compile(r"\d{8,20} clock none")
 
 
@@ -70,9 +71,10 @@ def read_clock(text: str) -> Clock:
         return Clock()
     if not (found := TIMES.fullmatch(text)):
         raise Refused
-    left, right, runs, turn, low, *fallen = found.groups()
+    left, right, runs, turn, low, *flags = found.groups()
+    fallen = tuple(side for side in SIDES if {f"{side}blocked", f"{side}fallen"} & {*flags})
     return Clock(False, seconds(left), seconds(right), runs == "running",
-                 None if turn == "-" else turn, bool(low), tuple(filter(None, fallen)))
+                 None if turn == "-" else turn, bool(low), fallen)
 
 
 def read_state(text: str) -> str:

@@ -23,7 +23,9 @@ _TOPICS = [("boards/+/state", 1), ("boards/+/confirmed", 1), ("boards/+", 1), ("
 """What is subscribed to. A new subscriber gets the last message of each, in this order."""
 _AWAY = {"silent": following._SILENT, "gone": following._GONE,
          "ended": "nobody publishes the board any more", "unheard": "the broker has gone"}
-_CLOCK = re.compile(r"clock (\d+):(\d+):(\d+) (\d+):(\d+):(\d+) (running|stopped) (\S+)( low)?")
+_CLOCK = re.compile(r"clock (\d+):(\d+):(\d+) (\d+):(\d+):(\d+) (running|stopped) (\S+)( low)?"
+                    r"((?: (?:left|right)(?:blocked|permove|fallen))*)")
+_FLAGS = ("blocked", "permove", "fallen")
 _TURNS = {"white": 0x10, "black": 0x08}
 
 
@@ -33,7 +35,9 @@ def read_clock(text: str) -> Clock:
     if not (found := _CLOCK.fullmatch(text)):
         return NoClock()
     times = [int(each) for each in found.groups()[:6]]
-    return Times(Time(*times[:3]), Time(*times[3:]),
+    left, right = (sum(1 << bit for bit, flag in enumerate(_FLAGS)
+                       if side + flag in found[10].split()) for side in ("left", "right"))
+    return Times(Time(*times[:3], left), Time(*times[3:], right),
                  (found[7] == "running") | _TURNS.get(found[8], 0))
 
 

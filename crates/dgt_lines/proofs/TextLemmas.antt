@@ -6,8 +6,8 @@ use Rattle.std.proofs.lemmas.List.Folds.{list_all-append}
 use Rattle.std.proofs.lemmas.Fmt.{decimal_digit, decimal_step, decimal_nonempty}
 use Rattle.std.specs.List.{list_all}
 use Rattle.std.specs.Prelude.{◌&&◌, codes, decimal}
-use Rattle.dgt_message.specs.Clock.{ClockState, Times}
-use Rattle.dgt_lines.specs.Clocks.{clock_text, has_bit, low_text, running_text, turn_text}
+use Rattle.dgt_message.specs.Clock.{Times}
+use Rattle.dgt_lines.specs.Clocks.{has_bit, low_text, running_text, shown_times, turn_text}
 use Rattle.dgt_lines.specs.Lines.{byte_text, padded_decimal, shown_time, words_text}
 
 -- no leading zero
@@ -58,8 +58,8 @@ pub clock_in_parts : (t : Times)
     → codes "clock " ++ (shown_time t.first ++ (codes " " ++ (shown_time t.second
     ++ (codes " " ++ running_text t.status) ++ (codes " " ++ turn_text (has_bit t.status 3) (has_bit t.status 4))
     ++ low_text t.status)))
-    ≡ clock_text (ClockState.times t)
-unfolding clock_text
+    ≡ shown_times t
+unfolding shown_times
 clock_in_parts t = simp append_assoc refl
 
 -- if a test holds of the first ones, it holds of all if it holds of the last ones

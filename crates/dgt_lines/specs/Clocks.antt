@@ -1,6 +1,6 @@
 -- The text of the clock of a board.
 use Rattle.std.specs.Prelude.{ℕ, ◌^◌, ◌==◌, not, Bool, true, false, bit_and, if◌then◌else◌, List, [], ◌∷◌, ◌++◌, codes}
-use Rattle.dgt_message.specs.Clock.{ClockState}
+use Rattle.dgt_message.specs.Clock.{ClockState, Times}
 use Rattle.dgt_lines.specs.Lines.{shown_time, words_text}
 
 -- D0 to D6 of a status
@@ -33,9 +33,16 @@ flags_text side per_move fallen flags =
     ++ text_if (has_bit flags 2) side fallen
 
 -- D3 says that it is black's turn, and D4 that it is white's
-unfoldable pub clock_text : ClockState → List ℕ
-clock_text (ClockState.times t) =
+unfoldable pub shown_times : Times → List ℕ
+shown_times t =
     words_text (codes "clock" ∷ shown_time t.first ∷ shown_time t.second ∷ running_text t.status
     ∷ turn_text (has_bit t.status 3) (has_bit t.status 4) ∷ [])
     ++ low_text t.status
+
+-- the first time is taken for that of the left side
+unfoldable pub clock_text : ClockState → List ℕ
+clock_text (ClockState.times t) =
+    shown_times t
+    ++ flags_text (codes " left") (codes "permove") (codes "fallen") t.first.flags
+    ++ flags_text (codes " right") (codes "permove") (codes "fallen") t.second.flags
 clock_text (ClockState.no_clock absence) = codes "clock none"

@@ -3,7 +3,7 @@
 ghost use Rattle.std.specs.Prelude.{◌≡◌, ◌+◌, ◌*◌, ◌≤◌, ℕ, [], ◌++◌, codes, length, if◌then◌else◌};
 ghost use Rattle.dgt_message.specs.Content.{clock_seen, status_code, time_seen, times_seen};
 ghost use Rattle.dgt_message.specs.Clock.{ClockState};
-ghost use Rattle.dgt_lines.specs.Clocks.{clock_text, flags_text, has_bit, low_text, running_text, text_if, turn_text};
+ghost use Rattle.dgt_lines.specs.Clocks.{clock_text, flags_text, has_bit, low_text, running_text, shown_times, text_if, turn_text};
 ghost use Rattle.dgt_lines.specs.Lines.{shown_time};
 ghost use Rattle.dgt_lines.specs.Reports.{clock_known_at, clock_reports, shown_after};
 
@@ -12,7 +12,7 @@ use dgt_message::{Clock, Reading, Status, Times};
 use dgt_names::Flags;
 
 /// Room for the text of a clock.
-pub(crate) const CLOCK_ROOM: usize = 40;
+pub(crate) const CLOCK_ROOM: usize = 112;
 
 /// What was shown of a board's clock last, if its clock is shown.
 #[derive(Drop)]
@@ -58,8 +58,19 @@ fn form_clock(clock: Clock) -> Outgoing<CLOCK_ROOM>
 }
 
 fn push_times(text: &mut Outgoing<CLOCK_ROOM>, times: Times)
-    requires { length text.old + 39 ≤ CLOCK_ROOM }
+    requires { length text.old + 112 ≤ CLOCK_ROOM }
     ensures { text.new ≡ text.old ++ clock_text (ClockState.times (times_seen times)) }
+{
+    push_shown(text, times);
+    push_side(text, b" left", times.first());
+    push_side(text, b" right", times.second());
+}
+
+// The times, whether they run, whose turn it is, and whether the battery is low.
+fn push_shown(text: &mut Outgoing<CLOCK_ROOM>, times: Times)
+    requires { length text.old + 39 ≤ CLOCK_ROOM }
+    ensures text { text.new ≡ text.old ++ shown_times (times_seen times) }
+    ensures len { length text.new ≤ length text.old + 39 }
 {
     text.push(b"clock ");
     text.push(&time_text(times.first()));
@@ -68,6 +79,16 @@ fn push_times(text: &mut Outgoing<CLOCK_ROOM>, times: Times)
     push_running(text, times.status());
     push_turn(text, times.status());
     push_low(text, times.status());
+}
+
+// A word for each flag of a time that is set.
+fn push_side(text: &mut Outgoing<CLOCK_ROOM>, side: &[u8], reading: Reading)
+    requires { length text.old + 3 * length side.now + 20 ≤ CLOCK_ROOM }
+    ensures text { text.new ≡ text.old
+        ++ flags_text side.now (codes "permove") (codes "fallen") (time_seen reading).flags }
+    ensures len { length text.new ≤ length text.old + 3 * length side.now + 20 }
+{
+    push_flags(text, side, b"permove", b"fallen", reading.flags());
 }
 
 /// The hours, minutes and seconds of a reading.
@@ -113,7 +134,8 @@ fn push_turn(text: &mut Outgoing<CLOCK_ROOM>, status: Status)
 
 fn push_low(text: &mut Outgoing<CLOCK_ROOM>, status: Status)
     requires { length text.old + 4 ≤ CLOCK_ROOM }
-    ensures { text.new ≡ text.old ++ low_text (status_code status) }
+    ensures bytes { text.new ≡ text.old ++ low_text (status_code status) }
+    ensures len { length text.new ≤ length text.old + 4 }
 {
     if status.battery_low() {
         text.push(b" low");

@@ -47,10 +47,12 @@ pub struct Shown {
     ///
     /// The line is the offset, a space, and the word `clock`. Then come the two times as `1:30:00`,
     /// the left one first, `running` or `stopped`, and whose turn it is: `white`, `black`, or `-`
-    /// if the clock names neither or both. The word `low` follows if the clock's battery is low.
-    /// The line is `clock none` if no clock is connected. A message of the clock has a line if this
-    /// text is another one than that of the message of the clock before, or if there was none
-    /// before.
+    /// if the clock names neither or both. The word `low` follows if the clock's battery is low,
+    /// and a word for each flag that is set: `leftblocked`, `leftpermove`, `leftfallen`,
+    /// `rightblocked`, `rightpermove` and `rightfallen`. What these mean is known from other
+    /// programs only. The line is `clock none` if no clock is connected. A message of the clock has
+    /// a line if this text is another one than that of the message of the clock before, or if there
+    /// was none before.
     pub clock: bool,
 }
 

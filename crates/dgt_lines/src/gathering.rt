@@ -40,7 +40,7 @@ pub fn flush<W: Sink>(writer: &mut W) -> Result<(), RunFault>
 }
 
 /// Room for all of a line but the bytes that a message carries.
-pub(crate) const LINE_ROOM: usize = 128;
+pub(crate) const LINE_ROOM: usize = 134;
 
 /// Bytes on their way to a sink, at most `ROOM` of them. Contracts see those that were not written
 /// yet.

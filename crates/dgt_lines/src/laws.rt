@@ -5,7 +5,7 @@ ghost use Rattle.std.specs.Prelude.{◌≡◌, ◌≤◌, ◌⊎◌, [], ◌∷�
 ghost use Rattle.std.specs.Io.KnownBytes.{IsAtEnd};
 ghost use Rattle.dgt_values.specs.Equality.{CloneIsSame, EqualIsSame};
 ghost use Rattle.dgt_message.specs.declared.known.KnownCode.{KnownCode};
-ghost use Rattle.dgt_message.specs.Clock.{Times as BothTimes, time_of, times_of};
+ghost use Rattle.dgt_message.specs.Clock.{Absence, ClockState, Times as BothTimes, time_of, times_of};
 ghost use Rattle.dgt_message.specs.Content.{carried_as};
 ghost use Rattle.dgt_message.specs.Content.Content.{carried, times};
 ghost use Rattle.dgt_decode.specs.Grammar.{Cut, Event, Message, Placed, at_place, events, unfinished_message};
@@ -14,6 +14,7 @@ ghost use Rattle.dgt_names.specs.declared.battery.BatteryState.{BatteryState};
 ghost use Rattle.dgt_names.specs.declared.clock.Button.{Button};
 ghost use Rattle.dgt_names.specs.declared.clock.Signal.{Signal};
 ghost use Rattle.dgt_names.specs.Names.{IsBattery, IsSignal};
+ghost use Rattle.dgt_lines.specs.Clocks.{clock_text};
 ghost use Rattle.dgt_lines.specs.CommandLaws.{EachCharacterIsShown, EachIsPrinted, EachIsPrintedOnce, OthersAreQuestionMarks, TextsAppend};
 ghost use Rattle.dgt_lines.specs.CommandLines.{Prints};
 ghost use Rattle.dgt_lines.specs.Commanding.{IsListed};
@@ -285,6 +286,16 @@ pub fn times_by_example()
         ≡ codes "lever right down" }
     ensures left { times_name (times_of (time_of 1 30 0 1) (time_of 0 0 0 6) 0x02)
         ≡ codes "lever left down, first blocked, second per move, second flag fallen" }
+{}
+
+/// The text of a clock, by example: with no flag, and with some of each side.
+pub fn clocks_by_example()
+    ensures none { clock_text (ClockState.times (times_of (time_of 1 0 2 0) (time_of 0 0 1 0) 0x15))
+        ≡ codes "clock 1:00:02 0:00:01 running white low" }
+    ensures flags { clock_text (ClockState.times (times_of (time_of 1 0 2 7) (time_of 0 0 0 4) 0))
+        ≡ codes "clock 1:00:02 0:00:00 stopped - leftblocked leftpermove leftfallen rightfallen" }
+    ensures none_is_connected { (absence : Absence) →
+        clock_text (ClockState.no_clock absence) ≡ codes "clock none" }
 {}
 
 /// The names of batteries, by example. What is unknown is left out.

@@ -24,7 +24,7 @@ const ROOM: usize = 1024;
 pub(crate) fn push_offset<const ROOM: usize>(text: &mut Outgoing<ROOM>, offset: u64)
     requires { length text.old + LINE_ROOM ≤ ROOM }
     ensures text { text.new ≡ text.old ++ (offset_text offset ++ 32 ∷ []) }
-    ensures room { length text.new + 100 ≤ ROOM }
+    ensures room { length text.new + 113 ≤ ROOM }
 {
     if offset < 100_000_000 {
         text.push(&eight_digits(offset as u32));

@@ -100,7 +100,7 @@ fn put_clock<W: Sink>(
 }
 
 fn push_clock_line(outgoing: &mut Outgoing<PICTURES_ROOM>, text: &Outgoing<CLOCK_ROOM>)
-    requires { length outgoing.old + 41 ≤ PICTURES_ROOM }
+    requires { length outgoing.old + CLOCK_ROOM + 1 ≤ PICTURES_ROOM }
     ensures { outgoing.new ≡ outgoing.old ++ (text.now ++ codes "\n") }
 {
     outgoing.push(text.bytes());

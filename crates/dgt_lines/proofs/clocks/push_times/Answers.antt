@@ -1,28 +1,15 @@
-use Rattle.std.proofs.Common.{append_assoc, refl}
-use Rattle.dgt_message.specs.Content.{times_seen}
-use Rattle.dgt_lines.proofs.TextLemmas.{clock_in_parts}
+use Rattle.std.proofs.Common.{ap, append_assoc, refl}
+use Rattle.dgt_lines.specs.Clocks.{clock_text}
 use Rattle.dgt_lines.proofs.clocks.push_times.Goals as goal
 
 pub returns : goal.returns
+unfolding clock_text
 returns c =
-    let t = times_seen c.args.times in
     rw (
-      ← clock_in_parts t,
-      c.push_low.ensures,
-      c.push_turn.ensures.bytes,
-      c.push_running.ensures.bytes,
-      c.push-4.ensures.bytes,
-      c.push-3.ensures.bytes,
-      c.push-2.ensures.bytes,
-      c.push.ensures.bytes,
+      c.push_side-2.ensures.text,
+      c.push_side.ensures.text,
+      c.push_shown.ensures.text,
+      ap (λ t. t.flags) c.first.ensures,
+      ap (λ t. t.flags) c.second.ensures,
     )
-    (simp (
-      append_assoc,
-      c.time_text.ensures,
-      c.time_text-2.ensures,
-      c.first.ensures,
-      c.second.ensures,
-      c.status.ensures.value,
-      c.status-2.ensures.value,
-      c.status-3.ensures.value,
-    ) refl)
+    (simp append_assoc refl)
