@@ -392,7 +392,8 @@ def play(dgt, seeds, most):
         wanted(f"game {seed}, result", (games[0].result, games[0].comment), (result, ""))
         clocks = [each.clock and str(each.clock) for each in games[0].moves]
         # A press after which the clock shows what it showed before isn't logged.
-        right = [None if clocks[at] is None and at > 1 and game.clocks[at - 2] == clock else clock
+        before = ["1:30:00", "1:30:00", *game.clocks]
+        right = [None if clocks[at] is None and before[at] == clock else clock
                  for at, clock in enumerate(game.clocks)]
         if clocks != right and not game.takes_back:
             raise Wrong(f"game {seed}, clocks: {tables.differing(clocks, right)}")
