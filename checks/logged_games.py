@@ -44,6 +44,8 @@ LOGS = [
     ("begin", [], []),
     ("begin end e2. e4P", [], [2, 2]),
     ("begin e2. e4P end", ["e4 *"], []),
+    # A log that wraps: what is older comes after its end.
+    ("begin e2. e4P end e7. e5p begin d2. d4P", ["e4 *", "d4 *"], [2, 6]),
     # The last move was made if another piece was lifted after it, or nothing was.
     ("begin e2. e4P e7. on", [f"e4 * {ON}"], []),
     ("begin e2. e4P e7.", ["e4 *"], []),
