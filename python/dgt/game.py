@@ -155,10 +155,10 @@ def _read_words(arguments: list[str] | None) -> argparse.Namespace:
     for name in _TAGS:
         said = " (today)" if name == "date" else ""
         parser.add_argument(f"--{name}", metavar="TEXT", help=f"a tag of each game{said}")
-    parser.add_argument("--white-clock", choices=(*SIDES, "learn"), default="left",
+    parser.add_argument("--white-clock", choices=(*SIDES, "learn"), default="learn",
                         help="the side of the clock that has White's time (%(default)s). Left is "
-                        "the side that the clock reports first. With learn it is found by which "
-                        "side counts when")
+                        "the side that the clock reports first. With learn that is White's until "
+                        "the other side is seen to count on White's turns")
     parser.add_argument("--fen", help="the game begins with this position")
     parser.add_argument("--period", type=_period, metavar="SECONDS",
                         help=f"how often the board is asked for all squares ({_PERIOD})")
