@@ -132,6 +132,14 @@ fn stops_at_a_refused_write(rt: HostRuntime) -> Result<(), Fail> {
         ("dgt show 8e000205", bytes, ROOM, false, lines),
         ("dgt monitor", bytes, 9, true, "00000003 "),
         ("dgt monitor", bytes, ROOM, false, lines),
+        ("dgt monitor --names", bytes, ROOM, false, lines),
+        (
+            "dgt show --names 9200054447",
+            bytes,
+            26,
+            true,
+            "00000005 trademark 4447: D",
+        ),
         ("dgt commands", b"\x42", 9, true, "00000001 "),
         ("dgt commands", b"\x42", ROOM, false, "00000001 dump\n"),
         ("dgt board", b"\x45", 0, true, ""),
@@ -166,6 +174,7 @@ fn stops_at_a_refused_read(rt: HostRuntime) -> Result<(), Fail> {
     check(&rt, "dgt show 8e00052401", 0, field, "")?;
     for line in [
         "dgt monitor",
+        "dgt monitor --names",
         "dgt picture",
         "dgt picture --doubt",
         "dgt picture --clock",

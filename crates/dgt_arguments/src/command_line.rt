@@ -20,12 +20,16 @@ pub enum Task<'a> {
     Help {
         text: String,
     },
-    /// Show what the bytes of this hexadecimal word make known.
+    /// Show what the bytes of this hexadecimal word make known, with `names` those of what messages
+    /// carry too.
     Show {
         word: &'a str,
+        names: bool,
     },
-    /// Show what the bytes of the input make known.
-    Monitor,
+    /// Show what the bytes of the input make known, with `names` those of what messages carry too.
+    Monitor {
+        names: bool,
+    },
     /// Show the pieces of the board for each message of the input that sets them. With `doubt` the
     /// first fault since a message of all squares is shown too, and with `clock` each change of the
     /// clock.
@@ -60,7 +64,7 @@ impl Task<'_> {
     /// (`reads` says that standard input is it), or writes bytes there (`writes`: standard output).
     pub fn note(&self, reads: bool, writes: bool) -> Option<&'static str> {
         match self {
-            Task::Monitor | Task::Picture { .. } | Task::Log | Task::Commands if reads => {
+            Task::Monitor { .. } | Task::Picture { .. } | Task::Log | Task::Commands if reads => {
                 Some("dgt: waiting for bytes from this terminal; Ctrl-D ends them")
             }
             Task::Ask { .. } | Task::Board { .. } if writes => {
@@ -152,11 +156,25 @@ fn flag<'a>(alloc: Global, name: &'a str, help: &'a str) -> Arg<'a> {
         .help(help)
 }
 
+fn names<'a>(alloc: Global) -> Arg<'a> {
+    flag(
+        alloc,
+        "names",
+        "Names buttons, flags, charges and texts, too",
+    )
+}
+
 fn show<'a>(alloc: Global) -> Result<Command<'a>, AllocError> {
     let word = Arg::new(alloc, "hex").value_name("HEX").required(true).help(
         "The bytes that a board sends, two hexadecimal digits each",
     );
-    subcommand(alloc, "show", SHOW, SHOW_NOTES).arg(word)
+    subcommand(alloc, "show", SHOW, SHOW_NOTES)
+        .arg(names(alloc))?
+        .arg(word)
+}
+
+fn monitor<'a>(alloc: Global) -> Result<Command<'a>, AllocError> {
+    subcommand(alloc, "monitor", MONITOR, MONITOR_NOTES).arg(names(alloc))
 }
 
 fn picture<'a>(alloc: Global) -> Result<Command<'a>, AllocError> {
@@ -208,7 +226,7 @@ fn command<'a>(alloc: Global) -> Result<Command<'a>, AllocError> {
         .after_help(PROGRAM_NOTES)
         .subcommand_required(true)
         .subcommand(show(alloc)?)?
-        .subcommand(subcommand(alloc, "monitor", MONITOR, MONITOR_NOTES))?
+        .subcommand(monitor(alloc)?)?
         .subcommand(picture(alloc)?)?
         .subcommand(subcommand(alloc, "log", LOG, LOG_NOTES))?
         .subcommand(ask(alloc)?)?
@@ -302,8 +320,11 @@ fn task_named<'a>(name: &str, options: &ArgMatches<'a>) -> Option<Task<'a>> {
     let task = match name {
         "show" => Task::Show {
             word: options.get_str("hex")?,
+            names: options.get_flag("names"),
         },
-        "monitor" => Task::Monitor,
+        "monitor" => Task::Monitor {
+            names: options.get_flag("names"),
+        },
         "picture" => Task::Picture {
             doubt: options.get_flag("doubt"),
             clock: options.get_flag("clock"),

@@ -25,7 +25,12 @@ macro_rules! with_lines {
 PIECE is one of PRNBKQ (white), prnbkq (black) and XYZ (extra pieces), or . for
 an empty square. TIME is H:MM:SS and three flags as a number of 0 to 7. Bytes,
 CODE and STATUS are hexadecimal, and - means no BYTES. FAULT is wrongsize,
-or badpiece, badsquare or badreading and the place in the body, from 0 on.",
+or badpiece, badsquare or badreading and the place in the body, from 0 on.
+
+With --names a colon and a name follow the text of some lines. They say what
+other programs read in the bytes: a button or an answer of the clock (ack), its
+lever and flags (times), the state of a battery, or a text (serial, longserial,
+trademark). No clock and no board was tried.",
             $after
         )
     };
@@ -77,7 +82,9 @@ Examples:
   00000005 field e4 P
   $ dgt show 8e000205
   00000003 badlength
-  00000004 stray 05"
+  00000004 stray 05
+  $ dgt show --names 8d000a0a10082a003100
+  00000010 ack 10 88 00 31 00: back pressed"
 );
 
 /// What follows clap's own text in the help of `monitor`.
@@ -135,8 +142,11 @@ With --clock a line follows each message of the clock, if its words differ from
 those before: the number of bytes up to there, and then the words. They begin
 with clock, the times of both sides as H:MM:SS, and running or stopped. The
 first time is taken for that of the left side. Then comes whose turn it is:
-white, black, or - if the clock names neither or both. The last word is low if
-its battery is low. If no clock is connected, the words are 'clock none'.
+white, black, or - if the clock names neither or both. The word low follows if
+its battery is low, and a word for each flag that is set: leftblocked (fallen,
+and the clock stays at zero), leftpermove (a time for each move), leftfallen
+(the clock shows a flag), and the same with right. If no clock is connected, the
+words are 'clock none'.
 'dgt ask updatenice' asks a board for its changes and its clock.
 
 Exit status: 0, with faults in the bytes too. It is 1 if standard input or

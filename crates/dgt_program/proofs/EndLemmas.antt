@@ -1,6 +1,5 @@
 -- How tasks end.
 use Rattle.std.proofs.Common.{◌≡◌, ◌≢◌, inl, inr, ℕ, ◌+◌, ◌≤◌, Bool, true, false, List, [], ◌∷◌, ◌++◌, length, Result, Ok, Err, OnOk, IsTrue, refl, ◌∙◌, ap, subst, arith, length-append}
-use Rattle.std.specs.Io.KnownBytes.{Appends}
 use Rattle.dgt_values.specs.declared.pieces.Piece.{Piece}
 use Rattle.dgt_values.specs.Placement.{IsPlacement}
 use Rattle.dgt_link.specs.View.{WorldView}
@@ -9,7 +8,7 @@ use Rattle.dgt_lines.specs.declared.faults.RunFault.TheVariants.{ReadFailed, Wri
 use Rattle.dgt_lines.specs.declared.streams.Source.{Ghosts as Source}
 use Rattle.dgt_lines.specs.declared.streams.Sink.{Ghosts as Sink}
 use Rattle.dgt_lines.specs.Lines.{monitor_text}
-use Rattle.dgt_lines.specs.Monitoring.{IsMonitored, IsPrefix}
+use Rattle.dgt_lines.specs.Monitoring.{IsPrefix}
 use Rattle.dgt_lines.specs.Turns.{Change, Ran, sink_mark_after}
 use Rattle.dgt_lines.specs.Writing.{Writes}
 use Rattle.dgt_text.specs.Simulating.{IsSimulated, Rules, ShowsHealed, ShowsPicture, faulty_rules, plain_rules}
@@ -17,7 +16,7 @@ use Rattle.dgt_arguments.specs.declared.command_line.Task.TheVariants.{Help, Sho
 use Rattle.dgt_program.specs.declared.fault.Fault.{Fault}
 use Rattle.dgt_program.specs.declared.fault.Fault.TheVariants.{Run}
 use Rattle.dgt_program.specs.Ends.{AllIsMonitored, AllIsShown, FaultsComeFirst, IsBeforeRuns, PlacementsAreRefused, PlaysAll, PositionsArePlaced, ShowsAll, ShowsNothing, SmallLinesAreRefused, TextsAreFlushed, WordsAreDecoded, WordsComeFirst, WorldsAreLarge}
-use Rattle.dgt_program.specs.Tasks.{IsShown, PlaysScript, PlaysWith, ShowsWord, task_answer}
+use Rattle.dgt_program.specs.Tasks.{IsPrintedWith, IsShown, PlaysScript, PlaysWith, ShowsWord, task_answer}
 
 -- ---- answers
 
@@ -36,11 +35,12 @@ no_run (Err f) fault first e = let same : fault ≡ Run f = cc in first f same
 -- ---- faults
 
 module _ {S T : Type 0} (R : Source S) (W : Sink T) where
-  word_first : (sink : Change T) (fault : Fault) (word : List ℕ) → IsBeforeRuns fault
-      → ShowsWord W sink (Err fault) word → sink.new ≡ sink.old
-  word_first sink fault word first (inl p) = absurd (no_run p.2.run fault first p.2.answer)
-  word_first sink fault word first (inr (inl p)) = p.2
-  word_first sink fault word first (inr (inr p)) = p.1
+  word_first : (sink : Change T) (fault : Fault) (word : List ℕ)
+      (leaves : Result (Unit {0}) RunFault → List ℕ → List ℕ → Type 0) → IsBeforeRuns fault
+      → ShowsWord W sink (Err fault) leaves word → sink.new ≡ sink.old
+  word_first sink fault word leaves first (inl p) = absurd (no_run p.2.run fault first p.2.answer)
+  word_first sink fault word leaves first (inr (inl p)) = p.2
+  word_first sink fault word leaves first (inr (inr p)) = p.1
 
   no_script : (faults : Bool) (source : Change S) (sink : Change T) (fault : Fault) (world : WorldView)
       → IsBeforeRuns fault → PlaysWith faults R W source sink (Err fault) world → ⊥
@@ -50,8 +50,9 @@ module _ {S T : Type 0} (R : Source S) (W : Sink T) where
   pub faults_come_first : FaultsComeFirst R W
   faults_come_first (Help text) source sink fault first p = absurd (no_run p.1.run fault first p.1.answer)
   faults_come_first (Ask bytes) source sink fault first p = absurd (no_run p.1.run fault first p.1.answer)
-  faults_come_first (Show word) source sink fault first p = (p.0, word_first sink fault word.now first p.1)
-  faults_come_first Monitor source sink fault first p = absurd (no_run p.run fault first p.answer)
+  faults_come_first (Show word names) source sink fault first p =
+      (p.0, word_first sink fault word.now (IsPrintedWith names) first p.1)
+  faults_come_first (Monitor names) source sink fault first p = absurd (no_run p.run fault first p.answer)
   faults_come_first (Picture doubt clock) source sink fault first p = absurd (no_run p.run fault first p.answer)
   faults_come_first Log source sink fault first p = absurd (no_run p.run fault first p.answer)
   faults_come_first Commands source sink fault first p = absurd (no_run p.run fault first p.answer)
@@ -74,8 +75,8 @@ module _ {S T : Type 0} (R : Source S) (W : Sink T) where
 
   -- ---- runs that end well
 
-  pub all_is_monitored : AllIsMonitored R W
-  all_is_monitored source sink p =
+  pub all_is_monitored : (names : Bool) → AllIsMonitored R W names (IsPrintedWith names (Ok tt))
+  all_is_monitored names source sink p =
       let e = ok_run p.run p.answer in
       let o = p.output in (
         (
@@ -83,7 +84,7 @@ module _ {S T : Type 0} (R : Source S) (W : Sink T) where
           o.1,
           o.2,
           o.3,
-          subst (λ (r : Result (Unit {0}) RunFault). IsMonitored r o.0 o.1) e o.4.1,
+          subst (λ (r : Result (Unit {0}) RunFault). IsPrintedWith names r o.0 o.1) e o.4.1,
         ),
         subst (λ (r : Result (Unit {0}) RunFault). OnOk r (IsTrue (R.ended source.new))) e p.in_turns.ended,
       )
@@ -152,20 +153,20 @@ module _ {T : Type 0} (W : Sink T) where
       let w = subst (λ (r : Result (Unit {0}) RunFault). Writes W sink.old sink.new r text) e p.output in
       (w.appends, subst (λ (r : Result (Unit {0}) RunFault). OnOk r (IsTrue (W.flushed sink.new))) e p.flushed)
 
-  pub all_is_shown : AllIsShown W
-  all_is_shown sink bytes p =
-      let e = ok_run p.run p.answer in
-      let same : p.out ≡ monitor_text bytes
-      = subst (λ (r : Result (Unit {0}) RunFault). IsShown r bytes p.out) e p.shown in (
-        subst (λ (l : List ℕ). Appends (W.written sink.old) (W.written sink.new) l) same p.output,
+  pub all_is_shown : (leaves : Result (Unit {0}) RunFault → List ℕ → List ℕ → Type 0) → AllIsShown W leaves
+  all_is_shown leaves sink bytes p =
+      let e = ok_run p.run p.answer in (
+        p.out,
+        subst (λ (r : Result (Unit {0}) RunFault). IsShown leaves r bytes p.out) e p.shown,
+        p.output,
         p.failed ∙ ap (λ (r : Result (Unit {0}) RunFault). sink_mark_after r (W.failed sink.old)) e,
         λ h. p.flushed h (ok_not_failed p.run e),
       )
 
   pub words_are_decoded : WordsAreDecoded W
-  words_are_decoded sink r word n (inl p) = inl p
-  words_are_decoded sink r word n (inr (inl p)) = inr (p.0, p.1)
-  words_are_decoded sink r word n (inr (inr p)) = absurd (n p.0)
+  words_are_decoded sink r names word n (inl p) = inl p
+  words_are_decoded sink r names word n (inr (inl p)) = inr (p.0, p.1)
+  words_are_decoded sink r names word n (inr (inr p)) = absurd (n p.0)
 
 -- ---- what is shown
 
@@ -177,7 +178,7 @@ shows_all (Err TooManyTurns) bytes out few p =
     let whole : length bytes ≡ length p.0 + length p.1.0 = ap length p.1.1 ∙ length-append p.0 p.1.0 in
     absurd (omega (arith, most, whole, few))
 shows_all (Err ReadFailed) bytes out few p = absurd p
-shows_all (Err (BadLine number at)) bytes out few p = absurd p
+shows_all (Err (BadLine number at)) bytes out few p = absurd p.2
 
 pub shows_nothing : ShowsNothing
 shows_nothing out p = go p.0 p.1.0 p.1.1 p.2

@@ -5,7 +5,6 @@ use Rattle.std.specs.Io.KnownBytes.{Consumes, IsAtEnd}
 use Rattle.std.proofs.lemmas.List.{append-nil}
 use Rattle.dgt_lines.specs.declared.faults.RunFault.{RunFault}
 use Rattle.dgt_lines.specs.declared.faults.RunFault.TheVariants.{ReadFailed, WriteFailed, TooManyTurns, BadLine}
-use Rattle.dgt_lines.specs.Monitoring.{IsMonitored}
 use Rattle.dgt_lines.specs.Turns.{HasTurns, source_mark_after}
 use Rattle.dgt_program.specs.declared.program.TheConstants.{MOST_TURNS}
 use Rattle.dgt_program.specs.declared.fault.Fault.{Fault}
@@ -18,18 +17,19 @@ pub failed : (r : Result (Unit {0}) Fault) (fault : RunFault) → IsErrAnd r (λ
 failed (Err e) fault is = ap Err is
 failed (Ok _) fault is = absurd is
 
--- what `monitor` leaves, if its source had these bytes and refused no read
-pub shown : (bytes : List ℕ) (left : Option (List ℕ)) (run : Result (Unit {0}) RunFault)
-    (read out : List ℕ) → Consumes (Some bytes) left read
+-- what an engine leaves, if its source had these bytes and refused no read
+pub shown : (leaves : Result (Unit {0}) RunFault → List ℕ → List ℕ → Type 0) (bytes : List ℕ)
+    (left : Option (List ℕ)) (run : Result (Unit {0}) RunFault) (read out : List ℕ) → Consumes (Some bytes) left read
     → false ≡ source_mark_after run false → OnOk run (IsAtEnd left)
-    → HasTurns MOST_TURNS run read → IsMonitored run read out → IsShown run bytes out
-shown bytes None run read out consumed unrefused end turns stands = absurd consumed
-shown bytes (Some rest) (Ok _) read out consumed unrefused end turns stands =
+    → HasTurns MOST_TURNS run read → leaves run read out → IsShown leaves run bytes out
+shown leaves bytes None run read out consumed unrefused end turns stands = absurd consumed
+shown leaves bytes (Some rest) (Ok _) read out consumed unrefused end turns stands =
     rw (consumed, end, append-nil) stands
-shown bytes (Some rest) (Err WriteFailed) read out consumed unrefused end turns stands =
+shown leaves bytes (Some rest) (Err WriteFailed) read out consumed unrefused end turns stands =
     (read, (rest, consumed), stands)
-shown bytes (Some rest) (Err TooManyTurns) read out consumed unrefused end turns stands =
+shown leaves bytes (Some rest) (Err TooManyTurns) read out consumed unrefused end turns stands =
     (read, (rest, consumed), turns, stands)
-shown bytes (Some rest) (Err ReadFailed) read out consumed unrefused end turns stands =
+shown leaves bytes (Some rest) (Err ReadFailed) read out consumed unrefused end turns stands =
     cc
-shown bytes (Some rest) (Err (BadLine _ _)) read out consumed unrefused end turns stands = absurd stands
+shown leaves bytes (Some rest) (Err (BadLine _ _)) read out consumed unrefused end turns stands =
+    (read, (rest, consumed), stands)

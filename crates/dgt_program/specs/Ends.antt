@@ -15,9 +15,10 @@ use Rattle.dgt_lines.specs.Monitoring.{IsMonitored, IsPrefix}
 use Rattle.dgt_lines.specs.Turns.{Change, Ran}
 use Rattle.dgt_text.specs.Simulating.{IsSimulated, Rules}
 use Rattle.dgt_arguments.specs.declared.command_line.Task.{Task}
+use Rattle.dgt_arguments.specs.declared.command_line.Task.TheVariants.{Monitor}
 use Rattle.dgt_program.specs.declared.fault.Fault.{Fault}
 use Rattle.dgt_program.specs.declared.fault.Fault.TheVariants.{BadHex, BadPlacement, LineTooSmall, OutOfMemory, Run}
-use Rattle.dgt_program.specs.Tasks.{Does, DoesOne, InWorld, IsShown, OnBoard, PlaysWith, Prints, Runs, Shows, ShowsWord}
+use Rattle.dgt_program.specs.Tasks.{Does, DoesOne, InWorld, IsPrintedWith, IsShown, OnBoard, PlaysWith, Prints, Shows, ShowsWord}
 
 -- ---- faults
 
@@ -47,20 +48,23 @@ TextsAreFlushed {T} W =
     (sink : Change T) (text : List ℕ) → Prints W sink (Ok tt) text
     → Appends (W.written sink.old) (W.written sink.new) text × IsTrue (W.flushed sink.new)
 
--- the text of all bytes was written, the sink did not fail, and nothing is left to flush if nothing
+-- all bytes left this in the sink, the sink did not fail, and nothing is left to flush if nothing
 -- was before
-abbrev pub AllIsShown : {T : Type 0} → Sink T → Type 0
-AllIsShown {T} W =
-    (sink : Change T) (bytes : List ℕ) → Shows W sink (Ok tt) bytes
-    → Appends (W.written sink.old) (W.written sink.new) (monitor_text bytes)
+abbrev pub AllIsShown : {T : Type 0} → Sink T
+    → (Result (Unit {0}) RunFault → List ℕ → List ℕ → Type 0) → Type 0
+AllIsShown {T} W leaves =
+    (sink : Change T) (bytes : List ℕ) → Shows W sink (Ok tt) leaves bytes
+    → (out : List ℕ) × leaves (Ok tt) bytes out
+    × Appends (W.written sink.old) (W.written sink.new) out
     × (W.failed sink.new ≡ W.failed sink.old)
     × (IsTrue (W.flushed sink.old) → IsTrue (W.flushed sink.new))
 
--- the source was read to its end, and the text of all that it gave was written
-abbrev pub AllIsMonitored : {S T : Type 0} → Source S → Sink T → Type 0
-AllIsMonitored {S} {T} R W =
-    (source : Change S) (sink : Change T) → Runs R W source sink (Ok tt) IsMonitored
-    → Ran R W source sink (λ bytes out. out ≡ monitor_text bytes) × IsTrue (R.ended source.new)
+-- the source was read to its end, and all that it gave left this in the sink
+abbrev pub AllIsMonitored : {S T : Type 0} → Source S → Sink T → Bool
+    → (List ℕ → List ℕ → Type 0) → Type 0
+AllIsMonitored {S} {T} R W names leaves =
+    (source : Change S) (sink : Change T) → Does R W (Monitor names) source sink (Ok tt)
+    → Ran R W source sink leaves × IsTrue (R.ended source.new)
 
 -- a script was played to its end under these rules, and the world that is left is shown so
 abbrev pub PlaysAll : {S T : Type 0} → Source S → Sink T → Bool → Rules
@@ -78,19 +82,20 @@ PlaysAll {S} {T} R W faults rules ShowsBoard =
 abbrev pub ShowsAll : Type 0
 ShowsAll =
     (run : Result (Unit {0}) RunFault) (bytes out : List ℕ) → length bytes < 4294967295
-    → IsShown run bytes out → (out ≡ monitor_text bytes) ⊎ (run ≡ Err WriteFailed)
+    → IsShown IsMonitored run bytes out → (out ≡ monitor_text bytes) ⊎ (run ≡ Err WriteFailed)
 
 -- of no bytes nothing is written
 abbrev pub ShowsNothing : Type 0
 ShowsNothing =
-    (out : List ℕ) → IsShown (Err WriteFailed) [] out → IsPrefix out (monitor_text [])
+    (out : List ℕ) → IsShown IsMonitored (Err WriteFailed) [] out → IsPrefix out (monitor_text [])
 
 -- a word is shown if it is hexadecimal, and else refused, if there is memory for it
 abbrev pub WordsAreDecoded : {T : Type 0} → Sink T → Type 0
 WordsAreDecoded {T} W =
-    (sink : Change T) (r : Result (Unit {0}) Fault) (word : List ℕ) → r ≢ Err OutOfMemory
-    → ShowsWord W sink r word
-    → ((bytes : List ℕ) × (decode_of word ≡ Ok bytes) × Shows W sink r bytes)
+    (sink : Change T) (r : Result (Unit {0}) Fault) (names : Bool) (word : List ℕ)
+    → r ≢ Err OutOfMemory → ShowsWord W sink r (IsPrintedWith names) word
+    → ((bytes : List ℕ) × (decode_of word ≡ Ok bytes)
+    × Shows W sink r (IsPrintedWith names) bytes)
     ⊎ (IsErr (decode_of word) × (r ≡ Err BadHex))
 
 -- ---- boards and worlds

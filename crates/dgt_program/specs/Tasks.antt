@@ -8,13 +8,13 @@ use Rattle.dgt_board.specs.View.{BoardView, new_view}
 use Rattle.dgt_board.specs.Simulated.{simulated_identity, simulated_times}
 use Rattle.dgt_link.specs.View.{WorldView, new_world}
 use Rattle.dgt_lines.specs.declared.faults.RunFault.{RunFault}
-use Rattle.dgt_lines.specs.declared.faults.RunFault.TheVariants.{ReadFailed, WriteFailed, TooManyTurns, BadLine}
+use Rattle.dgt_lines.specs.declared.faults.RunFault.TheVariants.{ReadFailed, WriteFailed, TooManyTurns}
 use Rattle.dgt_lines.specs.declared.streams.Source.{Ghosts as Source}
 use Rattle.dgt_lines.specs.declared.streams.Sink.{Ghosts as Sink}
 use Rattle.dgt_lines.specs.Commanding.{IsListed}
-use Rattle.dgt_lines.specs.Lines.{lines, monitor_text}
 use Rattle.dgt_lines.specs.Logging.{IsLogged}
 use Rattle.dgt_lines.specs.Monitoring.{IsMonitored, IsPrefix}
+use Rattle.dgt_lines.specs.NamedLines.{AreMonitored}
 use Rattle.dgt_lines.specs.Picturing.{IsPictured}
 use Rattle.dgt_lines.specs.Turns.{Change, InTurns, Ran, RunsInTurns, sink_mark_after}
 use Rattle.dgt_lines.specs.Writing.{Writes}
@@ -64,35 +64,43 @@ pub record Prints {T : Type 0} (W : Sink T) (sink : Change T) (r : Result (Unit 
   pub output : Writes W sink.old sink.new run text
   pub flushed : OnOk run (IsTrue (W.flushed sink.new))
 
--- What stands in the sink for the bytes of a word, if `monitor` gave this answer. It is their text.
--- If a write was refused it is a prefix of the text of a prefix of them. If there were too many
--- reads it is the lines of such a prefix, which has a byte for each read.
-abbrev pub IsShown : Result (Unit {0}) RunFault → List ℕ → List ℕ → Type 0
-IsShown (Ok _) bytes out = out ≡ monitor_text bytes
-IsShown (Err WriteFailed) bytes out =
-    (read : List ℕ) × IsPrefix read bytes × IsPrefix out (monitor_text read)
-IsShown (Err TooManyTurns) bytes out =
-    (read : List ℕ) × IsPrefix read bytes × (MOST_TURNS ≤ length read) × (out ≡ lines read)
-IsShown (Err ReadFailed) bytes out = ⊥
-IsShown (Err (BadLine _ _)) bytes out = ⊥
+-- what stands in the sink for the bytes that were read, if an engine gave this answer that prints
+-- the lines of messages with names or without
+abbrev pub IsPrintedWith : Bool → Result (Unit {0}) RunFault → List ℕ → List ℕ → Type 0
+IsPrintedWith false run bytes out = IsMonitored run bytes out
+IsPrintedWith true run bytes out = AreMonitored run bytes out
+
+-- What stands in the sink for the bytes of a word, if an engine gave this answer that leaves this
+-- of the bytes that it reads. It read all of the word, unless a write was refused or there were too
+-- many reads. Then it read a prefix, which has a byte for each read if there were too many.
+abbrev pub IsShown : (Result (Unit {0}) RunFault → List ℕ → List ℕ → Type 0)
+    → Result (Unit {0}) RunFault → List ℕ → List ℕ → Type 0
+IsShown leaves (Ok done) bytes out = leaves (Ok done) bytes out
+IsShown leaves (Err ReadFailed) bytes out = ⊥
+IsShown leaves (Err TooManyTurns) bytes out =
+    (read : List ℕ) × IsPrefix read bytes × (MOST_TURNS ≤ length read)
+    × leaves (Err TooManyTurns) read out
+IsShown leaves (Err fault) bytes out =
+    (read : List ℕ) × IsPrefix read bytes × leaves (Err fault) read out
 
 -- these bytes are shown
 pub record Shows {T : Type 0} (W : Sink T) (sink : Change T) (r : Result (Unit {0}) Fault)
-    (bytes : List ℕ) : Type 0 where
-  pub run : Result (Unit {0}) RunFault
-  pub answer : r ≡ task_answer run
-  pub out : List ℕ
-  pub output : Appends (W.written sink.old) (W.written sink.new) out
-  pub shown : IsShown run bytes out
-  pub failed : W.failed sink.new ≡ sink_mark_after run (W.failed sink.old)
-  pub in_time : W.failed sink.old ≡ false → W.late sink.new ≡ W.late sink.old
-  pub flushed : IsTrue (W.flushed sink.old) → run ≢ Err WriteFailed → IsTrue (W.flushed sink.new)
+    (leaves : Result (Unit {0}) RunFault → List ℕ → List ℕ → Type 0) (bytes : List ℕ) : Type 0
+  where
+    pub run : Result (Unit {0}) RunFault
+    pub answer : r ≡ task_answer run
+    pub out : List ℕ
+    pub output : Appends (W.written sink.old) (W.written sink.new) out
+    pub shown : IsShown leaves run bytes out
+    pub failed : W.failed sink.new ≡ sink_mark_after run (W.failed sink.old)
+    pub in_time : W.failed sink.old ≡ false → W.late sink.new ≡ W.late sink.old
+    pub flushed : IsTrue (W.flushed sink.old) → run ≢ Err WriteFailed → IsTrue (W.flushed sink.new)
 
 -- what `show` does with a word
-abbrev pub ShowsWord : {T : Type 0} → Sink T → Change T → Result (Unit {0}) Fault → List ℕ
-    → Type 0
-ShowsWord W sink r word =
-    ((bytes : List ℕ) × (decode_of word ≡ Ok bytes) × Shows W sink r bytes)
+abbrev pub ShowsWord : {T : Type 0} → Sink T → Change T → Result (Unit {0}) Fault
+    → (Result (Unit {0}) RunFault → List ℕ → List ℕ → Type 0) → List ℕ → Type 0
+ShowsWord W sink r leaves word =
+    ((bytes : List ℕ) × (decode_of word ≡ Ok bytes) × Shows W sink r leaves bytes)
     ⊎ (IsErr (decode_of word) × (r ≡ Err BadHex) × Untouched sink)
     ⊎ ((r ≡ Err OutOfMemory) × Untouched sink)
 
@@ -143,8 +151,9 @@ abbrev pub Does : {S T : Type 0} → Source S → Sink T → Task → Change S �
     → Result (Unit {0}) Fault → Type 0
 Does R W (Help text) source sink r = Untouched source × Prints W sink r (string_bytes text)
 Does R W (Ask bytes) source sink r = Untouched source × Prints W sink r bytes.items
-Does R W (Show word) source sink r = Untouched source × ShowsWord W sink r word.now
-Does R W Monitor source sink r = Runs R W source sink r IsMonitored
+Does R W (Show word names) source sink r =
+    Untouched source × ShowsWord W sink r (IsPrintedWith names) word.now
+Does R W (Monitor names) source sink r = Runs R W source sink r (IsPrintedWith names)
 Does R W (Picture doubt clock) source sink r = Runs R W source sink r (IsPictured doubt clock)
 Does R W Log source sink r = Runs R W source sink r IsLogged
 Does R W Commands source sink r = Runs R W source sink r IsListed

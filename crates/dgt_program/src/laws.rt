@@ -1,10 +1,13 @@
 //! What holds of the program's numbers, its faults and the ends of its tasks. Nothing here runs:
 //! each function stands for the facts that its contract states.
 
-ghost use Rattle.std.specs.Prelude.{◌≡◌, ℕ, List, map, All, true, false};
+ghost use Rattle.std.specs.Prelude.{◌≡◌, ℕ, List, map, All, Ok, true, false};
 ghost use Rattle.dgt_command.specs.Content.{CommandContent};
 ghost use Rattle.dgt_command.specs.Encoding.{AreBytes, EncodesCommand, command_encoding};
 ghost use Rattle.dgt_lines.specs.CommandWords.{command_text};
+ghost use Rattle.dgt_lines.specs.Lines.{monitor_text};
+ghost use Rattle.dgt_lines.specs.Monitoring.{IsMonitored};
+ghost use Rattle.dgt_lines.specs.NamedLines.{AreMonitored};
 ghost use Rattle.dgt_ask.specs.Asks.{AskInOrder, Asks};
 ghost use Rattle.dgt_link.specs.declared.world.WorldFault.{WorldFault};
 ghost use Rattle.dgt_lines.specs.declared.faults.RunFault.{RunFault};
@@ -55,8 +58,12 @@ pub fn faults_come_first<R: Source, W: Sink>()
 /// What was read and written if a task ends well.
 pub fn tasks_end_well<R: Source, W: Sink>()
     ensures flushed { TextsAreFlushed W.Sink }
-    ensures shown { AllIsShown W.Sink }
-    ensures monitored { AllIsMonitored R.Source W.Sink }
+    ensures shown { AllIsShown W.Sink IsMonitored }
+    ensures shown_with_names { AllIsShown W.Sink AreMonitored }
+    ensures monitored { AllIsMonitored R.Source W.Sink false
+        (λ bytes out. out ≡ monitor_text bytes) }
+    ensures monitored_with_names { AllIsMonitored R.Source W.Sink true
+        (AreMonitored {A = Unit {0}} (Ok tt)) }
     ensures played { PlaysAll R.Source W.Sink false plain_rules ShowsPicture }
     ensures played_with_faults { PlaysAll R.Source W.Sink true faulty_rules ShowsHealed }
 {}

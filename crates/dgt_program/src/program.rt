@@ -8,10 +8,11 @@ ghost use Rattle.dgt_link.specs.View.{new_world};
 ghost use Rattle.dgt_lines.specs.Commanding.{IsListed};
 ghost use Rattle.dgt_lines.specs.Logging.{IsLogged};
 ghost use Rattle.dgt_lines.specs.Monitoring.{IsMonitored};
+ghost use Rattle.dgt_lines.specs.NamedLines.{AreMonitored};
 ghost use Rattle.dgt_lines.specs.Picturing.{IsPictured};
 ghost use Rattle.dgt_lines.specs.Turns.{change};
 ghost use Rattle.dgt_text.specs.Simulating.{ShowsHealed, ShowsPicture, faulty_rules, plain_rules};
-ghost use Rattle.dgt_program.specs.Tasks.{AnswersFor, Does, DoesOne, InWorld, OnBoard, PlaysScript, PlaysWith, Prints, Runs, ShowsWord};
+ghost use Rattle.dgt_program.specs.Tasks.{AnswersFor, Does, DoesOne, InWorld, IsPrintedWith, OnBoard, PlaysScript, PlaysWith, Prints, Runs, ShowsWord};
 
 use crate::fault::Fault;
 use dgt_arguments::{Task, read};
@@ -20,8 +21,8 @@ use dgt_lines::laws::writes_in_a_row;
 use dgt_lines::{flush, put};
 use dgt_link::{World, WorldFault};
 use dgt_text::{
-    Bytes, Device, Shown, Sink, Source, commands, log, monitor, picture, serve, simulate,
-    simulate_faults,
+    Bytes, Device, Shown, Sink, Source, commands, log, monitor, monitor_names, picture, serve,
+    simulate, simulate_faults,
 };
 use dgt_values::Position;
 use hex::FromHexError;
@@ -86,8 +87,8 @@ pub fn run_task<R: Source, W: Sink>(
 {
     match task {
         Task::Help { text } => write_bytes(text.as_bytes(), output),
-        Task::Show { word } => show(alloc, word, output),
-        Task::Monitor => show_messages(input, output),
+        Task::Show { word, names } => show(alloc, word, *names, output),
+        Task::Monitor { names } => show_messages(*names, input, output),
         Task::Picture { doubt, clock } => show_picture(*doubt, *clock, input, output),
         Task::Log => show_log(input, output),
         Task::Commands => show_commands(input, output),
@@ -107,20 +108,44 @@ pub fn run_task<R: Source, W: Sink>(
 // can't grow ends the process by a signal.
 
 #[inline(never)]
-fn show<W: Sink>(alloc: Global, word: &str, output: &mut W) -> Result<(), Fault>
-    ensures { ShowsWord W.Sink (change output.old output.new) result word.now }
+fn show<W: Sink>(alloc: Global, word: &str, names: bool, output: &mut W) -> Result<(), Fault>
+    ensures { ShowsWord W.Sink (change output.old output.new) result (IsPrintedWith names)
+        word.now }
 {
     let bytes = decode(alloc, word)?;
     let mut shown = Bytes::new(bytes.as_slice());
-    Ok(monitor(&mut shown, output, MOST_TURNS)?)
+    show_messages(names, &mut shown, output)
+}
+
+fn show_messages<R: Source, W: Sink>(
+    names: bool,
+    input: &mut R,
+    output: &mut W,
+) -> Result<(), Fault>
+    ensures { Runs R.Source W.Sink (change input.old input.new) (change output.old output.new)
+        result (IsPrintedWith names) }
+{
+    if names {
+        show_named(input, output)
+    } else {
+        show_unnamed(input, output)
+    }
 }
 
 #[inline(never)]
-fn show_messages<R: Source, W: Sink>(input: &mut R, output: &mut W) -> Result<(), Fault>
+fn show_unnamed<R: Source, W: Sink>(input: &mut R, output: &mut W) -> Result<(), Fault>
     ensures { Runs R.Source W.Sink (change input.old input.new) (change output.old output.new)
         result IsMonitored }
 {
     Ok(monitor(input, output, MOST_TURNS)?)
+}
+
+#[inline(never)]
+fn show_named<R: Source, W: Sink>(input: &mut R, output: &mut W) -> Result<(), Fault>
+    ensures { Runs R.Source W.Sink (change input.old input.new) (change output.old output.new)
+        result AreMonitored }
+{
+    Ok(monitor_names(input, output, MOST_TURNS)?)
 }
 
 #[inline(never)]

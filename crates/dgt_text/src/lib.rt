@@ -33,8 +33,8 @@ mod simulating;
 mod stage;
 
 pub use dgt_lines::{
-    Bytes, Device, Failed, RunFault, Shown, Sink, Source, commands, log, monitor, picture,
-    write_command, write_event,
+    Bytes, Device, Failed, RunFault, Shown, Sink, Source, commands, log, monitor, monitor_names,
+    picture, write_command, write_event,
 };
 pub use dgt_script::{LineFault, read_act, read_faulty_act};
 pub use serving::serve;

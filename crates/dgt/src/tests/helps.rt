@@ -32,13 +32,14 @@ Options:
 const SHOW: &str = "\
 Shows the messages in the bytes of a hexadecimal word
 
-Usage: dgt show <HEX>
+Usage: dgt show [OPTIONS] <HEX>
 
 Arguments:
   <HEX>  The bytes that a board sends, two hexadecimal digits each
 
 Options:
-  -h, --help  Print help
+      --names  Names buttons, flags, charges and texts, too
+  -h, --help   Print help
 
 ";
 
@@ -46,10 +47,11 @@ Options:
 const MONITOR: &str = "\
 Shows the messages in the bytes of standard input, as they come
 
-Usage: dgt monitor
+Usage: dgt monitor [OPTIONS]
 
 Options:
-  -h, --help  Print help
+      --names  Names buttons, flags, charges and texts, too
+  -h, --help   Print help
 
 ";
 

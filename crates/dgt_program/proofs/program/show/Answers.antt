@@ -1,21 +1,22 @@
-use Rattle.std.proofs.Common.{Err, Some, arith, inl}
-use Rattle.dgt_program.proofs.TaskLemmas.{failed, shown}
+use Rattle.std.proofs.Common.{Some, arith, inl}
+use Rattle.dgt_program.specs.Tasks.{IsPrintedWith}
+use Rattle.dgt_program.proofs.TaskLemmas.{shown}
 use Rattle.dgt_program.proofs.program.show.Goals as goal
 
-pub returns-in_err-monitor : goal.returns-in_err-monitor
-returns-in_err-monitor g c =
-    let fault = c.in_err-monitor.field-0.0 in
-    let ran = c.in_err-monitor.ensures.output in
-    let turns = c.in_err-monitor.ensures.in_turns in
+pub returns : goal.returns
+returns g c =
+    let runs = c.show_messages.ensures in
+    let ran = runs.output in
+    let turns = runs.in_turns in
     inl (
       c.in_ok-bytes.bytes.items,
       c.in_ok-bytes.ensures,
       record {
-        run = Err fault;
-        answer = failed _ fault c.from_residual-in_err-monitor.ensures.1;
+        run = runs.run;
+        answer = runs.answer;
         out = ran.1;
         output = ran.3;
-        shown = shown _ (Some c.monitor.new.reader.left.now) (Err fault) ran.0 ran.1
+        shown = shown (IsPrintedWith c.args.names) _ (Some c.show_messages.new.input.left.now) runs.run ran.0 ran.1
             (grind (arith, ran.2, c.new-shown.ensures.left, c.as_slice.ensures.value))
             turns.source_failed turns.all_read ran.4.0 ran.4.1;
         failed = turns.sink_failed;
