@@ -7,10 +7,13 @@ ghost use Rattle.dgt_values.specs.declared.bodies.TheConstants.{MAX_BODY};
 ghost use Rattle.dgt_decode.specs.Feeding.{event_content};
 ghost use Rattle.dgt_lines.specs.Lines.{bytes_text, event_text};
 
-use crate::gathering::{LINE_ROOM, Outgoing};
+use crate::gathering::Outgoing;
 use crate::wording::push_event;
 use dgt_decode::Event;
 use dgt_values::NoRoom;
+
+// Room for the text of an event, up to the bytes that it carries.
+const WORDS_ROOM: usize = 128;
 
 /// Writes the text of an event to the beginning of a slice, and returns its length.
 ///
@@ -21,10 +24,10 @@ use dgt_values::NoRoom;
 /// needs, and the slice stays as it is.
 pub fn format_event(event: &Event<'_>, out: &mut [u8]) -> Result<usize, NoRoom>
     ensures text { WritesPrefix (event_text (event_content event.now)) out.old out.new result }
-    ensures limit { MatchResult result (λ len. len ≤ LINE_ROOM + 2 * MAX_BODY)
-        (λ fault. fault.need ≤ LINE_ROOM + 2 * MAX_BODY) }
+    ensures limit { MatchResult result (λ len. len ≤ WORDS_ROOM + 2 * MAX_BODY)
+        (λ fault. fault.need ≤ WORDS_ROOM + 2 * MAX_BODY) }
 {
-    let mut words = Outgoing::<LINE_ROOM>::new();
+    let mut words = Outgoing::<WORDS_ROOM>::new();
     match push_event(&mut words, event) {
         None => write_text(words.bytes(), &[], out),
         Some(body) => {
@@ -35,8 +38,8 @@ pub fn format_event(event: &Event<'_>, out: &mut [u8]) -> Result<usize, NoRoom>
 }
 
 // Adds a hyphen if no byte is carried, so that the digits of those that are end the text.
-fn push_if_none(words: &mut Outgoing<LINE_ROOM>, carried: &[u8])
-    requires { length words.old < LINE_ROOM }
+fn push_if_none(words: &mut Outgoing<WORDS_ROOM>, carried: &[u8])
+    requires { length words.old < WORDS_ROOM }
     ensures text { words.new ++ encode_lower carried.now ≡ words.old ++ bytes_text carried.now }
 {
     if carried.is_empty() {
@@ -46,11 +49,11 @@ fn push_if_none(words: &mut Outgoing<LINE_ROOM>, carried: &[u8])
 
 // Writes some words, and two hexadecimal digits for each byte that is carried after them.
 fn write_text(words: &[u8], carried: &[u8], out: &mut [u8]) -> Result<usize, NoRoom>
-    requires words { length words.now ≤ LINE_ROOM }
+    requires words { length words.now ≤ WORDS_ROOM }
     requires carried { length carried.now ≤ MAX_BODY }
     ensures text { WritesPrefix (words.now ++ encode_lower carried.now) out.old out.new result }
-    ensures limit { MatchResult result (λ len. len ≤ LINE_ROOM + 2 * MAX_BODY)
-        (λ fault. fault.need ≤ LINE_ROOM + 2 * MAX_BODY) }
+    ensures limit { MatchResult result (λ len. len ≤ WORDS_ROOM + 2 * MAX_BODY)
+        (λ fault. fault.need ≤ WORDS_ROOM + 2 * MAX_BODY) }
 {
     let need = words.len() + 2 * carried.len();
     if out.len() < need {
