@@ -1,11 +1,15 @@
-//! Times the proved library, and beside it the same work in plain Rust (`plain`). Lines go to a
-//! writer that only counts bytes, so no system call is timed. With the word `monitor` or `picture`
+//! Times the proved library, and beside it the same work in plain Rust (`plain`), and by the plain
+//! Rust that is made of the proved sources (`generated`). Lines go to a writer that only counts
+//! bytes, so no system call is timed. With the word `monitor` or `picture`
 //! it is that program in plain Rust.
 use std::cell::RefCell;
 use std::hint::black_box;
 use std::io;
 use std::time::{Duration, Instant};
 
+mod generated {
+    include!(env!("DGT_GENERATED"));
+}
 mod plain;
 mod program;
 mod work;
@@ -52,16 +56,24 @@ fn timed(work: impl Fn() -> u64) -> (f64, u64) {
     best
 }
 
-fn compare(name: &str, parts: usize, proved: impl Fn() -> u64, plain: impl Fn() -> u64) {
+/// Prints a row, without the made code if there is none for this work.
+fn compare(
+    name: &str,
+    parts: usize,
+    proved: impl Fn() -> u64,
+    plain: impl Fn() -> u64,
+    made: Option<&dyn Fn() -> u64>,
+) {
     let ((proved, answer), (plain, same)) = (timed(proved), timed(plain));
     assert_eq!(answer, same, "{name}: the answers differ");
     let each = |time: f64| time * 1e3 / parts as f64;
-    println!(
-        "{name}: {:.1} ns each, plain Rust {:.1} ns, {:.2} times",
-        each(proved),
-        each(plain),
-        proved / plain
-    );
+    print!("{name}: {:.1} ns each, plain Rust {:.1} ns, ", each(proved), each(plain));
+    println!("{:.2} times", proved / plain);
+    if let Some(made) = made {
+        let (made, same) = timed(made);
+        assert_eq!(answer, same, "{name}: the generated crate's answer differs");
+        println!("  generated {:.1} ns, {:.2} times", each(made), proved / made);
+    }
 }
 
 fn compare_decode(name: &str, parts: usize, bytes: &[u8], most: usize) {
@@ -70,6 +82,7 @@ fn compare_decode(name: &str, parts: usize, bytes: &[u8], most: usize) {
         parts,
         || unsafe { dgt_bench_decode(black_box(bytes.as_ptr()), bytes.len(), most) },
         || work::decode(black_box(bytes), most),
+        Some(&|| generated::decode(black_box(bytes), most)),
     );
 }
 
@@ -79,6 +92,7 @@ fn compare_monitor(name: &str, parts: usize, bytes: &[u8]) {
         parts,
         || unsafe { dgt_bench_monitor(black_box(bytes.as_ptr()), bytes.len()) },
         || work::monitor(black_box(bytes)),
+        None,
     );
 }
 
@@ -88,6 +102,7 @@ fn compare_feed_all(name: &str, parts: usize, bytes: &[u8]) {
         parts,
         || unsafe { dgt_bench_feed_all(black_box(bytes.as_ptr()), bytes.len(), 64) },
         || work::decode(black_box(bytes), 64),
+        Some(&|| generated::feed_all(black_box(bytes), 64)),
     );
 }
 
@@ -97,6 +112,7 @@ fn compare_hear(name: &str, parts: usize, bytes: &[u8]) {
         parts,
         || unsafe { dgt_bench_hear(black_box(bytes.as_ptr()), bytes.len()) },
         || work::hear(black_box(bytes)),
+        Some(&|| generated::hear(black_box(bytes))),
     );
 }
 
@@ -106,6 +122,7 @@ fn compare_take(name: &str, parts: usize, bytes: &[u8], poll: bool) {
         parts,
         || unsafe { dgt_bench_take(black_box(bytes.as_ptr()), bytes.len(), poll) },
         || work::take(black_box(bytes), poll),
+        Some(&|| generated::take(black_box(bytes), poll)),
     );
 }
 
@@ -155,12 +172,14 @@ fn compare_copies(longest: &[u8]) {
         1000,
         || unsafe { dgt_bench_decode(black_box(many.as_ptr()), many.len(), LONGEST) },
         || work::copy_all(black_box(&many), LONGEST, &mut copy.borrow_mut()),
+        Some(&|| generated::decode(black_box(&many), LONGEST)),
     );
     compare(
         "Decoder::feed, longest messages in whole chunks, beside memcpy of each to one place",
         20,
         || unsafe { dgt_bench_decode(black_box(longest.as_ptr()), longest.len(), LONGEST) },
         || work::copies(black_box(longest), LONGEST),
+        Some(&|| generated::decode(black_box(longest), LONGEST)),
     );
 }
 
@@ -177,6 +196,7 @@ fn compare_boards() {
         2 * squares.len(),
         || unsafe { dgt_bench_poll(black_box(squares.as_ptr()), squares.len()) },
         || work::poll(black_box(&squares)),
+        Some(&|| generated::poll(black_box(&squares))),
     );
 }
 
