@@ -34,11 +34,12 @@ def read_clock(text: str) -> Clock:
     `NoClock`. `BadValue` if a number is too great."""
     if not (found := _CLOCK.fullmatch(text)):
         return NoClock()
-    times = [int(each) for each in found.groups()[:6]]
-    left, right = (sum(1 << bit for bit, flag in enumerate(_FLAGS)
-                       if side + flag in found[10].split()) for side in ("left", "right"))
-    return Times(Time(*times[:3], left), Time(*times[3:], right),
-                 (found[7] == "running") | _TURNS.get(found[8], 0))
+    words = found[10].split()
+    left, right = (
+        Time(int(found[at]), int(found[at + 1]), int(found[at + 2]),
+             sum(1 << bit for bit, flag in enumerate(_FLAGS) if side + flag in words))
+        for at, side in ((1, "left"), (4, "right")))
+    return Times(left, right, (found[7] == "running") | _TURNS.get(found[8], 0))
 
 
 class BrokerBoard(Board):
