@@ -564,5 +564,17 @@ def example_log(dgt):
            ["1. e4 e2e4 0:05:00 0:05:00", "1... e5 e7e5 0:04:50 0:05:00", "broken off"])
 
 
+def trial_log(dgt):
+    """The boards of trials keep a log until a host listens."""
+    with tempfile.TemporaryDirectory() as folder:
+        table = ports.boards.Boards(folder, 1)
+        for _ in range(3):
+            table[0].play()
+        got = ran("game", table[0].path, "--log")
+        table.close()
+    wanted(f"its lines, {got.stderr}", got.stdout.splitlines()[1:],
+           ["1. e4 e2e4", "1... e5 e7e5", "2. Nf3 g1f3"])
+
+
 LOGIC = [logs, log_times, any_logs, logging_board]
-CASES = [program_log, program_long_log, program_no_log, replayed_log, example_log]
+CASES = [program_log, program_long_log, program_no_log, replayed_log, example_log, trial_log]

@@ -84,12 +84,12 @@ class Port:
 class Board(Port):
     """A board: it answers the byte 42 by all its squares, 41 by its clock and 45 by its serial
     number, five digits, if it has one. It sends each change of a square once 44 or 4b came, and
-    after 4b each one of its clock, too."""
+    after 4b each one of its clock, too. Those before it stores, and sends after 49."""
 
     def __init__(self, path, serial=None):
         super().__init__(path)
         self.serial = serial
-        self.codes = bytearray(START)
+        self.codes, self.log = bytearray(START), bytearray(b"\x6f")
         self.clock = (0, 0, ABSENT)
         self.said = []  # of each message: the bytes so far, the time, and where the pieces stand
         self.moves = 0
@@ -118,6 +118,8 @@ class Board(Port):
         """A piece is put on a square, or taken from it. It is sent if somebody listens."""
         with self.lock:
             self.codes[square(name)] = code
+            if not self.tells and len(self.log) < 8000:
+                self.log += bytes([0x40 + code, square(name)])
             if self.ends and self.is_on and self.tells:
                 self.write(bytes([0x8E, 0, 5, square(name), code]))
 
@@ -138,6 +140,8 @@ class Board(Port):
                     self.tells, self.tells_clock = True, byte == 0x4B
                 elif byte == 0x42:
                     self.write(b"\x86\x00\x43" + self.codes)
+                elif byte == 0x49:
+                    self.write(bytes([0x8F, *divmod(4 + len(self.log), 128)]) + self.log + b"\x6b")
                 elif byte == 0x45 and self.serial:
                     self.write(b"\x91\x00\x08" + self.serial)
                 elif byte == 0x41:
