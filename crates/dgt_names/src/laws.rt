@@ -54,12 +54,15 @@ pub fn signals_by_example()
     ensures done { IsSignal (0x10 ∷ 0x0b ∷ 0x00 ∷ 0x00 ∷ []) (AnySignal.Done KnownId.Beep) }
     ensures not_ok { ¬ (IsSignal (0x10 ∷ 0x88 ∷ 0x45 ∷ 0x35 ∷ [])
         (AnySignal.Pressed AnyButton.Ok)) }
-    ensures not_done { ¬ (IsSignal (0x10 ∷ 0x08 ∷ 0x06 ∷ 0x31 ∷ [])
-        (AnySignal.Done KnownId.Button)) }
     ensures no_version { ¬ (IsSignal (0x10 ∷ 0x09 ∷ 0x21 ∷ 0x00 ∷ [])
         (AnySignal.Done KnownId.Version)) }
     ensures failed { (signal : AnySignal) → ¬ (IsSignal (0x11 ∷ 0x0b ∷ 0x00 ∷ 0x00 ∷ []) signal) }
     ensures unknown { (signal : AnySignal) → ¬ (IsSignal (0x10 ∷ 0x88 ∷ 0x02 ∷ 0x36 ∷ []) signal) }
+{}
+
+/// Which button was pressed is more than an answer to the message Button, by example.
+pub fn button_is_pressed()
+    ensures { ¬ (IsSignal (0x10 ∷ 0x08 ∷ 0x06 ∷ 0x31 ∷ []) (AnySignal.Done KnownId.Button)) }
 {}
 
 /// The bits of a time say one thing, and so do the bytes of a battery.
