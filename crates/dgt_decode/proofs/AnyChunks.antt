@@ -17,13 +17,13 @@ first_within : (held chunk : List ℕ) (used : ℕ) (x : Option Event) → First
 first_within held chunk used None h = omega (arith, h.0)
 first_within held chunk used (Some event) h = h.0
 
--- what the used bytes of a chunk come to
+-- the meaning of the used bytes of a chunk
 first_reported : (held chunk : List ℕ) (used : ℕ) (x : Option Event) → FirstEvent held chunk used x
     → events (held ++ take used chunk) ≡ at_place_if_any (length held + used) x
 first_reported held chunk used None h = rw (h.0, take-length chunk) h.1
 first_reported held chunk used (Some event) h = h.1
 
--- what the used bytes of a chunk come to, after all bytes before it
+-- the meaning of the used bytes of a chunk, after all bytes before it
 pub call_reported : (s : List ℕ) (call : Call) → FirstEvent (unfinished_message s) call.chunk call.used call.event
     → events (s ++ take call.used call.chunk) ≡ events s ++ at_place_if_any (length s + call.used) call.event
 call_reported s call first =
@@ -37,7 +37,7 @@ call_reported s call first =
     (shifted-at_place_if_any (length s - length o) (length o + call.used)
     (length s + call.used) call.event place)
 
--- by induction: each call goes on if the one before it stopped
+-- by induction: each call continues where the one before it stopped
 pub in_any_chunks : (s : List ℕ) (calls : List Call) → AreCalls (unfinished_message s) calls
     → events (s ++ used_bytes calls) ≡ events s ++ events_in_chunks (length s) calls
 in_any_chunks s [] are = rw (append-nil s) (sym (append-nil (events s)))
@@ -54,7 +54,7 @@ in_any_chunks s (call ∷ calls) are =
     (append_assoc (events s) (at_place_if_any (length s + call.used) call.event)
     (events_in_chunks (length s + call.used) calls))
 
--- what is reported in chunks is reported of the whole
+-- the events reported in chunks are those of the whole list
 pub encoding_in_chunks : AreRead → AreEncoded → (s : List ℕ) (said : Content) (calls : List Call)
     → IsMessage said → AreCalls (unfinished_message s) calls → used_bytes calls ≡ encoding said
     → events_in_chunks (length s) calls ≡ shifted (length s) (cut_of (unfinished_message s)) ++ at_place

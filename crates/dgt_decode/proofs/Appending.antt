@@ -23,7 +23,7 @@ pub lead-seven : (bytes : List ℕ) → SevenByRecursion bytes → lead bytes �
 lead-seven [] h = refl
 lead-seven (b ∷ bytes) h = rw (lt-leb 128 b h.0, lead-seven bytes h.1) refl
 
--- seven-bit bytes are no segment
+-- seven-bit bytes are not a segment
 pub segments-seven : (bytes : List ℕ) → SevenByRecursion bytes → segments bytes ≡ []
 segments-seven [] h = refl
 segments-seven (b ∷ bytes) h = rw (lt-leb 128 b h.0) (segments-seven bytes h.1)
@@ -55,7 +55,7 @@ AreAlone-segments (b ∷ bytes) = go (has_top_bit b) refl (AreAlone-segments byt
     go true e h = (IsAlone-from b (lead bytes) (leb-true 128 b e) (lead-is_seven bytes), h)
     go false e h = h
 
--- ---- how many bytes of segments stand before what they leave unfinished
+-- ---- how many bytes of segments precede the unfinished ones
 
 -- by the verdict of the last segment: all of it, or none
 abbrev pub settled_by : Option Placed → List ℕ → ℕ
@@ -96,7 +96,7 @@ length-cut (b ∷ s) = go (has_top_bit b) (length-cut s)
 
 -- ---- the last segment
 
--- with nothing unfinished there is no Cut
+-- if nothing is unfinished, there is no Cut
 pub cut_before-nothing : (gs : List (List ℕ)) → cut_before gs [] ≡ []
 cut_before-nothing [] = refl
 cut_before-nothing (g ∷ gs) = refl
@@ -200,7 +200,7 @@ events_by_cut-with p prefix (g ∷ gs) alone =
     (sym (append_assoc (strays prefix) (shifted (length prefix) (segments_events (g ∷ gs)))
     (shifted (length prefix + settled_of (g ∷ gs)) (events (unfinished_segment (g ∷ gs) ++ p)))))
 
--- how many bytes stand before the unfinished message
+-- how many bytes precede the unfinished message
 pub settled : (s : List ℕ) → length s - length (unfinished_message s) ≡ length (lead s) + settled_of (segments s)
 unfolding unfinished_message
 settled s = omega (arith, settled-unfinished (segments s), length-cut s)
@@ -212,7 +212,7 @@ unfolding events unfinished_message
 events-append_by_cut s p =
     rw (lead-append s p, segments-append s p) (events_by_cut-with p (lead s) (segments s) (AreAlone-segments s))
 
--- Later bytes change no event, and need only what is unfinished.
+-- Later bytes change no event, and of the earlier ones need only the unfinished bytes.
 pub events-append : (s p : List ℕ) → events (s ++ p) ≡ events s
     ++ shifted (length s - length (unfinished_message s))
     (events (unfinished_message s ++ p))

@@ -13,7 +13,7 @@ use Rattle.dgt_decode.proofs.Framing.{after, reports-after}
 use Rattle.dgt_decode.proofs.BodyRuns.{seven-before, seven-take}
 use Rattle.dgt_decode.proofs.SevenBit.{SevenByRecursion, are_seven, by_recursion}
 
--- this many bytes at the front are a header and a run of its body
+-- the first bytes, this many, are a header and a run of its body
 pub record IsBeginning (total : ℕ) (rest : List ℕ) (used : ℕ) : Type 0 where
   pub header : 3 ≤ used
   pub within : used ≤ length rest
@@ -22,12 +22,13 @@ pub record IsBeginning (total : ℕ) (rest : List ℕ) (used : ℕ) : Type 0 whe
   pub seven : SevenByRecursion (take (used - 3) (drop 3 rest))
 
 -- these are those before the next set top bit after the header
-pub beginning : (total end run : ℕ) (rest : List ℕ) → Begins total rest → end ≡ min (length rest) total
-    → run ≡ position_or_len has_top_bit (take (end - 3) (drop 3 rest)) → IsBeginning total rest (3 + run)
-beginning total end run [] begins least is = absurd (omega (arith, begins.enough))
-beginning total end run (b ∷ []) begins least is = absurd (omega (arith, begins.enough))
-beginning total end run (b ∷ h ∷ []) begins least is = absurd (omega (arith, begins.enough))
-beginning total end run (b ∷ h ∷ l ∷ more) begins least is =
+pub beginning : (total all end run : ℕ) (rest : List ℕ) → Begins total rest → all ≡ min (length rest) total
+    → end ≡ min all 128 → run ≡ position_or_len has_top_bit (take (end - 3) (drop 3 rest))
+    → IsBeginning total rest (3 + run)
+beginning total all end run [] begins least first is = absurd (omega (arith, begins.enough))
+beginning total all end run (b ∷ []) begins least first is = absurd (omega (arith, begins.enough))
+beginning total all end run (b ∷ h ∷ []) begins least first is = absurd (omega (arith, begins.enough))
+beginning total all end run (b ∷ h ∷ l ∷ more) begins least first is =
     let header = by_recursion (h ∷ l ∷ []) begins.header in
     let missing = end - 3 in
     let wanted = take missing more in
@@ -43,7 +44,7 @@ beginning total end run (b ∷ h ∷ l ∷ more) begins least is =
       seven = rw less (rw (← prefix, is) (seven-before wanted));
     }
 
--- before the last of them there is no event
+-- there is no event before the last of them
 early : (b h l n total : ℕ) (more : List ℕ) → Gives (b ∷ h ∷ []) [] (b ∷ h ∷ []) → l < 128
     → SevenByRecursion (take n more) → n ≤ length more → 3 + n ≤ total
     → total ≡ announced_total (b ∷ h ∷ l ∷ more) → events (take (suc (suc n)) (b ∷ h ∷ l ∷ more)) ≡ []
@@ -59,7 +60,8 @@ early b h l (suc n) total (x ∷ more) two low seven within fits is =
     shorter : SevenByRecursion (take n (x ∷ more))
     shorter = rw (← fewer) (seven-take n (take (suc n) (x ∷ more)) seven)
 
--- A message that begins is whole if none of it is missing then, and reports nothing otherwise.
+-- A message that begins is whole if none of its bytes is missing then, and reports nothing
+-- otherwise.
 pub frames-beginning : (kept rest : List ℕ) (total used : ℕ) → unfinished_message kept ≡ [] → Begins total rest
     → IsBeginning total rest used
     → FramesPrefix kept rest used (take used rest) (after (total - used)).1
@@ -108,7 +110,7 @@ frames-beginning kept (b ∷ h ∷ l ∷ more) total (suc (suc (suc n))) none be
       t.1,
     )
 
--- A message that has come whole is reported at once.
+-- A message that is complete is reported at once.
 pub frames-whole : (kept rest : List ℕ) (total : ℕ) → unfinished_message kept ≡ [] → total ≤ length rest
     → IsWholeMessage (take total rest)
     → FramesPrefix kept rest total (take total rest) (Some found.Message)

@@ -1,5 +1,5 @@
 -- A run of a message's body.
-use Rattle.std.proofs.Common.{◌≡◌, ℕ, zero, suc, ◌+◌, ◌-◌, ◌<◌, ◌≤◌, Bool, true, false, cond, not, List, [], ◌∷◌, ◌++◌, length, take, get_or, refl, subst, arith}
+use Rattle.std.proofs.Common.{◌≡◌, ℕ, zero, suc, ◌+◌, ◌-◌, ◌<◌, ◌≤◌, Bool, true, false, cond, not, List, [], ◌∷◌, ◌++◌, length, take, drop, get_or, refl, subst, arith}
 use Rattle.std.specs.List.{position_or_len}
 use Rattle.std.proofs.lemmas.Bool.{leb-false, lt-leb}
 use Rattle.std.proofs.lemmas.List.{length-append, length-take, take-take}
@@ -32,7 +32,15 @@ some-before : (bytes : List ℕ) → 0 < length bytes → get_or bytes 0 0 < 128
 some-before [] some seven = absurd (omega arith)
 some-before (b ∷ bytes) some seven = rw (lt-leb 128 b seven) (omega arith)
 
--- this many bytes at the beginning of what is left are seven-bit, and no more than are missing
+-- The search for a set top bit may begin after seven-bit bytes.
+pub search-after : (n : ℕ) (bytes : List ℕ) → n ≤ length bytes → SevenByRecursion (take n bytes)
+    → n + position_or_len has_top_bit (drop n bytes) ≡ position_or_len has_top_bit bytes
+search-after zero bytes within seven = omega arith
+search-after (suc n) [] within seven = absurd (omega (arith, within))
+search-after (suc n) (b ∷ bytes) within seven =
+    rw (lt-leb 128 b seven.0) (omega (arith, search-after n bytes (omega (arith, within)) seven.1))
+
+-- this many of the first remaining bytes are seven-bit, and no more than are missing
 pub record IsBodyRun (missing : ℕ) (rest : List ℕ) (used : ℕ) : Type 0 where
   pub some : 0 < used
   pub within : used ≤ length rest
@@ -57,7 +65,7 @@ body_run (suc more) used (b ∷ rest) room some seven is =
       seven = rw (← prefix, is) (seven-before wanted);
     }
 
--- the beginning of seven-bit bytes is so
+-- the beginning of seven-bit bytes is seven-bit
 pub seven-take : (n : ℕ) (bytes : List ℕ) → SevenByRecursion bytes → SevenByRecursion (take n bytes)
 seven-take zero bytes seven = tt
 seven-take (suc n) [] seven = tt

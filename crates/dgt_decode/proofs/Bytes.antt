@@ -1,4 +1,4 @@
--- What is held between two chunks.
+-- The bytes held between two chunks.
 use Rattle.std.proofs.Common.{◌≡◌, ℕ, zero, suc, ◌<◌, ◌≤◌, Bool, true, false, cond, List, [], ◌∷◌, ◌++◌, length, get_or, None, refl, subst, arith}
 use Rattle.std.proofs.lemmas.List.{append-nil, get_or_append_left}
 use Rattle.std.proofs.lemmas.Bool.{leb-true}
@@ -9,7 +9,7 @@ use Rattle.dgt_decode.proofs.UnfinishedLemmas.{IsUnfinished-unfinished, events-o
 use Rattle.dgt_decode.proofs.Steps.{IsHeld, IsHeld-unfinished, alone_held}
 use Rattle.dgt_decode.proofs.SevenBit.{SevenByRecursion}
 
--- no bytes are held as they are
+-- no bytes are held unchanged
 pub nothing_held : IsHeld []
 unfolding unfinished_message
 nothing_held = refl
@@ -18,12 +18,12 @@ nothing_held = refl
 pub unfinished-nothing : (kept : List ℕ) → kept ≡ [] → unfinished_message kept ≡ []
 unfinished-nothing kept none = rw none nothing_held
 
--- with what is unfinished no event has come
+-- unfinished bytes have completed no event
 pub quiet_unfinished : (s : List ℕ) → events (unfinished_message s ++ []) ≡ []
 quiet_unfinished s = rw (append-nil (unfinished_message s)) (events-of_unfinished (unfinished_message s)
     (IsUnfinished-unfinished s))
 
--- ---- what is held begins a message, and has room for one more byte
+-- ---- the bytes held begin a message, and leave room for one more byte
 
 -- each of seven-bit bytes, and the zero after their end, is below 128
 seven-get : (bytes : List ℕ) (i : ℕ) → SevenByRecursion bytes → get_or bytes i 0 < 128
@@ -31,7 +31,7 @@ seven-get [] i h = omega arith
 seven-get (b ∷ bytes) zero h = h.0
 seven-get (b ∷ bytes) (suc i) h = seven-get bytes i h.1
 
--- one segment begins with a set top bit, and goes on seven-bit
+-- one segment begins with a set top bit, and continues seven-bit
 pub IsAlone-parts : (b : ℕ) (bytes : List ℕ) → IsAlone (b ∷ bytes) → (128 ≤ b) × SevenByRecursion bytes
 IsAlone-parts b bytes alone = go (has_top_bit b) refl alone.no_lead alone.one
   where
@@ -42,23 +42,23 @@ IsAlone-parts b bytes alone = go (has_top_bit b) refl alone.no_lead alone.one
         (leb-true 128 b e, subst (λ (x : List ℕ). SevenByRecursion x) same (lead-is_seven bytes))
     go false e f g = absurd cc
 
--- what is held begins with a set top bit
+-- the bytes held begin with a set top bit
 pub held_begins : (held : List ℕ) → IsHeld held → 0 < length held → 128 ≤ get_or held 0 0
 held_begins [] h some = absurd (omega arith)
 held_begins (b ∷ held) h some = (IsAlone-parts b held (alone_held (b ∷ held) h some).0).0
 
--- what is held begins with a set top bit, with more bytes after it, too
+-- the bytes held begin with a set top bit, also with more bytes after them
 pub held_begins_more : (held run : List ℕ) → IsHeld held → 0 < length held → 128 ≤ get_or (held ++ run) 0 0
 held_begins_more held run h some = rw (get_or_append_left held run 0 0 some) (held_begins held h some)
 
--- no header that is held says more than the longest total
+-- no header that is held contains more than the longest total
 pub held_total : (held : List ℕ) → IsHeld held → 0 < length held → announced_total held ≤ 16383
 held_total [] h some = absurd (omega arith)
 held_total (b ∷ held) h some =
     let seven = (IsAlone-parts b held (alone_held (b ∷ held) h some).0).1 in
     omega (arith, seven-get held 0 seven, seven-get held 1 seven)
 
--- what is held is shorter than the longest total
+-- the bytes held are shorter than the longest total
 pub held_room : (held : List ℕ) → IsHeld held → length held < 16383
 held_room [] h = omega arith
 held_room (b ∷ held) h = go (stage_of (b ∷ held))
@@ -79,5 +79,5 @@ held_room (b ∷ held) h = go (stage_of (b ∷ held))
 pub unfinished_is_short : (s : List ℕ) → length (unfinished_message s) < 16383
 unfinished_is_short s = held_room (unfinished_message s) (IsHeld-unfinished s)
 
--- what a reader without bytes leaves unfinished, and how much any reader does
+-- the unfinished bytes of a reader without bytes, and how many there are of any reader
 pub ruleset unfinished_facts = (unfinished-nothing, unfinished_is_short)

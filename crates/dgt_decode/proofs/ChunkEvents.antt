@@ -1,4 +1,4 @@
--- The events of whole chunks, and who hears them.
+-- The events of whole chunks, and their listeners.
 use Rattle.std.proofs.Common.{◌≡◌, ℕ, ◌+◌, ◌-◌, ◌<◌, ◌≤◌, List, [], ◌∷◌, ◌++◌, length, map, take, drop, Option, Some, None, refl, sym, ap, subst, ◌∙◌, append_assoc, arith, inl, inr}
 use Rattle.std.proofs.lemmas.List.{append-nil, length-append, length-drop, length-take-le}
 use Rattle.std.proofs.lemmas.Bool.{cases_lt}
@@ -18,7 +18,7 @@ record IsBehind (n : ℕ) (reported : List Placed) : Type 0 where
   early : List Placed
   is : reported ≡ shifted n early
 
--- an event at the byte that follows
+-- an event at the next byte
 behind_one : (n m : ℕ) (event : Event) → m ≡ n + 1 → IsBehind n (at_place m event ∷ [])
 behind_one n m event e =
     record { early = at_place 1 event ∷ []; is = ap (λ (k : ℕ). at_place k event ∷ []) e }
@@ -26,7 +26,7 @@ behind_one n m event e =
 behind_none : (n : ℕ) → IsBehind n []
 behind_none n = record { early = []; is = refl }
 
--- what a byte makes after an unfinished message
+-- the event of a byte after an unfinished message
 behind_verdict : (h : List ℕ) (b : ℕ) → verdict h ≡ None → (v : Option Placed) → verdict (h ++ b ∷ []) ≡ v
     → IsBehind (length h) (segment_events v (h ++ b ∷ []))
 behind_verdict h b e None f = behind_none (length h)
@@ -49,7 +49,7 @@ behind_byte_held held b h (waiting (x ∷ g) alone e) =
           (behind_one (length (x ∷ g)) (length (x ∷ g) + 1) _ refl)
     ]
 
--- what more bytes make after any
+-- the events of more bytes after any
 record AreBehind (s p : List ℕ) : Type 0 where
   early : List Placed
   is : events (s ++ p) ≡ events s ++ shifted (length s) early
@@ -105,7 +105,7 @@ nearer-append : (n : ℕ) (xs ys : List Placed) → nearer n (xs ++ ys) ≡ near
 nearer-append n [] ys = refl
 nearer-append n (x ∷ xs) ys = ap (λ (zs : List Placed). at_place (x.place - n) x.event ∷ zs) (nearer-append n xs ys)
 
--- they make the events after what is held
+-- they are the events after the held bytes
 held_behind : (s p : List ℕ) → events (unfinished_message s ++ p)
     ≡ shifted (length (unfinished_message s)) (chunk_events (unfinished_message s) p)
 held_behind s p =
@@ -128,7 +128,7 @@ behind s p =
     (shifted-shifted (length s - length o) (length o) (chunk_events o p)
     ∙ ap (λ (n : ℕ). shifted n (chunk_events o p)) place)
 
--- in two parts, after what is held
+-- in two parts, after the held bytes
 held_in_two : (o p q : List ℕ) → chunk_events o (p ++ q)
     ≡ chunk_events o p ++ shifted (length p) (chunk_events (unfinished_message (o ++ p)) q)
 held_in_two o p q =
@@ -163,7 +163,7 @@ in_a_row s (chunk ∷ more) =
 
 -- ---- nothing
 
--- no byte after what is held
+-- no bytes after the held bytes
 pub held_none : (o : List ℕ) → IsHeld o → chunk_events o [] ≡ []
 held_none o h =
     ap (nearer (length o)) (ap events (append-nil o) ∙ events-of_unfinished o (subst (λ (x : List ℕ). IsUnfinished x) h
@@ -202,7 +202,7 @@ module _ {L : Type 0} (hears : L → Placed → L → Type 0) where
     reported = rw (held_none held h) refl;
   }
 
-  -- what a call uses makes one event more
+  -- the bytes that a call uses complete one more event
   next_reported : (held chunk : List ℕ) (i used : ℕ) (now : List ℕ) (event : Option Event) → i ≤ length chunk
       → now ≡ unfinished_message (held ++ take i chunk) → FirstEvent now (drop i chunk) used event
       → chunk_events held (take (i + used) chunk)
@@ -232,7 +232,7 @@ module _ {L : Type 0} (hears : L → Placed → L → Type 0) where
       ∙ sym (ap (λ (xs : List ℕ). unfinished_message (held ++ xs)) (take-add i used chunk)
       ∙ ap unfinished_message (sym (append_assoc held (take i chunk) _)) ∙ unfinished-append (held ++ take i chunk) _)
 
-  -- a call with no event
+  -- a call without an event
   pub heard_quiet : (held chunk : List ℕ) (i used : ℕ) (old now : L) (before new : List ℕ)
       → HasHeard hears held chunk i old now before → used ≤ length (drop i chunk)
       → FirstEvent before (drop i chunk) used None → new ≡ unfinished_message (before ++ take used (drop i chunk))

@@ -1,4 +1,4 @@
--- The first element that passes a test, seen this many at a time.
+-- The first element that passes a test, found this many at a time.
 use Rattle.std.proofs.Common.{◌≡◌, ℕ, ◌+◌, ◌%◌, ◌^◌, ◌<◌, ◌≤◌, Bool, not, cond, eqb, zero, suc, true, false, List, [], ◌∷◌, map, length, drop, replicate, sym, ap, ◌∙◌, arith, w8}
 use Rattle.std.proofs.lemmas.Simd.{chunk-drop, length-chunk, tops_compared, zip2_splat_left, mask_l-mod}
 use Rattle.std.proofs.lemmas.List.{length-drop, length-map, take_all}
@@ -7,7 +7,7 @@ use Rattle.std.proofs.lemmas.Bool.{eq-eqb, ne_eqb}
 use Rattle.std.specs.List.{position_or_len}
 use Rattle.std.specs.Simd.Lanes.{chunk, mask_l, top, zip2}
 
--- the mask of a comparison whose left side is a splat
+-- the mask of a comparison with a splat on its left side
 pub splat_mask : (test : ℕ → ℕ → Bool) (y n : ℕ) (lanes : List ℕ) → length lanes ≡ n → n ≤ 64
     → mask_l (map (top 7) (zip2 (λ a b. cond (test a b) 255 0) (replicate n y) lanes)) % 2 ^ 64 ≡ mask_l
     (map (test y) lanes)
@@ -42,7 +42,7 @@ module _ (test : ℕ → Bool) (xs : List ℕ) (at n : ℕ) (room : at + n ≤ l
       (eq-eqb _ _ (whole ∙ sym (length-chunk at n xs room)))
       ∙ ap (λ k. k + position_or_len test (drop (at + n) xs)) (length-chunk at n xs room)
 
--- The search may begin anew at a place before the one that it has come to.
+-- The search may start again at a place before the one that it has reached.
 pub passed_before : (test : ℕ → Bool) (xs : List ℕ) (at from : ℕ) → from ≤ at → at ≤ length xs
     → at + position_or_len test (drop at xs) ≡ position_or_len test xs
     → from + position_or_len test (drop from xs) ≡ position_or_len test xs
@@ -60,7 +60,7 @@ passed_before test (x ∷ xs) (suc at) (suc from) before within passed =
     go true p more = absurd (omega (arith, p))
     go false p more = omega (arith, more (omega (arith, p)))
 
--- the search among the last n is that from there on
+-- the search among the last n is the search from there on
 pub first_in_last : (test : ℕ → Bool) (xs : List ℕ) (at n : ℕ) → at + n ≡ length xs
     → position_or_len test (drop at xs) ≡ position_or_len test (chunk at n xs)
 first_in_last test xs at n last =

@@ -29,7 +29,7 @@ lead-append (b ∷ s) p = go (has_top_bit b) (lead-append s p)
     go true _ = refl
     go false before = ap (λ (x : List ℕ). b ∷ x) before ∙ sym (lead_with-cons p b (lead s) (segments s))
 
--- the first segment may be the one that goes on
+-- the first segment may be the one that continues
 segments_with-first : (p : List ℕ) (b : ℕ) (prefix : List ℕ) (gs : List (List ℕ))
     → (b ∷ lead_with p prefix gs) ∷ segments_with p gs ≡ segments_with p ((b ∷ prefix) ∷ gs)
 segments_with-first p b prefix [] = refl

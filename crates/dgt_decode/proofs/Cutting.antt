@@ -26,7 +26,7 @@ lead_split bytes i seven =
     ∙ lead-append (take i bytes) (drop i bytes)
     ∙ rw (lead-seven (take i bytes) seven, segments-seven (take i bytes) seven) refl
 
--- the lead ends where the first byte with a set top bit stands
+-- the lead ends at the first byte with a set top bit
 pub lead_here : (bytes : List ℕ) (i : ℕ) → i < length bytes → 128 ≤ get_or bytes i 0 → SevenByRecursion (take i bytes)
     → take i bytes ≡ lead bytes
 lead_here bytes i within top seven =
@@ -41,7 +41,7 @@ lead_all bytes i end seven =
     = subst (λ (n : ℕ). SevenByRecursion (take n bytes)) end seven in
     sym (lead_split bytes (length bytes) all ∙ rw (drop-length bytes) (append-nil (take (length bytes) bytes)))
 
--- after the lead stands a byte with a set top bit, or none
+-- after the lead there is a byte with a set top bit, or none
 pub lead_stops : (bytes : List ℕ) (i : ℕ) → take i bytes ≡ lead bytes → lead (drop i bytes) ≡ []
 lead_stops bytes i is =
     let seven : SevenByRecursion (take i bytes)
@@ -49,7 +49,7 @@ lead_stops bytes i is =
     append_cancel_left (take i bytes) (lead (drop i bytes)) []
     (sym (lead_split bytes i seven) ∙ sym is ∙ sym (append-nil (take i bytes)))
 
--- the segments stand after the lead
+-- the segments are after the lead
 segments_behind : (bytes : List ℕ) (i : ℕ) → take i bytes ≡ lead bytes → segments bytes ≡ segments (drop i bytes)
 segments_behind bytes i is =
     let seven : SevenByRecursion (take i bytes)
@@ -58,7 +58,7 @@ segments_behind bytes i is =
     ∙ segments-append (take i bytes) (drop i bytes)
     ∙ rw (segments-seven (take i bytes) seven) refl
 
--- ---- The verdict of a segment whose total is t
+-- ---- The verdict of a segment with the total t
 
 -- a total below 3 is reported at the third byte
 pub bad_here : (g : List ℕ) (t : ℕ) → t ≡ announced_total g → 3 ≤ length g → t < 3
@@ -110,7 +110,7 @@ reported_stray old reported new before i bytes within so_far pushed =
 abbrev pub cut_after : Bool → List ℕ → List Placed
 cut_after is_last unfinished = if is_last then [] else cut_of unfinished
 
--- with nothing unfinished there is no Cut
+-- if nothing is unfinished, there is no Cut
 cut_after-nothing : (is_last : Bool) → cut_after is_last [] ≡ []
 cut_after-nothing true = refl
 cut_after-nothing false = refl
@@ -142,7 +142,7 @@ reported_verdict old mid new before place event g rest is_last is pushed same re
 
 -- ---- The whole list
 
--- what is reported of the bytes before a place where a segment begins, or the end
+-- the reported events of the bytes before the beginning of a segment, or the end
 pub record HasReported (bytes : List ℕ) (start : ℕ) (reported : List Placed) : Type 0 where
   pub within : start ≤ length bytes
   pub no_lead : lead (drop start bytes) ≡ []
@@ -175,7 +175,7 @@ from_here : (bytes : List ℕ) (start : ℕ) → start < length bytes → drop s
     (start + 1) bytes
 from_here bytes start more = rw (add-one, drop-cons bytes start 0 more) refl
 
--- the Cut is made if another segment follows
+-- there is a Cut if another segment follows
 cut_here : (bytes : List ℕ) (end : ℕ) (u : List ℕ) → end ≤ length bytes → lead (drop end bytes) ≡ []
     → cut_before (segments (drop end bytes)) u ≡ cut_after (nat_eq end (length bytes)) u
 cut_here bytes end u within none = elim (cases_lt end (length bytes)) [
@@ -191,14 +191,14 @@ cut_here bytes end u within none = elim (cases_lt end (length bytes)) [
       rw (all, drop-length bytes, last) refl
 ]
 
--- the next segment: the byte with a set top bit, and the lead of what stands after it
+-- the next segment: the byte with a set top bit, and the lead of the bytes after it
 pub record IsNext (bytes : List ℕ) (start count : ℕ) (segment : List ℕ) : Type 0 where
   pub top : 128 ≤ get_or bytes start 0
   pub is : segment ≡ get_or bytes start 0 ∷ lead (drop (start + 1) bytes)
   pub size : length segment ≡ 1 + count
   pub stops : take count (drop (start + 1) bytes) ≡ lead (drop (start + 1) bytes)
 
--- the next segment ends where the lead of what stands after its first byte does
+-- the next segment ends where the lead of the bytes after its first byte does
 pub next_segment : (bytes : List ℕ) (start count : ℕ) (reported : List Placed) → HasReported bytes start reported
     → start < length bytes
     → take count (drop (start + 1) bytes) ≡ lead (drop (start + 1) bytes)

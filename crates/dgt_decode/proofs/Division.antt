@@ -1,4 +1,4 @@
--- The cut is a division of the list, and the only one.
+-- The cut is the only division of the list.
 use Rattle.std.proofs.Common.{◌≡◌, ℕ, Bool, true, false, cond, List, [], ◌∷◌, ◌++◌, length, Option, Some, None, refl, sym, ap, ◌∙◌}
 use Rattle.std.specs.List.{AllByRecursion, concat}
 use Rattle.std.proofs.lemmas.List.{append-nil}
@@ -83,7 +83,7 @@ one_cut s prefix parts d = (
 
 -- ---- bytes without an event
 
--- a list without elements has none at its end
+-- an empty list has no last element
 nil_right : (xs ys : List Placed) → xs ++ ys ≡ [] → ys ≡ []
 nil_right [] ys e = e
 nil_right (x ∷ xs) ys e = absurd cc
@@ -118,7 +118,7 @@ quiet_parts ((b ∷ g) ∷ k ∷ parts) h e =
     let cut : cut_of (unfinished_part (verdict (b ∷ g)) (b ∷ g)) ≡ [] = nil_left _ _ (nil_raised _ _ behind) in
     absurd (let some = rw none at cut in cc)
 
--- if bytes make no event, they are all held
+-- if bytes complete no event, they are all held
 pub quiet_held : (s : List ℕ) → events s ≡ [] → unfinished_message s ≡ s
 unfolding events unfinished_message
 quiet_held s e =

@@ -35,8 +35,8 @@ dump_reported exact [] pieces w long code are = absurd (omega (arith, long))
 dump_reported exact (a ∷ []) pieces w long code are = absurd (omega (arith, long))
 dump_reported exact (a ∷ b ∷ []) pieces w long code are = absurd (omega (arith, long))
 
--- A message that says the pieces of all squares has 67 bytes, the first of which is 134. Each of its codes is below
--- 16.
+-- A message with the pieces of all squares has 67 bytes. The first is 134, and each of its codes is
+-- below 16.
 pub only_dump : IsRead → (bytes : List ℕ) (pieces : List Piece) → slice_index bytes 0 < 256
     → IsWholeMessage bytes → message_event bytes ≡ Message (dump pieces)
     → (slice_index bytes 0 ≡ 134) × (length bytes ≡ 67)

@@ -23,11 +23,11 @@ abbrev pub AreRead : Type 0
 AreRead = (said : Content) (bytes : List ℕ) → Encodes said bytes
     → reading (slice_index bytes 0 - 128) (drop 3 bytes) ≡ Ok said
 
--- what is written of a message encodes it
+-- the output of `encode` for a message encodes it
 abbrev pub AreEncoded : Type 0
 AreEncoded = (said : Content) → IsMessage said → Encodes said (encoding said)
 
--- the bytes of one message, which make it known
+-- the bytes of one message, which complete it
 record IsRead (m : Sent) : Type 0 where
   whole : IsWholeMessage m.bytes
   reports : message_event m.bytes ≡ Message m.said
@@ -57,11 +57,11 @@ abbrev encodings : List Sent → List (List ℕ)
 encodings [] = []
 encodings (m ∷ ms) = m.bytes ∷ encodings ms
 
--- if a message begins after them, bytes of one segment stay one
+-- if a message begins after the bytes of one segment, they stay one segment
 lead-before : (g q : List ℕ) → IsAlone g → lead (g ++ q) ≡ []
 lead-before g q alone = rw (lead-append g q, alone.no_lead, alone.one) refl
 
--- if a message begins after bytes of one segment, its segments come after that one
+-- if a message begins after the bytes of one segment, its segments follow that one
 segments-before : (g q : List ℕ) → IsAlone g → lead q ≡ [] → segments (g ++ q) ≡ g ∷ segments q
 segments-before g q alone e = rw (segments-append g q, alone.one, e, append-nil g) refl
 
@@ -92,7 +92,7 @@ segments_events-encodings (m ∷ ms) h =
 
 -- ---- After any bytes
 
--- after what is unfinished
+-- after unfinished bytes
 behind_unfinished : (o : List ℕ) → IsUnfinished o → (m : Sent) (ms : List Sent) → AllByRecursion IsRead (m ∷ ms)
     → events (o ++ sent_bytes (m ∷ ms)) ≡ shifted (length o) (cut_of o ++ arrivals (m ∷ ms))
 unfolding events

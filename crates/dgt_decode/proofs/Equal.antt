@@ -1,4 +1,4 @@
--- What the derived `==` says of events and of answers to a chunk.
+-- The derived `==` of events and of results for a chunk.
 use Rattle.std.proofs.Common.{rules}
 use Rattle.dgt_values.specs.Equality.{EqualIsSameRead}
 use Rattle.dgt_message.specs.Content.{content}

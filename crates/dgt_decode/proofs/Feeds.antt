@@ -1,4 +1,4 @@
--- The first event of a chunk after what is held.
+-- The first event of a chunk after the held bytes.
 use Rattle.std.proofs.Common.{◌≡◌, ℕ, ◌+◌, ◌-◌, ◌<◌, ◌≤◌, List, [], ◌∷◌, ◌++◌, length, take, drop, Option, Some, None, refl, sym, ap, ◌∙◌, append_assoc, arith, inl, inr}
 use Rattle.std.proofs.lemmas.List.{take-append-drop}
 use Rattle.std.proofs.Math.Seq.{take-add, take-length}
@@ -7,7 +7,7 @@ use Rattle.dgt_decode.specs.Grammar.{Event, Placed, at_place, events}
 use Rattle.dgt_decode.specs.Feeding.{FirstEvent, at_place_if_any}
 use Rattle.dgt_decode.proofs.Appending.{events-append}
 
--- a list without elements has none at its front
+-- an empty list has no first element
 pub nil_left : (xs ys : List Placed) → xs ++ ys ≡ [] → xs ≡ []
 nil_left [] ys e = refl
 nil_left (x ∷ xs) ys e = absurd cc
@@ -16,13 +16,13 @@ nil_left (x ∷ xs) ys e = absurd cc
 pub quiet-prefix : (s p : List ℕ) → events (s ++ p) ≡ [] → events s ≡ []
 quiet-prefix s p e = nil_left (events s) _ (sym (events-append s p) ∙ e)
 
--- the first n: the first k, then what is left of them
+-- the first n: the first k, then the rest of them
 take-take-drop : (k n : ℕ) (chunk : List ℕ) → k ≤ n → take n chunk ≡ take k chunk ++ take (n - k) (drop k chunk)
 take-take-drop k n chunk h =
     let whole : k + (n - k) ≡ n = omega arith in
     ap (λ (m : ℕ). take m chunk) (sym whole) ∙ take-add k (n - k) chunk
 
--- if a prefix of a chunk makes no event, no shorter one does
+-- if a prefix of a chunk completes no event, no shorter one does
 pub quiet-shorter : (held chunk : List ℕ) (k n : ℕ) → k ≤ n → events (held ++ take n chunk) ≡ []
     → events (held ++ take k chunk) ≡ []
 quiet-shorter held chunk k n h e =
@@ -57,7 +57,7 @@ same_event : (es : List Placed) (x y : Event) (m n : ℕ) → es ≡ at_place m 
     → (let o : Option Event = Some x in o) ≡ Some y
 same_event es x y m n e f = let both : at_place m x ≡ at_place n y = cc in ap (λ (z : Placed). Some z.event) both
 
--- a chunk has one answer
+-- a chunk has one result
 pub one_first_event : (held chunk : List ℕ) (j k : ℕ) (x y : Option Event) → FirstEvent held chunk j x
     → FirstEvent held chunk k y → (j ≡ k) × (x ≡ y)
 one_first_event held chunk j k None None a b = (a.0 ∙ sym b.0, refl)

@@ -45,13 +45,13 @@ field_reported exact (a ∷ b ∷ c ∷ []) square piece seven five code small e
 field_reported exact (a ∷ b ∷ c ∷ s ∷ []) square piece seven five code small e f = absurd (omega arith)
 field_reported exact (a ∷ b ∷ c ∷ s ∷ p ∷ d ∷ rest) square piece seven five code small e f = absurd (omega arith)
 
--- the reading whose event is a message is this message's
+-- a reading with a message as its event is this message's
 pub read_of : (code : ℕ) (read : Result Content BodyFault) (said : Content) → reading_event code read ≡ Message said
     → read ≡ Ok said
 read_of code read said e = grind (arith, e)
 
--- A message that says a piece of one square has five bytes, the first of which is 142. Its square is below 64, and its
--- piece below 16.
+-- A message with the piece of one square has five bytes, the first of which is 142. Its square is
+-- below 64, and its piece below 16.
 pub only_field : IsRead → (bytes : List ℕ) (square : ℕ) (piece : Piece) → slice_index bytes 0 < 256
     → IsWholeMessage bytes → message_event bytes ≡ Message (field square piece)
     → (slice_index bytes 0 ≡ 142) × (length bytes ≡ 5) × (slice_index bytes 3 < 64) × (slice_index bytes 4 < 16)

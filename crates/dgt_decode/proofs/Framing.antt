@@ -28,7 +28,7 @@ closed state kept is here = elim here [
   | inr e ↦ whole_unfinished kept (subst (λ s. IsKept s kept) e is)
 ]
 
--- within a message all that is kept is unfinished
+-- within a message, all bytes kept are unfinished
 pub kept_unfinished : (state : FramerState) (kept : List ℕ) → IsKept state kept → (state ≡ Head)
     ⊎ ((left : ℕ) × (state ≡ Body left)) → unfinished_message kept ≡ kept
 kept_unfinished state kept is here = elim here [
@@ -87,7 +87,7 @@ frames-stray kept b none seven =
       unfinished = λ e. nothing_held;
     }
 
--- a stray byte is taken by itself
+-- a stray byte is taken on its own
 pub prefix-stray : (kept rest : List ℕ) → unfinished_message kept ≡ [] → 0 < length rest → slice_index rest 0 < 128
     → FramesPrefix kept rest 1 [] (Some (found.Stray (slice_index rest 0)))
 prefix-stray kept [] none some seven = absurd (omega (arith, some))
@@ -132,7 +132,7 @@ head_total (x ∷ y ∷ z ∷ kept) b two = absurd (omega arith)
 head_total (x ∷ []) b two = absurd (omega arith)
 head_total [] b two = absurd (omega arith)
 
--- a total below 3 is reported as such
+-- a total below 3 is reported as a bad length
 pub frames-bad : (state : FramerState) (kept : List ℕ) (b : ℕ) → IsKept state kept → state ≡ Head → length kept ≢ 1
     → b < 128 → 128 * slice_index kept 1 + b < 3 → Frames kept (b ∷ []) [] (Some found.BadLength)
 frames-bad state kept b is head more seven small =
@@ -151,7 +151,7 @@ frames-bad state kept b is head more seven small =
 
 -- ---- A later byte
 
--- the state and what was found, if this many bytes are still to come
+-- the state and the result, if this many bytes are missing
 abbrev pub after : ℕ → FramerState × Option Found
 after left = if left == 0 then (Whole, Some found.Message) else (Body left, None)
 
@@ -160,7 +160,7 @@ later_seven : (g : List ℕ) → IsAlone g → SevenByRecursion (drop 1 g)
 later_seven [] alone = tt
 later_seven (b ∷ bytes) alone = (IsAlone-parts b bytes alone).1
 
--- what seven-bit bytes of a message make known
+-- the effect of seven-bit bytes of a message
 pub record ReportsRun (kept run : List ℕ) (what : Option Found) : Type 0 where
   pub reported : events (kept ++ run) ≡ at_place_if_any (length kept + length run)
       (option_map (event_found_in (kept ++ run)) what)
@@ -233,7 +233,7 @@ frames-body state kept b left was body seven =
     frames-after kept b (left - 1) is.0 (omega (arith, is.1)) seven
     (omega (arith, announced_total-append kept (b ∷ []) is.1, is.2, is.3))
 
--- what the third byte of a header makes known, also with no body to come
+-- the effect of the third byte of a header, also without a body
 pub frames-head : (state : FramerState) (kept : List ℕ) (b high low : ℕ) → IsKept state kept → state ≡ Head
     → length kept ≢ 1 → b < 128 → high ≡ slice_index kept 1 → low ≡ b → 3 ≤ 128 * high + low
     → let left = 128 * high + low - 3 in

@@ -18,6 +18,7 @@ pub mod ChunkEvents
 pub mod Cutting
 pub mod Chunks
 pub mod BodyRuns
+pub mod Cutoffs
 pub mod Beginnings
 pub mod Equal
 pub mod FieldLemmas

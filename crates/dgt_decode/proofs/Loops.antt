@@ -14,7 +14,7 @@ use Rattle.dgt_decode.proofs.Steps.{IsHeld, IsUnfinished-held}
 use Rattle.dgt_decode.proofs.Feeds.{FirstEvent-some, first_of_run}
 use Rattle.dgt_decode.proofs.Division.{quiet_held}
 
--- an event after bytes stands at the sum of the places
+-- the place of an event after bytes is the sum of the places
 pub shifted-at_place_if_any : (n m k : ℕ) (event : Option Event) → n + m ≡ k
     → shifted n (at_place_if_any m event) ≡ at_place_if_any k event
 shifted-at_place_if_any n m k None e = refl
@@ -51,13 +51,13 @@ taken_none held chunk h =
 abbrev pub IsRun : List ℕ → ℕ → List ℕ → ℕ → Type 0
 IsRun chunk i run j = take j chunk ≡ take i chunk ++ run
 
--- a run leaves unfinished what the bytes to its end leave unfinished
+-- after a run the unfinished bytes are those of all bytes to its end
 pub run_holds : (held chunk : List ℕ) (i j : ℕ) (now run : List ℕ) → IsRun chunk i run j → HasTaken held chunk i now
     → unfinished_message (now ++ run) ≡ unfinished_message (held ++ take j chunk)
 run_holds held chunk i j now run r t =
     rw (t.holds, r, ← append_assoc held (take i chunk) run) (sym (unfinished-append (held ++ take i chunk) run))
 
--- a run reports what the bytes to its end report
+-- a run reports the same as all bytes to its end
 pub run_reported : (held chunk : List ℕ) (i j n : ℕ) (now run : List ℕ) (event : Option Event) → IsRun chunk i run j
     → HasTaken held chunk i now
     → events (now ++ run) ≡ at_place_if_any (length now + n) event → events (held ++ take j chunk) ≡ at_place_if_any
@@ -66,7 +66,7 @@ run_reported held chunk i j n now run event r t reported =
     rw (r, ← append_assoc held (take i chunk) run)
     (events-more (held ++ take i chunk) run n event t.quiet (rw (← t.holds) reported))
 
--- a run without an event goes on
+-- a run without an event continues
 pub run_quiet : (held chunk : List ℕ) (i j : ℕ) (now run : List ℕ) → IsRun chunk i run j → HasTaken held chunk i now
     → events (now ++ run) ≡ [] → HasTaken held chunk j (unfinished_message (now ++ run))
 run_quiet held chunk i j now run r t reported =
@@ -75,7 +75,7 @@ run_quiet held chunk i j now run r t reported =
       quiet = run_reported held chunk i j 0 now run None r t reported;
     }
 
--- what is held and a run are what was held and the bytes to its end
+-- the held bytes and a run are the earlier held bytes and all bytes to its end
 pub run_came : (held chunk : List ℕ) (i j : ℕ) (now run : List ℕ) → IsRun chunk i run j → HasTaken held chunk i now
     → now ++ run ≡ held ++ take j chunk
 run_came held chunk i j now run r t =
@@ -123,7 +123,7 @@ module _ (kept chunk : List ℕ) (at used : ℕ) (now new : List ℕ) (what : Op
   step_held = step.frames.held ∙ run_holds (unfinished_message kept) chunk at (at + used) (unfinished_message now)
       (take used (drop at chunk)) (next used) taken
 
-  -- which bytes came
+  -- the bytes received
   pub step_came : what ≡ Some found.Message → new ≡ unfinished_message kept ++ take (at + used) chunk
   step_came e = step.frames.came e ∙ run_came (unfinished_message kept) chunk at (at + used) (unfinished_message now)
       (take used (drop at chunk)) (next used) taken

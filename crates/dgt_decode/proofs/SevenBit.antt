@@ -1,4 +1,4 @@
--- Seven-bit bytes as proofs go down a list, and as clauses say it.
+-- Seven-bit bytes in the form of proofs, and in the form of clauses.
 use Rattle.std.proofs.Common.{ℕ, ◌<◌, List}
 use Rattle.std.specs.List.{AllByRecursion}
 use Rattle.std.proofs.lemmas.List.Elements.{All-from_recursion, recursion_from_All}

@@ -1,4 +1,4 @@
--- What one more byte, or a run of seven-bit bytes, does to what is unfinished.
+-- The effect of one more byte, or a run of seven-bit bytes, on the unfinished message.
 use Rattle.std.proofs.Common.{◌≡◌, ℕ, ◌+◌, ◌<◌, ◌≤◌, List, [], ◌∷◌, ◌++◌, length, drop, Option, Some, None, refl, sym, ap, subst, ◌∙◌, arith, inl, inr}
 use Rattle.std.proofs.lemmas.List.{append-nil, length-append}
 use Rattle.std.proofs.lemmas.Bool.{le-leb, lt-leb, cases_lt}
@@ -15,15 +15,15 @@ use Rattle.dgt_decode.proofs.SevenBit.{SevenByRecursion}
 abbrev pub IsHeld : List ℕ → Type 0
 IsHeld held = unfinished_message held ≡ held
 
--- what is held is nothing, or one unfinished segment
+-- the held bytes are nothing, or one unfinished segment
 pub IsUnfinished-held : (held : List ℕ) → IsHeld held → IsUnfinished held
 IsUnfinished-held held h = subst (λ (x : List ℕ). IsUnfinished x) h (IsUnfinished-unfinished held)
 
--- what a list leaves unfinished can be held
+-- the unfinished bytes of a list can be held
 pub IsHeld-unfinished : (s : List ℕ) → IsHeld (unfinished_message s)
 IsHeld-unfinished s = unfinished-of_unfinished (unfinished_message s) (IsUnfinished-unfinished s)
 
--- what bytes come to: their events, and what they leave unfinished
+-- the meaning of bytes: their events, and their unfinished rest
 pub record Gives (bytes : List ℕ) (es : List Placed) (left : List ℕ) : Type 0 where
   pub reported : events bytes ≡ es
   pub leaves : unfinished_message bytes ≡ left
@@ -46,7 +46,7 @@ first-stray b seven = record { reported = rw (lt-leb 128 b seven) refl; leaves =
 
 -- ---- a message is held
 
--- a segment goes on with seven-bit bytes
+-- a segment continues with seven-bit bytes
 pub IsAlone-more : (g run : List ℕ) → IsAlone g → SevenByRecursion run → IsAlone (g ++ run)
 IsAlone-more g run alone seven =
     record {
@@ -54,7 +54,7 @@ IsAlone-more g run alone seven =
       one = rw (segments-append g run, alone.one, lead-seven run seven, segments-seven run seven) refl;
     }
 
--- a message that is held is one unfinished segment
+-- a held message is one unfinished segment
 pub alone_held : (held : List ℕ) → IsHeld held → 0 < length held → IsAlone held × (verdict held ≡ None)
 alone_held held h some = go held (IsUnfinished-held held h) some
   where
@@ -62,7 +62,7 @@ alone_held held h some = go held (IsUnfinished-held held h) some
     go held nothing some = absurd (omega arith)
     go held (waiting g alone e) some = (alone, e)
 
--- a top-bit byte cuts it
+-- a byte with a set top bit cuts it
 pub next-begins : (held : List ℕ) (b : ℕ) → IsHeld held → 0 < length held → 128 ≤ b
     → Gives (held ++ b ∷ []) (at_place (length held + 1) (Cut (length held)) ∷ []) (b ∷ [])
 unfolding events unfinished_message
@@ -83,7 +83,7 @@ next-begins held b h some top =
     cut [] some = absurd (omega arith)
     cut (x ∷ held) some = refl
 
--- seven-bit bytes go on with it
+-- seven-bit bytes continue it
 pub next-seven : (held run : List ℕ) → IsHeld held → 0 < length held → SevenByRecursion run
     → Gives (held ++ run) (segment_events (verdict (held ++ run)) (held ++ run))
     (unfinished_part (verdict (held ++ run)) (held ++ run))
@@ -91,7 +91,7 @@ next-seven held run h some seven =
     let alone = IsAlone-more held run (alone_held held h some).0 seven in
     record { reported = events-alone (held ++ run) alone; leaves = unfinished-alone (held ++ run) alone }
 
--- so long as it is shorter than the header
+-- as long as it is shorter than the header
 pub next-short : (held run : List ℕ) → IsHeld held → 0 < length held → SevenByRecursion run → length (held ++ run) < 3
     → Gives (held ++ run) [] (held ++ run)
 next-short held run h some seven few =
@@ -99,7 +99,7 @@ next-short held run h some seven few =
     let e = verdict-short (held ++ run) few in
     record { reported = gives.reported ∙ rw e refl; leaves = gives.leaves ∙ rw e refl }
 
--- so long as it is shorter than its total
+-- as long as it is shorter than its total
 pub next-waits : (held run : List ℕ) → IsHeld held → 0 < length held → SevenByRecursion run
     → length (held ++ run) < announced_total (held ++ run)
     → Gives (held ++ run) [] (held ++ run)
@@ -108,7 +108,7 @@ next-waits held run h some seven less =
     let e = verdict-waits (held ++ run) less in
     record { reported = gives.reported ∙ rw e refl; leaves = gives.leaves ∙ rw e refl }
 
--- if the header says too little
+-- if the total in the header is too small
 pub next-bad : (held run : List ℕ) → IsHeld held → 0 < length held → SevenByRecursion run → length (held ++ run) ≡ 3
     → announced_total (held ++ run) < 3
     → Gives (held ++ run) (at_place 3 BadLength ∷ []) []
@@ -131,7 +131,7 @@ next-whole held run h some seven long same =
 
 -- ---- No byte makes two events
 
--- a verdict that a byte brings stands at that byte
+-- the verdict of a byte is at that byte
 pub verdict-new : (h : List ℕ) (b : ℕ) (x : Placed) → verdict h ≡ None → verdict (h ++ b ∷ []) ≡ Some x
     → x.place ≡ length (h ++ b ∷ [])
 verdict-new h b x e new = go (stage_of h) (stage_of (h ++ b ∷ []))
@@ -171,13 +171,13 @@ verdict-new h b x e new = go (stage_of h) (stage_of (h ++ b ∷ []))
     go (bad long small) s = let no = verdict-bad h long small in absurd cc
     go (whole large enough) s = let no = verdict-whole h large enough in absurd cc
 
--- the byte that brings a verdict has no Stray after it
+-- the byte with a verdict has no Stray after it
 segment_events-new : (h : List ℕ) (b : ℕ) → verdict h ≡ None → (v : Option Placed) → verdict (h ++ b ∷ []) ≡ v
     → length (segment_events v (h ++ b ∷ [])) ≤ 1
 segment_events-new h b e None f = omega arith
 segment_events-new h b e (Some x) f = rw (verdict-new h b x e f, drop-length (h ++ b ∷ [])) (omega arith)
 
--- one more byte after what is held makes one event at most
+-- one more byte after held bytes completes at most one event
 one_event_held : (held : List ℕ) (b : ℕ) → IsHeld held → IsUnfinished held → length (events (held ++ b ∷ [])) ≤ 1
 one_event_held held b h nothing =
     elim (cases_lt b 128) [
@@ -193,6 +193,6 @@ one_event_held held b h (waiting (x ∷ g) alone e) =
       | inr top ↦ rw (next-begins (x ∷ g) b h some top).reported (omega arith)
     ]
 
--- No byte makes two events.
+-- No byte completes two events.
 pub one_event : (s : List ℕ) (b : ℕ) → length (events (unfinished_message s ++ b ∷ [])) ≤ 1
 one_event s b = one_event_held (unfinished_message s) b (IsHeld-unfinished s) (IsUnfinished-unfinished s)

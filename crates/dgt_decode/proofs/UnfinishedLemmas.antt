@@ -1,4 +1,4 @@
--- What is unfinished at the end of a list, and what one segment alone comes to.
+-- The unfinished rest of a list, and of a single segment.
 use Rattle.std.proofs.Common.{◌≡◌, ℕ, ◌≤◌, List, [], ◌∷◌, ◌++◌, length, Option, Some, None, refl, ◌∙◌, arith}
 use Rattle.std.proofs.lemmas.List.{append-nil}
 use Rattle.dgt_decode.specs.Grammar.{Placed, lead, segments, verdict, segment_events, unfinished_part, unfinished_segment, events, unfinished_message}
@@ -48,7 +48,7 @@ unfinished_segment-with p (g ∷ []) alone = go (verdict g) refl
 unfinished_segment-with p (g ∷ h ∷ gs) alone = unfinished_segment-first g p h gs
     ∙ unfinished_segment-with p (h ∷ gs) alone.1
 
--- Of what came before, only what is unfinished bears on what is unfinished later.
+-- Of the earlier bytes, only the unfinished ones affect what is unfinished later.
 pub unfinished-append : (s p : List ℕ) → unfinished_message (s ++ p) ≡ unfinished_message (unfinished_message s ++ p)
 unfolding unfinished_message
 unfinished-append s p = rw (segments-append s p) (unfinished_segment-with p (segments s) (AreAlone-segments s))
@@ -58,7 +58,7 @@ pub data IsUnfinished : List ℕ → Type 0 where
   nothing : IsUnfinished []
   waiting : (g : List ℕ) → IsAlone g → verdict g ≡ None → IsUnfinished g
 
--- what segments leave unfinished is so
+-- the unfinished bytes of segments are nothing or one unfinished segment
 IsUnfinished-unfinished_segment : (gs : List (List ℕ)) → AreAlone gs → IsUnfinished (unfinished_segment gs)
 IsUnfinished-unfinished_segment [] alone = nothing
 IsUnfinished-unfinished_segment (g ∷ []) alone = go (verdict g) refl
@@ -68,24 +68,24 @@ IsUnfinished-unfinished_segment (g ∷ []) alone = go (verdict g) refl
     go (Some x) e = nothing
 IsUnfinished-unfinished_segment (g ∷ h ∷ gs) alone = IsUnfinished-unfinished_segment (h ∷ gs) alone.1
 
--- what a list leaves unfinished is so
+-- the same of a list
 pub IsUnfinished-unfinished : (s : List ℕ) → IsUnfinished (unfinished_message s)
 unfolding unfinished_message
 IsUnfinished-unfinished s = IsUnfinished-unfinished_segment (segments s) (AreAlone-segments s)
 
--- what is unfinished leaves itself unfinished
+-- unfinished bytes leave themselves unfinished
 pub unfinished-of_unfinished : (h : List ℕ) → IsUnfinished h → unfinished_message h ≡ h
 unfolding unfinished_message
 unfinished-of_unfinished h nothing = refl
 unfinished-of_unfinished h (waiting g alone e) = rw (alone.one, e) refl
 
--- what is unfinished makes no event
+-- unfinished bytes complete no event
 pub events-of_unfinished : (h : List ℕ) → IsUnfinished h → events h ≡ []
 unfolding events
 events-of_unfinished h nothing = refl
 events-of_unfinished h (waiting g alone e) = rw (alone.no_lead, alone.one, e) refl
 
--- what is unfinished is no longer than the list
+-- the unfinished bytes are no longer than the list
 pub length-unfinished : (s : List ℕ) → length (unfinished_message s) ≤ length s
 unfolding unfinished_message
 length-unfinished s = omega (arith, settled-unfinished (segments s), length-cut s)

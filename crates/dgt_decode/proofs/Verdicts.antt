@@ -1,4 +1,4 @@
--- What the verdict of a segment is, by its length and its total.
+-- The verdict of a segment, by its length and its total.
 use Rattle.std.proofs.Common.{◌≡◌, ℕ, ◌<◌, ◌≤◌, List, ◌++◌, length, take, Option, Some, None, refl, sym, ap, ◌∙◌, inl, inr, arith}
 use Rattle.std.proofs.lemmas.List.{length-append, get_or_append_left, take-append-le}
 use Rattle.std.proofs.Math.Seq.{take-length}
@@ -39,21 +39,21 @@ verdict-whole g large h =
     let long : 3 ≤ length g = omega arith in
     rw (le-ltb (length g) 3 long, le-ltb (announced_total g) 3 large, le-ltb (length g) (announced_total g) h) refl
 
--- just as many bytes
+-- exactly as many bytes
 pub verdict-full : (g : List ℕ) → 3 ≤ length g → announced_total g ≡ length g
     → verdict g ≡ Some (at_place (length g) (message_event g))
 verdict-full g long same =
     let is : whole_event g ≡ at_place (length g) (message_event g) = rw (same, take-length g) refl in
     verdict-whole g (omega (arith, same, long)) (omega (arith, same)) ∙ ap (λ (x : Placed). Some x) is
 
--- how far a segment has come
+-- how much of a segment was received
 pub data Stage (g : List ℕ) : Type 0 where
   short : length g < 3 → Stage g
   waits : length g < announced_total g → Stage g
   bad : 3 ≤ length g → announced_total g < 3 → Stage g
   whole : 3 ≤ announced_total g → announced_total g ≤ length g → Stage g
 
--- each segment has come so far
+-- each segment was received to such a point
 pub stage_of : (g : List ℕ) → Stage g
 stage_of g =
     elim (cases_lt (length g) 3) [
@@ -67,14 +67,14 @@ stage_of g =
       ]
     ]
 
--- the total stands once the header has come
+-- the total is known once the header was received
 pub announced_total-append : (g p : List ℕ) → 3 ≤ length g → announced_total (g ++ p) ≡ announced_total g
 announced_total-append g p long =
     let one : 1 < length g = omega arith in
     let two : 2 < length g = omega arith in
     rw (get_or_append_left g p 0 1 one, get_or_append_left g p 0 2 two) refl
 
--- A verdict stands whatever follows, and its place is within the segment.
+-- A verdict holds whatever follows, and its place is within the segment.
 pub verdict-append : (g p : List ℕ) (x : Placed) → verdict g ≡ Some x → (verdict (g ++ p) ≡ Some x)
     × (x.place ≤ length g)
 verdict-append g p x e = go (stage_of g)

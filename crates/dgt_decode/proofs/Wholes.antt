@@ -1,4 +1,4 @@
--- The bytes of one message, and no more.
+-- Exactly the bytes of one message.
 use Rattle.std.proofs.Common.{◌≡◌, ◌≤◌, ℕ, List, [], ◌∷◌, length, drop, Some, refl, ◌∙◌, arith}
 use Rattle.std.specs.Prelude.{slice_index}
 use Rattle.dgt_decode.specs.Grammar.{at_place, message_event, verdict, unfinished_message}

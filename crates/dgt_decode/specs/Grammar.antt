@@ -1,22 +1,22 @@
--- What the bytes from a board say. A list of bytes is cut before each byte with a set top bit: the
--- part before the first cut is the lead, the others are segments. Bytes of the lead are stray. A
--- segment begins with a header of three bytes, which says how long the message is. Bytes of the
--- segment after its message are stray.
+-- The meaning of a board's bytes. A list of bytes is cut before each byte with a set top bit: the
+-- part before the first cut is the lead, and the others are segments. Bytes of the lead are stray.
+-- A segment begins with a header of three bytes, which contains the length of the message. Bytes of
+-- the segment after its message are stray.
 use Rattle.std.specs.Prelude.{ℕ, ◌+◌, ◌-◌, Bool, List, [], ◌∷◌, ◌++◌, length, take, drop, Option, Some, None, Result, Ok, Err, nat_lt, nat_le, slice_index, if◌then◌else◌}
 use Rattle.dgt_message.specs.declared.viewing.BodyFault.{BodyFault}
 use Rattle.dgt_message.specs.Content.{Content}
 use Rattle.dgt_message.specs.Reading.{reading}
 use Rattle.dgt_message.specs.Encoding.{total}
 
--- what a byte makes known
+-- an event at a byte
 pub data Event : Type 0 where
-  Message : Content → Event  -- a whole message was read
-  Refused : ℕ → BodyFault → Event  -- a whole message has this code, and its body this fault
-  Cut : ℕ → Event  -- a message begins; of the unfinished one before it so many bytes had come
-  BadLength : Event  -- a total below the header's own length
-  Stray : ℕ → Event  -- a byte that is in no message
+  Message : Content → Event  -- a whole message
+  Refused : ℕ → BodyFault → Event  -- a whole message with this code, and a body with this fault
+  Cut : ℕ → Event  -- the byte cuts off a message of which this many bytes were received
+  BadLength : Event  -- a total less than the size of the header
+  Stray : ℕ → Event  -- a byte that belongs to no message
 
--- an event, and the number of bytes up to and including the one that makes it
+-- an event, and the number of bytes up to and including its last one
 pub record Placed : Type 0 where
   pub place : ℕ
   pub event : Event
@@ -24,7 +24,7 @@ pub record Placed : Type 0 where
 abbrev pub at_place : ℕ → Event → Placed
 at_place place event = record { place = place; event = event }
 
--- the events of bytes that come after n others: each is n places later
+-- the events of bytes after n others: each is n places later
 abbrev pub shifted : ℕ → List Placed → List Placed
 shifted n [] = []
 shifted n (x ∷ events) = at_place (n + x.place) x.event ∷ shifted n events
@@ -61,12 +61,12 @@ abbrev pub reading_event : ℕ → Result Content BodyFault → Event
 reading_event code (Ok said) = Message said
 reading_event code (Err fault) = Refused code fault
 
--- what the bytes of a whole message make known
+-- the event of the bytes of a whole message
 abbrev pub message_event : List ℕ → Event
 message_event bytes =
     reading_event (slice_index bytes 0 - 128) (reading (slice_index bytes 0 - 128) (drop 3 bytes))
 
--- what a segment's message comes to; none while the message is unfinished
+-- the event of a segment's message, or none while the message is unfinished
 unfoldable pub verdict : List ℕ → Option Placed
 verdict segment =
     if nat_lt (length segment) 3 then None
@@ -75,17 +75,17 @@ verdict segment =
     else Some (at_place (announced_total segment)
     (message_event (take (announced_total segment) segment)))
 
--- the events of a segment with this verdict: after its message each byte is stray
+-- the events of a segment with this verdict: each byte after its message is stray
 abbrev pub segment_events : Option Placed → List ℕ → List Placed
 segment_events None segment = []
 segment_events (Some x) segment = x ∷ shifted x.place (strays (drop x.place segment))
 
--- what a segment with this verdict leaves unfinished
+-- the unfinished message of a segment with this verdict
 abbrev pub unfinished_part : Option Placed → List ℕ → List ℕ
 unfinished_part None segment = segment
 unfinished_part (Some x) segment = []
 
--- the Cut that the first byte after unfinished bytes makes
+-- the Cut at the first byte after unfinished bytes
 abbrev pub cut_of : List ℕ → List Placed
 cut_of [] = []
 cut_of (b ∷ bytes) = at_place 1 (Cut (length (b ∷ bytes))) ∷ []

@@ -1,4 +1,4 @@
--- What the laws of the grammar speak of, and those that proofs above take as they stand.
+-- Terms of the grammar's laws, and the laws that proofs of other crates use.
 use Rattle.std.specs.Prelude.{◌≡◌, ℕ, ◌+◌, ◌-◌, ◌≤◌, List, [], ◌∷◌, ◌++◌, length, take, Option}
 use Rattle.std.specs.List.{AllByRecursion, flat_map, concat}
 use Rattle.dgt_values.specs.Bytes.{AreSevenBit}
@@ -12,7 +12,7 @@ abbrev pub IsSegment : List ℕ → Type 0
 IsSegment [] = ⊥
 IsSegment (b ∷ bytes) = (128 ≤ b) × AreSevenBit bytes
 
--- these are a seven-bit prefix and segments, and in a row they are the list
+-- these are a seven-bit prefix and segments, and together they are the list
 pub record CutsInto (prefix : List ℕ) (parts : List (List ℕ)) (s : List ℕ) : Type 0 where
   pub prefix_is : AreSevenBit prefix
   pub parts_are : AllByRecursion IsSegment parts
@@ -20,27 +20,28 @@ pub record CutsInto (prefix : List ℕ) (parts : List (List ℕ)) (s : List ℕ)
 
 -- ---- More bytes
 
--- Bytes that come later change no event, and need only the unfinished message of what came before.
+-- Later bytes change no event, and of the earlier bytes their events need only the unfinished
+-- message.
 abbrev pub EventsAppend : Type 0
 EventsAppend = (s p : List ℕ) → events (s ++ p)
     ≡ events s ++ shifted (length s - length (unfinished_message s))
     (events (unfinished_message s ++ p))
 
--- What is unfinished at the end needs only the unfinished message of what came before.
+-- What is unfinished at the end depends, of the earlier bytes, only on the unfinished message.
 abbrev pub UnfinishedAppend : Type 0
 UnfinishedAppend = (s p : List ℕ) →
     unfinished_message (s ++ p) ≡ unfinished_message (unfinished_message s ++ p)
 
--- An unfinished message is a part of what came.
+-- An unfinished message is part of the bytes received.
 abbrev pub UnfinishedIsPart : Type 0
 UnfinishedIsPart = (s : List ℕ) → length (unfinished_message s) ≤ length s
 
--- If bytes make no event, they are all held.
+-- If bytes complete no event, they are all held.
 abbrev pub QuietHeld : Type 0
 QuietHeld = (s : List ℕ) → events s ≡ [] → unfinished_message s ≡ s
 
--- After no bytes, events keep their places. After two lists of bytes their places are those after
--- both lists in a row. Each event is placed by itself.
+-- After no bytes, events keep their places. Moving events by two lists of bytes moves them by both
+-- lists in a row. Each event is moved by itself.
 pub record PlacesAdd : Type 0 where
   pub none : (reported : List Placed) → shifted 0 reported ≡ reported
   pub twice : (m n : ℕ) (reported : List Placed) →
@@ -48,8 +49,8 @@ pub record PlacesAdd : Type 0 where
   pub in_a_row : (n : ℕ) (reported more : List Placed) →
       shifted n (reported ++ more) ≡ shifted n reported ++ shifted n more
 
--- An unfinished message makes no event, and is what it leaves unfinished. If no byte comes after
--- it, there is no event, and it stays as it is.
+-- An unfinished message completes no event, and is itself what it leaves unfinished. If no byte
+-- follows it, there is no event, and it stays as it is.
 pub record UnfinishedIsQuiet : Type 0 where
   pub no_event : (s : List ℕ) → events (unfinished_message s) ≡ []
   pub stays : (s : List ℕ) → unfinished_message (unfinished_message s) ≡ unfinished_message s
@@ -57,8 +58,8 @@ pub record UnfinishedIsQuiet : Type 0 where
       (chunk_events (unfinished_message s) [] ≡ [])
       × (unfinished_message (unfinished_message s ++ []) ≡ unfinished_message s)
 
--- After any bytes, those of a chunk make the events of the chunk. A chunk's events are those of its
--- prefix, and then those of the rest.
+-- After any bytes, those of a chunk complete the events of the chunk. A chunk's events are those of
+-- its prefix, and then those of the rest.
 pub record ChunksAdd : Type 0 where
   pub behind : (s chunk : List ℕ) → events (s ++ chunk)
       ≡ events s ++ shifted (length s) (chunk_events (unfinished_message s) chunk)
@@ -67,8 +68,8 @@ pub record ChunksAdd : Type 0 where
       ≡ chunk_events (unfinished_message s) prefix
       ++ shifted (length prefix) (chunk_events (unfinished_message (s ++ prefix)) rest)
 
--- A byte with a set top bit begins anew, whatever came before: all that it does to it is to cut an
--- unfinished message off.
+-- A byte with a set top bit starts over, whatever was received before. Its only effect on that is
+-- to cut off an unfinished message.
 abbrev pub BeginsAnew : Type 0
 BeginsAnew = (s p : List ℕ) (b : ℕ) → 128 ≤ b →
     (events (s ++ b ∷ p)
@@ -77,7 +78,7 @@ BeginsAnew = (s p : List ℕ) (b : ℕ) → 128 ≤ b →
 
 -- ---- Messages in a row
 
--- a message, and bytes that are said to encode it
+-- a message, and bytes that encode it
 pub record Sent : Type 0 where
   pub said : Content
   pub bytes : List ℕ
@@ -91,7 +92,7 @@ arrivals [] = []
 arrivals (m ∷ more) =
     at_place (length m.bytes) (Message m.said) ∷ shifted (length m.bytes) (arrivals more)
 
--- What is written of a message, after any bytes, makes this message known at its last byte, and
+-- What `encode` writes of a message, after any bytes, completes this message at its last byte, and
 -- leaves nothing unfinished.
 abbrev pub EncodingIsRead : Type 0
 EncodingIsRead = (s : List ℕ) (said : Content) → IsMessage said →
@@ -102,17 +103,17 @@ EncodingIsRead = (s : List ℕ) (said : Content) → IsMessage said →
 
 -- ---- In chunks
 
--- a chunk that a reader is fed, and its answer: how many bytes it used, and the event
+-- a chunk that a reader is fed, and the result: how many bytes it used, and the event
 pub record Call : Type 0 where
   pub chunk : List ℕ
   pub used : ℕ
   pub event : Option Event
 
--- the bytes that these calls used, in a row
+-- the bytes that these calls used, concatenated
 abbrev pub used_bytes : List Call → List ℕ
 used_bytes calls = flat_map (λ call. take call.used call.chunk) calls
 
--- These are calls, one after another, of a reader that at first holds this.
+-- These are consecutive calls of a reader that at first holds this.
 abbrev pub AreCalls : List ℕ → List Call → Type 0
 AreCalls held [] = Unit {0}
 AreCalls held (call ∷ calls) =
@@ -125,7 +126,7 @@ events_in_chunks n [] = []
 events_in_chunks n (call ∷ calls) =
     at_place_if_any (n + call.used) call.event ++ events_in_chunks (n + call.used) calls
 
--- the events of chunks in a row after n bytes, of which these are an unfinished message
+-- the events of consecutive chunks after n bytes, of which these are an unfinished message
 abbrev pub events_of_chunks : ℕ → List ℕ → List (List ℕ) → List Placed
 events_of_chunks n held [] = []
 events_of_chunks n held (chunk ∷ more) =

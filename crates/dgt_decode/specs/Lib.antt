@@ -2,5 +2,5 @@
 pub mod Grammar
 pub mod Feeding
 pub mod Laws
--- For bodies alone, private functions' contracts and invariants:
+-- Only for bodies, private functions' contracts and invariants:
 pub mod Taking

@@ -9,7 +9,7 @@ use Rattle.dgt_decode.specs.declared.framer.FramerState.TheVariants.{Hunting, He
 use Rattle.dgt_decode.specs.Grammar.{Placed, announced_total, at_place, unfinished_message}
 use Rattle.dgt_decode.specs.Feeding.{FirstEvent, IsWholeMessage, event_content, event_found_in}
 
--- how far the bytes that are kept have come, by the framer's state
+-- how many of the bytes kept were received, by the framer's state
 abbrev pub IsKept : FramerState → List ℕ → Type 0
 IsKept Hunting kept = kept ≡ []
 IsKept Head kept = (unfinished_message kept ≡ kept) × (0 < length kept) × (length kept < 3)
@@ -18,9 +18,9 @@ IsKept (Body left) kept =
     × (announced_total kept ≡ length kept + left)
 IsKept Whole kept = IsWholeMessage kept
 
--- A framer that kept these bytes has taken a run of bytes, of which only the last may make an
--- event. It holds what is unfinished then. It keeps a message that the run made known, or else no
--- more than what is unfinished.
+-- A framer that kept these bytes has taken a run of bytes, of which only the last may complete an
+-- event. It then holds what is unfinished. It keeps a message that the run completed, or otherwise
+-- only what is unfinished.
 pub record Frames (kept run new : List ℕ) (what : Option Found) : Type 0 where
   pub first : FirstEvent (unfinished_message kept) run (length run)
       (option_map (event_found_in new) what)
@@ -29,14 +29,14 @@ pub record Frames (kept run new : List ℕ) (what : Option Found) : Type 0 where
   pub came : what ≡ Some found.Message → new ≡ unfinished_message kept ++ run
   pub unfinished : what ≢ Some found.Message → unfinished_message new ≡ new
 
--- The first of the bytes that are left of a chunk, at least one, are such a run.
+-- The first of the remaining bytes of a chunk, at least one, are such a run.
 pub record FramesPrefix (kept rest : List ℕ) (used : ℕ) (new : List ℕ) (what : Option Found)
     : Type 0 where
   pub some : 0 < used
   pub within : used ≤ length rest
   pub frames : Frames kept (take used rest) new what
 
--- A message of this length begins with the first of these, and all of its header has come.
+-- A message of this length begins with the first of these, and all of its header was received.
 pub record Begins (total : ℕ) (bytes : List ℕ) : Type 0 where
   pub first : 128 ≤ slice_index bytes 0
   pub header : AreSevenBit (take 2 (drop 1 bytes))
@@ -44,6 +44,6 @@ pub record Begins (total : ℕ) (bytes : List ℕ) : Type 0 where
   pub is : total ≡ announced_total bytes
   pub large : 3 ≤ total
 
--- an event that a program reports which cuts a whole list of bytes, at its place
+-- an event at its place, as reported by a program that cuts a whole list of bytes
 abbrev pub placed_content : ℕ × CodeEvent → Placed
 placed_content reported = at_place reported.0 (event_content reported.1)

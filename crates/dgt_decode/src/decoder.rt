@@ -1,4 +1,4 @@
-//! The decoder, which lends its events.
+//! The decoder. Its events borrow from it.
 
 ghost use Rattle.std.specs.Prelude.{◌≡◌, ◌<◌, ◌≤◌, ℕ, List, [], ◌++◌, length, take, MatchOption};
 ghost use Rattle.std.specs.Borrow.{sem};
@@ -15,23 +15,24 @@ use std::marker::Model;
 /// A message that was not finished.
 #[derive(Clone, Copy, Debug, PartialEq, Eq)]
 pub struct Unfinished {
-    /// How many of its bytes had come: at least one, and fewer than [`MAX_TOTAL`].
+    /// How many of its bytes were received: at least one, and fewer than [`MAX_TOTAL`].
     pub have: usize,
 }
 
-/// A decoder's answer to a chunk.
+/// What [`Decoder::feed`] did with a chunk.
 #[derive(Clone, Copy, Debug, PartialEq, Eq)]
 pub struct Fed<'a> {
-    /// How many bytes of the chunk were used. The others are still to be fed.
+    /// How many bytes of the chunk were used. Feed the others next.
     pub used: usize,
-    /// The event that the last used byte made. If there is none, the whole chunk was used.
+    /// The event of the last byte used. If there is none, the whole chunk was used.
     pub event: Option<Event<'a>>,
 }
 
-/// Reads what a board sends, in chunks of any length. Contracts see it as the bytes that have come
-/// of an unfinished message.
+/// Reads the bytes that a board sends, in chunks of any length. Contracts see it as the bytes that
+/// it holds of an unfinished message.
 ///
-/// The bytes are kept in the decoder itself, at most [`MAX_TOTAL`] of them. No call takes memory.
+/// The bytes are kept in the decoder itself, at most [`MAX_TOTAL`] of them. No call allocates
+/// memory.
 #[derive(Drop)]
 pub struct Decoder {
     framer: Framer,
@@ -59,9 +60,10 @@ impl Decoder {
         }
     }
 
-    /// Uses bytes of the chunk up to and including the first that makes an event, or all of it.
+    /// Uses the bytes of the chunk up to and including the first that completes an event, or all of
+    /// them.
     ///
-    /// The event lends its body from the decoder until the next call.
+    /// The event borrows its body from the decoder until the next call.
     pub fn feed(&mut self, chunk: &[u8]) -> Fed<'_>
         ensures* after_borrow { sem 𝓛 (Rests the_row self.entry
             (λ new. new ≡ unfinished_message (self.old ++ take result.used chunk.now))) }
@@ -80,11 +82,10 @@ impl Decoder {
         }
     }
 
-    /// Uses a whole chunk, and hands the listener each event that it makes, in order, with how many
-    /// bytes of the chunk come up to and including the one that makes it.
+    /// Uses a whole chunk, and passes each event to the listener, in order. The listener also gets
+    /// the number of bytes of the chunk up to and including the event's last one.
     ///
-    /// However the bytes are cut, the events are those of the bytes in a row
-    /// (`laws::chunks_in_a_row`).
+    /// However the bytes are cut into chunks, the events are the same (`laws::chunks_in_a_row`).
     pub fn feed_all<L: Listener>(&mut self, chunk: &[u8], listener: &mut L)
         ensures reported { FoldsTo L.hears listener.old
             (chunk_events self.old chunk.now) listener.new }
@@ -100,7 +101,7 @@ impl Decoder {
         }
     }
 
-    /// How many bytes have come of an unfinished message, which are fewer than [`MAX_TOTAL`].
+    /// How many bytes of an unfinished message were received: fewer than [`MAX_TOTAL`].
     #[tactic(auto, using(crate::proofs::Bytes::unfinished_facts))]
     pub fn rest(&self) -> usize
         ensures length { result ≡ length self.now }
@@ -110,7 +111,7 @@ impl Decoder {
         self.framer.unfinished_len()
     }
 
-    /// Reports an unfinished message, if there is one, and makes the decoder as new.
+    /// Reports an unfinished message, if there is one, and resets the decoder.
     pub fn finish(&mut self) -> Option<Unfinished>
         ensures reported { MatchOption result (self.old ≡ [])
             (λ unfinished. (0 < length self.old) × (unfinished.have ≡ length self.old)) }
@@ -125,7 +126,7 @@ impl Decoder {
         }
     }
 
-    /// Makes the decoder as new.
+    /// Returns the decoder to its initial state.
     #[tactic(auto, using(crate::proofs::Bytes::unfinished_facts))]
     pub fn reset(&mut self)
         ensures { self.new ≡ [] }

@@ -1,4 +1,4 @@
-//! The reading of dumps, the messages whose events are the longest.
+//! Reading dumps, the messages with the longest events.
 
 ghost use Rattle.std.specs.Prelude.{◌≡◌, ◌≢◌, List, MatchOption};
 ghost use Rattle.dgt_values.specs.Board.{pieces_of};
@@ -13,9 +13,9 @@ use dgt_values::Position;
 // The first byte of a dump.
 const DUMP_BYTE: u8 = 0x86;
 
-/// The position of a dump, if the bytes of this whole message are one.
+/// The position of a dump, if these bytes are one whole dump.
 ///
-/// `None` is returned for any other message, and for a dump with a piece code from 16 on.
+/// Returns `None` for any other message, and for a dump with a piece code above 15.
 #[inline(always)]
 pub fn dump_position(bytes: &[u8]) -> Option<Position>
     requires { IsWholeMessage bytes.now }

@@ -1,4 +1,4 @@
-//! The reading of field updates, the most common messages.
+//! Reading field updates, the most common messages.
 
 ghost use Rattle.std.specs.Prelude.{◌≡◌, ◌≢◌, ℕ, MatchOption};
 ghost use Rattle.dgt_values.specs.Board.{square_number};
@@ -12,12 +12,11 @@ use dgt_values::{Piece, Square};
 // The first byte of a field update.
 const FIELD_BYTE: u8 = 0x8e;
 
-/// The square and the piece of a field update, if these bytes are one whole.
+/// The square and the piece of a field update, if these bytes are one whole field update.
 ///
-/// `None` is returned for any other bytes, and for a field update with a square from 64 on or a
-/// piece code from 16 on. A caller that reads many fields asks this before it forms an
-/// [`Event`](crate::Event): an event is as long as a whole position, and copying it takes longer
-/// than reading a field.
+/// Returns `None` for any other bytes, and for a square above 63 or a piece code above 15. A caller
+/// that reads many field updates calls this before it builds an [`Event`](crate::Event): an event
+/// is as large as a whole position, and copying it takes longer than reading a field update.
 #[inline(always)]
 pub fn field_update(bytes: &[u8]) -> Option<(Square, Piece)>
     ensures { MatchOption result

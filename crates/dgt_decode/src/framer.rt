@@ -1,4 +1,4 @@
-//! The reading of one message after another: its states, and the bytes that have come.
+//! Reads one message after another: the states, and the bytes received.
 
 ghost use Rattle.std.specs.Prelude.{◌≡◌, ◌≢◌, ◌≤◌, ◌<◌, ◌+◌, List, ℕ, [], ◌∷◌, ◌++◌, true, length, take, option_map, ◌==◌, if◌then◌else◌, MatchOption, Some, None};
 ghost use Rattle.std.specs.List.{position_or_len};
@@ -10,46 +10,49 @@ use crate::dumps::dump_position;
 use crate::event::{Event, Found};
 use crate::fields::field_update;
 use crate::header::{FIELD, HEADER, TOP_BIT, begins_with_field, first_total};
-use crate::lanes::first_top;
+use crate::lanes::{FEW, first_top, first_top_of_few};
 use dgt_message::{Message, view};
 use dgt_values::{Body, Kept, SevenBit};
 use std::marker::Model;
 
-/// The most bytes of a message, its header of three bytes counted.
+/// The most bytes of a message, including its header of three bytes.
 pub const MAX_TOTAL: usize = 16383;
 
 // Fewer bytes than this are taken one by one.
 const MANY: usize = 16;
 
-/// How far a message has come.
+// The bytes of a long message after this many are stored in aligned blocks.
+const BLOCK: usize = 128;
+
+/// How much of a message was received.
 #[derive(Clone, Copy)]
 enum FramerState {
     /// No message has begun.
     Hunting,
-    /// All of it has come. It is kept until the next byte.
+    /// All of it was received. It is kept until the next byte.
     Whole,
-    /// One or two bytes of its header have come.
+    /// One or two bytes of its header were received.
     Head,
-    /// Its header has come, and this number of bytes is still to come.
+    /// Its header was received, and this many bytes are missing.
     Body { left: usize },
 }
 
-/// A framer's answer to a chunk.
+/// What [`Framer::advance`] did with a chunk.
 #[derive(Clone, Copy, Debug, PartialEq, Eq)]
 pub struct Advanced {
-    /// How many bytes of the chunk were used. The others are still to be read.
+    /// How many bytes of the chunk were used. Pass the others next.
     pub used: usize,
-    /// What the last used byte made known. If there is nothing, the whole chunk was used.
+    /// What the last used byte completed. If it is `None`, the whole chunk was used.
     pub found: Option<Found>,
 }
 
-/// Reads what a board sends, in two steps: `advance` takes bytes, and `event` lends what they made
-/// known. A caller that keeps a state of its own beside the framer can alter it in between; for any
-/// other caller there is `Decoder`.
+/// Reads the bytes that a board sends, in two steps: `advance` uses bytes, and `event` returns what
+/// they completed. Between the two a caller can change a state of its own. All other callers use
+/// `Decoder`.
 ///
-/// Contracts see it as the bytes that it keeps: those that have come of an unfinished message, or
-/// all of the message that has just become whole. The bytes are kept in the framer itself, at most
-/// `MAX_TOTAL` of them. No call takes memory.
+/// Contracts see it as the bytes that it keeps: those of an unfinished message, or all of the
+/// message that is just complete. They are kept in the framer itself, at most `MAX_TOTAL` of them.
+/// No call allocates memory.
 #[derive(Drop)]
 pub struct Framer {
     state: FramerState,
@@ -67,8 +70,8 @@ impl Model for Framer {
     ghost invariant = { λ framer. IsKept framer.state framer.kept };
 }
 
-// The state after bytes of a message of which this number is still to come, and what the last byte
-// made known.
+// The state after some bytes of a message of which this many are missing, and what the last byte
+// completed.
 fn after_byte(left: usize) -> (FramerState, Option<Found>)
     ensures { result ≡ (if left == 0 then (FramerState.Whole, Some Found.Message)
         else (FramerState.Body left, None)) }
@@ -80,27 +83,22 @@ fn after_byte(left: usize) -> (FramerState, Option<Found>)
     }
 }
 
-// Whether the second byte of a chunk begins a message, as every other one among random bytes does.
-#[inline(always)]
-fn is_cut_at_once(chunk: &[u8]) -> bool {
-    matches!(chunk, [_, second, ..] if *second >= TOP_BIT)
-}
-
-// Appends the bytes at the front of the chunk whose top bit isn't set, no more than are missing.
-// Returns how many they are.
+// Appends the leading bytes of the chunk with a clear top bit, no more than are missing. Returns
+// their number.
 fn append_run(kept: &mut Kept<MAX_TOTAL>, missing: usize, chunk: &[u8]) -> usize
     requires { length kept.old + missing ≤ MAX_TOTAL }
     ensures count { result ≡ position_or_len has_top_bit (take missing chunk.now) }
     ensures appended { kept.new ≡ kept.old ++ take result chunk.now }
 {
     let wanted = &chunk[..chunk.len().min(missing)];
-    let run = first_top(wanted);
-    kept.append(&wanted[..run]);
-    run
+    let blocks = kept.append_blocks(wanted);
+    let others = &wanted[blocks..];
+    let run = first_top(others);
+    kept.append(&others[..run]);
+    blocks + run
 }
 
-/// What the bytes of one message make known. No byte of its body is looked at but by the message's
-/// own reading.
+/// The event of the bytes of one message. Only the message's own reading looks at its body.
 pub fn whole_message(bytes: &[u8]) -> Event<'_>
     requires { IsWholeMessage bytes.now }
     ensures { event_content result ≡ message_event bytes.now }
@@ -123,7 +121,7 @@ impl Framer {
         }
     }
 
-    /// How many bytes have come of an unfinished message, which are fewer than [`MAX_TOTAL`].
+    /// How many bytes of an unfinished message were received: fewer than [`MAX_TOTAL`].
     pub fn unfinished_len(&self) -> usize
         ensures { result ≡ length (unfinished_message self.now) }
     {
@@ -133,15 +131,14 @@ impl Framer {
         }
     }
 
-    /// The bytes that are kept: those of an unfinished message, or of the one that has just become
-    /// whole.
+    /// The bytes kept: those of an unfinished message, or of the one that is just complete.
     pub fn bytes(&self) -> &[u8]
         ensures { result.now ≡ self.now }
     {
         self.kept.as_slice()
     }
 
-    /// Makes the framer as new.
+    /// Returns the framer to its initial state.
     pub fn reset(&mut self)
         ensures { self.new ≡ [] }
     {
@@ -149,8 +146,8 @@ impl Framer {
         self.state = FramerState::Hunting;
     }
 
-    /// Uses bytes of the chunk up to and including the first that makes something known, or all of
-    /// it.
+    /// Uses the bytes of the chunk up to and including the first that completes something, or all
+    /// of them.
     pub fn advance(&mut self, chunk: &[u8]) -> Advanced
         ensures within { result.used ≤ length chunk.now }
         ensures first { FirstEvent (unfinished_message self.old) chunk.now result.used
@@ -180,7 +177,7 @@ impl Framer {
     }
 
     /// The event of what was found, or `None` if a message was found and no whole message is kept.
-    /// One that `advance` has just found is kept until the next byte.
+    /// A message that `advance` has just found is kept until the next byte.
     #[inline(always)]
     pub fn event(&self, found: Found) -> Option<Event<'_>>
         ensures { MatchOption result
@@ -194,7 +191,8 @@ impl Framer {
             }
             return self.read_message();
         }
-        // In one `match` with messages these would make a field take half as long again.
+        // In one `match` with messages these cases would make a field update take 1.5 times as
+        // long.
         match found {
             Found::Cut { have } => Some(Event::Cut { have }),
             Found::Stray(byte) => Some(Event::Stray(byte)),
@@ -202,8 +200,8 @@ impl Framer {
         }
     }
 
-    // The event of the message that is kept, if it is whole. Not inlined: a field would then be
-    // copied through its room for an event.
+    // The event of the message kept, if it is whole. Not inlined: otherwise each field update is
+    // copied through the space for an event.
     #[inline(never)]
     fn read_message(&self) -> Option<Event<'_>>
         ensures { MatchOption result (¬ (IsWholeMessage self.now))
@@ -218,26 +216,29 @@ impl Framer {
         }
     }
 
-    // Takes the front: at once between messages a stray byte or a whole message as long as a field,
-    // and within a message the byte that cuts it off; and else a run.
+    // Uses the first bytes. Between messages it takes a stray byte or a whole field update at once.
+    // After the first byte of a message it takes all up to a near byte that cuts it off. Otherwise
+    // it takes a run.
     #[inline(always)]
     fn take_prefix(&mut self, rest: &[u8]) -> Advanced
         requires { 0 < length rest.now }
         ensures { FramesPrefix self.old rest.now result.used self.new result.found }
     {
-        if rest[0] < TOP_BIT {
-            if !self.is_between() {
-                return self.take_run(rest);
+        if !self.is_between() {
+            if let Some(have) = self.take_cut(rest) {
+                return Advanced {
+                    used: have,
+                    found: Some(Found::Cut { have }),
+                };
             }
+            return self.take_run(rest);
+        }
+        if rest[0] < TOP_BIT {
             self.reset();
             return Advanced {
                 used: 1,
                 found: Some(Found::Stray(rest[0])),
             };
-        }
-        if !self.is_between() || is_cut_at_once(rest) {
-            let found = self.begin_message(rest[0]);
-            return Advanced { used: 1, found };
         }
         if !begins_with_field(rest) {
             return self.take_run(rest);
@@ -250,6 +251,28 @@ impl Framer {
         }
     }
 
+    // If only the first byte of a message has come, takes all up to the byte that cuts it off, if
+    // that is among the next few. Returns how many bytes the message had, and keeps the last byte.
+    #[inline(always)]
+    fn take_cut(&mut self, rest: &[u8]) -> Option<usize>
+        ensures { MatchOption result (self.new ≡ self.old) (λ have.
+            FramesPrefix self.old rest.now have self.new (Some (Found.Cut have))) }
+    {
+        if self.kept.len() != 1 || rest.len() < FEW {
+            return None;
+        }
+        let run = first_top_of_few(rest);
+        // A set top bit in the header makes its total larger than any such run.
+        let total = 128 * usize::from(rest[0]) + usize::from(rest[1]);
+        if run == FEW || total <= 1 + run {
+            return None;
+        }
+        self.kept.clear();
+        self.kept.push(rest[run]);
+        self.state = FramerState::Head;
+        Some(1 + run)
+    }
+
     // Whether no message is unfinished.
     #[inline(always)]
     fn is_between(&self) -> bool
@@ -258,8 +281,8 @@ impl Framer {
         matches!(self.state, FramerState::Hunting | FramerState::Whole)
     }
 
-    // Takes the run at the front if a message begins, or if many bytes of one are missing,
-    // and else a few bytes one by one.
+    // Takes the leading run if a message begins or many bytes of one are missing, and otherwise a
+    // few bytes one by one.
     fn take_run(&mut self, rest: &[u8]) -> Advanced
         requires { 0 < length rest.now }
         ensures { FramesPrefix self.old rest.now result.used self.new result.found }
@@ -281,20 +304,21 @@ impl Framer {
         self.take_bytes(&rest[..rest.len().min(MANY)])
     }
 
-    // Takes a message's header, and the run of its body after it.
+    // Takes a message's header, and the run of its body after it, no more than a block.
     fn take_beginning(&mut self, total: usize, rest: &[u8]) -> Advanced
         requires closed { unfinished_message self.old ≡ [] }
         requires begins { Begins total rest.now }
         ensures { FramesPrefix self.old rest.now result.used self.new result.found }
     {
-        let used = HEADER + first_top(&rest[HEADER..rest.len().min(total)]);
+        let end = rest.len().min(total).min(BLOCK);
+        let used = HEADER + first_top(&rest[HEADER..end]);
         self.kept.set_prefix(rest, used);
         let (state, found) = after_byte(total - used);
         self.state = state;
         Advanced { used, found }
     }
 
-    // Uses bytes one by one, up to and including the first that makes something known, or all of
+    // Uses bytes one by one, up to and including the first that completes something, or all of
     // them.
     fn take_bytes(&mut self, bytes: &[u8]) -> Advanced
         requires { 0 < length bytes.now }

@@ -4,16 +4,16 @@ ghost use Rattle.std.specs.Prelude.{◌≡◌, ◌↔◌, ◌≤◌, true, lengt
 ghost use Rattle.dgt_decode.specs.Feeding.{IsWholeMessage};
 ghost use Rattle.dgt_decode.specs.Taking.{Begins};
 
-/// The top bit of a byte. A byte in which it is set begins a message.
+/// The top bit of a byte. It is set in the first byte of each message, and in no other.
 pub const TOP_BIT: u8 = 128;
 
-/// How many bytes a header has. A message's total counts them.
+/// The size of a header in bytes. A message's total includes it.
 pub const HEADER: usize = 3;
 
-/// The total of a field, the most common message.
+/// The total of a field update, the most common message.
 pub const FIELD: usize = 5;
 
-/// Whether a whole message as long as a field stands at the front of these bytes.
+/// Whether the slice begins with a whole message that is as long as a field update.
 #[inline(always)]
 pub fn begins_with_field(bytes: &[u8]) -> bool
     ensures { (result ≡ true)
@@ -25,7 +25,7 @@ pub fn begins_with_field(bytes: &[u8]) -> bool
     *first >= TOP_BIT && *square < TOP_BIT && *piece < TOP_BIT
 }
 
-/// The total that a message's header says, if one stands whole at the front of these bytes.
+/// The total in a message's header, if the slice begins with a whole header.
 #[inline]
 pub fn first_total(bytes: &[u8]) -> Option<usize>
     ensures { IfSome result (λ total. Begins total bytes.now) }

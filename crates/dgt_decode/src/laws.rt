@@ -1,5 +1,5 @@
-//! Laws of the bytes that a board sends, over lists of bytes as such. Nothing here runs: each
-//! function stands for the fact that its contract states.
+//! Laws of lists of bytes that a board sends. Each function does nothing at run time: its contract
+//! states a fact.
 
 ghost use Rattle.std.specs.Prelude.{◌≡◌, ◌<◌, ◌≤◌, ◌+◌, ℕ, List, [], ◌∷◌, ◌++◌, length, Option};
 ghost use Rattle.std.specs.List.{AllByRecursion, concat};
@@ -20,8 +20,8 @@ pub fn limits()
     ensures { MAX_TOTAL ≡ 16383 }
 {}
 
-/// Two values are equal, as `==` compares them, exactly if they are the same. Of an event counts
-/// what it reports, and not where its bytes lie.
+/// Two values are equal by `==` exactly if they are the same. For an event, what it reports counts,
+/// and not the address of its bytes.
 pub fn equal_is_same()
     ensures unfinished { EqualIsSame ⟦<Unfinished as PartialEq>⟧.eq }
     ensures found { EqualIsSame ⟦<Found as PartialEq>⟧.eq }
@@ -41,47 +41,47 @@ pub fn clone_is_same()
     ensures fed { CloneIsSame ⟦<Fed<'static> as Clone>⟧ }
 {}
 
-/// Cut before each byte with a set top bit, a list is a seven-bit lead and segments, and no other
-/// way of dividing it makes such parts.
+/// A list, cut before each byte with a set top bit, is a seven-bit lead and segments. It can be
+/// divided in no other way.
 pub fn one_cut()
     ensures cuts { (s : List ℕ) → CutsInto (lead s) (segments s) s }
     ensures once { (s prefix : List ℕ) (parts : List (List ℕ)) →
         CutsInto prefix parts s → (prefix ≡ lead s) × (parts ≡ segments s) }
 {}
 
-/// The events of a whole are those of its prefix, and then those of what the prefix leaves
-/// unfinished and the rest. So later bytes change no event.
+/// The events of a list are those of any prefix, followed by those of the prefix's unfinished
+/// message and the rest. Later bytes therefore change no event.
 pub fn events_append()
     ensures { EventsAppend }
 {}
 
-/// Of what came before, only the unfinished message bears on what is unfinished later.
+/// Of the earlier bytes, only the unfinished message affects what is unfinished later.
 pub fn unfinished_append()
     ensures { UnfinishedAppend }
 {}
 
-/// An unfinished message is a part of what came.
+/// An unfinished message is part of the bytes received.
 pub fn unfinished_is_part()
     ensures { UnfinishedIsPart }
 {}
 
-/// Places add up. After no bytes, events keep their places. After two lists of bytes their places
-/// are those after both lists in a row, and each event is placed by itself.
+/// Places add up. After no bytes, events keep their places. Moving events by two lists of bytes
+/// moves them by both lists in a row, and each event is moved by itself.
 pub fn places_add()
     ensures { PlacesAdd }
 {}
 
-/// No byte makes two events.
+/// No byte completes two events.
 pub fn one_event()
     ensures { (s : List ℕ) (b : ℕ) → length (events (unfinished_message s ++ b ∷ [])) ≤ 1 }
 {}
 
-/// If no event has come, every byte is held.
+/// Until the first event, every byte is held.
 pub fn quiet_held()
     ensures { QuietHeld }
 {}
 
-/// What is unfinished makes no event, and if nothing comes after it, nothing changes.
+/// What is unfinished completes no event, and without further bytes nothing changes.
 pub fn unfinished_is_quiet()
     ensures { UnfinishedIsQuiet }
 {}
@@ -91,14 +91,15 @@ pub fn unfinished_is_short()
     ensures { (s : List ℕ) → length (unfinished_message s) < MAX_TOTAL }
 {}
 
-/// A byte with a set top bit begins anew, whatever came before: all that it does to it is to cut an
-/// unfinished message off.
+/// A byte with a set top bit starts over, whatever was received before. Its only effect on that is
+/// to cut off an unfinished message.
 pub fn begins_anew()
     ensures { BeginsAnew }
 {}
 
-/// Whatever bytes came before, encoded messages in a row are read whole, each at its last byte, and
-/// nothing stays unfinished. The first of them may cut off what came before, and that is all.
+/// After any bytes, encoded messages in a row are read whole, each at its last byte, and nothing
+/// stays unfinished. The only effect of the earlier bytes: the first message may cut off one of
+/// theirs.
 pub fn recovery()
     ensures { (s : List ℕ) (m : Sent) (more : List Sent) →
         AllByRecursion (λ m. Encodes m.said m.bytes) (m ∷ more) →
@@ -110,7 +111,7 @@ pub fn recovery()
     messages::encoded_is_read();
 }
 
-/// What is written of a message is read as this message, whatever came before it.
+/// What `encode` writes of a message is read as this message, whatever was received before.
 pub fn encoding_is_read()
     ensures { EncodingIsRead }
 {
@@ -118,21 +119,21 @@ pub fn encoding_is_read()
     messages::encoding_encodes();
 }
 
-/// A reader that holds some bytes has one answer to a chunk.
+/// For a reader that holds some bytes, each chunk has one answer.
 pub fn one_first_event()
     ensures { (held chunk : List ℕ) (j k : ℕ) (x y : Option EventSaid) →
         FirstEvent held chunk j x → FirstEvent held chunk k y → (j ≡ k) × (x ≡ y) }
 {}
 
-/// However bytes are cut into chunks, of one byte or of none, the events reported are those of the
-/// bytes in a row.
+/// However bytes are cut into chunks, also of one byte or none, the events are those of all bytes
+/// in a row.
 pub fn in_any_chunks()
     ensures { (s : List ℕ) (calls : List Call) → AreCalls (unfinished_message s) calls →
         events (s ++ used_bytes calls) ≡ events s ++ events_in_chunks (length s) calls }
 {}
 
-/// What is written of a message is read as this message, at its last byte, however it is cut and
-/// whatever came before it.
+/// What `encode` writes of a message is read as this message, at its last byte, however it is cut
+/// into chunks and whatever was received before.
 pub fn encoding_in_chunks()
     ensures { (s : List ℕ) (said : Content) (calls : List Call) →
         IsMessage said → AreCalls (unfinished_message s) calls → used_bytes calls ≡ encoding said →

@@ -16,16 +16,16 @@
 //! }
 //! ```
 //!
-//! A longer chunk is used up to and including the first byte with an event. `event` is the event,
-//! if there is one, and `used` how many bytes were used: feed the rest, until it is used up. An
-//! event lends its body from the decoder until the next call. `feed_all` does all of this with a
-//! whole chunk, and hands each event to a [`Listener`].
+//! [`Decoder::feed`] uses a longer chunk up to and including the first byte that completes an
+//! event. It returns that event, if there is one, and in `used` how many bytes were used: feed the
+//! rest, until all are used. An event borrows its body from the decoder until the next call.
+//! `feed_all` does all of this with a whole chunk, and passes each event to a [`Listener`].
 //!
-//! However the bytes are cut into chunks, the events are those of the bytes in a row
-//! (`laws::in_any_chunks`). After any bytes, messages are read whole again (`laws::recovery`).
+//! However the bytes are cut into chunks, the events are the same (`laws::in_any_chunks`). After
+//! any bytes, messages are read whole again (`laws::recovery`).
 //!
-//! [`plain`] computes all events of a list of bytes at once, by the grammar itself. It is slow: use
-//! it to compare a reader with.
+//! [`plain`] computes all events of a list of bytes at once, directly from the grammar. It is slow,
+//! and serves to test other readers.
 //!
 //! | Contracts cite | It says |
 //! |---|---|
@@ -34,12 +34,11 @@
 //! | `FirstEvent` (`specs/Feeding.antt`) | what one call does with a chunk |
 //! | `chunk_events` | the events of a whole chunk |
 //!
-//! [`laws`] says how the events of chunks make up those of the whole, and that what is unfinished
-//! makes none.
+//! [`laws`] says how the events of chunks make up those of the whole list.
 //!
 //! Messages, codes and lengths are those of the DGT Electronic Board Protocol Description (the
-//! header `dgtbrd`). How faulty bytes are reported, and where reading continues after them, is this
-//! project's own choice.
+//! header `dgtbrd`). This project chose how faulty bytes are reported and where reading continues
+//! after them.
 #![tactic(auto)]
 
 mod decoder;

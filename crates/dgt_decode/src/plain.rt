@@ -1,6 +1,6 @@
-//! All events of a list of bytes, in a plain and slow way: the list is cut before each byte with a
-//! set top bit, and each part is judged whole. A [`Decoder`](crate::Decoder) reports the same
-//! events without the list.
+//! All events of a list of bytes, computed simply and slowly: the list is cut before each byte with
+//! a set top bit, and each part is judged as a whole. A [`Decoder`](crate::Decoder) reports the
+//! same events without keeping the list.
 
 ghost use Rattle.std.specs.Prelude.{◌≡◌, ◌≤◌, ◌<◌, ◌+◌, ◌^◌, [], ◌++◌, length, map, take, if◌then◌else◌, IfOk, IfSome, OnOk, option_map};
 ghost use Rattle.dgt_decode.specs.Grammar.{cut_of, events, shifted, lead, segment_events, strays, unfinished_part, verdict};
@@ -12,10 +12,10 @@ use crate::framer::whole_message;
 use crate::header::{HEADER, TOP_BIT};
 use std::alloc::{AllocError, Global};
 
-/// An event, and the number of bytes up to and including the one that makes it.
+/// An event, and the number of bytes up to and including its last one.
 pub type Reported<'a> = (usize, Event<'a>);
 
-// How many bytes stand before the first with a set top bit.
+// How many bytes precede the first with a set top bit.
 fn lead_length(bytes: &[u8]) -> usize
     ensures within { result ≤ length bytes.now }
     ensures is_lead { take result bytes.now ≡ lead bytes.now }
@@ -28,7 +28,7 @@ fn lead_length(bytes: &[u8]) -> usize
     bytes.len()
 }
 
-// What the message of a segment comes to, with its place in the segment.
+// The event of a segment's message, if there is one, with its place in the segment.
 fn segment_verdict(segment: &[u8]) -> Option<Reported<'_>>
     requires { IsSegment segment.now }
     ensures value { option_map placed_content result ≡ verdict segment.now }
@@ -47,7 +47,7 @@ fn segment_verdict(segment: &[u8]) -> Option<Reported<'_>>
     Some((total, whole_message(&segment[..total])))
 }
 
-// A Stray for each of the bytes, with how many bytes come before the first of them.
+// Appends a Stray for each of the bytes, of which the first has this offset.
 fn push_strays(
     reported: &mut Vec<Reported<'_>>,
     before: usize,
@@ -63,8 +63,7 @@ fn push_strays(
     Ok(())
 }
 
-// The events of a segment, with how many bytes come before it, and the Cut if another segment
-// follows.
+// Appends the events of a segment at this offset, and the Cut if another segment follows.
 fn push_segment<'a>(
     reported: &mut Vec<Reported<'a>>,
     before: usize,
@@ -93,8 +92,8 @@ fn push_segment<'a>(
     Ok(())
 }
 
-/// All events of the bytes, in order, each with the number of bytes up to and including the one
-/// that makes it. Refused memory is `AllocError`.
+/// All events of the bytes, in order, each with the number of bytes up to and including its last
+/// one. Returns `AllocError` if memory is refused.
 pub fn events_of(alloc: Global, bytes: &[u8]) -> Result<Vec<Reported<'_>>, AllocError>
     ensures { IfOk result (λ reported. map placed_content reported.items ≡ events bytes.now) }
 {

@@ -1,4 +1,4 @@
--- Texts in which no two digits stand side by side.
+-- Texts in which no two digits are adjacent.
 use Rattle.std.proofs.Common.{◌≡◌, ℕ, zero, suc, ◌+◌, arith, List, [], ◌∷◌, ◌++◌, get_or}
 use Rattle.std.specs.Char.{IsAsciiDigit}
 use Rattle.dgt_values.specs.Placement.{DigitsApart}
@@ -12,7 +12,7 @@ abbrev pub Apart : List ℕ → Type 0
 Apart [] = Unit {0}
 Apart (byte ∷ bytes) = (IsAsciiDigit byte → BeginsWithDigit bytes → ⊥) × Apart bytes
 
--- a text whose first byte is a digit begins with one
+-- if the first byte of a text is a digit, the text begins with one
 first_begins : (bytes : List ℕ) → IsAsciiDigit (get_or bytes 0 0) → BeginsWithDigit bytes
 first_begins [] h = omega (arith, h.0)
 first_begins (byte ∷ bytes) h = h
@@ -30,7 +30,7 @@ apart_digits (byte ∷ bytes) h (suc k) a b =
     let further : suc k + 1 ≡ suc (k + 1) = omega arith in
     apart_digits bytes h.1 k a (rw further at b)
 
--- both forms say the same, the other way round
+-- the converse
 pub digits_apart : (text : List ℕ) → DigitsApart text → Apart text
 digits_apart [] h = tt
 digits_apart (byte ∷ bytes) h = (
@@ -38,7 +38,7 @@ digits_apart (byte ∷ bytes) h = (
   digits_apart bytes (λ k a b. let further : suc k + 1 ≡ suc (k + 1) = omega arith in h (suc k) a (rw further b)),
 )
 
--- a byte that is no digit keeps what stands around it apart
+-- a byte that isn't a digit keeps its neighbours apart
 pub apart_around : (before : List ℕ) (byte : ℕ) (after : List ℕ) → Apart before → (IsAsciiDigit byte → ⊥) → Apart after
     → Apart (before ++ byte ∷ after)
 apart_around [] byte after h other k = (λ a b. other a, k)
@@ -46,13 +46,13 @@ apart_around (first ∷ []) byte after h other k = (λ a b. other b, (λ a b. ot
 apart_around (first ∷ second ∷ before) byte after h other k =
     (h.0, apart_around (second ∷ before) byte after h.1 other k)
 
--- the beginning of a text whose digits stand apart
+-- the beginning of a text with digits apart
 pub apart_before : (before after : List ℕ) → Apart (before ++ after) → Apart before
 apart_before [] after h = tt
 apart_before (byte ∷ []) after h = (λ a b. b, tt)
 apart_before (byte ∷ next ∷ before) after h = (h.0, apart_before (next ∷ before) after h.1)
 
--- the back of a text whose digits stand apart
+-- the end of a text with digits apart
 pub apart_after : (before after : List ℕ) → Apart (before ++ after) → Apart after
 apart_after [] after h = h
 apart_after (byte ∷ before) after h = apart_after before after h.1

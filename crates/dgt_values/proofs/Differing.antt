@@ -17,7 +17,7 @@ use lib.Lanes.{mask_l, top, zip2}
 abbrev pub unequal : ℕ → ℕ → Bool
 unequal a b = not (eqb a b)
 
--- bit n of the mask says whether lanes n differ
+-- bit n of the mask is set if lanes n differ
 unequal_bits : (xs ys : List ℕ) → length xs ≡ 64 → length ys ≡ 64 → (n : ℕ) → n < 64
     → bit_at (mask_l (map (top 7) (zip2 (λ a b. cond (unequal a b) 255 0) xs ys)) % 2 ^ 64) n
     ≡ cond (unequal (get_or xs n 0) (get_or ys n 0)) 1 0
@@ -37,7 +37,7 @@ code_bit a b bit is = (
   λ other. is ∙ ap (λ b. cond b 1 0) (ap not (ne_eqb _ _ (λ same. other (same_code a b same)))),
 )
 
--- what stands on a square that is there
+-- the piece on a square of the board
 square_same : (a b : List Piece) (n : ℕ) → n < length a → n < length b
     → (get_or a n Empty ≢ get_or b n Empty) ↔ (slice_get a n ≢ slice_get b n)
 square_same a b n h k =

@@ -30,14 +30,14 @@ letter_or_not byte = elim (eqb_tells byte (ascii ".")) [
   ]
 ]
 
--- a byte that is no letter and no digit from 1 to 8 stands for nothing
+-- a byte that isn't a letter or a digit from 1 to 8 means nothing
 means_none : (byte : ℕ) → ((piece : Piece) → piece ≢ Empty → byte ≡ piece_letter piece → ⊥)
     → (byte ≤ ascii "0") ⊎ (ascii "9" ≤ byte) → (squares : List Piece) → MeansSquares byte squares → ⊥
 means_none byte none (inl low) squares (inl run) = omega (arith, run.digit, run.at_least_one)
 means_none byte none (inr high) squares (inl run) = omega (arith, run.digit, run.at_most_eight)
 means_none byte none out squares (inr letter) = none letter.piece letter.not_empty letter.letter
 
--- a byte that is no letter is a digit from 1 to 8 or stands for nothing
+-- a byte that isn't a letter is a digit from 1 to 8 or means nothing
 digit_or_not : (byte : ℕ) → ((piece : Piece) → piece ≢ Empty → byte ≡ piece_letter piece → ⊥)
     → (ascii "0" < byte) ⊎ (byte ≤ ascii "0") → (byte < ascii "9") ⊎ (ascii "9" ≤ byte)
     → ((squares : List Piece) × MeansSquares byte squares) ⊎ ((squares : List Piece) → MeansSquares byte squares → ⊥)
@@ -56,7 +56,7 @@ digit_or_not byte none (inl low) (inl high) =
 digit_or_not byte none (inr low) high = inr (means_none byte none (inl (omega arith)))
 digit_or_not byte none (inl low) (inr high) = inr (means_none byte none (inr high))
 
--- a byte stands for squares or it doesn't
+-- a byte means squares or it doesn't
 means_or_not : (byte : ℕ) → ((squares : List Piece) × MeansSquares byte squares) ⊎ ((squares : List Piece)
     → MeansSquares byte squares → ⊥)
 means_or_not byte = elim (letter_or_not byte) [
@@ -65,14 +65,14 @@ means_or_not byte = elim (letter_or_not byte) [
   | inr none ↦ digit_or_not byte none (cases_lt (ascii "0") byte) (cases_lt byte (ascii "9"))
 ]
 
--- squares that do not fit in the rank are no step
+-- squares that do not fit in the rank are not a step
 too_long : (byte n s : ℕ) (squares : List Piece) → MeansSquares byte squares → s < length squares
     → (n' s' : ℕ) (first : List Piece) → Steps byte n s n' s' first → ⊥
 too_long byte n s squares stands long n' s' first (inl x) = omega (arith, x.slash, above_slash byte squares stands)
 too_long byte n s squares stands long n' s' first (inr x) =
     omega (arith, x.fewer, ap length (means_one byte first squares x.stands stands))
 
--- what a byte does after this many ranks and squares: a step, or nothing
+-- the effect of a byte after this many ranks and squares: a step, or nothing
 record Step (byte n s : ℕ) : Type 0 where
   ranks : ℕ
   left : ℕ
@@ -80,7 +80,7 @@ record Step (byte n s : ℕ) : Type 0 where
   left_in : left ≤ 8
   steps : Steps byte n s ranks left first
 
--- the byte may do nothing
+-- the byte has no effect
 abbrev IsStuck : ℕ → ℕ → ℕ → Type 0
 IsStuck byte n s = (n' s' : ℕ) (first : List Piece) → Steps byte n s n' s' first → ⊥
 
@@ -98,7 +98,7 @@ with_squares byte n s squares le stands (inr fits) =
       steps = inr (record { same_rank = refl; fewer = fewer; stands = stands });
     })
 
--- a byte that means nothing and is no slash in its place may do nothing
+-- a byte that means nothing and isn't a slash in its place has no effect
 no_slash : (byte n s : ℕ) → ((squares : List Piece) → MeansSquares byte squares → ⊥)
     → (byte ≡ ascii "/" → s ≡ 0 → 0 < n → ⊥)
     → IsStuck byte n s
@@ -121,11 +121,11 @@ with_slash byte (suc n) zero none (inl slash) =
       steps = inl (record { slash = slash; full = refl; one_less = refl; eight = refl; none = refl });
     })
 
--- a byte is a slash or it is none
+-- a byte is a slash or not
 slash_or_not : (byte : ℕ) → (byte ≡ ascii "/") ⊎ (byte ≢ ascii "/")
 slash_or_not byte = elim (eqb_tells byte (ascii "/")) [ inl same ↦ inl same.1 | inr other ↦ inr other.1 ]
 
--- a byte is a step or may do nothing
+-- a byte is a step or has no effect
 step_or_not : (byte n s : ℕ) → s ≤ 8 → Step byte n s ⊎ IsStuck byte n s
 step_or_not byte n s le = elim (means_or_not byte) [
   | inl known ↦ with_squares byte n s known.0 le known.1 (cases_lt s (length known.0))
@@ -148,7 +148,7 @@ outcome_at_end text zero (suc s) done le h =
 outcome_at_end text (suc n) s done le h =
     (Err (record { at = length text }), ends_short text (suc n) s done le h (λ none _. omega arith))
 
--- a byte that may do nothing is the first bad one
+-- a byte without effect is the first wrong one
 stuck_is_bad : (text rest : List ℕ) (byte n s : ℕ) (done : List Piece) → s ≤ 8 → Leaves text n s done → IsStuck byte n s
     → IsFirstBadOffset (text ++ byte ∷ rest) (length text)
 stuck_is_bad text rest byte n s done le h stuck =
@@ -157,7 +157,7 @@ stuck_is_bad text rest byte n s done le h stuck =
     let here : get_or (text ++ byte ∷ rest) (length text) 0 ≡ byte = get_or-append_seam text byte rest 0 in
     first_bad (text ++ byte ∷ rest) done (length text) n s inside le (rw prefix h) (rw here stuck)
 
--- what is left of a text has an outcome
+-- the rest of a text has an outcome
 outcome_from : (rest text : List ℕ) (n s : ℕ) (done : List Piece) → s ≤ 8 → Leaves text n s done
     → Outcome (text ++ rest)
 outcome_from [] text n s done le h = rw (append-nil text) (outcome_at_end text n s done le h)

@@ -1,5 +1,5 @@
--- How a text goes on to the end of a placement, byte by byte: this many ranks follow this one, and this many
--- squares of this rank are left.
+-- How a text continues to the end of a placement, byte by byte: this many ranks follow this one,
+-- and this many squares of this rank are left.
 use Prim.Native.Char.{code as ascii}
 use Rattle.std.proofs.Common.{◌≡◌, ℕ, suc, ◌+◌, ◌<◌, ◌⊎◌, inl, inr, refl, sym, ap, ◌∙◌, arith, List, [], ◌∷◌, ◌++◌}
 use Rattle.std.proofs.Common.{length, replicate, append_assoc, length-append}
@@ -12,17 +12,17 @@ use Rattle.dgt_values.specs.Board.{piece_letter}
 use Rattle.dgt_values.specs.Placement.{MeansSquares, IsRank, AreRanks, IsPlacement}
 use Rattle.dgt_values.proofs.PieceCodes.{letter_one}
 
--- letters stand above the slash and the digits
+-- letters are above the slash and the digits
 pub letter_above : (piece : Piece) → piece ≢ Empty → ascii "9" < piece_letter piece
 letter_above Empty h = absurd (h refl)
 letter_above _ h = omega arith
 
--- a byte that stands for squares is no slash
+-- a byte that means squares isn't a slash
 pub above_slash : (byte : ℕ) (squares : List Piece) → MeansSquares byte squares → ascii "/" < byte
 above_slash byte squares (inl run) = omega (arith, run.digit)
 above_slash byte squares (inr letter) = omega (arith, letter.letter, letter_above letter.piece letter.not_empty)
 
--- a byte stands for at most one list of squares
+-- a byte means at most one list of squares
 pub means_one : (byte : ℕ) (a b : List Piece) → MeansSquares byte a → MeansSquares byte b → a ≡ b
 means_one byte a b (inl run) (inl other) =
     let same : run.count ≡ other.count = omega (arith, run.digit, other.digit) in
@@ -50,7 +50,8 @@ pub record AreSquares (byte ranks left ranks' left' : ℕ) (first : List Piece) 
   pub fewer : left ≡ length first + left'
   pub stands : MeansSquares byte first
 
--- what a byte may do: from this many ranks and squares left to those left then, with these squares
+-- the effect of a byte: from this many ranks and squares left to those left then, with these
+-- squares
 abbrev pub Steps : ℕ → ℕ → ℕ → ℕ → ℕ → List Piece → Type 0
 Steps byte ranks left ranks' left' first =
     IsSlash byte ranks left ranks' left' first ⊎ AreSquares byte ranks left ranks' left' first
@@ -62,13 +63,13 @@ Finishes (byte ∷ bytes) ranks left pieces =
     (ranks' left' : ℕ) × (first rest : List Piece) × Steps byte ranks left ranks' left' first
     × Finishes bytes ranks' left' rest × (pieces ≡ first ++ rest)
 
--- a byte does at most one thing
+-- a byte has at most one effect
 pub record SameStep (ranks left ranks' left' : ℕ) (first first' : List Piece) : Type 0 where
   pub ranks_same : ranks ≡ ranks'
   pub left_same : left ≡ left'
   pub first_same : first ≡ first'
 
--- two steps of a byte are one
+-- two steps of a byte are equal
 pub steps_one : (byte n s n1 s1 n2 s2 : ℕ) (a b : List Piece) → Steps byte n s n1 s1 a → Steps byte n s n2 s2 b
     → SameStep n1 s1 n2 s2 a b
 steps_one byte n s n1 s1 n2 s2 a b (inl x) (inl y) =
@@ -97,7 +98,7 @@ finishes_one (byte ∷ text) n s a b (n1, s1, first, rest, step, more, is) (n2, 
     let tail : rest ≡ rest' = finishes_one text n1 s1 rest rest' more over in
     rw (is, is', same.first_same, tail) refl
 
--- a rank, and what follows it
+-- a rank, and the text after it
 rank_finishes : (bytes : List ℕ) (squares : List Piece) → IsRank bytes squares
     → (n : ℕ) (more : List ℕ) (rest : List Piece)
     → Finishes more n 0 rest → Finishes (bytes ++ more) n (length squares) (squares ++ rest)
@@ -135,7 +136,7 @@ ranks_finish (next ∷ ranks) rank pieces (squares, rest, eight, h, after, is) =
     ) in
     rw (is, ← eight) f
 
--- what is left of a placement, taken apart: this rank's text and the texts of the others
+-- the rest of a placement in parts: this rank's text and the texts of the others
 record Parts (text : List ℕ) (n s : ℕ) (pieces : List Piece) : Type 0 where
   rank : List ℕ
   ranks : List (List ℕ)
@@ -154,7 +155,7 @@ longer_rank : (byte : ℕ) (rank : List ℕ) (ranks : List (List ℕ)) → byte 
 longer_rank byte rank [] = refl
 longer_rank byte rank (next ∷ ranks) = refl
 
--- a text that ends a placement can be taken apart
+-- a text that ends a placement can be divided
 parts : (text : List ℕ) (n s : ℕ) (pieces : List Piece) → Finishes text n s pieces → Parts text n s pieces
 parts [] n s pieces h =
     record {
@@ -210,7 +211,7 @@ from_ranks text pieces (rank ∷ ranks) eight joined each =
 pub placement_finishes : (text : List ℕ) (pieces : List Piece) → IsPlacement text pieces → Finishes text 7 8 pieces
 placement_finishes text pieces h = from_ranks text pieces h.ranks h.eight h.joined h.each
 
--- what finishes by the counters is a placement
+-- a text that is finished according to the counters is a placement
 pub finishes_placement : (text : List ℕ) (pieces : List Piece) → Finishes text 7 8 pieces → IsPlacement text pieces
 finishes_placement text pieces h =
     let all = parts text 7 8 pieces h in

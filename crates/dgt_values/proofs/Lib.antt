@@ -8,3 +8,4 @@ pub mod Outcomes
 pub mod Every
 pub mod Apart
 pub mod Written
+pub mod Lanes

@@ -1,4 +1,4 @@
--- A text has one position, or one first bad offset, and never both.
+-- A text has either one position or one first wrong offset.
 use Rattle.std.proofs.Common.{◌≡◌, ℕ, ◌+◌, ◌<◌, inl, inr, ap, arith, List, [], ◌++◌, length, take, drop, append_assoc}
 use mathlib.Core.HLevel.{is_prop→PathP}
 use Rattle.std.proofs.Math.Nat.{ℕ_set}
@@ -16,7 +16,7 @@ use Rattle.dgt_values.proofs.Finishing.{finishes_one, placement_finishes}
 pub one_position : (text : List ℕ) (a b : List Piece) → IsPlacement text a → IsPlacement text b → a ≡ b
 one_position text a b h k = finishes_one text 7 8 a b (placement_finishes text a h) (placement_finishes text b k)
 
--- what begins a beginning begins
+-- a prefix of a beginning is a beginning
 begins_shorter : (text more : List ℕ) → BeginsPlacement (text ++ more) → BeginsPlacement text
 begins_shorter text more (rest, pieces, p) = (more ++ rest, pieces, rw (append_assoc text more rest) at p)
 
@@ -24,14 +24,14 @@ begins_shorter text more (rest, pieces, p) = (more ++ rest, pieces, rw (append_a
 begins_take : (text : List ℕ) (n : ℕ) → BeginsPlacement text → BeginsPlacement (take n text)
 begins_take text n b = begins_shorter (take n text) (drop n text) (rw (take-append-drop n text) b)
 
--- an accepted text has no first bad offset
+-- an accepted text has no first wrong offset
 not_both : (text : List ℕ) (pieces : List Piece) (at : ℕ) → IsPlacement text pieces → IsFirstBadOffset text at → ⊥
 not_both text pieces at p bad = elim (cases_lt at (length text)) [
   | inl lt ↦ bad.no_longer lt (begins_take text (at + 1) ([], pieces, rw (append-nil text) p))
   | inr le ↦ let end : at ≡ length text = omega (arith, bad.within) in bad.too_short end pieces p
 ]
 
--- no first bad offset stands before another
+-- no first wrong offset is before another
 not_before : (text : List ℕ) (first second : ℕ) → IsFirstBadOffset text first → IsFirstBadOffset text second
     → first < second → ⊥
 not_before text first second a b lt =
@@ -39,7 +39,7 @@ not_before text first second a b lt =
     a.no_longer inside
     (rw (← take-take (first + 1) second text (omega arith)) (begins_take (take second text) (first + 1) b.begins))
 
--- a text has one first bad offset at most
+-- a text has at most one first wrong offset
 one_offset : (text : List ℕ) (first second : ℕ) → IsFirstBadOffset text first → IsFirstBadOffset text second
     → first ≡ second
 one_offset text first second a b = elim (cases_lt first second) [

@@ -1,4 +1,4 @@
--- A piece is known by its code, and by its letter.
+-- A piece is determined by its code, and by its letter.
 use Prim.Native.Char.{code as ascii}
 use Rattle.std.proofs.Common.{◌≡◌, ◌<◌, ℕ, List, [], ◌∷◌, arith, get_or, length, lit<, map, refl, sym, ◌∙◌, ap}
 use Rattle.std.specs.Prelude.{◌==◌, if◌then◌else◌}
@@ -36,12 +36,12 @@ letter_piece b =
     (if b == ascii "X" then FirstExtra else (if b == ascii "Y" then SecondExtra else
     (if b == ascii "Z" then ThirdExtra else Empty))))))))))))))
 
--- the letter of a piece is its own alone
+-- each piece has its own letter
 pub letter_piece-letter : (piece : Piece) → letter_piece (piece_letter piece) ≡ piece
 letter_piece-letter Empty = refl
 letter_piece-letter _ = refl
 
--- no two pieces have one letter
+-- no two pieces have the same letter
 pub letter_one : (a b : Piece) → piece_letter a ≡ piece_letter b → a ≡ b
 letter_one a b e = sym (letter_piece-letter a) ∙ ap letter_piece e ∙ letter_piece-letter b
 

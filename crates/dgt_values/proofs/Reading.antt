@@ -1,4 +1,4 @@
--- What is known once a part of a placement is read: how it may go on.
+-- How a placement may continue after a part of it was read.
 use Prim.Native.Char.{code as ascii}
 use Rattle.std.proofs.Common.{◌≡◌, ℕ, zero, suc, ◌+◌, ◌-◌, ◌*◌, ◌<◌, ◌≤◌, inl, inr, refl, sym, ap, ◌∙◌, arith, List, []}
 use Rattle.std.proofs.Common.{◌∷◌, ◌++◌, length, take, drop, replicate, append_assoc, length-append}
@@ -11,15 +11,15 @@ use Rattle.dgt_values.specs.declared.pieces.Piece.TheVariants.{Empty}
 use Rattle.dgt_values.specs.Placement.{MeansSquares, IsPlacement, BeginsPlacement, IsFirstBadOffset}
 use Rattle.dgt_values.proofs.Finishing.{Steps, Finishes, steps_one, placement_finishes, finishes_placement}
 
--- the text so far leaves this many ranks and squares of its last rank, and has these pieces: it goes on to a
--- placement exactly as these go on
+-- the text so far leaves this many ranks and squares of its last rank, and has these pieces: it
+-- continues to a placement exactly as these do
 pub record Leaves (text : List ℕ) (ranks left : ℕ) (done : List Piece) : Type 0 where
   pub on : (more : List ℕ) (rest : List Piece) → Finishes more ranks left rest
       → IsPlacement (text ++ more) (done ++ rest)
   pub back : (more : List ℕ) (pieces : List Piece) → IsPlacement (text ++ more) pieces
       → (rest : List Piece) × Finishes more ranks left rest × (pieces ≡ done ++ rest)
 
--- nothing is read yet: eight ranks are left
+-- nothing was read yet: eight ranks are left
 pub leaves_start : Leaves [] 7 8 []
 leaves_start = record {
   on = λ more rest f. finishes_placement more rest f;
@@ -37,7 +37,7 @@ after_step more n s byte n' s' done first pieces rest step (n2, s2, first2, rest
     rw (e, is, same.first_same) (sym (append_assoc done first2 rest2)) in
     (rest2, over, whole)
 
--- one more byte is read
+-- one more byte was read
 pub leaves_more : (text : List ℕ) (n s : ℕ) (done : List Piece) (byte n' s' : ℕ) (first : List Piece)
     → Leaves text n s done → Steps byte n s n' s' first → Leaves (text ++ byte ∷ []) n' s' (done ++ first)
 leaves_more text n s done byte n' s' first h step = record {
@@ -108,13 +108,13 @@ something_left n (suc s) h =
       ),
     )
 
--- what may be completed begins a placement
+-- a text that can be completed begins a placement
 pub leaves_begins : (text : List ℕ) (n s : ℕ) (done : List Piece) → Leaves text n s done → s ≤ 8 → BeginsPlacement text
 leaves_begins text n s done h le =
     let end = something_left n s le in
     (end.0, done ++ end.1, h.on end.0 end.1 end.2)
 
--- a byte that may do nothing ends every beginning
+-- no beginning continues after a byte without effect
 pub leaves_stuck : (text : List ℕ) (n s : ℕ) (done : List Piece) (byte : ℕ) → Leaves text n s done
     → ((n' s' : ℕ) (first : List Piece) → Steps byte n s n' s' first → ⊥) → BeginsPlacement (text ++ byte ∷ []) → ⊥
 leaves_stuck text n s done byte h stuck (more, pieces, p) =
@@ -157,7 +157,7 @@ leaves_squares bytes pieces after squares at rank file count lt room stands long
     (8 - (file + count)) squares h
     (inr (record { same_rank = refl; fewer = fewer; stands = stands })))
 
--- a byte that may do nothing is the first bad one
+-- a byte without effect is the first wrong one
 pub first_bad : (bytes : List ℕ) (done : List Piece) (at n s : ℕ) → at < length bytes → s ≤ 8
     → Leaves (take at bytes) n s done
     → ((n' s' : ℕ) (first : List Piece) → Steps (get_or bytes at 0) n s n' s' first → ⊥) → IsFirstBadOffset bytes at
@@ -170,7 +170,7 @@ first_bad bytes done at n s lt le h stuck = record {
   too_short = λ end _ _. absurd (omega arith);
 }
 
--- no slash here, and no squares that fit
+-- not a slash, and no squares that fit
 pub no_step : (byte rank file : ℕ) → file ≤ 8 → (byte ≡ ascii "/" → file ≡ 8 → rank < 7 → ⊥)
     → ((squares : List Piece) → MeansSquares byte squares → 8 < file + length squares)
     → (n' s' : ℕ) (first : List Piece) → Steps byte (7 - rank) (8 - file) n' s' first → ⊥
@@ -180,7 +180,7 @@ no_step byte rank file le no_slash too_many n' s' first (inr x) =
     let more = too_many first x.stands in
     omega (arith, x.fewer)
 
--- the whole text is read, and nothing is left
+-- the whole text was read, and nothing is left
 pub whole_placement : (bytes : List ℕ) (pieces : List Piece) (at rank file : ℕ) → length bytes ≤ at → rank ≡ 7
     → file ≡ 8 → length pieces ≡ 64
     → Leaves (take at bytes) (7 - rank) (8 - file) (take (8 * rank + file) pieces) → IsPlacement bytes pieces
@@ -200,7 +200,7 @@ ends_short text n s done le h some = record {
   too_short = λ _ found p. leaves_short text n s done found h some p;
 }
 
--- the whole text is read, and something is left
+-- the whole text was read, and something is left
 pub short_placement : (bytes : List ℕ) (pieces : List Piece) (at rank file : ℕ) → length bytes ≤ at → rank ≤ 7
     → file ≤ 8 → (rank ≡ 7 → file ≡ 8 → ⊥)
     → Leaves (take at bytes) (7 - rank) (8 - file) (take (8 * rank + file) pieces)
@@ -217,7 +217,7 @@ all_filled pieces filled piece next count room is =
     simp (length-take, length-drop) (omega arith) in
     is ∙ ap (λ n. replicate n piece) many
 
--- a list keeps its length if a part of it is written
+-- a list keeps its length if part of it is overwritten
 pub length_mid : {X : Type 0} (next count : ℕ) (pieces filled : List X) → next + count ≤ length pieces
     → length filled ≡ count
     → length (put_mid next count pieces filled) ≡ length pieces

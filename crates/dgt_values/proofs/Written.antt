@@ -21,7 +21,7 @@ use Rattle.dgt_values.proofs.PieceCodes.{letter_one}
 use Rattle.dgt_values.proofs.Placing.{text_after_piece}
 use Rattle.dgt_values.proofs.Apart.{Apart, BeginsWithDigit, apart_around, apart_before, apart_after}
 
--- a square is empty or it isn't
+-- a square is empty or not
 empty_or_not : (piece : Piece) → (piece ≡ Empty) ⊎ (piece ≢ Empty)
 empty_or_not piece = elim (eqb_tells (piece_letter piece) (ascii ".")) [
   | inl same ↦ inl (letter_one piece Empty same.1)
@@ -32,7 +32,7 @@ empty_or_not piece = elim (eqb_tells (piece_letter piece) (ascii ".")) [
 run_digit : (count : ℕ) → 1 ≤ count → run_text count ≡ (ascii "0" + count) ∷ []
 run_digit count some = rw (ne_eqb count 0 (λ h. omega arith)) refl
 
--- a run of empty squares, and what follows it
+-- a run of empty squares, and the text after it
 run_rank : (empty : ℕ) (bytes : List ℕ) (squares : List Piece) → empty ≤ 8 → IsRank bytes squares
     → IsRank (run_text empty ++ bytes) (replicate empty Empty ++ squares)
 run_rank zero bytes squares le h = h
@@ -114,7 +114,7 @@ run_apart : (empty : ℕ) → Apart (run_text empty)
 run_apart zero = tt
 run_apart (suc empty) = rw (run_digit (suc empty) (omega arith)) (λ a b. b, tt)
 
--- no two digits of a written rank stand side by side
+-- no two digits of a written rank are adjacent
 rank_apart : (squares : List Piece) (empty : ℕ) → Apart (rank_text_after empty squares)
 rank_apart [] empty = run_apart empty
 rank_apart (piece ∷ squares) empty = elim (empty_or_not piece) [
@@ -125,7 +125,7 @@ rank_apart (piece ∷ squares) empty = elim (empty_or_not piece) [
       (λ digit. omega (arith, digit.1, letter_above piece other)) (rank_apart squares 0))
 ]
 
--- no two digits of written ranks stand side by side
+-- no two digits of written ranks are adjacent
 ranks_apart : (n : ℕ) (pieces : List Piece) → Apart (join_with_byte (ascii "/") (ranks_text n pieces))
 ranks_apart zero pieces = tt
 ranks_apart (suc zero) pieces = rank_apart (take 8 pieces) 0
@@ -135,12 +135,12 @@ ranks_apart (suc (suc n)) pieces =
     (rank_apart (take 8 pieces) 0)
     (λ digit. omega (arith, digit.0)) (ranks_apart (suc n) (drop 8 pieces))
 
--- no two digits of the written text stand side by side
+-- no two digits of the written text are adjacent
 pub written_apart : (pieces : List Piece) → Apart (placement_text pieces)
 unfolding placement_text
 written_apart pieces = ranks_apart 8 pieces
 
--- a run after a run is one run
+-- a run after a run is a single run
 run_after : (count empty : ℕ) (rest : List Piece) → rank_text_after empty (replicate count Empty ++ rest)
     ≡ rank_text_after (empty + count) rest
 run_after zero empty rest = let same : empty + 0 ≡ empty = omega arith in rw same refl
@@ -148,7 +148,7 @@ run_after (suc count) empty rest =
     let same : empty + suc count ≡ empty + 1 + count = omega arith in
     rw same (run_after count (empty + 1) rest)
 
--- what follows a run of empty squares is written alone if it begins with no digit
+-- the text after a run of empty squares is written unchanged if it doesn't begin with a digit
 after_run : (bytes : List ℕ) (rest : List Piece) (count : ℕ) → IsRank bytes rest → (BeginsWithDigit bytes → ⊥)
     → rank_text_after count rest ≡ run_text count ++ rank_text_after 0 rest
 after_run [] rest count none other = rw none (sym (append-nil (run_text count)))
@@ -219,7 +219,7 @@ only_placement text pieces p apart =
     p.joined
     ∙ ap (join_with_byte (ascii "/")) (only_ranks p.ranks pieces p.each joined ∙ ap (λ n. ranks_text n pieces) p.eight)
 
--- a byte from 0 to 9 counts as a digit, and others don't
+-- a byte from 0 to 9 counts as a digit, and no other byte does
 abbrev is_digit : ℕ → Bool
 is_digit byte = nat_le (ascii "0") byte && nat_le byte (ascii "9")
 
@@ -231,11 +231,11 @@ counts_digit byte low high = grind (arith, nat_tests)
 counts_above : (byte : ℕ) → ascii "9" < byte → is_digit byte ≡ false
 counts_above byte high = grind (arith, nat_tests)
 
--- the digits of a whole are those of its parts
+-- the digits of a list are those of its parts
 counts_joined : (before after : List ℕ) → digit_count (before ++ after) ≡ digit_count before + digit_count after
 counts_joined before after = sum_by-append (λ byte. cond (is_digit byte) 1 0) before after
 
--- a byte that is no digit adds nothing
+-- a byte that isn't a digit adds nothing
 counts_other : (byte : ℕ) (bytes : List ℕ) → is_digit byte ≡ false → digit_count (byte ∷ bytes) ≡ digit_count bytes
 counts_other byte bytes h =
     let none : digit_count (byte ∷ []) ≡ 0 = rw h refl in
@@ -247,7 +247,7 @@ counts_one byte bytes h =
     let one : digit_count (byte ∷ []) ≡ 1 = rw h refl in
     omega (arith, counts_joined (byte ∷ []) bytes)
 
--- one byte has one digit at most
+-- one byte is at most one digit
 few_in_one : (byte : ℕ) (test : Bool) → is_digit byte ≡ test → digit_count (byte ∷ []) ≤ 1
 few_in_one byte true h = omega (arith, counts_one byte [] h)
 few_in_one byte false h = omega (arith, counts_other byte [] h)
@@ -259,7 +259,7 @@ few_in_run (suc empty) =
     rw (run_digit (suc empty) (omega arith))
     (few_in_one (ascii "0" + suc empty) (is_digit (ascii "0" + suc empty)) refl)
 
--- a rank after a run of empty squares, written with no more digits than another text of it
+-- a rank after a run of empty squares, written with no more digits than another of its texts
 few_in_rank : (bytes : List ℕ) (squares : List Piece) (empty : ℕ) → IsRank bytes squares
     → digit_count (rank_text_after empty squares) ≤ digit_count (run_text empty) + digit_count bytes
 few_in_rank [] squares empty none = rw none (omega arith)
@@ -304,7 +304,7 @@ NoMoreDigits (rank ∷ ranks) (other ∷ others) = (digit_count rank ≤ digit_c
 slash_counts : (ranks : List ℕ) → digit_count (ascii "/" ∷ ranks) ≡ digit_count ranks
 slash_counts ranks = counts_other (ascii "/") ranks refl
 
--- texts with no more digits have no more when they are joined by slashes
+-- joining texts with no more digits by slashes gives no more digits
 few_joined : (ranks others : List (List ℕ)) → NoMoreDigits ranks others
     → digit_count (join_with_byte (ascii "/") ranks) ≤ digit_count (join_with_byte (ascii "/") others)
 few_joined [] [] h = omega arith

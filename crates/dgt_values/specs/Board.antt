@@ -6,15 +6,15 @@ use Rattle.dgt_values.specs.declared.pieces.Piece.{Piece}
 use Rattle.dgt_values.specs.declared.positions.Position.{Position}
 use Rattle.dgt_values.specs.declared.squares.Square.{Square}
 
--- what a clause reads of a square
+-- how clauses see a square
 abbrev pub square_number : Square → ℕ
 square_number square = square.index
 
--- the file as a letter from a, and the rank as a digit from 8 down
+-- the file as a letter from a on, and the rank as a digit from 8 down
 abbrev pub square_name : ℕ → List ℕ
 square_name square = (ascii "a" + square % 8) ∷ (ascii "8" - square / 8) ∷ []
 
--- the byte that a message carries for a piece
+-- the byte of a piece in a message
 abbrev pub piece_code : Piece → ℕ
 piece_code Piece.Empty = 0x00
 piece_code Piece.WhitePawn = 0x01
@@ -33,15 +33,15 @@ piece_code Piece.FirstExtra = 0x0d
 piece_code Piece.SecondExtra = 0x0e
 piece_code Piece.ThirdExtra = 0x0f
 
--- its letter, by its code: the capital ones are white, and a dot is an empty square
+-- the letter of a piece, by its code: upper case is white, and a dot is an empty square
 abbrev pub piece_letter : Piece → ℕ
 piece_letter piece = slice_index (codes ".PRNBKQprnbkqXYZ") (piece_code piece)
 
--- what a clause reads of a position: the pieces of its squares in their order
+-- how clauses see a position: the pieces of its squares in order
 abbrev pub pieces_of : Position → List Piece
 pieces_of position = position.pieces
 
--- the position in which a game begins, from rank 8 down, each rank from the a file on
+-- the initial position of a game, from rank 8 down, each rank from the a file on
 abbrev pub start_pieces : List Piece
 start_pieces =
     Piece.BlackRook ∷ Piece.BlackKnight ∷ Piece.BlackBishop ∷ Piece.BlackQueen
@@ -50,7 +50,7 @@ start_pieces =
     ++ Piece.WhiteRook ∷ Piece.WhiteKnight ∷ Piece.WhiteBishop ∷ Piece.WhiteQueen
     ∷ Piece.WhiteKing ∷ Piece.WhiteBishop ∷ Piece.WhiteKnight ∷ Piece.WhiteRook ∷ []
 
--- bit n is set exactly if square n differs
+-- bit n is set if and only if square n differs
 abbrev pub DifferingSquares : List Piece → List Piece → ℕ → Type 0
 DifferingSquares a b bits =
     (square : ℕ) → square < 64 → IsBitSet bits square ↔ (slice_get a square ≢ slice_get b square)

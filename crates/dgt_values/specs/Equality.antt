@@ -1,4 +1,4 @@
--- What `==` says of two values, and what a clone is.
+-- `==` of two values, and clones.
 use Rattle.std.specs.declared.clone.Clone as clone
 use Rattle.std.specs.Prelude.{◌≡◌, ◌↔◌, Bool, IsTrue}
 
@@ -6,11 +6,11 @@ use Rattle.std.specs.Prelude.{◌≡◌, ◌↔◌, Bool, IsTrue}
 abbrev pub EqualIsSame : {T : Type 0} → (T → T → Bool) → Type 0
 EqualIsSame eq = (a b : _) → IsTrue (eq a b) ↔ (a ≡ b)
 
--- two values are equal exactly if a clause reads the same of them
+-- two values are equal exactly if a clause sees the same in both
 abbrev pub EqualIsSameRead : {T Read : Type 0} → (T → Read) → (T → T → Bool) → Type 0
 EqualIsSameRead read eq = (a b : _) → IsTrue (eq a b) ↔ (read a ≡ read b)
 
--- two values of which this holds are equal exactly if a clause reads the same of them
+-- two values with this property are equal exactly if a clause sees the same in both
 abbrev pub EqualIsSameReadOf :
     {T Read : Type 0} → (T → Type 0) → (T → Read) → (T → T → Bool) → Type 0
 EqualIsSameReadOf Holds read eq =

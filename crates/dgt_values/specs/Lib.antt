@@ -1,4 +1,4 @@
--- What public contracts cite, in the order to read. Nothing here is for bodies alone.
+-- Cited by public contracts, in the order to read.
 pub mod Equality
 pub mod Bytes
 pub mod Board

@@ -1,5 +1,5 @@
--- The text of a position: eight ranks, from rank 8 down, with a slash between two. A rank is
--- letters of pieces and digits for runs of empty squares, eight squares in all.
+-- The text of a position: eight ranks, from rank 8 down, with a slash between two. A rank consists
+-- of letters for pieces and digits for runs of empty squares, eight squares in all.
 use Prim.Native.Char.{code as ascii}
 use Rattle.std.specs.Prelude.{◌≡◌, ◌≢◌, ℕ, zero, suc, ◌+◌, ◌<◌, ◌≤◌, ◌⊎◌, ◌==◌, if◌then◌else◌}
 use Rattle.std.specs.Prelude.{count_by, List, [], ◌∷◌, ◌++◌, take, drop, length, replicate}
@@ -26,7 +26,7 @@ pub record IsPieceLetter (byte : ℕ) (squares : List Piece) : Type 0 where
   pub letter : byte ≡ piece_letter piece
   pub one_square : squares ≡ piece ∷ []
 
--- the squares that a byte of a rank stands for
+-- the squares of a byte of a rank
 abbrev pub MeansSquares : ℕ → List Piece → Type 0
 MeansSquares byte squares = IsEmptyRun byte squares ⊎ IsPieceLetter byte squares
 
@@ -55,15 +55,15 @@ pub record IsPlacement (text : List ℕ) (pieces : List Piece) : Type 0 where
 abbrev pub BeginsPlacement : List ℕ → Type 0
 BeginsPlacement text = (more : List ℕ) × (pieces : List Piece) × IsPlacement (text ++ more) pieces
 
--- The text up to this offset begins an accepted one, and with the byte there no longer. At the
--- text's end the text is only too short.
+-- The text up to this offset begins an accepted one, and with the byte there it no longer does. At
+-- the text's end the text is only too short.
 pub record IsFirstBadOffset (text : List ℕ) (at : ℕ) : Type 0 where
   pub within : at ≤ length text
   pub begins : BeginsPlacement (take at text)
   pub no_longer : at < length text → ¬ (BeginsPlacement (take (at + 1) text))
   pub too_short : at ≡ length text → (pieces : List Piece) → ¬ (IsPlacement text pieces)
 
--- the result is the position of the text, or where the text stops being one
+-- the result is the position of the text, or its first wrong offset
 abbrev pub ParsesPlacement : List ℕ → Result Position BadPlacement → Type 0
 ParsesPlacement text r = MatchResult r
     (λ position. IsPlacement text (pieces_of position))
@@ -73,7 +73,7 @@ ParsesPlacement text r = MatchResult r
 abbrev pub digit_count : List ℕ → ℕ
 digit_count text = count_by is_ascii_digit text
 
--- no two digits stand side by side
+-- no two digits are adjacent
 abbrev pub DigitsApart : List ℕ → Type 0
 DigitsApart text =
     (k : ℕ) → IsAsciiDigit (slice_index text k) → ¬ (IsAsciiDigit (slice_index text (k + 1)))

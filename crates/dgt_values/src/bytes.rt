@@ -4,14 +4,14 @@ ghost use Rattle.std.specs.Prelude.{◌≡◌, ℕ, ◌<◌, ◌%◌};
 
 use crate::refusals::NotSevenBit;
 
-/// A byte below 128. On the line from board to host, all bytes but the first of a message are such.
+/// A byte below 128. In messages from the board, only the first byte is 128 or more.
 #[derive(Clone, Copy, Debug, PartialEq, Eq)]
 pub struct SevenBit {
     value: u8,
     ghost small: { value < 128 },
 }
 
-/// A byte of 128 or more is `NotSevenBit`.
+/// A byte of 128 or more is refused as `NotSevenBit`.
 impl TryFrom<u8> for SevenBit {
     type Error = NotSevenBit;
 

@@ -1,17 +1,23 @@
-//! Bytes kept in place.
+//! A buffer of fixed size.
 
 ghost use Rattle.std.specs.Prelude.{◌≡◌, ◌≤◌, ◌<◌, ◌+◌, [], ◌∷◌, ◌++◌, length, min, take};
+ghost use Rattle.dgt_values.specs.Bytes.{AreSevenBit};
 
 use std::marker::Model;
 use std::simd::prelude::*;
 
-// An `ArrayVec` would write a blank over each byte that goes, so this is an array and a length.
+// An `ArrayVec` would overwrite each byte that is removed, so this is an array and a length.
 
-// No more bytes than this are copied in one step, with bytes after them if there are some.
+// Up to this many bytes are copied in one step, with the bytes after them if there are any.
 const FEW: usize = 8;
 
-/// At most `ROOM` bytes, which lie in the value itself: what the readers of the crates above keep
-/// of a message or of a frame. Those that go are written over by the next ones.
+// Of many bytes, this number is looked at and copied in one step, in two halves.
+const BLOCK: usize = 128;
+
+const HALF: usize = 64;
+
+/// At most `ROOM` bytes, stored in the value itself. Decoders keep the bytes of a message or a
+/// frame in it. Removed bytes stay in memory until new ones overwrite them.
 #[derive(Drop)]
 pub struct Kept<const ROOM: usize> {
     bytes: [u8; ROOM],
@@ -29,7 +35,7 @@ impl<const ROOM: usize> Model for Kept<ROOM> {
 }
 
 impl<const ROOM: usize> Kept<ROOM> {
-    /// No byte.
+    /// An empty buffer.
     pub fn new() -> Self
         ensures { result ≡ [] }
     {
@@ -46,14 +52,14 @@ impl<const ROOM: usize> Kept<ROOM> {
         self.len
     }
 
-    /// The bytes, in the order in which they came.
+    /// The bytes, in the order in which they were added.
     pub fn as_slice(&self) -> &[u8]
         ensures { result.now ≡ self.now }
     {
         &self.bytes[..self.len]
     }
 
-    /// Keeps no byte any more.
+    /// Removes all bytes.
     pub fn clear(&mut self)
         ensures { self.new ≡ [] }
     {
@@ -85,7 +91,34 @@ impl<const ROOM: usize> Kept<ROOM> {
         }
     }
 
-    /// Keeps the first `len` of these bytes, or as many as there are and fit, and none from before.
+    /// Appends bytes in blocks of 128, up to the first block with a set top bit or without room.
+    /// Returns how many bytes it appended. The contract leaves that number open: pass the others to
+    /// [`Kept::append`].
+    pub fn append_blocks(&mut self, bytes: &[u8]) -> usize
+        ensures within { result ≤ length bytes.now }
+        ensures seven_bit { AreSevenBit (take result bytes.now) }
+        ensures kept { self.new ≡ self.old ++ take result bytes.now }
+    {
+        let start = self.len;
+        let most = bytes.len().min(ROOM - start);
+        let mut at = 0;
+        while most - at >= BLOCK {
+            let low = u8x64::from_slice(&bytes[at..]);
+            let high = u8x64::from_slice(&bytes[at + HALF..]);
+            if top_bits(low) != 0 || top_bits(high) != 0 {
+                break;
+            }
+            let all = &mut self.bytes[..];
+            low.copy_to_slice(&mut all[start + at..]);
+            high.copy_to_slice(&mut all[start + at + HALF..]);
+            at += BLOCK;
+        }
+        self.len = start + at;
+        at
+    }
+
+    /// Keeps the first `len` of these bytes, or as many as there are and fit, and removes all
+    /// earlier ones.
     pub fn set_prefix(&mut self, bytes: &[u8], len: usize)
         ensures { self.new ≡ take (min len ROOM) bytes.now }
     {
@@ -97,4 +130,12 @@ impl<const ROOM: usize> Kept<ROOM> {
         }
         self.len = len;
     }
+}
+
+// The lanes' top bits, the first lane's lowest.
+#[inline(always)]
+fn top_bits(lanes: u8x64) -> u64
+    ensures { result ≡ 0 → AreSevenBit lanes }
+{
+    lanes.simd_ge(u8x64::splat(128)).to_bitmask()
 }

@@ -1,9 +1,9 @@
-//! The kinds of the replies that a host awaits.
+//! The kinds of replies that a host awaits.
 
-/// A kind of reply that a host awaits once it has asked for it, and that a board owes once it was
-/// asked. Other replies, as of the clock, have none.
+/// A kind of reply that a host awaits after a request, and that a board owes after one. Other
+/// replies, such as the clock's, have no kind.
 ///
-/// The default stands in the unused places of a list of kinds, and means nothing.
+/// The default fills the unused places of a list of kinds, and has no meaning.
 #[derive(Clone, Copy, Debug, Default, PartialEq, Eq)]
 pub enum Kind {
     #[default]

@@ -1,5 +1,5 @@
-//! What holds of values and of the texts of positions as such. Nothing here runs: each function
-//! stands for the fact that its contract states.
+//! Laws of values and of the texts of positions. Each function does nothing at run time: its
+//! contract states a fact.
 
 ghost use Rattle.std.specs.Prelude.{◌≡◌, ◌≤◌, ◌++◌, ◌∷◌, ℕ, Bool, IsBitSet, IsTrue, List, [], length, replicate, MatchResult, Result, Err, Ok};
 ghost use Rattle.dgt_values.specs.Board.{piece_code, pieces_of, square_number, DifferingSquares};
@@ -30,8 +30,8 @@ pub fn limits()
     ensures { MAX_BODY ≡ 16380 }
 {}
 
-/// Two values are equal, as `==` compares them, exactly if they are the same. Of a body its
-/// bytes count, and not where they lie.
+/// Two values are equal by `==` exactly if they are the same. For a body its bytes count, and not
+/// their address.
 pub fn equal_is_same()
     ensures seven_bit { EqualIsSameRead number ⟦<SevenBit as PartialEq>⟧.eq }
     ensures body { EqualIsSameRead body_bytes ⟦<Body<'static> as PartialEq>⟧.eq }
@@ -69,8 +69,8 @@ pub fn clone_is_same()
     ensures known { CloneIsSame ⟦<Known as Clone>⟧ }
 {}
 
-/// What it means that values are equal exactly if they are the same, or if a clause reads the same
-/// of them.
+/// What `equal_is_same` says: values are equal exactly if they are the same, or if a clause sees
+/// the same in both.
 pub fn what_is_equal()
     ensures equal { (eq : ℕ → ℕ → Bool) (a b : ℕ) → EqualIsSame eq → IsTrue (eq a b) → a ≡ b }
     ensures same { (eq : ℕ → ℕ → Bool) (a : ℕ) → EqualIsSame eq → IsTrue (eq a a) }
@@ -86,7 +86,7 @@ pub fn what_is_equal()
         → IsTrue (eq a b) }
 {}
 
-/// What it means that a clone is the value itself and that cloning never fails.
+/// What `clone_is_same` says: a clone is the value itself, and cloning never fails.
 pub fn what_is_cloned()
     ensures { (succeeds : ℕ → Bool) (may_give : ℕ → ℕ → Bool) (a b : ℕ)
         → CloneIsSame (record {
@@ -107,8 +107,8 @@ pub fn what_is_refused()
     ensures high_byte { (error : NotSevenBit) → ¬ (Refuses (127 ∷ []) (Byte error)) }
 {}
 
-/// Bytes that are written into a slice: two into a longer one, two into one that they fill, and
-/// three into one that is too short.
+/// Bytes written into a slice: two into a longer one, two into one that they fill, and three into
+/// one that is too short.
 pub fn written_bytes()
     ensures longer { (new : List ℕ) (result : Result ℕ NoRoom)
         → WritesPrefix (1 ∷ 2 ∷ []) (7 ∷ 8 ∷ 9 ∷ []) new result
@@ -121,7 +121,7 @@ pub fn written_bytes()
         → (result ≡ Err (record { need = 3 })) × (new ≡ 7 ∷ 8 ∷ []) }
 {}
 
-/// Two positions of which the first square and the last one differ, and no other.
+/// Two positions that differ only on the first and the last square.
 pub fn squares_that_differ()
     ensures { (bits : ℕ) → DifferingSquares
         (Piece.WhiteKing ∷ replicate 62 Piece.Empty ++ Piece.WhiteKing ∷ [])
@@ -129,7 +129,7 @@ pub fn squares_that_differ()
         → IsBitSet bits 0 × (¬ (IsBitSet bits 1)) × (¬ (IsBitSet bits 62)) × IsBitSet bits 63 }
 {}
 
-/// A piece is known by its code.
+/// A piece is determined by its code.
 pub fn one_piece_a_code()
     ensures { (first second : Piece) → piece_code first ≡ piece_code second → first ≡ second }
 {}
@@ -140,38 +140,38 @@ pub fn placements_fill_the_board()
         → IsPlacement text pieces → length pieces ≡ 64 }
 {}
 
-/// No text is a placement of two positions.
+/// No text is a placement of two different positions.
 pub fn one_position_a_placement()
     ensures { (text : List ℕ) (first second : List Piece)
         → IsPlacement text first → IsPlacement text second → first ≡ second }
 {}
 
-/// Each list of bytes has a position or a first bad offset.
+/// Each list of bytes has a position or a first wrong offset.
 pub fn some_outcome_a_text()
     ensures { (text : List ℕ)
         → (read : Result Position BadPlacement) × ParsesPlacement text read }
 {}
 
-/// No text has two positions or two first bad offsets, and none has a position and a first bad
+/// No text has two positions or two first wrong offsets, and none has a position and a first wrong
 /// offset.
 pub fn one_outcome_a_text()
     ensures { (text : List ℕ) (first second : Result Position BadPlacement)
         → ParsesPlacement text first → ParsesPlacement text second → first ≡ second }
 {}
 
-/// What is written of 64 pieces is a placement of them.
+/// The written text of 64 pieces is a placement of them.
 pub fn written_text_is_accepted()
     ensures { (pieces : List Piece)
         → length pieces ≡ 64 → IsPlacement (placement_text pieces) pieces }
 {}
 
-/// What is read of the written text of a position is that position.
+/// The written text of a position reads back as this position.
 pub fn written_text_reads_back()
     ensures { (position : Position) (read : Result Position BadPlacement)
         → ParsesPlacement (placement_text (pieces_of position)) read → read ≡ Ok position }
 {}
 
-/// No two digits of the written text stand side by side.
+/// In the written text, no two digits are adjacent.
 pub fn written_digits_stand_apart()
     ensures { (pieces : List Piece) → DigitsApart (placement_text pieces) }
 {}

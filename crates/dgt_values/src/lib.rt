@@ -1,7 +1,8 @@
 //! The values that messages and commands of a DGT electronic chess board are made of: squares,
 //! pieces and positions, bytes with a clear top bit, and the segments of a clock's digits.
 //!
-//! A value is always in range: what makes one refuses everything else. Nothing here takes memory.
+//! A value is always in range: its constructors refuse everything else. Nothing here allocates
+//! memory.
 //!
 //! | To | Use |
 //! |---|---|
@@ -23,13 +24,13 @@
 //! }
 //! ```
 //!
-//! [`laws`] says that reading and writing agree. [`TooMuch`], [`Known`] and [`NoRoom`] are refusals
-//! that the crates above return too, [`Kind`] lists the kinds of replies that a host awaits, and
-//! [`Kept`] is what decoders keep.
+//! [`laws`] says that reading and writing agree. The crates above this one also return [`TooMuch`],
+//! [`Known`] and [`NoRoom`]. [`Kind`] lists the kinds of replies that a host awaits, and [`Kept`]
+//! is the decoders' buffer.
 //!
 //! Piece codes, square numbers and segment bytes are those of the DGT Electronic Board Protocol
-//! Description (the published `dgtbrd` header). The letters `.`, `X`, `Y` and `Z`, and that a
-//! placement may be read with two digits side by side, are this project's own choice.
+//! Description (the published `dgtbrd` header). Two rules are this project's own choice: the
+//! letters `.`, `X`, `Y` and `Z`, and that a placement may contain two adjacent digits.
 #![tactic(auto)]
 
 mod bodies;

@@ -5,8 +5,8 @@ ghost use Rattle.dgt_values.specs.Board.{piece_code, piece_letter};
 
 use crate::refusals::NoPiece;
 
-/// What a square holds: nothing, one of the twelve pieces of chess, or one of three extra pieces,
-/// to which nothing here gives a meaning.
+/// What a square holds: nothing, one of the twelve chess pieces, or one of three extra pieces, to
+/// which this project gives no meaning.
 #[derive(Clone, Copy, Debug, PartialEq, Eq)]
 pub enum Piece {
     Empty,
@@ -28,7 +28,8 @@ pub enum Piece {
 }
 
 impl Piece {
-    /// The piece of a code from 0 to 15, as a message carries it. A greater code is `NoPiece`.
+    /// The piece of a code from 0 to 15, as a message carries it. Returns `NoPiece` for a greater
+    /// code.
     pub fn from_code(code: u8) -> Result<Self, NoPiece>
         ensures { MatchResult result (λ piece. piece_code piece ≡ code) (λ _. 16 ≤ code) }
     {
@@ -61,8 +62,8 @@ impl Piece {
         self as u8
     }
 
-    /// The letter: a capital one for white, a small one for black, `.` for an empty square, and
-    /// `X`, `Y` and `Z` for the extra pieces.
+    /// The letter: upper case for white, lower case for black, `.` for an empty square, and `X`,
+    /// `Y` and `Z` for the extra pieces.
     pub fn letter(self) -> char
         ensures value { result ≡ piece_letter self }
         ensures ascii { result < 128 }
@@ -87,7 +88,7 @@ impl Piece {
         }
     }
 
-    /// The piece of a letter. A character that is none of the sixteen letters is `NoPiece`.
+    /// The piece of a letter. Returns `NoPiece` for any character other than the sixteen letters.
     pub fn from_letter(letter: char) -> Result<Self, NoPiece>
         ensures { MatchResult result
             (λ piece. piece_letter piece ≡ letter)

@@ -13,13 +13,13 @@ use arrayvec::ArrayString;
 
 impl Position {
     /// The position of a placement: eight ranks, from 8 down to 1, with a slash between two. A rank
-    /// has letters for its pieces and digits from 1 to 8 for runs of empty squares, eight squares
-    /// in all. Two digits may stand side by side. Any other text is a `BadPlacement`.
+    /// consists of letters for its pieces and digits from 1 to 8 for runs of empty squares, eight
+    /// squares in all. Two digits may be adjacent. Returns `BadPlacement` for any other text.
     pub fn parse_placement(text: &str) -> Result<Self, BadPlacement>
         ensures { ParsesPlacement text.now result }
     {
         let mut pieces = [Piece::Empty; 64];
-        // the full ranks above this one, and the squares of this one
+        // the full ranks above this one, and the squares read of this one
         let mut rank = 0;
         let mut file = 0;
         for (at, &byte) in text.as_bytes().iter().enumerate() {
@@ -45,8 +45,8 @@ impl Position {
         }
     }
 
-    /// The placement of the position with the fewest digits: two digits never stand side by side.
-    /// It reads back as this position.
+    /// The placement of the position with the fewest digits: two digits are never adjacent. It
+    /// reads back as this position.
     pub fn placement(&self) -> ArrayString<71>
         ensures { result.bytes ≡ placement_text (pieces_of self.now) }
     {
@@ -61,8 +61,8 @@ impl Position {
     }
 }
 
-/// What a byte of a rank stands for: this piece, on this number of squares. `None` if it stands for
-/// none, or for more than there is room for.
+/// What a byte of a rank means: this piece, on this number of squares. `None` if it means nothing,
+/// or more squares than are left.
 fn squares_of(byte: u8, room: usize) -> Option<(Piece, usize)>
     ensures { MatchOption result
         ((squares : List Piece) → MeansSquares byte squares → room < length squares)

@@ -1,4 +1,4 @@
-//! What stands on each square.
+//! Positions: the pieces on the 64 squares.
 
 ghost use Rattle.std.specs.Prelude.{◌≡◌, ◌↔◌, ◌<◌, ◌≤◌, ℕ, length, map, replicate, IsTrue, MatchResult};
 ghost use Rattle.std.specs.Prelude.{slice_get, slice_index, slice_set};
@@ -40,7 +40,7 @@ impl Position {
     ghost use Rattle.dgt_values.specs.Board.{piece_code, pieces_of, square_number, start_pieces};
     ghost use Rattle.dgt_values.specs.Board.{DifferingSquares};
 
-    /// A board with no piece.
+    /// A board without pieces.
     pub fn empty() -> Self
         ensures { pieces_of result ≡ replicate 64 Piece.Empty }
     {
@@ -67,8 +67,8 @@ impl Position {
         Position { pieces }
     }
 
-    /// The position of these codes, from a8 to h1. `Err` has the first square with a code above 15,
-    /// which is no piece's.
+    /// The position of these piece codes, from a8 to h1. `Err` is the first square with a code
+    /// above 15.
     pub fn from_codes(codes: &[u8; 64]) -> Result<Self, Square>
         ensures { MatchResult result
             (λ position. map piece_code (pieces_of position) ≡ codes.now)
@@ -85,7 +85,7 @@ impl Position {
         Ok(Position { pieces })
     }
 
-    /// The pieces of all squares by their numbers, from a8 to h1.
+    /// The pieces of all squares, from a8 to h1.
     pub fn pieces(&self) -> &[Piece; 64]
         ensures pieces { result.now ≡ pieces_of self.now }
         ensures len { length (pieces_of self.now) ≡ 64 }
@@ -93,7 +93,7 @@ impl Position {
         &self.pieces
     }
 
-    /// What the square holds.
+    /// The piece on the square, or `Empty`.
     pub fn get(&self, square: Square) -> Piece
         ensures piece { slice_get (pieces_of self.now) (square_number square) ≡ Some result }
         ensures len { length (pieces_of self.now) ≡ 64 }
@@ -110,7 +110,7 @@ impl Position {
         self.pieces[square.index() as usize] = piece;
     }
 
-    /// The squares on which two positions differ: bit n is set exactly if square n differs.
+    /// The squares on which two positions differ: bit n is set if square n differs.
     pub fn differ(&self, other: &Position) -> u64
         ensures { DifferingSquares (pieces_of self.now) (pieces_of other.now) result }
     {
@@ -119,12 +119,12 @@ impl Position {
         own.simd_ne(others).to_bitmask()
     }
 
-    /// The codes of the pieces of all squares by the squares' numbers, as a dump carries them.
+    /// The codes of the pieces from a8 to h1, as a dump carries them.
     pub fn codes(&self) -> [u8; 64]
         ensures codes { result ≡ map piece_code (pieces_of self.now) }
         ensures len { length (pieces_of self.now) ≡ 64 }
     {
-        // They stand in memory just so, and the compiler makes no loop of it.
+        // In memory these bytes are the codes already, and the compiler emits no loop.
         let mut codes = [0; 64];
         for square in 0..64 {
             codes[square] = self.pieces[square].code();

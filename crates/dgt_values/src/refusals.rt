@@ -3,12 +3,12 @@
 use crate::bodies::MAX_BODY;
 use thiserror::Error;
 
-/// A byte whose top bit is set, where none may be.
+/// The top bit of a byte is set, and has to be clear.
 #[derive(Clone, Copy, Debug, PartialEq, Eq, Error)]
-#[error("the top bit is set")]
+#[error("the byte's top bit is set")]
 pub struct NotSevenBit;
 
-/// The list has more bytes than a list of its kind may have.
+/// A list has more bytes than its kind allows.
 #[derive(Clone, Copy, Debug, PartialEq, Eq, Error)]
 #[error("too many bytes")]
 pub struct TooMuch;
@@ -17,44 +17,44 @@ pub struct TooMuch;
 #[derive(Clone, Copy, Debug, PartialEq, Eq, Error)]
 pub enum BodyError {
     /// There are more than [`MAX_BODY`] bytes, whatever they are.
-    #[error("there are more than {MAX_BODY} bytes")]
+    #[error("the body is longer than {MAX_BODY} bytes")]
     Length(TooMuch),
     /// There are no more than [`MAX_BODY`] bytes, and one of them is 128 or more.
-    #[error("a byte has its top bit set")]
+    #[error("a byte of the body has its top bit set")]
     Byte(NotSevenBit),
 }
 
-/// The slice is shorter than what is to be written, which takes `need` bytes. Nothing was written.
+/// The slice is too short: the result takes `need` bytes. Nothing was written.
 #[derive(Clone, Copy, Debug, PartialEq, Eq, Error)]
-#[error("this takes {need} bytes of room")]
+#[error("the buffer needs {need} bytes")]
 pub struct NoRoom {
     pub need: usize,
 }
 
-/// The number is above 63, or the name is none of a square.
+/// The number is above 63, or the text is not the name of a square.
 #[derive(Clone, Copy, Debug, PartialEq, Eq, Error)]
 #[error("not a square")]
 pub struct NoSquare;
 
-/// The code is above 15, or the letter is none of the sixteen.
+/// The code is above 15, or the character is not one of the sixteen letters.
 #[derive(Clone, Copy, Debug, PartialEq, Eq, Error)]
 #[error("not a piece")]
 pub struct NoPiece;
 
-/// The text is no placement. `at` is the offset of the first byte with which it no longer begins
-/// any accepted one, or the text's length if it is only too short.
+/// The text is not a placement. `at` is the offset of the first wrong byte, or the text's length if
+/// it is only too short.
 #[derive(Clone, Copy, Debug, PartialEq, Eq, Error)]
-#[error("no placement, from offset {at} on")]
+#[error("not a placement: wrong at offset {at}")]
 pub struct BadPlacement {
     pub at: usize,
 }
 
-/// The character is no digit, space or hyphen.
+/// The character is not a digit, a space or a hyphen.
 #[derive(Clone, Copy, Debug, PartialEq, Eq, Error)]
-#[error("this character has no segments")]
+#[error("not a digit, a space or a hyphen")]
 pub struct NoSegment;
 
-/// The code or the id has a case of its own, so nothing is carried unread under it.
+/// This code or id has a variant of its own: use that one.
 #[derive(Clone, Copy, Debug, PartialEq, Eq, Error)]
-#[error("this has a case of its own")]
+#[error("this has a variant of its own")]
 pub struct Known;

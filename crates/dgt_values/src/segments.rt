@@ -1,4 +1,4 @@
-//! The segments that show a character on one place of the clock's display.
+//! The segments of a character on the clock's display.
 
 ghost use Rattle.std.specs.Prelude.{ℕ, MatchResult};
 ghost use Rattle.dgt_values.specs.Segment.{IsShownBy};
@@ -6,7 +6,7 @@ ghost use Rattle.dgt_values.specs.Segment.{IsShownBy};
 use crate::refusals::NoSegment;
 
 /// The segment byte of a digit, a space or a hyphen. From bit 0 on: top, right top, right bottom,
-/// bottom, left bottom, left top, middle. Any other character is `NoSegment`.
+/// bottom, left bottom, left top, middle. Returns `NoSegment` for any other character.
 pub fn segment(character: char) -> Result<u8, NoSegment>
     ensures { MatchResult result
         (λ byte. IsShownBy character byte)

@@ -4,19 +4,20 @@ ghost use Rattle.std.specs.Prelude.{◌≡◌, ◌≢◌, ℕ, ◌<◌, ◌≤�
 
 use crate::refusals::NoSquare;
 
-/// A square by its number, rank by rank from 8 down: a8 is 0, b8 is 1, h8 is 7, a7 is 8 and h1 is
-/// 63.
+/// A square by its number, rank by rank from the eighth down: a8 is 0, b8 is 1, h8 is 7, a7 is 8
+/// and h1 is 63.
 #[derive(Clone, Copy, Debug, PartialEq, Eq)]
 pub struct Square {
     index: u8,
-    // There is no `Model`: a call on `&mut self` whose result has one can't state what it leaves.
+    // There is no `Model`: a call on `&mut self` with a result that has one can't state what it
+    // leaves.
     ghost small: { index < 64 },
 }
 
 impl Square {
     ghost use Rattle.dgt_values.specs.Board.{square_name, square_number};
 
-    /// The square of a number from 0 to 63. A greater one is `NoSquare`.
+    /// The square of a number from 0 to 63. Returns `NoSquare` for a greater one.
     pub fn from_index(index: u8) -> Result<Self, NoSquare>
         ensures { MatchResult result
             (λ square. (square_number square ≡ index) × (index < 64))
@@ -47,8 +48,8 @@ impl Square {
         self.index
     }
 
-    /// The square of a name such as `e4`: a small letter from a to h for the file, then a digit
-    /// from 1 to 8 for the rank. Any other text is `NoSquare`.
+    /// The square of a name such as `e4`: a lower-case letter from a to h for the file, then a
+    /// digit from 1 to 8 for the rank. Returns `NoSquare` for any other text.
     pub fn parse(name: &str) -> Result<Self, NoSquare>
         ensures { MatchResult result
             (λ square. square_name (square_number square) ≡ name.now)

@@ -3,7 +3,7 @@ use Rattle.std.specs.List.{position_or_len}
 use Rattle.dgt_decode.specs.Grammar.{has_top_bit}
 use Rattle.dgt_decode.proofs.lanes.first_top.Given as goal
 
--- none of the first bytes is the one that is looked for
+-- none of the first bytes is the one searched for
 pub record IsPassed (bytes : List ℕ) (at : ℕ) : Type 0 where
   pub within : at ≤ length bytes
   pub passed : at + position_or_len has_top_bit (drop at bytes) ≡ position_or_len has_top_bit bytes

@@ -4,15 +4,16 @@ use Rattle.dgt_decode.proofs.framer.Framer.take_beginning.Goals as goal
 
 pub overflow_add-used : goal.overflow_add-used
 overflow_add-used c =
-    let run = beginning _ _ _ _ c.requires.begins c.min.ensures c.first_top-used.ensures in
+    let run = beginning _ _ _ _ _ c.requires.begins c.min.ensures c.min-end.ensures c.first_top-used.ensures in
     omega (arith, run.fits, run.short)
 
 pub overflow_sub-total : goal.overflow_sub-total
-overflow_sub-total c = (beginning _ _ _ _ c.requires.begins c.min.ensures c.first_top-used.ensures).fits
+overflow_sub-total c =
+    (beginning _ _ _ _ _ c.requires.begins c.min.ensures c.min-end.ensures c.first_top-used.ensures).fits
 
 pub invariant_of-self : goal.invariant_of-self
 invariant_of-self c =
-    let run = beginning _ _ _ _ c.requires.begins c.min.ensures c.first_top-used.ensures in
+    let run = beginning _ _ _ _ _ c.requires.begins c.min.ensures c.min-end.ensures c.first_top-used.ensures in
     let fits : min (3 + c.first_top-used.result) 16383 ≡ 3 + c.first_top-used.result =
     omega (arith, run.fits, run.short) in
     rw (c.after_byte-state.ensures, c.set_prefix.ensures, fits)
@@ -20,7 +21,7 @@ invariant_of-self c =
 
 pub returns : goal.returns
 returns c =
-    let run = beginning _ _ _ _ c.requires.begins c.min.ensures c.first_top-used.ensures in
+    let run = beginning _ _ _ _ _ c.requires.begins c.min.ensures c.min-end.ensures c.first_top-used.ensures in
     let fits : min (3 + c.first_top-used.result) 16383 ≡ 3 + c.first_top-used.result =
     omega (arith, run.fits, run.short) in
     rw (c.after_byte-state.ensures, c.set_prefix.ensures, fits)

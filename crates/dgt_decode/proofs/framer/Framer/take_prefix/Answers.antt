@@ -12,5 +12,5 @@ pub returns : goal.returns
 returns c =
     let field = c.begins_with_field.ensures.0 c.if-not-begins_with_field.false in
     rw c.set_prefix.ensures
-    (frames-whole c.args.self.now c.args.rest.now 5 (c.is_between-2.ensures c.if-not-is_between-2.false) field.0
+    (frames-whole c.args.self.now c.args.rest.now 5 (c.is_between.ensures c.if-not-is_between.false) field.0
     field.1)

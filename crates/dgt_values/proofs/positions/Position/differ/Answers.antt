@@ -6,7 +6,7 @@ use Rattle.dgt_values.specs.Board.{piece_code}
 use Rattle.dgt_values.proofs.Differing.{mask_differs}
 use Rattle.dgt_values.proofs.positions.Position.differ.Goals as goal
 
--- the code of what stands on a square
+-- the code of the piece on a square
 code_at : (pieces : List Piece) (codes : List ℕ) (n : ℕ) → codes ≡ map piece_code pieces → length pieces ≡ 64 → n < 64
     → get_or codes n 0 ≡ piece_code (get_or pieces n Empty)
 code_at pieces codes n are all h = rw are (get_or-map piece_code pieces n Empty 0 (omega arith))
