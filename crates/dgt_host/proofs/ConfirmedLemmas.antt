@@ -1,4 +1,4 @@
--- What a line with faults can make of a picture that is confirmed.
+-- The effect of a faulty line on a confirmed picture.
 use Rattle.std.proofs.Common.{◌≡◌, ◌⊎◌, inl, inr, ◌+◌, ◌≤◌, Bool, true, false, not, ◌&&◌, nat_eq, Option, Some, None, refl, sym, ap, ◌∙◌, ℕ, List, [], ◌∷◌, ◌++◌, append_assoc, zero, suc, slice_get, slice_set, option_to_list, arith}
 use Rattle.std.specs.Prelude.{◌↔◌, ◌≢◌, IsSome, IsTrue}
 use Rattle.std.proofs.Math.Bool.{and-true}
@@ -71,7 +71,7 @@ pub unmoved : (picture : Option (List Piece)) → differ picture picture ≡ fal
 unmoved None = refl
 unmoved (Some known) = rw (is_same known) refl
 
--- a message that is neither a dump nor a field
+-- a message that is neither a dump nor a field update
 pub quiet : (picture : Option (List Piece)) (m : Message) → ((x : Position) → m ≡ Message.Dump x → ⊥)
     → ((x : Square) (y : Piece) → m ≡ Message.Field x y → ⊥)
     → (picture ≡ picture_after picture (content m)) × (false ≡ changes picture (content m))
@@ -109,13 +109,13 @@ stays confirmed (Some known) (dump pieces) is e =
 stays confirmed None (dump pieces) is e = cc
 stays confirmed shown said is e = by_rest confirmed shown said is e
 
--- what is known stays known
+-- a known picture stays known
 known_after : (known : List Piece) (said : Content) → Known (picture_after (Some known) said)
 known_after known (dump pieces) = (pieces, refl)
 known_after known (field square piece) = (slice_set known square piece, refl)
 known_after known _ = (known, refl)
 
--- a message that is no dump
+-- a message that isn't a dump
 record NoDump (said : Content) : Type 0 where
   none : picture_after None said ≡ None
   rest : (confirmed : Bool) (shown : Option (List Piece))
@@ -130,7 +130,7 @@ kinds _ = inr (record { none = refl; rest = λ c s. refl; faults = λ n. refl })
 some_after : (picture : Option (List Piece)) (said : Content) → Known picture → Known (picture_after picture said)
 some_after picture said (known, is) = rw is (known_after known said)
 
--- ---- With no fault
+-- ---- Without a fault
 
 abbrev Right : Option (List Piece) → Option (List Piece) → Type 0
 Right reported shown = (shown ≡ None) ⊎ (shown ≡ reported)
@@ -156,7 +156,7 @@ record Holds (reported : Option (List Piece)) (restated : Bool) (shown : Option 
 
 module _ (reported : Option (List Piece)) (restated : Bool) (shown : Option (List Piece)) (confirmed : Bool)
     (faults : ℕ) (holds : Holds reported restated shown confirmed faults) where
-  -- a dump that comes whole
+  -- a whole dump
   dump_holds : (pieces : List Piece)
       → Holds (Some pieces) (repeats reported pieces) (Some pieces) (repeats shown pieces) 0
   dump_holds pieces =
@@ -167,7 +167,7 @@ module _ (reported : Option (List Piece)) (restated : Bool) (shown : Option (Lis
         is = λ e again few. refl;
       }
 
-  -- another message that comes whole
+  -- another whole message
   other_holds : (said : Content) → NoDump said
       → Holds (picture_after reported said) (confirmed_after restated reported said) (picture_after shown said)
       (confirmed_after confirmed shown said) (faults_after faults (Whole said))
@@ -194,7 +194,7 @@ module _ (reported : Option (List Piece)) (restated : Bool) (shown : Option (Lis
       go (inl (pieces, is)) = rw is (dump_holds pieces)
       go (inr no_dump) = other_holds said no_dump
 
--- whatever is altered, lost or inserted
+-- any change, loss or insertion
 if_stays : (confirmed : Bool) (shown : Option (List Piece)) (said : Option Content)
     → (confirmed ≡ true → Known shown) → confirmed_after_all confirmed shown (option_to_list said) ≡ true
     → Known shown × (picture_after_all shown (option_to_list said) ≡ shown)
@@ -255,7 +255,7 @@ pub confirmed_is : ConfirmedIsReported
 confirmed_is reported shown line right few again e =
     (all_hold (Some reported) false shown false 0 line (begins reported shown right)).is e again few
 
--- ---- By which dump
+-- ---- The dump that confirmed
 
 pub pictures_append : (picture : Option (List Piece)) (said more : List Content)
     → picture_after_all picture (said ++ more) ≡ picture_after_all (picture_after_all picture said) more
@@ -299,7 +299,7 @@ confirmed_was reported pieces shown earlier later passage right is again leave f
     ∙ shown_by (picture_after_all (Some reported) (sent earlier)) before pieces (faults_after_all 0 earlier) passage
     held.right is again few
 
--- ---- What the premises are for
+-- ---- Why the premises are needed
 
 pub two_faults : TwoFaultsSuffice
 two_faults a b =
@@ -318,7 +318,7 @@ late_faults a square piece changed =
 pub unconfirmed : UnconfirmedIsWrong
 unconfirmed a b = record { counts = refl; restates = is_same a; confirms = refl; reports = refl; shows = refl }
 
--- ---- What a confirmed picture is
+-- ---- The meaning of a confirmed picture
 
 -- a picture that was confirmed before these messages and by none of them, or by a dump among them
 By : Option (List Piece) → List Content → Type 0
@@ -377,7 +377,7 @@ by_dump shown said e = elim (by_which shown false said e) [
   | inr by ↦ by
 ]
 
--- ---- What a change is
+-- ---- The meaning of a change
 
 changes_if : (picture : Option (List Piece)) (said : Content) → changes picture said ≡ true
     → IsSome picture × (picture_after picture said ≢ picture)
@@ -401,7 +401,7 @@ pub faultless : FaultlessIsRight
 faultless reported shown line right none =
     (all_hold (Some reported) false shown false 0 line (begins reported shown right)).right none
 
--- ---- A follower notes no more than its messages say
+-- ---- A follower records no more than its messages say
 
 both_true : (a b : Bool) → a ≡ true → b ≡ true → (a && b) ≡ true
 both_true true true e f = refl

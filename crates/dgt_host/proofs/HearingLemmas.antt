@@ -1,4 +1,4 @@
--- What a host makes of the events of bytes that come in chunks.
+-- How a host changes by the events of bytes in chunks.
 use Rattle.std.proofs.Common.{◌≡◌, ◌+◌, Some, refl, sym, ap, ◌∙◌, ℕ, List, [], ◌∷◌, ◌++◌, append_assoc, length, ◌-◌, take, drop, append-nil}
 use Rattle.std.proofs.Math.Seq.{take-add}
 use Rattle.std.specs.List.{AllByRecursion, flat_map}
@@ -15,7 +15,7 @@ host_after_events-append : (host : HostView) (xs ys : List Placed)
 host_after_events-append host [] ys = refl
 host_after_events-append host (x ∷ xs) ys = host_after_events-append (host_after_event host x.event) xs ys
 
--- the places of the events don't matter
+-- the places of events don't matter
 pub host_after_events-behind : (host : HostView) (n : ℕ) (xs : List Placed)
     → host_after_events host (shifted n xs) ≡ host_after_events host xs
 host_after_events-behind host n [] = refl
@@ -30,7 +30,7 @@ host_after_event-unread host unread (Cut have) = refl
 host_after_event-unread host unread BadLength = refl
 host_after_event-unread host unread (Stray byte) = refl
 
--- nor do the bytes that were unread before
+-- the bytes that were unread before don't matter
 host_after_events-unread : (host : HostView) (before after : List ℕ) (xs : List Placed)
     → record (host_after_events (record host { unread = before }) xs) { unread = after }
     ≡ record (host_after_events host xs) { unread = after }
@@ -88,14 +88,14 @@ heard_more in_chunks host before now chunk i n e f =
 
 -- ---- Whole messages
 
--- that a message was cut off changes nothing
+-- a Cut changes nothing
 cut_changes_nothing : (host : HostView) (n : ℕ) (unread : List ℕ)
     → host_after_events host (shifted n (cut_of unread)) ≡ host
 cut_changes_nothing host n [] = refl
 cut_changes_nothing host n (b ∷ bytes) = refl
 
 module _ (read : EncodingIsRead) where
-  -- what is written of a message is heard as this message, whatever came before
+  -- the output of `encode` for a message is heard as this message, whatever was received before
   pub message_heard : (host : HostView) (bytes : List ℕ) (said : Content) → IsMessage said
       → host_after host (bytes ++ encoding said)
       ≡ record (host_after_message (host_after host bytes) said) { unread = [] }
@@ -121,7 +121,7 @@ module _ (read : EncodingIsRead) where
       ∙ ap (λ (h : HostView). record h { unread = unfinished_message (host.unread ++ (bytes ++ encoding said)) }) folded
       ∙ ap (λ (u : List ℕ). record (host_after_message now said) { unread = u }) left
 
-  -- so messages in a row are heard one after another
+  -- therefore messages in a row are heard one after another
   pub pictures_heard : (host : HostView) (bytes : List ℕ) (said : List Content) → AllByRecursion IsMessage said
       → (host_after host (bytes ++ flat_map encoding said)).picture
       ≡ picture_after_all (host_after host bytes).picture said

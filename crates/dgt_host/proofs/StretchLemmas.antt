@@ -1,4 +1,4 @@
--- Bytes that a line has altered, between messages that came whole.
+-- Bytes that a line has altered, between whole messages.
 use Rattle.std.proofs.Common.{◌≡◌, ◌+◌, refl, sym, ap, ◌∙◌, ℕ, List, [], ◌∷◌, ◌++◌, append_assoc, append-nil, length}
 use Rattle.std.specs.List.{AllByRecursion, flat_map}
 use Rattle.dgt_message.specs.Content.{Content, IsMessage}
@@ -50,7 +50,7 @@ module _ (read : EncodingIsRead) (later : EventsAppend) (still : UnfinishedAppen
       ap unfinished_message (sym (append_assoc bytes (encoding m) (flat_map encoding said)))
       ∙ ends (bytes ++ encoding m) said (read bytes m are.0).1 are.1
 
-  -- after whole messages nothing is unfinished, so the next bytes say what they say by themselves
+  -- after whole messages nothing is unfinished, so the next bytes have their own meaning
   by_themselves : (first bytes : List ℕ) → unfinished_message first ≡ []
       → messages (events (first ++ bytes)) ≡ messages (events first) ++ messages (events bytes)
   by_themselves first bytes none =

@@ -1,4 +1,4 @@
--- When a picture is confirmed, and what a line with faults can make of one.
+-- When a picture is confirmed, and the effects of a faulty line on one.
 use Rattle.std.specs.Prelude.{◌≡◌, ◌≢◌, ◌↔◌, ◌⊎◌, IsSome, ◌≤◌, ℕ, ◌+◌, nat_eq, List, [], ◌∷◌, ◌++◌, Option, Some, None, Bool, true, false, not, ◌&&◌, IsTrue, IsFalse, option_to_list, slice_set}
 use Rattle.std.specs.List.{AllByRecursion, flat_map}
 use Rattle.dgt_values.specs.declared.pieces.Piece.{Piece}
@@ -18,16 +18,16 @@ same_pieces (a ∷ more) (b ∷ others) =
     nat_eq (piece_code a) (piece_code b) && same_pieces more others
 same_pieces _ _ = false
 
--- two pictures that are known and not the same
+-- two known pictures that differ
 abbrev pub differ : Option (List Piece) → Option (List Piece) → Bool
 differ (Some before) (Some after) = not (same_pieces before after)
 differ _ _ = false
 
--- a message makes another picture of one that is known
+-- a message changes a known picture
 abbrev pub changes : Option (List Piece) → Content → Bool
 changes picture said = differ picture (picture_after picture said)
 
--- the message that an event is, if it is one
+-- the message of an event, if it is one
 abbrev pub message_in : Event → List Content
 message_in (Message said) = said ∷ []
 message_in _ = []
@@ -41,7 +41,7 @@ abbrev pub messages : List Placed → List Content
 messages [] = []
 messages (x ∷ more) = message_in x.event ++ messages more
 
--- That a message changes a picture says that the picture is known, and another one after it.
+-- A message counts as changing a picture exactly if the picture was known and differs afterwards.
 abbrev pub ChangesIsExact : Type 0
 ChangesIsExact =
     (picture : Option (List Piece)) (said : Content) →
@@ -52,9 +52,8 @@ abbrev pub repeats : Option (List Piece) → List Piece → Bool
 repeats (Some known) pieces = same_pieces known pieces
 repeats None pieces = false
 
--- Whether a picture is confirmed after a message, if it was or wasn't before it: a dump that
--- repeats the picture confirms it, another dump doesn't, and any other message that changes it ends
--- that.
+-- Whether a picture is confirmed after a message, given whether it was before. A dump that repeats
+-- the picture confirms it, another dump doesn't, and any other message that changes it ends that.
 abbrev pub confirmed_after : Bool → Option (List Piece) → Content → Bool
 confirmed_after confirmed picture (dump pieces) = repeats picture pieces
 confirmed_after confirmed picture said = confirmed && not (changes picture said)
@@ -70,8 +69,9 @@ AllLeave pieces said = AllByRecursion (λ one. IsFalse (changes (Some pieces) on
 
 -- ---- a line with faults
 
--- What a line makes of a message. A faulty passage alters a message that the board sent, loses it
--- (nothing is heard), or lets the host hear one that the board didn't send (a repeated one, too).
+-- The effect of a line on a message. A faulty passage alters a message that the board sent, loses
+-- it (nothing is heard), or lets the host hear one that the board didn't send (also a repeated
+-- one).
 pub data Passage : Type 0 where
   Whole : (said : Content) → Passage
   Faulty : (sent heard : Option Content) → Passage
@@ -91,7 +91,7 @@ sent line = flat_map sent_in line
 abbrev pub heard : List Passage → List Content
 heard line = flat_map heard_in line
 
--- the faults since the last dump that came whole
+-- the faults since the last whole dump
 abbrev pub faults_after : ℕ → Passage → ℕ
 faults_after faults (Whole (dump pieces)) = 0
 faults_after faults (Whole said) = faults
@@ -105,8 +105,8 @@ faults_after_all faults (passage ∷ more) = faults_after_all (faults_after faul
 abbrev pub IsRight : List Piece → Option (List Piece) → Type 0
 IsRight reported shown = (shown ≡ None) ⊎ (shown ≡ Some reported)
 
--- What the board had reported when it sent what was heard as a message: with the message, if that
--- came whole, else before it.
+-- What the board had reported when it sent what was heard as a message: including the message, if
+-- it was heard whole, and otherwise before it.
 abbrev pub reported_by : Option (List Piece) → Passage → Option (List Piece)
 reported_by reported (Whole said) = picture_after reported said
 reported_by reported (Faulty sent heard) = reported
@@ -114,8 +114,8 @@ reported_by reported (Faulty sent heard) = reported
 -- ---- no single fault makes a confirmed picture wrong
 
 -- The host heard a dump that repeated its picture, and nothing changed the picture since. If there
--- was at most one fault up to that dump, since the last dump before it that came whole, then the
--- picture is what the board had reported when it sent that dump. Faults after the dump don't count.
+-- was at most one fault up to that dump, since the last whole dump before it, then the picture is
+-- what the board had reported when it sent that dump. Faults after the dump don't count.
 abbrev pub ConfirmedWasReported : Type 0
 ConfirmedWasReported =
     (reported pieces : List Piece) (shown : Option (List Piece)) (earlier later : List Passage)
@@ -125,9 +125,9 @@ ConfirmedWasReported =
     picture_after_all shown (heard (earlier ++ passage ∷ later))
     ≡ reported_by (picture_after_all (Some reported) (sent earlier)) passage
 
--- The board, too, has repeated its picture since that last changed, and there was at most one fault
--- since the last dump that came whole. Then a confirmed picture is all that the board has reported,
--- however late the fault.
+-- The board, too, has repeated its picture since its last change, and there was at most one fault
+-- since the last whole dump. Then a confirmed picture is all that the board has reported, however
+-- late the fault.
 abbrev pub ConfirmedIsReported : Type 0
 ConfirmedIsReported =
     (reported : List Piece) (shown : Option (List Piece)) (line : List Passage) →
@@ -136,8 +136,8 @@ ConfirmedIsReported =
     IsTrue (confirmed_after_all false shown (heard line)) →
     picture_after_all shown (heard line) ≡ picture_after_all (Some reported) (sent line)
 
--- With no fault since the last dump that came whole, the host shows what the board has reported, or
--- knows no picture. So without faults a dump that isn't the picture reports a change by itself.
+-- Without a fault since the last whole dump, the host shows what the board has reported, or knows
+-- no picture. A dump that differs from the picture then reports a change by itself.
 abbrev pub FaultlessIsRight : Type 0
 FaultlessIsRight =
     (reported : List Piece) (shown : Option (List Piece)) (line : List Passage) →
@@ -145,8 +145,8 @@ FaultlessIsRight =
     let now = picture_after_all shown (heard line) in
     (now ≡ None) ⊎ (now ≡ picture_after_all (Some reported) (sent line))
 
--- Whatever bytes stand between whole messages, those before and after them are heard, and between
--- them what those bytes say by themselves.
+-- Whatever bytes are between whole messages, those before and after them are heard, and between
+-- them the messages of these bytes.
 abbrev pub StretchIsOne : Type 0
 StretchIsOne =
     (before after : List Content) (bytes : List ℕ) → AllByRecursion IsMessage before →
@@ -154,7 +154,7 @@ StretchIsOne =
     messages (events (flat_map encoding before ++ bytes ++ flat_map encoding after))
     ≡ before ++ messages (events bytes) ++ after
 
--- A picture is confirmed exactly where a dump repeated it, and nothing changed it since.
+-- A picture is confirmed exactly if a dump repeated it, and nothing changed it since.
 abbrev pub ConfirmedByDump : Type 0
 ConfirmedByDump =
     (shown : Option (List Piece)) (said : List Content) →
@@ -177,7 +177,7 @@ lost_after_dump a square piece = Whole (dump a) ∷ Faulty (Some (field square p
 abbrev pub one_altered : List Piece → List Piece → List Passage
 one_altered a b = Faulty (Some (dump a)) (Some (dump b)) ∷ []
 
--- what becomes of a line from a moment at which the host shows what the board has reported
+-- the effect of a line from a moment on at which the host shows what the board has reported
 pub record Ends (start : List Piece) (line : List Passage) (faults : ℕ) (restated confirmed : Bool)
     (reported shown : List Piece) : Type 0 where
   pub counts : faults_after_all 0 line ≡ faults

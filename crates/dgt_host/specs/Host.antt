@@ -1,4 +1,4 @@
--- What contracts see of a host, what it makes of the bytes that it hears, and what it sends.
+-- How contracts see a host, how heard bytes change it, and what it sends.
 use Rattle.std.specs.Prelude.{◌≡◌, ◌≢◌, ℕ, ◌<◌, ◌≤◌, nat_le, List, [], ◌∷◌, ◌++◌, length, drop, replicate, Option, Some, None, is_some, option_map, option_to_list, Result, Ok, Err, Bool, true, false, ◌&&◌, IsTrue, if◌then◌else◌, slice_get}
 use Rattle.dgt_values.specs.declared.kinds.Kind.{Kind}
 use Rattle.dgt_values.specs.declared.pieces.Piece.{Piece}
@@ -17,9 +17,9 @@ use Rattle.dgt_host.specs.declared.sending.SendFault.TheVariants.{TooMany, NoRoo
 
 pub record HostView : Type 0 where
   pub picture : Option (List Piece)  -- the pieces of the board, once they are known
-  pub clock : Option ClockState  -- what the board's clock reported last
-  pub awaited : List Kind  -- the kinds of the replies that are awaited, the next one first
-  pub unread : List ℕ  -- the bytes of a message that isn't finished
+  pub clock : Option ClockState  -- the last report of the board's clock
+  pub awaited : List Kind  -- the kinds of the awaited replies, the next one first
+  pub unread : List ℕ  -- the bytes of an unfinished message
 
 abbrev pub host_seen : Option Position → Option Clock → List Kind → List ℕ → HostView
 host_seen picture clock awaited unread =
@@ -30,11 +30,11 @@ host_seen picture clock awaited unread =
       unread = unread;
     }
 
--- a host just made
+-- a new host
 abbrev pub new_host : HostView
 new_host = record { picture = None; clock = None; awaited = []; unread = [] }
 
--- ---- what it hears
+-- ---- hearing
 
 abbrev pub is_same_kind : Kind → Kind → Bool
 is_same_kind Kind.Dump Kind.Dump = true
@@ -45,13 +45,13 @@ is_same_kind Kind.Battery Kind.Battery = true
 is_same_kind Kind.LongSerial Kind.LongSerial = true
 is_same_kind _ _ = false
 
--- what is awaited after a message of this kind: the kind is taken off if it is the first
+-- the awaited replies after a message of this kind: the kind is removed if it is the first
 abbrev pub awaited_after : List Kind → Option Kind → List Kind
 awaited_after awaited None = awaited
 awaited_after [] (Some kind) = []
 awaited_after (first ∷ more) (Some kind) = if is_same_kind first kind then more else first ∷ more
 
--- a message of a kind that is not the first awaited
+-- a message of a kind that isn't the first awaited
 abbrev pub IsUnasked : List Kind → Option Event → Type 0
 IsUnasked awaited (Some (Message said)) =
     (kind : Kind) × (answered_kind said ≡ Some kind) × (slice_get awaited 0 ≢ Some kind)
@@ -81,15 +81,15 @@ host_after host bytes =
       unread = unfinished_message (host.unread ++ bytes);
     }
 
--- a host that hears bytes in two chunks is the one that hears them in one
+-- hearing bytes in two chunks is the same as hearing them in one
 abbrev pub HeardInChunks : Type 0
 HeardInChunks =
     (host : HostView) (bytes more : List ℕ) →
     host_after (host_after host bytes) more ≡ host_after host (bytes ++ more)
 
--- ---- what it sends
+-- ---- sending
 
--- a reply of this kind is to be awaited, and as many are awaited as can be
+-- a reply of this kind is to be awaited, and the list of awaited replies is full
 abbrev pub awaits_too_many : HostView → Option Kind → Bool
 awaits_too_many host kind = is_some kind && nat_le MAX_AWAITED (length host.awaited)
 
@@ -101,11 +101,11 @@ host_awaiting host kind = record host { awaited = host.awaited ++ option_to_list
 abbrev pub without_awaited : HostView → HostView
 without_awaited host = record host { awaited = [] }
 
--- what a host sends to follow the board: its changes are to be sent, and first the whole of it
+-- the bytes by which a host follows the board: the commands for updates and for a dump
 abbrev pub follow_bytes : List ℕ
 follow_bytes = command_encoding UpdateBoard ++ command_encoding Dump
 
--- what a host sends to begin anew: zeros, with which any part of a command ends, and then the same
+-- the bytes of a restart: zeros, which complete any part of a command, and then the same
 abbrev pub restart_bytes : List ℕ
 restart_bytes = replicate 255 0 ++ follow_bytes
 
@@ -114,9 +114,8 @@ pub record Request : Type 0 where
   pub kind : Option Kind
   pub bytes : List ℕ
 
--- The bytes are written at the beginning of the slice, the rest of which is as it was, and the kind
--- is awaited last. Or one more can't be awaited, or else the slice is too short for them; then
--- nothing changes.
+-- The bytes are written at the beginning of the slice, the rest of it is unchanged, and the kind is
+-- awaited last. Or the list is full, or else the slice is too short for them; then nothing changes.
 abbrev pub Sends : Request → HostView → HostView → List ℕ → List ℕ → Result ℕ SendFault → Type 0
 Sends sent before after old new (Ok written) =
     (awaits_too_many before sent.kind ≡ false) × (written ≡ length sent.bytes)

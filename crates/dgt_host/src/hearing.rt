@@ -1,4 +1,4 @@
-//! What a host makes of the messages that it hears.
+//! How messages change a host.
 
 ghost use Rattle.std.specs.Prelude.{◌≡◌, ◌↔◌, ℕ, List, IsTrue, Some, nat_eq, not, option_map, slice_set};
 ghost use Rattle.dgt_values.specs.Board.{piece_code, pieces_of, square_number};
@@ -17,23 +17,21 @@ use dgt_values::{Kind, Piece, Position, Square};
 /// What a host heard in a chunk.
 #[derive(Clone, Copy, Debug, PartialEq, Eq)]
 pub struct Heard<'a> {
-    /// How many bytes of the chunk were used: those up to and including the one that makes the
-    /// event, else all.
+    /// How many bytes of the chunk were used: up to and including the event's last one, or all.
     pub used: usize,
-    /// What the last of them made known. With no event, nothing but the unread bytes of the host
-    /// has changed.
+    /// The event that the last of them completed. Without one, only the host's unread bytes have
+    /// changed.
     pub event: Option<Event<'a>>,
     /// Whether the event is a message of a [`Kind`] that isn't the first awaited. Such a message
-    /// leaves the awaited list alone; an unasked dump sets the picture all the same.
+    /// doesn't change the awaited list, but an unasked dump still sets the picture.
     pub unasked: bool,
-    /// Whether the event is a message that makes another picture of one that was known: a dump with
-    /// a piece that isn't the picture's, or a field with another piece than the picture has there.
-    /// A dump that does so is the sign of a fault before it, or of a square that changed while the
-    /// dump was owed.
+    /// Whether the event is a message that changed a known picture: a dump with a different piece
+    /// on some square, or a field update with a different piece. A dump that does so points to an
+    /// earlier fault, or to a square that changed while the dump was owed.
     pub changed: bool,
 }
 
-/// What a host notes of an event beside what it keeps.
+/// What a host reports of an event, in addition to what it keeps.
 #[derive(Clone, Copy, Debug)]
 pub(crate) struct Noted {
     pub(crate) unasked: bool,
@@ -59,7 +57,7 @@ fn is_other_piece(first: Piece, second: Piece) -> bool
     first.code() != second.code()
 }
 
-// Puts the piece on the square, and returns whether another one stood there.
+// Puts the piece on the square, and returns whether that changed it.
 fn set_square(known: &mut Position, square: Square, piece: Piece) -> bool
     ensures set { pieces_of known.new
         ≡ slice_set (pieces_of known.old) (square_number square) piece }
@@ -71,9 +69,9 @@ fn set_square(known: &mut Position, square: Square, piece: Piece) -> bool
     is_other_piece(before, piece)
 }
 
-// A dump sets the picture, and a field update sets one square of a picture that is known. The
-// picture is changed where it lies: a copy of it would take longer than the change. Returns whether
-// a known picture became another.
+// Applies a message to the picture: a dump sets it, and a field update sets one square of a known
+// picture. The picture is changed in place, because copying it would take longer. Returns whether a
+// known picture changed.
 fn set_picture(picture: &mut Option<Position>, message: &Message<'_>) -> bool
     ensures picture { option_map pieces_of picture.new
         ≡ picture_after (option_map pieces_of picture.old) (content message.now) }
@@ -97,7 +95,7 @@ fn set_picture(picture: &mut Option<Position>, message: &Message<'_>) -> bool
     }
 }
 
-// What a board reports of its clock sets the clock.
+// Applies a message to the clock.
 fn set_clock(clock: &mut Option<Clock>, message: &Message<'_>)
     ensures { option_map clock_seen clock.new
         ≡ clock_after (option_map clock_seen clock.old) (content message.now) }
@@ -115,8 +113,8 @@ fn is_same(first: Kind, second: Kind) -> bool
     first == second
 }
 
-// Takes the kind of a message off if it is the first awaited, and returns whether the message has a
-// kind that isn't.
+// Removes the kind of a message from the list if it is the first awaited. Returns whether the
+// message has a kind that isn't the first awaited.
 fn take_off(awaited: &mut ArrayVec<Kind, MAX_AWAITED>, message: &Message<'_>) -> bool
     ensures awaited { awaited.new.items
         ≡ awaited_after awaited.old.items (answered_kind (content message.now)) }
@@ -135,8 +133,8 @@ fn take_off(awaited: &mut ArrayVec<Kind, MAX_AWAITED>, message: &Message<'_>) ->
     }
 }
 
-/// Changes the parts of a host as an event does, and returns whether it is a message that was not
-/// asked for, and whether it changed a picture that was known.
+/// Applies an event to the parts of a host. Returns whether it is an unasked message, and whether
+/// it changed a known picture.
 pub(crate) fn hear_event(
     event: &Event<'_>,
     picture: &mut Option<Position>,

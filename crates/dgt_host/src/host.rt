@@ -1,5 +1,3 @@
-//! The host.
-
 ghost use Rattle.std.specs.Prelude.{◌≡◌, ◌<◌, ◌≤◌, ◌↔◌, ◌∷◌, [], ◌++◌, IsTrue, length, replicate, take, option_map, OnOk, Some};
 ghost use Rattle.std.specs.Borrow.{sem};
 ghost use Rattle.std.specs.Io.BufRead.{Rests};
@@ -21,20 +19,20 @@ use dgt_message::Clock;
 use dgt_values::{Kind, Position};
 use std::marker::Model;
 
-/// The most replies that a host awaits.
+/// The most replies that a host can await.
 pub const MAX_AWAITED: usize = 16;
 
-/// `UpdateBoard` and `Dump`.
+/// The commands `UpdateBoard` and `Dump`.
 const FOLLOW: [u8; 2] = [0x44, 0x42];
 
-/// This number of bytes `00` completes whatever part of a command a board has, and asks for
-/// nothing.
+/// This many bytes `00` complete any unfinished command of a board, and request nothing.
 const SETTLING_ZEROS: usize = 255;
 
-/// How many bytes a host sends to begin anew: zeros, `UpdateBoard` and `Dump`.
+/// The bytes of a restart: zeros, `UpdateBoard` and `Dump`.
 pub const RESTART_LENGTH: usize = SETTLING_ZEROS + 2;
 
-/// What a host knows of a board, what it awaits, and the unread bytes of an unfinished message.
+/// The state of a host: what it knows of a board, which replies it awaits, and the unread bytes of
+/// an unfinished message.
 #[derive(Drop)]
 pub struct Host {
     framer: Framer,
@@ -68,12 +66,12 @@ impl Host {
         }
     }
 
-    /// Writes the bytes of a command at the beginning of the slice, and returns how many there are.
-    /// The slice after them stays as it was. A reply that is of a `Kind` is awaited from then on,
-    /// after those that are awaited already.
+    /// Writes a command at the beginning of the slice, and returns how many bytes it takes. The
+    /// bytes after it stay as they were. If the command requests a reply of a `Kind`, that kind is
+    /// appended to the awaited replies.
     ///
-    /// First `TooMany` if the reply is of a `Kind` and 16 are awaited. Then `NoRoom` if the
-    /// slice is shorter than the command.
+    /// Returns `TooMany` if the reply is of a `Kind` and 16 are awaited, and otherwise `NoRoom` if
+    /// the slice is shorter than the command.
     pub fn send(&mut self, command: &Command<'_>, out: &mut [u8]) -> Result<usize, SendFault>
         ensures sends { let said = command_content command.now in
             Sends (record { kind = requested_kind said; bytes = command_encoding said })
@@ -95,9 +93,9 @@ impl Host {
     }
 
     /// Requests all that the picture needs: writes `UpdateBoard` and `Dump`, the bytes `44 42`, at
-    /// the beginning of the slice, and returns 2. The dump is awaited from then on.
+    /// the beginning of the slice, and returns 2. The dump is then awaited.
     ///
-    /// First `TooMany` if 16 replies are awaited. Then `NoRoom` if the slice is shorter
+    /// Returns `TooMany` if 16 replies are awaited, and otherwise `NoRoom` if the slice is shorter
     /// than 2.
     pub fn follow(&mut self, out: &mut [u8]) -> Result<usize, SendFault>
         ensures { Sends (record { kind = Some Kind.Dump; bytes = follow_bytes })
@@ -106,14 +104,14 @@ impl Host {
         self.ask_for_dump(0, out)
     }
 
-    /// Begins anew with a board that may be in the middle of a command, and returns 257. It writes
-    /// 255 bytes `00` at the beginning of the slice, which end the command as a clock message, an
-    /// LED frame or a fault. Then it writes `UpdateBoard` and `Dump`, as [`Host::follow`] does. The
-    /// dump is awaited from then on.
+    /// Starts over with a board that may have received only part of a command, and returns 257. It
+    /// writes 255 bytes `00` at the beginning of the slice, which complete that command as a clock
+    /// message, an LED frame or a fault. Then it writes `UpdateBoard` and `Dump`, as
+    /// [`Host::follow`] does. The dump is then awaited.
     ///
-    /// For a program that starts on a line on which another one has talked to the board.
+    /// Use it at the start if another program may have used the line before.
     ///
-    /// First `TooMany` if 16 replies are awaited. Then `NoRoom` if the slice is shorter
+    /// Returns `TooMany` if 16 replies are awaited, and otherwise `NoRoom` if the slice is shorter
     /// than 257.
     pub fn restart(&mut self, out: &mut [u8]) -> Result<usize, SendFault>
         ensures { Sends (record { kind = Some Kind.Dump; bytes = restart_bytes })
@@ -122,8 +120,7 @@ impl Host {
         self.ask_for_dump(SETTLING_ZEROS, out)
     }
 
-    // Writes this number of bytes `00`, and then what asks for the updates and the whole of the
-    // board.
+    // Writes this many bytes `00`, and then the commands for updates and a dump.
     fn ask_for_dump(&mut self, zeros: usize, out: &mut [u8]) -> Result<usize, SendFault>
         requires { zeros ≤ SETTLING_ZEROS }
         ensures { let bytes = replicate zeros 0 ++ follow_bytes in
@@ -143,10 +140,11 @@ impl Host {
         Ok(need)
     }
 
-    /// The line to the board is lost, and what was under way on it. The host is as new: it knows no
-    /// picture and no clock, awaits nothing, and holds no byte of an unfinished message.
+    /// Reports that the line to the board was lost, with all bytes under way. The host is then as
+    /// new: it knows no picture and no clock, awaits nothing, and holds no byte of an unfinished
+    /// message.
     ///
-    /// To follow the board once the line is back, call `follow`.
+    /// Call `follow` when the line is back.
     pub fn line_lost(&mut self)
         ensures { self.new ≡ new_host }
     {
@@ -156,13 +154,13 @@ impl Host {
         self.awaited.clear();
     }
 
-    /// Gives up all replies that are awaited, and returns how many there were. The picture, the
+    /// Removes all awaited replies from the list, and returns how many there were. The picture, the
     /// clock and the unread bytes stay as they are.
     ///
-    /// Call it when a reply is overdue: after bytes were lost or altered it may never come, and
-    /// each reply that follows counts as unasked. A reply that comes after this call is unasked,
-    /// too. Call [`Host::restart`] or [`Host::send`] next to ask again: the picture stays known
-    /// until a new dump replaces it.
+    /// Call it when a reply is overdue. If bytes were lost or altered, that reply may never arrive,
+    /// and until then each other reply counts as unasked. A reply that arrives after this call is
+    /// unasked, too. Call [`Host::restart`] or [`Host::send`] next to ask again: the picture stays
+    /// known until a new dump replaces it.
     pub fn give_up_awaited(&mut self) -> usize
         ensures gives_up { self.new ≡ without_awaited self.old }
         ensures count { result ≡ length self.old.awaited }
@@ -178,22 +176,21 @@ impl Host {
         kind.is_some() && self.awaited.is_full()
     }
 
-    /// The picture of the board, if a dump was heard.
+    /// The position of the board, or `None` before the first dump.
     pub fn picture(&self) -> Option<&Position>
         ensures { option_map (λ position. pieces_of position.now) result ≡ self.now.picture }
     {
         self.picture.as_ref()
     }
 
-    /// The clock as the board reported it last, or `None` if it has not reported it.
+    /// The clock as last reported, or `None` before the first report.
     pub fn clock(&self) -> Option<&Clock>
         ensures { option_map (λ clock. clock_seen clock.now) result ≡ self.now.clock }
     {
         self.clock.as_ref()
     }
 
-    /// The kinds of the replies that are awaited, at most 16, in the order in which they were asked
-    /// for.
+    /// The kinds of the awaited replies, at most 16, in the order of their requests.
     pub fn awaited(&self) -> &[Kind]
         ensures kinds { result.now ≡ self.now.awaited }
         ensures at_most { length self.now.awaited ≤ MAX_AWAITED }
@@ -201,8 +198,7 @@ impl Host {
         self.awaited.as_slice()
     }
 
-    /// How many bytes were heard of a message that isn't finished, which are fewer than
-    /// [`MAX_TOTAL`], else 0.
+    /// How many bytes of an unfinished message were received: fewer than [`MAX_TOTAL`].
     pub fn unread(&self) -> usize
         ensures len { result ≡ length self.now.unread }
         ensures all_unfinished { unfinished_message self.now.unread ≡ self.now.unread }
@@ -213,11 +209,11 @@ impl Host {
         self.framer.unfinished_len()
     }
 
-    /// Uses bytes of the chunk up to and including the first that makes an event, or all of it, and
-    /// lets a message change the picture, the clock and what is awaited.
+    /// Uses the bytes of the chunk up to and including the first that completes an event, or all of
+    /// them. A message changes the picture, the clock and the awaited replies.
     ///
-    /// The event lends its body from the host until the next call. Call again with the bytes that
-    /// are left: a chunk that isn't empty has at least one byte used.
+    /// The event borrows its body from the host until the next call. Call again with the remaining
+    /// bytes: each call uses at least one byte, unless the chunk is empty.
     pub fn hear(&mut self, chunk: &[u8]) -> Heard<'_>
         ensures* after_borrow { sem 𝓛 (Rests the_row self.entry
             (λ new. new ≡ host_after self.old (take result.used chunk.now))) }
@@ -254,10 +250,10 @@ impl Host {
         }
     }
 
-    /// Uses a whole chunk, as [`Host::hear`] does one event after another. It reports no events:
-    /// `picture`, `clock` and `awaited` return what has become of the host.
+    /// Uses a whole chunk, as repeated calls of [`Host::hear`] do. It returns no events: see
+    /// `picture`, `clock` and `awaited` afterwards.
     ///
-    /// However the bytes are cut, the host afterwards is the one that hears them in a row
+    /// However the bytes are cut into chunks, the host is the same afterwards
     /// (`laws::heard_in_chunks`).
     pub fn hear_all(&mut self, chunk: &[u8])
         ensures { self.new ≡ host_after self.old chunk.now }

@@ -1,5 +1,5 @@
-//! What holds of a host whatever it hears. Nothing here runs: each function stands for the fact
-//! that its contract states.
+//! Laws of a host, for all bytes that it may receive. Each function does nothing at run time: its
+//! contract states a fact.
 
 ghost use Rattle.std.specs.Prelude.{◌≡◌, ◌+◌, ◌++◌, ℕ, Bool, List, [], ◌∷◌, Option, None, Some, false, flat_map, length, option_to_list, true};
 ghost use Rattle.std.specs.List.{AllByRecursion};
@@ -21,8 +21,8 @@ pub fn limits()
     ensures restart { RESTART_LENGTH ≡ 257 }
 {}
 
-/// Two values are equal, as `==` compares them, exactly if they are the same. Of an event counts
-/// what it reports, and not where its bytes lie.
+/// Two values are equal by `==` exactly if they are the same. For an event, what it reports counts,
+/// and not the address of its bytes.
 pub fn equal_is_same()
     ensures kind { EqualIsSame ⟦<Kind as PartialEq>⟧.eq }
     ensures send_fault { EqualIsSame ⟦<SendFault as PartialEq>⟧.eq }
@@ -40,7 +40,7 @@ pub fn clone_is_same()
     ensures heard { CloneIsSame ⟦<Heard<'static> as Clone>⟧ }
 {}
 
-/// A host that hears bytes in two chunks is the one that hears them in one.
+/// Hearing bytes in two chunks is the same as hearing them in one.
 pub fn heard_in_chunks()
     ensures { HeardInChunks }
 {
@@ -48,8 +48,8 @@ pub fn heard_in_chunks()
     dgt_decode::laws::unfinished_append();
 }
 
-/// A host that hears nothing stays as it is. What is unread of a host is unfinished, as
-/// `Host::unread` says.
+/// A host that hears nothing stays as it is. The unread bytes of a host are those of an unfinished
+/// message, as `Host::unread` says.
 pub fn nothing_heard()
     ensures { (host : HostView) → unfinished_message host.unread ≡ host.unread →
         host_after host [] ≡ host }
@@ -57,15 +57,15 @@ pub fn nothing_heard()
     dgt_decode::laws::unfinished_is_quiet();
 }
 
-/// What a host becomes doesn't depend on where the events stand.
+/// The places of events don't affect a host.
 pub fn places_do_not_matter()
     ensures { (host : HostView) (places : ℕ) (events : List Placed)
         → host_after_events host (shifted places events) ≡ host_after_events host events }
 {}
 
-/// What is written of a message is heard as this message, whatever bytes the host has heard before:
-/// a cut message, or one that the line has altered. So messages in a row are heard one after
-/// another. A dump sets the picture, and the messages after it change it.
+/// What `encode` writes of a message is heard as this message, whatever the host has heard before:
+/// part of a message, or one that the line has altered. Messages in a row are therefore heard one
+/// after another. A dump sets the picture, and the messages after it change it.
 pub fn messages_are_heard()
     ensures whole { (host : HostView) (bytes : List ℕ) (said : Content) → IsMessage said →
         host_after host (bytes ++ encoding said)
@@ -84,14 +84,14 @@ pub fn messages_are_heard()
     dgt_decode::laws::encoding_is_read();
 }
 
-/// A message changes a picture exactly if the picture is known, and another one after it.
+/// A message counts as changing a picture exactly if the picture was known and differs afterwards.
 pub fn changes_are_exact()
     ensures { ChangesIsExact }
 {}
 
-/// No single fault of the line makes a confirmed picture wrong. With at most one fault since the
-/// last dump that came whole, it is what the board had reported when it sent the dump that
-/// confirmed it. It is all that the board has reported if the board has repeated that.
+/// No single fault of the line makes a confirmed picture wrong. If there was at most one fault
+/// since the last whole dump, a confirmed picture is what the board had reported when it sent the
+/// confirming dump. It is all that the board has reported if the board has repeated that.
 pub fn one_fault_is_seen()
     ensures was { ConfirmedWasReported }
     ensures is { ConfirmedIsReported }
@@ -99,8 +99,8 @@ pub fn one_fault_is_seen()
     ensures right { FaultlessIsRight }
 {}
 
-/// Whatever bytes stand between whole messages, the messages before and after them are heard. So
-/// bytes that say at most one message, in the place of at most one, are one faulty passage.
+/// Whatever bytes are between whole messages, the messages before and after them are heard. Bytes
+/// that contain at most one message, and replace at most one, are therefore one faulty passage.
 pub fn faulty_bytes_are_a_passage()
     ensures { StretchIsOne }
 {
@@ -109,8 +109,8 @@ pub fn faulty_bytes_are_a_passage()
     dgt_decode::laws::unfinished_append();
 }
 
-/// What confirms a picture: a dump that repeats it, and nothing else. Another dump ends that, and
-/// so does a field that makes another picture.
+/// A picture is confirmed only by a dump that repeats it. Another dump ends that, and so does a
+/// field update that changes the picture.
 pub fn what_confirms()
     ensures unknown { (pieces : List Piece) →
         confirmed_after true None (Content.dump pieces) ≡ false }
@@ -126,8 +126,7 @@ pub fn what_confirms()
         confirmed_after true (Some known) (Content.field square piece) ≡ true }
 {}
 
-/// What counts as a fault, and which picture is right. A dump that comes whole begins the count
-/// anew.
+/// What counts as a fault, and which picture is right. A whole dump restarts the count.
 pub fn faults_in_passages()
     ensures dump { (faults : ℕ) (pieces : List Piece) →
         faults_after faults (Passage.Whole (Content.dump pieces)) ≡ 0 }
@@ -143,8 +142,8 @@ pub fn faults_in_passages()
     ensures same { (reported : List Piece) → IsRight reported (Some reported) }
 {}
 
-/// Two faults can make a confirmed picture wrong, one can make an unconfirmed one wrong, and a
-/// change that is lost after the dump isn't seen before the next one.
+/// Two faults can make a confirmed picture wrong, and one can make an unconfirmed one wrong. A
+/// change that is lost after the dump is noticed only at the next dump.
 pub fn more_faults_are_not()
     ensures two { TwoFaultsSuffice }
     ensures late { LateFaultsSuffice }

@@ -1,25 +1,25 @@
-//! The host of a DGT board: it sends commands, and keeps a picture of the board from what it hears.
+//! The host of a DGT board: it sends commands, and tracks the board's position from the messages
+//! that it receives.
 //!
-//! A [`Host`] owns no line, and no call takes memory or waits.
+//! A [`Host`] doesn't own the line. No call allocates memory or waits.
 //!
 //! | To | Use |
 //! |---|---|
-//! | write a [`Command`] into a slice | `send`; `follow` asks for all that a picture needs |
-//! | hear bytes that came, cut anywhere | `hear`, which returns one [`Event`]; `hear_all` |
+//! | write a [`Command`] into a slice | `send`; `follow` requests all that a picture needs |
+//! | hear received bytes, cut anywhere | `hear`, which returns one [`Event`]; `hear_all` |
 //! | see the position, the clock, the awaited replies | `picture`, `clock`, `awaited` |
-//! | go on after a line that both sides saw break | `line_lost`, then `follow` |
-//! | begin on a line on which another program has talked | `restart` |
-//! | go on after a reply was lost | `give_up_awaited` |
+//! | continue after a break that both sides noticed | `line_lost`, then `follow` |
+//! | start on a line that another program has used | `restart` |
+//! | continue after a reply was lost | `give_up_awaited` |
 //!
 //! The messages are those of the DGT Electronic Board Protocol Description. A dump sets the whole
 //! picture, a field update sets one square of a picture that is known, and a reading of the clock
 //! sets the clock.
 //!
-//! The list of at most [`MAX_AWAITED`] awaited replies is this project's own choice. A message that
-//! answers a command is taken off the list if it is the first awaited. Otherwise it is reported as
-//! unasked.
+//! The list of at most [`MAX_AWAITED`] awaited replies is this project's own choice. A reply is
+//! removed from the list if it is the first awaited. Otherwise it is reported as unasked.
 //!
-//! This program prints where the pieces stand after each change. It needs no proof of its own:
+//! This program prints the position after each change. It needs no proof of its own:
 //!
 //! ```rust
 //! use dgt_host::Host;
@@ -64,12 +64,12 @@
 //! | `clock_seen` (dgt_message) | what a clock shows |
 //! | `events`, `unfinished_message` (dgt_decode) | the events of bytes, and the unfinished rest |
 //!
-//! [`laws`] says that chunks don't matter (`heard_in_chunks`), and that a host that hears nothing
-//! stays as it is (`nothing_heard`).
+//! [`laws`] says that the division into chunks doesn't matter (`heard_in_chunks`), and that a host
+//! that hears nothing stays as it is (`nothing_heard`).
 //!
-//! dgt_message has what messages are made of, and dgt_values how a position is written. [`Event`],
-//! [`Message`], [`Clock`], [`Command`], [`Kind`], [`Position`], [`Square`] and [`Piece`] are
-//! exported here again.
+//! dgt_message defines messages, and dgt_values positions and their texts. This crate re-exports
+//! [`Event`], [`Message`], [`Clock`], [`Command`], [`Kind`], [`Position`], [`Square`] and
+//! [`Piece`].
 #![tactic(auto)]
 
 mod hearing;

@@ -1,15 +1,15 @@
-//! Why a host doesn't send.
+//! Why a host can't send.
 
 use thiserror::Error;
 
-/// Why nothing was sent. The host and the slice are as they were.
+/// Why nothing was sent. The host and the slice stay as they were.
 #[derive(Clone, Copy, Debug, PartialEq, Eq, Error)]
 pub enum SendFault {
-    /// The reply would have to be awaited, and 16 are awaited already. This goes before a want of
-    /// room.
+    /// The command requests a reply of a kind, and 16 replies are awaited already. This is checked
+    /// before the room.
     #[error("16 replies are awaited already")]
     TooMany,
-    /// The slice is shorter than what is to be written, which takes `need` bytes.
-    #[error("this takes {need} bytes of room")]
+    /// The slice is shorter than the bytes to be written, `need` of them.
+    #[error("the buffer needs {need} bytes")]
     NoRoom { need: usize },
 }

@@ -1,4 +1,4 @@
--- At most one message fits a code and a body, at most one fault does, and never both.
+-- For a code and a body, at most one message fits or one fault does, and never both.
 use Rattle.std.proofs.Common.{◌≡◌, ℕ, zero, suc, ◌<◌, ◌%◌, Bool, true, false, cond, refl, sym, ap, ◌∙◌, ◌⊎◌}
 use Rattle.std.proofs.Common.{inl, inr, List, [], ◌∷◌, length, map, arith, length-append}
 use Rattle.std.specs.Prelude.{◌==◌, slice_index}
@@ -26,20 +26,20 @@ pub one_message : (code : ℕ) (body : List ℕ) (first second : Content) → Fi
     → first ≡ second
 one_message code body first second h k = sym (message_in-fits first code body h) ∙ message_in-fits second code body k
 
--- of two first bad places neither stands before the other
+-- of two first bad places, neither is before the other
 one_place : (code : ℕ) (body : List ℕ) (a b : ℕ) → IsFirstBad code body a → IsFirstBad code body b → a ≡ b
 one_place code body a b h k =
     let not_before : a < b → ⊥ = λ l. h.bad (k.first a l) in
     let not_after : b < a → ⊥ = λ l. k.bad (h.first b l) in
     omega (arith, not_before, not_after)
 
--- the fault of a byte of times is that of a reading
+-- the fault of a byte of times is a bad reading
 pub times_fault : (a b : Bool) (at : ℕ) → fault_of (cond a anything (cond b hours sixty)) at ≡ BadReading at
 times_fault true b at = refl
 times_fault false true at = refl
 times_fault false false at = refl
 
--- a fault is that of the size, or that of the first bad place
+-- a fault is a wrong size or the first bad place
 abbrev Arises : ℕ → List ℕ → BodyFault → Type 0
 Arises code body why =
     ((HasSize code body → ⊥) × (why ≡ WrongSize))
@@ -63,7 +63,7 @@ same_fault code body f g (inr (a, h, e)) (inr (b, k, d)) =
 pub one_fault : (code : ℕ) (body : List ℕ) (f g : BodyFault) → IsFaultOf code body f → IsFaultOf code body g → f ≡ g
 one_fault code body f g h k = same_fault code body f g (arises code body f h) (arises code body g k)
 
--- each byte of written times is allowed in its place
+-- each byte of encoded times is valid in its place
 times_allowed : (t : BothTimes) → AreTimes t → (at : ℕ) → at < 7
     → Allows (column_of Layout.times at) (slice_index (times_bytes t) at)
 times_allowed t h zero l = omega (arith, h.0)
@@ -82,14 +82,14 @@ codes_allowed pieces at l =
     let within : at < length pieces = omega (arith, length-map pieces piece_code) in
     rw (get_or-map piece_code pieces at Empty 0 within) (piece_code-below _)
 
--- the two bytes of a field are allowed in their places
+-- the two bytes of a field update are valid in their places
 field_allowed : (s : ℕ) (p : Piece) (at : ℕ) → s < 64 → at < 2
     → Allows (column_of Layout.field at) (slice_index (s ∷ piece_code p ∷ []) at)
 field_allowed s p zero h l = h
 field_allowed s p (suc zero) h l = piece_code-below p
 field_allowed s p (suc (suc k)) h l = absurd (omega arith)
 
--- each byte of a body that says something is allowed in its place
+-- each byte of a body with a meaning is valid in its place
 said_allowed : (said : Content) (body : List ℕ) → IsMessage said → BodyEncodes said body
     → AllowsBefore (said_layout said) body (length body)
 said_allowed (dump pieces) body h s at l = rw s (codes_allowed pieces at (rw (← s) l))
@@ -97,7 +97,7 @@ said_allowed (field where_ what) body h s at l = rw s (field_allowed where_ what
 said_allowed (times readings) body h s at l = rw s (times_allowed readings h at (omega (arith, ap length s)))
 said_allowed _ body h s at l = tt
 
--- a body that says something has the size of its code
+-- a body with a meaning has the size of its code
 said_size : (said : Content) (body : List ℕ) → IsMessage said → BodyEncodes said body → HasSize (code_of said) body
 said_size (dump pieces) body h s = rw s (omega (arith, length-map pieces piece_code))
 said_size (field where_ what) body h s = rw s refl
@@ -106,13 +106,13 @@ said_size (no_clock absence) body h s = rw s (omega (arith, h.0, length-append a
 said_size (ack answer) body h s = omega (arith, s.0)
 said_size (carried own bytes) body h s = rw s h.2
 
--- so it has no fault
+-- therefore it has no fault
 faultless : (code : ℕ) (body : List ℕ) (why : BodyFault) → HasSize code body
     → AllowsBefore (layout_of code body) body (length body) → Arises code body why → ⊥
 faultless code body why size allowed (inl h) = h.0 size
 faultless code body why size allowed (inr (at, h, e)) = h.bad (allowed at h.within)
 
--- if a message fits, the size is right and each place allows its byte
+-- if a message fits, the size is right and each byte is valid in its place
 pub not_both : (code : ℕ) (body : List ℕ) (said : Content) (fault : BodyFault) → Fits said code body
     → IsFaultOf code body fault → ⊥
 not_both code body said fault h k =

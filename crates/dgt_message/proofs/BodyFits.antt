@@ -1,4 +1,4 @@
--- A body of the right size whose bytes are all allowed says the message of its layout.
+-- A valid body of the right size means the message of its layout.
 use Rattle.std.proofs.Common.{◌≡◌, ℕ, suc, ◌<◌, ◌+◌, ◌*◌, ◌/◌, ◌%◌, Bool, true, false, cond, refl, sym, ap, ◌∙◌, List}
 use Rattle.std.proofs.Common.{[], ◌∷◌, length, map, get_or, arith, Option, Some}
 use Rattle.std.specs.Prelude.{All, slice_index}
@@ -18,7 +18,7 @@ use Rattle.dgt_message.proofs.Absence.{absence_fits}
 use Rattle.dgt_message.proofs.CodeLemmas.{found_number}
 use Rattle.dgt_message.proofs.MessageIn.{piece_code-piece_with_code}
 
--- a body under this code says the message of this layout
+-- a body under this code means the message of this layout
 abbrev FitsAs : KnownCode → Layout → List ℕ → Type 0
 FitsAs code layout body = Fits (said_in layout (known_number code) body) (known_number code) body
 
@@ -35,7 +35,7 @@ dump_fits : (body : List ℕ) → length body + 3 ≡ 67 → AllowsBefore Layout
 dump_fits body size h =
     record { is_message = omega (arith, length-map body piece_with_code); code_is = refl; encoded = codes_back body h }
 
--- a square and a code are a field
+-- a square and a code are a field update
 field_fits : (body : List ℕ) → length body + 3 ≡ 5 → AllowsBefore Layout.field body (length body)
     → FitsAs KnownCode.Field Layout.field body
 field_fits (a ∷ b ∷ []) size h =
@@ -53,7 +53,7 @@ repacked b h = omega (arith, h.0, h.1)
 joined : (b : ℕ) → b % 16 + 16 * (b / 16) ≡ b
 joined b = omega arith
 
--- three allowed bytes are a time
+-- three valid bytes are a time
 time_is : (h m s : ℕ) → h < 128 → Allows hours h → Allows sixty m → Allows sixty s → IsTime (time_in h m s)
 time_is h m s small a b c = (a, omega (arith, b.0, b.1), omega (arith, c.0, c.1), omega arith)
 
@@ -62,7 +62,7 @@ same_seven : (a b c d e f g a' b' c' d' e' f' : ℕ) → a' ≡ a → b' ≡ b �
     → a ∷ b ∷ c ∷ d ∷ e ∷ f ∷ g ∷ [] ≡ a' ∷ b' ∷ c' ∷ d' ∷ e' ∷ f' ∷ g ∷ []
 same_seven a b c d e f g a' b' c' d' e' f' p q r s t u = cc
 
--- seven allowed bytes, with no mark and with a clock, are times
+-- seven valid bytes, without a mark and with a clock, are times
 times_fits : (body : List ℕ) → length body + 3 ≡ 10 → All (λ byte. byte < 128) body
     → says_no_clock (slice_index body 6) ≡ false
     → AllowsBefore Layout.times body (length body) → FitsAs KnownCode.Clock Layout.times body
@@ -106,7 +106,7 @@ ack_fits body size seven marked =
       encoded = (omega arith, marked, refl, refl);
     }
 
--- seven bytes with no mark and with no clock are those of a board without one
+-- seven bytes without a mark and without a clock are those of a board without one
 none_fits : (body : List ℕ) → length body + 3 ≡ 10 → All (λ byte. byte < 128) body → is_marked body ≡ false
     → SaysNoClock (slice_index body 6)
     → FitsAs KnownCode.Clock Layout.no_clock body
@@ -116,7 +116,7 @@ none_fits (a ∷ b ∷ c ∷ d ∷ e ∷ f ∷ g ∷ []) size seven unmarked set
 none_fits (a ∷ b ∷ c ∷ d ∷ e ∷ f ∷ g ∷ i ∷ body) size seven unmarked set = absurd (omega arith)
 none_fits _ size seven unmarked set = absurd (omega arith)
 
--- seven allowed bytes are a message of the clock, by their marks and then by their status
+-- seven valid bytes are a clock message, by their marks and then by their status
 clock_fits : (body : List ℕ) → All (λ byte. byte < 128) body → (m : Bool) → is_marked body ≡ m → (s : Bool)
     → says_no_clock (slice_index body 6) ≡ s
     → length body + 3 ≡ 10 → let layout : Layout = cond m Layout.ack (cond s Layout.no_clock Layout.times) in
@@ -125,7 +125,7 @@ clock_fits body seven true e s f size h = ack_fits body size seven e
 clock_fits body seven false e true f size h = none_fits body size seven e f
 clock_fits body seven false e false f size h = times_fits body size seven f h
 
--- a body of the right size whose bytes are all allowed says the message of its layout
+-- a valid body of the right size means the message of its layout
 pub body_fits : (known : Option KnownCode) (code : ℕ) (body : List ℕ) → code < 128 → IsCarried body
     → known_with code ≡ known
     → IsRightSize known body → AllowsBefore (known_layout known body) body (length body)

@@ -1,4 +1,4 @@
--- What is written for a message encodes it.
+-- The output of `encode` for a message encodes it.
 use Rattle.std.proofs.Common.{◌≡◌, ℕ, ◌<◌, ◌≤◌, ◌+◌, ◌*◌, ◌/◌, ◌%◌, true, refl, List, [], ◌∷◌, length, map, get_or}
 use Rattle.std.proofs.Common.{arith, eq-eqb, length-append}
 use Rattle.std.specs.List.{AllByRecursion}
@@ -23,7 +23,7 @@ with_first = All-cons (λ byte. byte < 128)
 listed : (bytes : List ℕ) → AllByRecursion (λ byte. byte < 128) bytes → AreSevenBit bytes
 listed = All-from_recursion (λ byte. byte < 128)
 
--- a code and a body stand under their header
+-- a code and a body after their header
 pub whole_header : (code : ℕ) (body : List ℕ) → code < 128 → length body ≤ 16380 → AreSevenBit body
     → HasHeader code (message_bytes code body)
 whole_header code body small fits seven_bit = record {
@@ -51,7 +51,7 @@ times_small t h =
       ),
     )
 
--- the bytes that are written of an acknowledgement are seven-bit
+-- the encoded bytes of an acknowledgement are seven-bit
 ack_small : (answer : Answer) → IsAck answer → AreSevenBit (ack_encoding answer)
 ack_small answer h =
     let at : (k : ℕ) → k < 4 → get_or answer.ack k 0 < 256 = λ k less. h.1 k 0 (omega (arith, h.0)) in
@@ -60,11 +60,11 @@ ack_small answer h =
       (omega arith, (omega arith, (omega (arith, at 0, at 1), (omega arith, (omega arith, (h.2, tt)))))),
     )
 
--- D4 of the mark brings the top bit of the first byte back
+-- D4 of the mark restores the top bit of the first byte
 first_bit : (a b : ℕ) → a < 256 → a ≡ a % 128 + 128 * bit_at (mark_with a b) 4
 first_bit a b h = omega arith
 
--- D5 of the mark brings the top bit of the second byte back
+-- D5 of the mark restores the top bit of the second byte
 second_bit : (a b : ℕ) → a < 256 → b < 256 → b ≡ b % 128 + 128 * bit_at (mark_with a b) 5
 second_bit a b h k = omega arith
 
@@ -76,7 +76,7 @@ marked a b = eq-eqb _ _ (omega arith)
 four : (a b c d w x y z : ℕ) → a ≡ w → b ≡ x → c ≡ y → d ≡ z → a ∷ b ∷ c ∷ d ∷ [] ≡ w ∷ x ∷ y ∷ z ∷ []
 four a b c d w x y z p q r s = cc
 
--- the four bytes come back from the bytes that are written
+-- the four bytes are restored from the encoded bytes
 acks_same : (xs : List ℕ) (status : ℕ) → length xs ≡ 4 → All (λ byte. byte < 256) xs
     → xs ≡ ack_in (ack_encoding (record { ack = xs; status = status }))
 acks_same (a ∷ b ∷ c ∷ d ∷ []) status h k =
@@ -86,7 +86,7 @@ acks_same (a ∷ b ∷ c ∷ d ∷ []) status h k =
 acks_same (a ∷ b ∷ c ∷ d ∷ e ∷ xs) status h k = absurd (omega arith)
 acks_same _ status h k = absurd (omega arith)
 
--- what is written of an acknowledgement encodes it
+-- the output of `encode` for an acknowledgement encodes it
 pub ack_encoding_encodes : (answer : Answer) → IsAck answer → BodyEncodes (ack answer) (ack_encoding answer)
 ack_encoding_encodes answer h = (
   refl,
@@ -100,7 +100,7 @@ pub small_code : (said : Content) → IsMessage said → code_of said < 128
 small_code (carried own body) h = h.0
 small_code _ h = omega arith
 
--- a body that is written is not too long
+-- an encoded body is not too long
 short_body : (said : Content) → IsMessage said → length (body_encoding said) ≤ 16380
 short_body (dump pieces) h = omega (arith, length-map pieces piece_code)
 short_body (field square piece) h = omega arith
@@ -109,7 +109,7 @@ short_body (no_clock absence) h = omega (arith, h.0, length-append absence.raw (
 short_body (ack answer) h = omega arith
 short_body (carried own body) h = h.3.0
 
--- a body that is written is seven-bit
+-- an encoded body is seven-bit
 small_body : (said : Content) → IsMessage said → AreSevenBit (body_encoding said)
 small_body (dump pieces) h = codes_small pieces
 small_body (field square piece) h =
@@ -119,12 +119,12 @@ small_body (no_clock absence) h = All-push (λ byte. byte < 128) absence.raw abs
 small_body (ack answer) h = ack_small answer h
 small_body (carried own body) h = h.3.1
 
--- a body that is written encodes the message
+-- an encoded body encodes the message
 encoded : (said : Content) → IsMessage said → BodyEncodes said (body_encoding said)
 encoded (ack answer) h = ack_encoding_encodes answer h
 encoded _ h = refl
 
--- what is written of a message encodes it
+-- the output of `encode` for a message encodes it
 pub encoding_encodes : (said : Content) → IsMessage said → Encodes said (encoding said)
 encoding_encodes said h = record {
   is_message = h;
@@ -132,7 +132,7 @@ encoding_encodes said h = record {
   encoded = encoded said h;
 }
 
--- a message that fits is encoded by its whole, and the other way round
+-- a message that fits is encoded by its whole, and conversely
 pub fits_if_encoded : (code : ℕ) (body : List ℕ) (said : Content) → code < 128 → IsCarried body
     → Fits said code body ↔ Encodes said (message_bytes code body)
 fits_if_encoded code body said small fits = (whole, parts)

@@ -1,5 +1,5 @@
--- What the derived `==` says of lists, of clocks and of messages.
-use Rattle.std.proofs.Common.{◌≡◌, ℕ, nat_eq, refl, sym, ap, rules, arith, List, [], ◌∷◌, Bool, true, false, ◌&&◌, map}
+-- The derived `==` of lists, of clocks and of messages.
+use Rattle.std.proofs.Common.{◌≡◌, ℕ, ◌+◌, nat_eq, refl, sym, ◌∙◌, ap, rules, arith, List, [], ◌∷◌, Bool, true, false, ◌&&◌, map}
 use Rattle.std.specs.Prelude.{◌↔◌, IsTrue}
 use Rattle.std.proofs.lemmas.Slice.Eq.{slice_eq-Decides}
 use Rattle.std.proofs.lemmas.Grind.{common_steps}
@@ -11,7 +11,7 @@ use Rattle.dgt_message.specs.declared.message.Message.TheVariants.{Dump, Field, 
 use Rattle.dgt_message.specs.declared.message.Message.TheVariants.{Version, Battery, LongSerial, Other}
 use Rattle.dgt_message.specs.declared.other.OtherCode.{OtherCode}
 use Rattle.dgt_message.specs.Clock.{Absence}
-use Rattle.dgt_message.specs.Content.{clock_seen, code_of, content, absence_seen, code_number, times_seen}
+use Rattle.dgt_message.specs.Content.{Content, clock_seen, code_of, content, absence_seen, code_number, times_seen}
 use Rattle.dgt_message.specs.Code.{HasCase}
 use Rattle.dgt_values.specs.contracts.bytes.SevenBitPartialEq.TheImpl as byte
 use Rattle.dgt_values.specs.contracts.pieces.PiecePartialEq.TheImpl as piece
@@ -29,7 +29,7 @@ both false q p_is q_is = (λ t. cc, λ h. p_is.1 h.0)
 equal_numbers : (m n : ℕ) → IsTrue (nat_eq m n) ↔ (m ≡ n)
 equal_numbers m n = search rules
 
--- lists are equal exactly if the same is read of them, if that holds of their elements
+-- lists are equal exactly if a clause sees the same in both, if that is true of their elements
 pub equal_lists : {T Read : Type 0} → (read : T → Read) (eq : T → T → Bool) → EqualIsSameRead read eq
     → EqualIsSameRead (map read) (pointwise eq)
 equal_lists read eq same [] [] = (λ _. refl, λ _. refl)
@@ -71,11 +71,28 @@ equal_clocks (clock_variants.NoClock a) (clock_variants.NoClock b) =
 equal_clocks (clock_variants.Times a) _ = (λ t. cc, λ e. cc)
 equal_clocks _ _ = (λ t. cc, λ e. cc)
 
--- another code is none that has a case of its own
+-- the number of a message's case, and then of its code
+abbrev case_of : Content → ℕ
+case_of (Content.dump pieces) = 0
+case_of (Content.field square piece) = 1
+case_of (Content.times readings) = 2
+case_of (Content.no_clock absence) = 3
+case_of (Content.ack answer) = 4
+case_of (Content.carried code body) = 5 + code
+
+-- no test that is false is true
+never : IsTrue false → ⊥
+never t = cc
+
+-- messages of different cases are neither equal nor the same
+apart : (a b : Content) → nat_eq (case_of a) (case_of b) ≡ false → IsTrue false ↔ (a ≡ b)
+apart a b differ = (λ t. absurd (never t), λ e. absurd (never (sym differ ∙ (equal_numbers _ _).1 (ap case_of e))))
+
+-- another code is not one with a variant of its own
 not_known : (other : OtherCode) (number : ℕ) → code_number other ≡ number → HasCase number → ⊥
 not_known other number e has = other.unread (rw e has)
 
--- two messages are equal exactly if they say the same
+-- two messages are equal exactly if they mean the same
 pub equal_messages : EqualIsSameRead content (message.eq-value).it
 equal_messages (Dump a) (Dump b) =
     let same = slice_eq-Decides {E = (piece.eq-value).it} (search rules) a.pieces b.pieces _ refl in
@@ -96,6 +113,6 @@ equal_messages (Version main sub) (Version mains subs) = search rules
 equal_messages (Battery a) (Battery b) = search rules
 equal_messages (LongSerial a) (LongSerial b) = search rules
 equal_messages (Other code a) (Other codes b) = search rules
-equal_messages (Other code a) _ = (λ t. cc, λ e. absurd (not_known code _ (ap code_of e) refl))
-equal_messages _ (Other code b) = (λ t. cc, λ e. absurd (not_known code _ (sym (ap code_of e)) refl))
-equal_messages _ _ = (λ t. cc, λ e. cc)
+equal_messages (Other code a) b = (λ t. absurd (never t), λ e. absurd (not_known code _ (ap code_of e) refl))
+equal_messages a (Other code b) = (λ t. absurd (never t), λ e. absurd (not_known code _ (sym (ap code_of e)) refl))
+equal_messages a b = apart (content a) (content b) refl

@@ -1,4 +1,4 @@
--- The first byte that its place doesn't allow, as it is computed, and the fault that it makes.
+-- The first byte that isn't valid in its place, as it is computed, and its fault.
 use Rattle.std.proofs.Common.{◌≡◌, ℕ, zero, suc, ◌<◌, ◌/◌, ◌%◌, inl, inr, Bool, true, false, cond, refl, ap, List}
 use Rattle.std.proofs.Common.{length, arith, Option, Some, None, below_more}
 use Rattle.std.specs.Prelude.{◌==◌, nat_le, IfSome, MatchOption, slice_index}
@@ -27,7 +27,7 @@ searched test (suc n) = go (first_failure test n) (searched test n) (test n) ref
     go None (all h) false e = fails n (omega arith) e h
     go (Some at) (fails _ l f h) t e = fails at (omega arith) f h
 
--- a byte that passes the test of its column is allowed
+-- a byte that passes the test of its column is valid
 allowed : (c : Column) (byte : ℕ) → is_allowed c byte ≡ true → Allows c byte
 allowed square byte h = ltb-true byte 64 h
 allowed piece byte h = ltb-true byte 16 h
@@ -49,7 +49,8 @@ not_allowed sixty byte h a =
     ]
 not_allowed anything byte h a = cc
 
--- what a search finds in a body of the right size is the first bad place, and if it finds none there is none
+-- the search in a body of the right size finds the first bad place, and if it finds none there is
+-- none
 search_finds : (code : ℕ) (body : List ℕ) → HasSize code body → (found : Option ℕ)
     → Search (λ place. is_allowed (column_at code body place) (slice_index body place)) (length body) found
     → MatchOption found (AllowsBefore (layout_of code body) body (length body)) (IsFirstBad code body)
@@ -85,13 +86,13 @@ place_fault code body at h = by_layout (layout_of code body) refl
     by_layout Layout.times is = rw (times_fault (at == 6) (at % 3 == 0) at) (h, is)
     by_layout _ is = absurd (h.bad (rw is tt))
 
--- the test of the size reports a right one
+-- the test of the size accepts a right one
 pub right_size : (o : Option ℕ) (n : ℕ) → option_map_or (λ total. n == total) o true ≡ true
     → IfSome o (λ total. n ≡ total)
 right_size None n h = tt
 right_size (Some total) n h = eqb-true n total h
 
--- the test of the size reports a wrong one
+-- the test of the size refuses a wrong one
 pub wrong_size : (o : Option ℕ) (n : ℕ) → option_map_or (λ total. n == total) o true ≡ false
     → IfSome o (λ total. n ≡ total) → ⊥
 wrong_size None n h = cc

@@ -1,4 +1,4 @@
--- What a code and a body say, computed: a message that fits them is this one.
+-- The message of a code and a body, computed: any message that fits them is this one.
 use Rattle.std.proofs.Common.{◌≡◌, ℕ, ◌<◌, ◌≤◌, ◌+◌, ◌-◌, ◌*◌, ◌/◌, ◌%◌, false, refl, ap, List, [], ◌∷◌}
 use Rattle.std.proofs.Common.{◌++◌, length, map, take, drop, arith, rules}
 use Rattle.std.specs.Prelude.{◌||◌, slice_index}
@@ -50,11 +50,11 @@ same_time t is =
       unpacked t.seconds is.2,
     ) refl
 
--- hours are no mark
+-- hours are not a mark
 unmarked_hours : (h f : ℕ) → h ≤ 9 → is_mark (h + 16 * f) ≡ false
 unmarked_hours h f a = ne_eqb _ _ (λ e. omega arith)
 
--- times are laid out as times
+-- times have the layout of times
 times_laid_out : (t : BothTimes) → AreTimes t → clock_layout (times_bytes t) ≡ Layout.times
 times_laid_out t h =
     rw (
@@ -63,7 +63,7 @@ times_laid_out t h =
       false_from_ne_true _ h.3,
     ) refl
 
--- the bytes of a board without a clock are laid out as such
+-- the bytes of a board without a clock have that layout
 absence_laid_out : (raw : List ℕ) (status : ℕ) → IsAbsence (absence_of raw status)
     → clock_layout (raw ++ status ∷ []) ≡ Layout.no_clock
 absence_laid_out (a ∷ b ∷ c ∷ d ∷ e ∷ f ∷ []) status h = rw (false_from_ne_true (is_mark a || is_mark d) h.2, h.4) refl
@@ -79,7 +79,7 @@ said_layout (no_clock absence) = Layout.no_clock
 said_layout (ack answer) = Layout.ack
 said_layout (carried own body) = Layout.carried
 
--- a body that says something is laid out as this message
+-- a body with a meaning has the layout of this message
 pub laid_out : (said : Content) (body : List ℕ) → IsMessage said → BodyEncodes said body
     → layout_of (code_of said) body ≡ said_layout said
 laid_out (dump pieces) body h s = refl
@@ -89,14 +89,14 @@ laid_out (no_clock absence) body h s = rw s (absence_laid_out absence.raw absenc
 laid_out (ack answer) body h s = rw s.1 refl
 laid_out (carried own bytes) body h s = rw s h.1
 
--- six bytes and a status come back
+-- six bytes and a status are restored
 absence_back : (raw : List ℕ) (status : ℕ) → length raw ≡ 6
     → absence_of (take 6 (raw ++ status ∷ [])) (slice_index (raw ++ status ∷ []) 6) ≡ absence_of raw status
 absence_back (a ∷ b ∷ c ∷ d ∷ e ∷ f ∷ []) status h = refl
 absence_back (a ∷ b ∷ c ∷ d ∷ e ∷ f ∷ g ∷ raw) status h = absurd (omega arith)
 absence_back _ status h = absurd (omega arith)
 
--- a message comes back from its body by its layout
+-- a message is restored from its body by its layout
 said_back : (said : Content) (body : List ℕ) → IsMessage said → BodyEncodes said body
     → said_in (said_layout said) (code_of said) body ≡ said
 said_back (dump pieces) body h s = rw s (ap dump (map-piece_with_code pieces))
@@ -115,7 +115,7 @@ pub message_in-fits : (said : Content) (code : ℕ) (body : List ℕ) → Fits s
 message_in-fits said code body h =
     rw (h.code_is, laid_out said body h.is_message h.encoded) (said_back said body h.is_message h.encoded)
 
--- the whole encodes what its code and its body say
+-- the whole encodes the meaning of its code and its body
 pub message_in-encodes : (said : Content) (bytes : List ℕ) → Encodes said bytes
     → message_in (slice_index bytes 0 - 128) (drop 3 bytes) ≡ said
 message_in-encodes said bytes h =

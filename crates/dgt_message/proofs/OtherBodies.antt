@@ -1,4 +1,4 @@
--- Bodies of another size, and bodies that are carried.
+-- Bodies of another size, and bodies that are carried unread.
 use Rattle.std.proofs.Common.{◌≡◌, ◌≢◌, ℕ, zero, suc, ◌+◌, true, false, refl, List, length}
 use Rattle.std.proofs.Common.{Option, Some, None, Ok, Err}
 use Rattle.std.specs.Option.{option_map_or}
@@ -19,12 +19,12 @@ fails : (fixed : Option ℕ) (size : ℕ) → (IfSome fixed (λ total. size ≡ 
 fails None size differs = absurd (differs tt)
 fails (Some total) size differs = ne_eqb size total differs
 
--- a body whose code has another size
+-- a body with another size than its code fixes
 pub other_size : (code : ℕ) (body : List ℕ) → (HasSize code body → ⊥) → reading code body ≡ Err WrongSize
 unfolding reading
 other_size code body differs = rw (fails (known_total (known_with code)) (length body + 3) differs) refl
 
--- each byte of a body that is carried is allowed
+-- each byte of a body that is carried is valid
 none_bad : (count : ℕ) → first_failure (λ place. true) count ≡ None
 none_bad zero = refl
 none_bad (suc count) = rw (none_bad count) refl
@@ -43,7 +43,7 @@ module _ (code : ℕ) (body : List ℕ) (dump : code ≢ 0x06) (clock : code ≢
   is_free (Some known.Version) e = absurd (version (found_number code known.Version e))
   is_free (Some _) e = (refl, refl)
 
-  -- so its bodies are carried
+  -- therefore its bodies are carried
   pub other_body : reading code body ≡ Ok (carried code body)
   unfolding reading
   other_body =

@@ -20,7 +20,7 @@ use Rattle.dgt_message.proofs.BodyFits.{body_fits}
 use Rattle.dgt_message.proofs.FirstBad.{first_bad_place-reports, place_fault, right_size, wrong_size}
 use Rattle.dgt_message.proofs.EncodingEncodes.{small_code}
 
--- what the result says of the code and the body is so
+-- the result is true of the code and the body
 abbrev Says : ℕ → List ℕ → Result Content BodyFault → Type 0
 Says code body r = MatchResult r (λ said. Fits said code body) (IsFaultOf code body)
 
@@ -30,14 +30,14 @@ message_or_fault code body found =
     option_map_or (λ at. Err (fault_of (column_at code body at) at)) found
     (Ok (said_in (layout_of code body) code body))
 
--- so is the fault at the first bad place, or the message if there is none
+-- the same is true of the fault at the first bad place, or of the message if there is none
 by_place : (code : ℕ) (body : List ℕ) → code < 128 → IsCarried body → HasSize code body → (found : Option ℕ)
     → MatchOption found (AllowsBefore (layout_of code body) body (length body)) (IsFirstBad code body)
     → Says code body (message_or_fault code body found)
 by_place code body small carried size None h = body_fits (known_with code) code body small carried refl size h
 by_place code body small carried size (Some at) h = place_fault code body at h
 
--- so is the reading
+-- and of the reading
 reading_says : (code : ℕ) (body : List ℕ) → code < 128 → IsCarried body → Says code body (reading code body)
 unfolding reading
 reading_says code body small carried =
@@ -53,13 +53,13 @@ reading_says code body small carried =
         by_place code body small carried size (first_bad_place code body) (first_bad_place-reports code body size)
     go false e = wrong_size fixed (length body + 3) e
 
--- what fits is the reading
+-- a message that fits is the reading
 said_is : (code : ℕ) (body : List ℕ) (r : Result Content BodyFault) (said : Content) → Says code body r
     → Fits said code body → r ≡ Ok said
 said_is code body (Ok other_) said h fits = ap Ok (one_message code body other_ said h fits)
 said_is code body (Err why) said h fits = absurd (not_both code body said why fits h)
 
--- the fault that there is, is the reading
+-- the fault of a body is the reading
 fault_is : (code : ℕ) (body : List ℕ) (r : Result Content BodyFault) (why : BodyFault) → Says code body r
     → IsFaultOf code body why → r ≡ Err why
 fault_is code body (Ok said) why h bad = absurd (not_both code body said why h bad)

@@ -9,6 +9,6 @@ use Rattle.dgt_message.specs.Reading.{Allows}
 abbrev pub IsRightSize : Option KnownCode → List ℕ → Type 0
 IsRightSize known body = IfSome (known_total known) (λ total. length body + 3 ≡ total)
 
--- each byte before this place is allowed in its place
+-- each byte before this place is valid in its place
 abbrev pub AllowsBefore : Layout → List ℕ → ℕ → Type 0
 AllowsBefore layout body end = (place : ℕ) → place < end → Allows (column_of layout place) (slice_index body place)

@@ -1,4 +1,4 @@
--- What a message says, apart from where its bytes lie in memory.
+-- The content of a message, without the address of its bytes.
 use Rattle.std.specs.Prelude.{◌≡◌, ℕ, ◌<◌, ◌≤◌, List, [], ◌∷◌, length, map, Option, Some, None}
 use Rattle.dgt_values.specs.declared.bodies.TheConstants.{MAX_BODY}
 use Rattle.dgt_values.specs.declared.kinds.Kind.{Kind}
@@ -26,11 +26,11 @@ pub data Content : Type 0 where
   ack : (answer : Answer) → Content
   carried : (code : ℕ) (body : List ℕ) → Content
 
--- the body of a known code, carried as it is
+-- the body of a known code, carried unread
 abbrev pub carried_as : KnownCode → List ℕ → Content
 carried_as code body = carried (known_number code) body
 
--- what a clause reads of the values of the program
+-- how clauses see the values of the program
 abbrev pub status_code : Status → ℕ
 status_code status = number status.code
 
@@ -81,7 +81,7 @@ code_of (no_clock absence) = known_number KnownCode.Clock
 code_of (ack answer) = known_number KnownCode.Clock
 code_of (carried own body) = own
 
--- the kind of the messages under a code, if they answer a command that has one
+-- the kind of the messages under a code, if they answer a request of a kind
 abbrev pub kind_with : Option KnownCode → Option Kind
 kind_with (Some KnownCode.Dump) = Some Kind.Dump
 kind_with (Some KnownCode.Serial) = Some Kind.Serial
@@ -98,7 +98,7 @@ answered_kind said = kind_with (known_with (code_of said))
 abbrev pub IsCarried : List ℕ → Type 0
 IsCarried body = (length body ≤ MAX_BODY) × AreSevenBit body
 
--- the values are in their ranges, so that a message says them
+-- the values are in their ranges, so that a message can carry them
 abbrev pub IsMessage : Content → Type 0
 IsMessage (dump pieces) = length pieces ≡ 64
 IsMessage (field square piece) = square < 64

@@ -18,7 +18,7 @@ time_bytes t =
 abbrev pub times_bytes : Times → List ℕ
 times_bytes t = time_bytes t.first ++ time_bytes t.second ++ t.status ∷ []
 
--- The four bytes of an answer: their low seven bits are bytes 1, 2, 4 and 5. Their top bits are D4
+-- The four bytes of a reply: their low seven bits are bytes 1, 2, 4 and 5. Their top bits are D4
 -- and D5 of byte 3, and D4 and D5 of byte 0.
 abbrev pub ack_in : List ℕ → List ℕ
 ack_in body =
@@ -30,14 +30,14 @@ ack_in body =
 abbrev pub mark_with : ℕ → ℕ → ℕ
 mark_with x y = ack_mark + 16 * (x / 128) + 32 * (y / 128)
 
--- the one encoding of an answer that is written: both marks, and D6 of both clear
+-- the encoding of an acknowledgement that `encode` writes: both marks, and D6 of both clear
 abbrev pub ack_encoding : Answer → List ℕ
 ack_encoding answer =
     let at : ℕ → ℕ = slice_index answer.ack in
     mark_with (at 2) (at 3) ∷ at 0 % 128 ∷ at 1 % 128
     ∷ mark_with (at 0) (at 1) ∷ at 2 % 128 ∷ at 3 % 128 ∷ answer.status ∷ []
 
--- the one body that is written
+-- the body that `encode` writes
 abbrev pub body_encoding : Content → List ℕ
 body_encoding (Content.dump pieces) = map piece_code pieces
 body_encoding (Content.field square piece) = square ∷ piece_code piece ∷ []
@@ -46,20 +46,20 @@ body_encoding (Content.no_clock absence) = absence.raw ++ absence.status ∷ []
 body_encoding (Content.ack answer) = ack_encoding answer
 body_encoding (Content.carried code body) = body
 
--- the body encodes what the message says: an acknowledgement has several encodings
+-- the body encodes the message: an acknowledgement has several encodings
 abbrev pub BodyEncodes : Content → List ℕ → Type 0
 BodyEncodes (Content.ack answer) body =
     (length body ≡ 7) × IsMarked body
     × (answer.ack ≡ ack_in body) × (answer.status ≡ slice_index body 6)
 BodyEncodes said body = body ≡ body_encoding said
 
--- a body under this code says this
+-- a body under this code means this
 pub record Fits (said : Content) (code : ℕ) (body : List ℕ) : Type 0 where
   pub is_message : IsMessage said
   pub code_is : code ≡ code_of said
   pub encoded : BodyEncodes said body
 
--- the number that two digits of 128 make
+-- the number of two digits in base 128
 abbrev pub total : ℕ → ℕ → ℕ
 total high low = 128 * high + low
 
@@ -83,6 +83,6 @@ abbrev pub message_bytes : ℕ → List ℕ → List ℕ
 message_bytes code body =
     (128 + code) ∷ (length body + 3) / 128 ∷ (length body + 3) % 128 ∷ body
 
--- the one encoding that is written
+-- the encoding that `encode` writes
 abbrev pub encoding : Content → List ℕ
 encoding said = message_bytes (code_of said) (body_encoding said)

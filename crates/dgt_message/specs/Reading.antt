@@ -1,6 +1,6 @@
--- What a code and a body are read as: the message that fits them, or the one fault of the body,
--- which is its size or else the first byte that its place doesn't allow. The law
--- `reading_is_exact` ties the computed `reading` to `Fits` and to `IsFaultOf`.
+-- How a code and a body are read: as the message that fits them, or as the one fault of the body.
+-- The fault is a wrong size, or else the first byte that isn't valid in its place. The law
+-- `reading_is_exact` says that the computed `reading` agrees with `Fits` and with `IsFaultOf`.
 use Rattle.std.specs.Prelude.{◌≡◌, ℕ, zero, suc, ◌+◌, ◌*◌, ◌/◌, ◌%◌, ◌<◌, ◌≤◌, ◌==◌, ◌&&◌}
 use Rattle.std.specs.Prelude.{Bool, true, nat_lt, nat_le, if◌then◌else◌, List, [], ◌∷◌, length}
 use Rattle.std.specs.Prelude.{map, take, slice_index, slice_index_or, Option, Some, None, Result}
@@ -15,7 +15,7 @@ use Rattle.dgt_message.specs.Code.{HasSize, known_total, known_with}
 use Rattle.dgt_message.specs.Layout.{Column, Layout, column_at, layout_of}
 use Rattle.dgt_message.specs.Encoding.{ack_in, Fits}
 
--- a column allows a byte: two digits are packed, with tens in the high four bits
+-- a byte is valid in a column: two digits are packed, with tens in the high four bits
 abbrev pub Allows : Column → ℕ → Type 0
 Allows Column.square byte = byte < 64
 Allows Column.piece byte = byte < 16
@@ -26,7 +26,7 @@ Allows Column.anything byte = Unit {0}
 abbrev pub AllowsAt : ℕ → List ℕ → ℕ → Type 0
 AllowsAt code body place = Allows (column_at code body place) (slice_index body place)
 
--- a body of the right size has its first byte that isn't allowed at this place
+-- the first invalid byte of a body of the right size is at this place
 pub record IsFirstBad (code : ℕ) (body : List ℕ) (at : ℕ) : Type 0 where
   pub size : HasSize code body
   pub within : at < length body
@@ -43,7 +43,7 @@ IsFaultOf code body (BodyFault.BadSquare at) =
 IsFaultOf code body (BodyFault.BadReading at) =
     IsFirstBad code body at × (layout_of code body ≡ Layout.times)
 
--- the result is what the body says, or why it says nothing
+-- the result is the message of the body, or its fault
 abbrev pub Views : ℕ → List ℕ → Result Message BodyFault → Type 0
 Views code body r = MatchResult r
     (λ message. Fits (content message) code body)
@@ -63,7 +63,7 @@ piece_with_code n =
 abbrev pub time_in : ℕ → ℕ → ℕ → Time
 time_in h m s = time_of (h % 16) (10 * (m / 16) + m % 16) (10 * (s / 16) + s % 16) (h / 16)
 
--- the message in a body whose size is right and whose bytes are all allowed, by its layout
+-- the message in a body of the right size with valid bytes only, by its layout
 abbrev pub said_in : Layout → ℕ → List ℕ → Content
 said_in Layout.dump code body = Content.dump (map piece_with_code body)
 said_in Layout.field code body =
@@ -77,7 +77,7 @@ said_in Layout.ack code body =
     Content.ack (record { ack = ack_in body; status = slice_index body 6 })
 said_in Layout.carried code body = Content.carried code body
 
--- whether a column allows a byte
+-- whether a byte is valid in a column
 abbrev pub is_allowed : Column → ℕ → Bool
 is_allowed Column.square byte = nat_lt byte 64
 is_allowed Column.piece byte = nat_lt byte 16
@@ -90,12 +90,12 @@ abbrev pub first_failure : (ℕ → Bool) → ℕ → Option ℕ
 first_failure test zero = None
 first_failure test (suc n) = option_or (first_failure test n) (if test n then None else Some n)
 
--- the first place in a body that doesn't allow its byte
+-- the first place of an invalid byte in a body
 abbrev pub first_bad_place : ℕ → List ℕ → Option ℕ
 first_bad_place code body = first_failure
     (λ place. is_allowed (column_at code body place) (slice_index body place)) (length body)
 
--- the fault of a byte that this column doesn't allow
+-- the fault of a byte that isn't valid in this column
 abbrev pub fault_of : Column → ℕ → BodyFault
 fault_of Column.square at = BodyFault.BadSquare at
 fault_of Column.piece at = BodyFault.BadPiece at

@@ -1,4 +1,4 @@
-//! What messages answer.
+//! Which request a message answers.
 
 ghost use Rattle.std.specs.Prelude.{◌≡◌};
 ghost use Rattle.dgt_message.specs.Content.{content, answered_kind};
@@ -6,7 +6,7 @@ ghost use Rattle.dgt_message.specs.Content.{content, answered_kind};
 use crate::message::Message;
 use dgt_values::Kind;
 
-/// The kind of a message, if it answers a command that has one.
+/// The kind of a message, if it answers a request of a kind.
 pub fn kind_of(message: &Message<'_>) -> Option<Kind>
     ensures { result ≡ answered_kind (content message.now) }
 {

@@ -1,5 +1,5 @@
-//! What holds of the messages and their encodings as such. Nothing here runs: each function stands
-//! for the fact that its contract states.
+//! Laws of the messages and their encodings. Each function does nothing at run time: its contract
+//! states a fact.
 
 ghost use Rattle.std.specs.Prelude.{◌≡◌, ◌≢◌, ◌<◌, ◌+◌, ◌-◌, ◌*◌, ◌∷◌, ◌++◌, ◌↔◌, ◌⊎◌, ℕ, List, [], drop, length, map};
 ghost use Rattle.std.specs.Prelude.{slice_index, None, Some, Ok, Err};
@@ -20,8 +20,8 @@ use crate::other::OtherCode;
 use crate::readings::{BadDigits, Reading, Status};
 use crate::viewing::BodyFault;
 
-/// Two values are equal, as `==` compares them, exactly if they say the same. Of a body its
-/// bytes count, and not where they lie.
+/// Two values are equal by `==` exactly if they mean the same. For a body its bytes count, and not
+/// their address.
 pub fn equal_is_same()
     ensures reading { EqualIsSameRead time_seen ⟦<Reading as PartialEq>⟧.eq }
     ensures status { EqualIsSameRead status_code ⟦<Status as PartialEq>⟧.eq }
@@ -53,14 +53,13 @@ pub fn clone_is_same()
     ensures bad_digits { CloneIsSame ⟦<BadDigits as Clone>⟧ }
 {}
 
-/// A number is that of at most one code with a case of its own, and each such code is found by its
-/// number.
+/// Each number belongs to at most one known code, and each known code is found by its number.
 pub fn a_number_has_one_code()
     ensures { (number : ℕ) (code : KnownCode)
         → (known_with number ≡ Some code) ↔ (number ≡ known_number code) }
 {}
 
-/// Exactly one message fits each code and each body, or exactly one fault does.
+/// For each code and each body, exactly one message fits or exactly one fault does.
 pub fn one_reading()
     ensures some { (code : ℕ) (body : List ℕ) → code < 128 → IsCarried body
         → ((said : Content) × Fits said code body) ⊎ ((why : BodyFault) × IsFaultOf code body why) }
@@ -72,8 +71,8 @@ pub fn one_reading()
         → Fits said code body → ¬ (IsFaultOf code body why) }
 {}
 
-/// No bytes encode two messages, and the encoding of no message is a prefix of the encoding of
-/// another.
+/// No bytes encode two messages, and the encoding of a message is never a prefix of another
+/// message's.
 pub fn encoded_once()
     ensures one_message { (bytes : List ℕ) (first second : Content)
         → Encodes first bytes → Encodes second bytes → first ≡ second }
@@ -96,7 +95,7 @@ pub fn fits_if_encoded()
         → Fits said code body ↔ Encodes said (message_bytes code body) }
 {}
 
-/// What is written for a message encodes it.
+/// What `encode` writes for a message encodes it.
 pub fn encoding_encodes()
     ensures { (said : Content) → IsMessage said → Encodes said (encoding said) }
 {}
@@ -107,8 +106,8 @@ pub fn encoded_is_read()
         → Encodes said bytes → reading (slice_index bytes 0 - 128) (drop 3 bytes) ≡ Ok said }
 {}
 
-/// A body of another length than its code fixes has a wrong size. A dump has 64 bytes, a message of
-/// the clock 7, a field 2, a serial number 5 and a version 2.
+/// A body has a wrong size if its code fixes another length. That is 64 bytes for a dump, 7 for a
+/// clock message, 2 for a field update, 5 for a serial number and 2 for a version.
 #[tactic(auto, using(crate::proofs::OtherBodies::other_size))]
 pub fn one_size()
     ensures dump { (body : List ℕ) → length body ≢ 64
@@ -123,14 +122,14 @@ pub fn one_size()
         → reading 0x13 body ≡ Err BodyFault.WrongSize }
 {}
 
-/// Under every other code a body is carried as it is, whatever its bytes.
+/// Under every other code a body is carried unread, whatever its bytes are.
 pub fn other_bodies_are_carried()
     ensures { (code : ℕ) (body : List ℕ) → code ≢ 0x06 → code ≢ 0x0d → code ≢ 0x0e
         → code ≢ 0x11 → code ≢ 0x13 → reading code body ≡ Ok (Content.carried code body) }
 {}
 
-/// The header of a message: the first byte is 128 and the code, no other has its top bit set, and
-/// the next two make the length of the whole.
+/// The header of a message: the first byte is 128 plus the code, the other two have a clear top
+/// bit, and these two encode the length of the whole.
 pub fn headers()
     ensures first { (said : Content) (bytes : List ℕ)
         → Encodes said bytes → slice_index bytes 0 ≡ 128 + code_of said }
@@ -140,7 +139,8 @@ pub fn headers()
         → Encodes said bytes → 128 * slice_index bytes 1 + slice_index bytes 2 ≡ length bytes }
 {}
 
-/// The kinds of messages by their codes: those of the clock, fields and others have none.
+/// The kinds of messages by their codes: clock messages, field updates and other messages have no
+/// kind.
 pub fn kinds_by_code()
     ensures answers { (body : List ℕ) → map (λ code. answered_kind (Content.carried code body))
         (0x06 ∷ 0x11 ∷ 0x12 ∷ 0x13 ∷ 0x20 ∷ 0x22 ∷ []) ≡ map Some (Kind.Dump ∷ Kind.Serial

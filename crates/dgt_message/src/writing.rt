@@ -1,4 +1,4 @@
-//! Messages written as bytes.
+//! Writes messages as bytes.
 
 ghost use Rattle.std.specs.Prelude.{◌≡◌, ◌≤◌, ◌<◌, ◌++◌, [], ◌∷◌, length, map};
 ghost use Rattle.dgt_values.specs.declared.bodies.TheConstants.{MAX_BODY};
@@ -16,7 +16,7 @@ use crate::message::Message;
 use crate::readings::Reading;
 use dgt_values::{NoRoom, Piece, SevenBit, Square};
 
-/// How many bytes the message takes, its header of three bytes included: 3 to 16383.
+/// How many bytes the message takes, including its header of three bytes: 3 to 16383.
 pub fn length(message: &Message<'_>) -> usize
     ensures value { result ≡ length (encoding (content message.now)) }
     ensures in_range { (3 ≤ result) × (result < 16384) }
@@ -24,14 +24,15 @@ pub fn length(message: &Message<'_>) -> usize
     body_length(message) + 3
 }
 
-/// Writes the message at the beginning of `out`, and returns how many bytes it takes; the bytes
-/// after them stay as they are. `NoRoom` comes exactly if `out` is shorter than the message. It has
-/// the message's length, and `out` stays as it is.
+/// Writes the message at the beginning of `out`, and returns how many bytes it takes. The bytes
+/// after them stay as they are. Returns `NoRoom` with the message's length if `out` is shorter than
+/// the message; then nothing is written.
 ///
-/// An acknowledgement has several encodings. The one that is written has the mark in byte 3 and in
-/// byte 6 of the whole, and D6 of both clear.
+/// An acknowledgement has several encodings. This writes the one with the mark in bytes 3 and 6 of
+/// the message, and with D6 clear in both.
 ///
-/// It is inlined: a caller that makes the message just before then has the code of its case alone.
+/// It is inlined: a caller that builds the message just before then contains only the code of its
+/// variant.
 #[inline(always)]
 pub fn encode(message: &Message<'_>, out: &mut [u8]) -> Result<usize, NoRoom>
     ensures written { WritesPrefix (encoding (content message.now)) out.old out.new result }
@@ -55,8 +56,8 @@ pub fn encode(message: &Message<'_>, out: &mut [u8]) -> Result<usize, NoRoom>
     }
 }
 
-/// Writes what `encode` writes of [`Message::Field`]. No message is made of it: to copy one takes
-/// longer than to write these five bytes.
+/// Writes what `encode` writes of [`Message::Field`], without building a message: copying one takes
+/// longer than writing these five bytes.
 pub fn encode_field(square: Square, piece: Piece, out: &mut [u8]) -> Result<usize, NoRoom>
     ensures written { WritesPrefix
         (encoding (field (square_number square) piece)) out.old out.new result }

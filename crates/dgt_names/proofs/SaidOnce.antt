@@ -1,4 +1,4 @@
--- The bytes of an acknowledgement say one thing.
+-- The bytes of an acknowledgement have one meaning only.
 use Rattle.std.proofs.Common.{◌≡◌, ℕ, rules, sym}
 use Rattle.dgt_command.specs.declared.ids.KnownId.{KnownId}
 use Rattle.dgt_names.specs.declared.clock.Button.{Button}
@@ -15,7 +15,7 @@ none_pressed (Signal.Pressed button) down pressed none p = none button (sym p.0)
 none_pressed Signal.Off down pressed none p = none Button.Ok (sym p.0)
 none_pressed _ down pressed none p = absurd p
 
--- an acknowledgement of buttons without one says nothing if it comes unasked
+-- an unasked acknowledgement of buttons without a button has no meaning
 pub none_said : (signal : Signal) (down pressed : ℕ) → IsNoButton pressed
     → Says signal 0x88 down pressed → ⊥
 none_said (Signal.Pressed button) s t none p = none_pressed (Signal.Pressed button) s t none p.1

@@ -1,4 +1,4 @@
--- Bytes say something or nothing.
+-- Bytes either have a meaning or not.
 use Rattle.std.proofs.Common.{◌≡◌, ◌≢◌, ◌<◌, ◌≤◌, ◌⊎◌, ℕ, zero, suc, inl, inr, List, [], ◌∷◌, arith, length, rules, subst, sym, Bool, true, false, Some, None, refl, slice_index as nth}
 use Rattle.std.specs.Prelude.{IsTrue, IsBitSet, Option, bit_and, eqb, leb, ◌/◌, ◌%◌, ◌^◌, ◌↔◌}
 use Rattle.std.proofs.lemmas.Bool.{false≢true}
@@ -10,7 +10,7 @@ use Rattle.dgt_names.specs.declared.clock.Signal.{Signal}
 use Rattle.dgt_names.specs.Names.{ArePressed, IsBattery, IsKnownAs, IsNoButton, IsSignal, IsText, Says}
 use Rattle.dgt_names.proofs.SaidOnce.{none_said}
 
--- something is said, or nothing is
+-- there is a meaning, or there is none
 abbrev pub Decided : {A : Type 0} → (A → Type 0) → Type 0
 Decided {A} Says = ((said : A) × Says said) ⊎ ((said : A) → ¬ (Says said))
 
@@ -45,7 +45,7 @@ pressed_or_none s t =
     (λ c. either t 0x34 (λ e. inl (Signal.Pressed Button.Minus, (e, search rules)))
     (λ d. either t 0x35 (λ e. inl (ok_pressed s t e)) (λ e. inr (no_button t a b c d e))))))
 
--- a signal that says what buttons are pressed
+-- a signal of buttons
 buttons_say : (kind s t : ℕ) → (kind ≡ 0x08) ⊎ (kind ≡ 0x88) → (signal : Signal) → ArePressed signal s t
     → Says signal kind s t
 buttons_say kind s t k (Signal.Pressed button) p = (k, p)

@@ -1,2 +1,2 @@
--- What public contracts cite.
+-- Cited by public contracts.
 pub mod Names

@@ -1,5 +1,5 @@
--- What other programs read in the bytes that a board's messages carry: the signals of a clock, the
--- flags of a time, the state of a battery, and texts.
+-- How other programs read bytes that a board's messages carry: the signals of a clock, the flags of
+-- a time, the state of a battery, and texts.
 use Rattle.std.specs.Prelude.{◌≡◌, ◌≢◌, ℕ, ◌/◌, ◌%◌, ◌<◌, ◌≤◌, ◌↔◌, ◌⊎◌, IsTrue, IsBitSet, List, length, slice_index as nth, Option, None, Some}
 use Rattle.dgt_command.specs.declared.ids.KnownId.{KnownId}
 use Rattle.dgt_command.specs.Ids.{id_number}
@@ -17,7 +17,7 @@ button_byte Button.Run = 0x33
 button_byte Button.Minus = 0x34
 button_byte Button.Ok = 0x35
 
--- an answer to the message Button, or sent unasked
+-- a reply to the message Button, or unasked
 abbrev pub IsOfButtons : ℕ → Type 0
 IsOfButtons kind = (kind ≡ 0x08) ⊎ (kind ≡ 0x88)
 
@@ -35,7 +35,7 @@ ArePressed _ _ _ = ⊥
 abbrev pub IsNoButton : ℕ → Type 0
 IsNoButton pressed = (button : Button) → button_byte button ≢ pressed
 
--- The second, third and fourth byte of an acknowledgement say it, after a first of 10.
+-- The second, third and fourth byte of an acknowledgement mean this, after a first byte of 10.
 abbrev pub Says : Signal → (second third fourth : ℕ) → Type 0
 Says (Signal.Version main sub) kind numbers any =
     (kind ≡ 0x09) × (main ≡ numbers / 16) × (sub ≡ numbers % 16)
@@ -45,7 +45,7 @@ Says (Signal.Done KnownId.Version) _ _ _ = ⊥
 Says (Signal.Done id) kind any other = kind ≡ id_number id
 Says signal kind down pressed = IsOfButtons kind × ArePressed signal down pressed
 
--- the four bytes of an acknowledgement say it
+-- the four bytes of an acknowledgement mean this
 abbrev pub IsSignal : List ℕ → Signal → Type 0
 IsSignal ack signal = (nth ack 0 ≡ 0x10) × Says signal (nth ack 1) (nth ack 2) (nth ack 3)
 
@@ -60,12 +60,12 @@ AreFlags carried flags =
 
 -- ---- batteries
 
--- the number that a byte of a battery says, if it says one
+-- the number in a byte of a battery message, if it is known
 abbrev pub IsKnownAs : ℕ → Option ℕ → Type 0
 IsKnownAs byte None = byte ≡ 0x7f
 IsKnownAs byte (Some n) = (byte ≢ 0x7f) × (n ≡ byte)
 
--- these nine bytes say it
+-- these nine bytes mean this
 pub record IsBattery (bytes : List ℕ) (state : BatteryState) : Type 0 where
   pub nine : length bytes ≡ 9
   pub percent : IsKnownAs (nth bytes 0) state.percent
@@ -81,7 +81,7 @@ pub record IsBattery (bytes : List ℕ) (state : BatteryState) : Type 0 where
 
 -- ---- texts
 
--- bytes that print, at least one
+-- printable bytes, at least one
 abbrev pub IsText : List ℕ → Type 0
 IsText bytes = (0 < length bytes)
     × ((k : ℕ) → k < length bytes → (0x20 ≤ nth bytes k) × (nth bytes k ≤ 0x7e))

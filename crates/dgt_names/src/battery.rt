@@ -3,19 +3,19 @@
 ghost use Rattle.std.specs.Prelude.{◌≡◌, ◌≢◌, ◌↔◌, ℕ, length, MatchOption};
 ghost use Rattle.dgt_names.specs.Names.{IsBattery, IsKnownAs};
 
-/// What a battery says of itself, in nine bytes.
+/// What a battery reports of itself, in nine bytes.
 #[derive(Clone, Copy, Debug)]
 pub struct BatteryState {
-    /// What is left of its charge, in percent, if that is known.
+    /// The charge left, in percent, if it is known.
     pub percent: Option<u8>,
-    /// The hours for which that lasts, or after which it is charged, if they are known.
+    /// The hours until it is empty, or until it is charged, if they are known.
     pub hours_left: Option<u8>,
-    /// The minutes beside these hours.
+    /// The minutes to add to these hours.
     pub minutes_left: Option<u8>,
     /// How long the board has been on.
     pub hours_on: u8,
     pub minutes_on: u8,
-    /// How long it has been resting.
+    /// How long the board has been idle.
     pub days_resting: u8,
     pub hours_resting: u8,
     pub minutes_resting: u8,
@@ -24,7 +24,7 @@ pub struct BatteryState {
 }
 
 impl BatteryState {
-    /// What the body of a battery message says. `None` if it has not nine bytes.
+    /// What the body of a battery message reports. `None` if it is not nine bytes long.
     pub fn of(body: &[u8]) -> Option<Self>
         ensures { MatchOption result (length body.now ≢ 9) (λ state. IsBattery body.now state) }
     {
@@ -57,7 +57,7 @@ impl BatteryState {
     }
 }
 
-// The number that a byte says. 7f is none.
+// The number in a byte. 7f means unknown.
 fn known(byte: u8) -> Option<u8>
     ensures { IsKnownAs byte result }
 {

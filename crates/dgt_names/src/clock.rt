@@ -1,4 +1,4 @@
-//! What clocks signal, and flags of their times.
+//! What clocks signal, and the flags of their times.
 
 ghost use Rattle.std.specs.Prelude.{◌≡◌, ◌≢◌, ◌↔◌, ℕ, IsTrue, MatchOption};
 ghost use Rattle.dgt_names.specs.Names.{AreFlags, ArePressed, IsNoButton, IsSignal, button_byte};
@@ -15,34 +15,34 @@ pub enum Button {
     Ok = 0x35,
 }
 
-/// What the acknowledgement of a clock says.
+/// The meaning of a clock's acknowledgement.
 #[derive(Clone, Copy, Debug, PartialEq, Eq)]
 pub enum Signal {
-    /// It has done what the message with this id asks for.
+    /// It has executed the message with this id.
     Done(KnownId),
     /// Its version.
     Version { main: u8, sub: u8 },
-    /// This button was pressed, asked for or not.
+    /// This button was pressed, whether or not a message asked for it.
     Pressed(Button),
-    /// Ok was pressed with Back, which switches a clock off.
+    /// Ok was pressed together with Back, which switches a clock off.
     Off,
     /// It was switched on, and is ready.
     Ready,
 }
 
-/// What the flags of one player's time say.
+/// The meaning of the flags of one player's time.
 #[derive(Clone, Copy, Debug, PartialEq, Eq)]
 pub struct Flags {
     /// D4 of the byte of the hours: the flag has fallen, and the clock stays at zero.
     pub blocked: bool,
-    /// D5: the time is one for each move.
+    /// D5: the time is per move.
     pub per_move: bool,
     /// D6: the flag has fallen, and the clock shows that.
     pub fallen: bool,
 }
 
 impl Button {
-    // The button with this byte, if one has it.
+    // The button with this byte, if there is one.
     fn with_byte(byte: u8) -> Option<Self>
         ensures { MatchOption result ((button : Button) → button_byte button ≢ byte)
             (λ button. button_byte button ≡ byte) }
@@ -59,8 +59,8 @@ impl Button {
 }
 
 impl Signal {
-    /// What these four bytes of an acknowledgement say. `None` if that is unknown, or the first of
-    /// them isn't 10, which is success.
+    /// The meaning of these four bytes of an acknowledgement. `None` if it is unknown, or if the
+    /// first byte isn't 10, which means success.
     #[tactic(auto, using(crate::proofs::SaidOnce::none_said))]
     pub fn of(ack: [u8; 4]) -> Option<Self>
         ensures { MatchOption result ((signal : Signal) → ¬ (IsSignal ack signal))
@@ -99,7 +99,7 @@ impl Flags {
     }
 }
 
-// What the bytes of buttons say: those that are down, and the one that was pressed.
+// The meaning of the bytes of buttons: those that are down, and the one that was pressed.
 fn pressed(down: u8, byte: u8) -> Option<Signal>
     ensures { MatchOption result (IsNoButton byte) (λ signal. ArePressed signal down byte) }
 {

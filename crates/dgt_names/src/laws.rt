@@ -1,5 +1,4 @@
-//! What holds of names as such. Nothing here runs: each function stands for the facts that its
-//! contract states.
+//! Laws of the names. Each function does nothing at run time: its contract states the facts.
 
 ghost use Rattle.std.specs.Prelude.{◌≡◌, ℕ, List, [], ◌∷◌, map, None, Some, codes, false, true};
 ghost use Rattle.dgt_values.specs.Equality.{CloneIsSame, EqualIsSame};
@@ -13,7 +12,7 @@ ghost use Rattle.dgt_names.specs.Names.{AreFlags, ArePressed, IsBattery, IsKnown
 use crate::battery::BatteryState;
 use crate::clock::{Button, Flags, Signal};
 
-/// Two values are equal, as `==` compares them, exactly if they are the same.
+/// Two values are equal by `==` exactly if they are the same.
 pub fn equal_is_same()
     ensures button { EqualIsSame ⟦<Button as PartialEq>⟧.eq }
     ensures signal { EqualIsSame ⟦<Signal as PartialEq>⟧.eq }
@@ -28,20 +27,20 @@ pub fn clone_is_same()
     ensures battery { CloneIsSame ⟦<BatteryState as Clone>⟧ }
 {}
 
-/// The bytes of buttons say that one was pressed.
+/// The bytes of buttons mean that one was pressed.
 pub fn one_is_pressed()
     ensures { (down pressed : ℕ) (one other : AnySignal) →
         ArePressed one down pressed → ArePressed other down pressed → one ≡ other }
 {}
 
-/// The bytes of an acknowledgement say one thing.
+/// The bytes of an acknowledgement have one meaning only.
 #[tactic(auto, using(crate::proofs::SaidOnce::said))]
 pub fn one_is_said()
     ensures { (ack : List ℕ) (one other : AnySignal) →
         IsSignal ack one → IsSignal ack other → one ≡ other }
 {}
 
-/// What acknowledgements say, by example.
+/// The meaning of acknowledgements, by example.
 pub fn signals_by_example()
     ensures buttons { map button_byte (AnyButton.Back ∷ AnyButton.Plus ∷ AnyButton.Run
         ∷ AnyButton.Minus ∷ AnyButton.Ok ∷ []) ≡ 0x31 ∷ 0x32 ∷ 0x33 ∷ 0x34 ∷ 0x35 ∷ [] }
@@ -60,12 +59,12 @@ pub fn signals_by_example()
     ensures unknown { (signal : AnySignal) → ¬ (IsSignal (0x10 ∷ 0x88 ∷ 0x02 ∷ 0x36 ∷ []) signal) }
 {}
 
-/// Which button was pressed is more than an answer to the message Button, by example.
+/// A pressed button means more than a reply to the message Button, by example.
 pub fn button_is_pressed()
     ensures { ¬ (IsSignal (0x10 ∷ 0x08 ∷ 0x06 ∷ 0x31 ∷ []) (AnySignal.Done KnownId.Button)) }
 {}
 
-/// The bits of a time say one thing, and so do the bytes of a battery.
+/// The bits of a time have one meaning only, and so do the bytes of a battery.
 pub fn one_is_meant()
     ensures flags { (carried : ℕ) (one other : AnyFlags) →
         AreFlags carried one → AreFlags carried other → one ≡ other }
@@ -73,15 +72,16 @@ pub fn one_is_meant()
         IsBattery bytes one → IsBattery bytes other → one ≡ other }
 {}
 
-/// What the flags of times say, by example.
+/// The meaning of the flags of times, by example.
 pub fn flags_by_example()
     ensures blocked { AreFlags 1 (record { blocked = true; per_move = false; fallen = false }) }
     ensures per_move { AreFlags 2 (record { blocked = false; per_move = true; fallen = false }) }
     ensures fallen { AreFlags 4 (record { blocked = false; per_move = false; fallen = true }) }
 {}
 
-/// What batteries say, by example: one that is at 73 percent and lasts for 4:20 hours, and one that
-/// says nothing of that. The boards were on for 1:05 hours, and had rested for 2 days and 3:10.
+/// The meaning of battery messages, by example: one battery is at 73 percent and lasts for 4:20
+/// hours, and one reports none of that. The boards were on for 1:05 hours, and had been idle for 2
+/// days and 3:10 hours.
 pub fn batteries_by_example()
     ensures known { IsBattery (73 ∷ 4 ∷ 20 ∷ 1 ∷ 5 ∷ 2 ∷ 3 ∷ 10 ∷ 2 ∷ []) (record {
       percent = Some 73;
@@ -110,7 +110,7 @@ pub fn batteries_by_example()
     ensures short { (state : AnyState) → ¬ (IsBattery (0x64 ∷ []) state) }
 {}
 
-/// Bytes are a text if there is one, and each prints.
+/// Bytes are a text if there is at least one, and each is printable.
 pub fn texts_by_example()
     ensures text { IsText (codes "DGT ~") }
     ensures none { ¬ (IsText []) }

@@ -1,8 +1,8 @@
 //! Names for bytes that a board's messages carry unread.
 //!
 //! The published protocol leaves these bytes open. [`Signal`], [`Flags`], [`BatteryState`] and
-//! [`is_text`] say what other programs read in them: the buttons of a clock, flags that have
-//! fallen, the charge of a battery, and texts. No clock and no board was tried.
+//! [`is_text`] read them as other programs do: the buttons of a clock, flags that have fallen, the
+//! charge of a battery, and texts. This was not tested with a clock or a board.
 //!
 //! ```rust
 //! use dgt_names::{Button, Signal};

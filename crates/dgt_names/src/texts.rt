@@ -3,7 +3,7 @@
 ghost use Rattle.std.specs.Prelude.{◌↔◌, IsTrue};
 ghost use Rattle.dgt_names.specs.Names.{IsText};
 
-/// Whether bytes print, each as one character of ASCII, and are at least one.
+/// Whether there is at least one byte, and each is a printable ASCII character.
 pub fn is_text(bytes: &[u8]) -> bool
     ensures { IsTrue result ↔ IsText bytes.now }
 {

@@ -1,4 +1,4 @@
--- A body says things, and says them in one way.
+-- A body is a list of items, in one way only.
 use Rattle.std.proofs.Common.{◌≡◌, ◌⊎◌, inl, inr, ◌+◌, ◌*◌, ◌/◌, ◌%◌, ◌-◌, ◌<◌, ◌≤◌, ℕ, zero, suc, List, [], ◌∷◌, length, refl, sym, ap, arith, length-append}
 use Rattle.std.proofs.Math.Decide.{dec_le, dec_lt, ℕ_discrete}
 use Rattle.dgt_values.specs.declared.pieces.Piece.{Piece}
@@ -10,7 +10,7 @@ use Rattle.dgt_message.proofs.MessageIn.{piece_code-piece_with_code}
 use Rattle.dgt_stored.specs.declared.stored.Mark.{Mark}
 use Rattle.dgt_stored.specs.Stored.{Begins, IsFirst, IsKnown, Says, StoredContent, mark_byte, stored_bytes}
 
--- ---- how what is known begins
+-- ---- the first bytes of known items
 
 -- a piece
 abbrev PieceBegins : List ℕ → Type 0
@@ -36,7 +36,7 @@ all_marks =
     Mark.Nothing ∷ Mark.PowerUp ∷ Mark.End ∷ Mark.FourRows ∷ Mark.EmptyBoard ∷ Mark.Downloaded ∷ Mark.Begin
     ∷ Mark.TurnedBegin ∷ Mark.Tag ∷ Mark.Watchdog ∷ Mark.Erased ∷ []
 
--- ---- what begins so
+-- ---- bytes with such a beginning
 
 begins_piece : (byte square : ℕ) (later : List ℕ) → PieceBegins (byte ∷ square ∷ later)
     → Begins (byte ∷ square ∷ later)
@@ -71,7 +71,7 @@ marked [] byte h = absurd h
 marked (mark ∷ more) byte (inl is) = (mark, is)
 marked (mark ∷ more) byte (inr h) = marked more byte h
 
--- ---- what is known begins so
+-- ---- known items have such a beginning
 
 piece_begins : (bytes : List ℕ) (square : ℕ) (stands : Piece) (bit : ℕ) (later : List ℕ)
     → Begins bytes (StoredContent.piece square stands bit) later → PieceBegins bytes
@@ -109,7 +109,7 @@ mark_begins Mark.Tag = inr (inr (inr (inr (inr (inr (inr (inr (inl refl))))))))
 mark_begins Mark.Watchdog = inr (inr (inr (inr (inr (inr (inr (inr (inr (inl refl)))))))))
 mark_begins Mark.Erased = inr (inr (inr (inr (inr (inr (inr (inr (inr (inr (inl refl))))))))))
 
--- ---- whether bytes begin so
+-- ---- whether bytes have such a beginning
 
 both : {A B : Type 0} → Dec A → Dec B → Dec (A × B)
 both (yes a) (yes b) = yes (a, b)
@@ -141,7 +141,7 @@ is_mark : (marks : List Mark) (byte : ℕ) → Dec (MarkBegins marks byte)
 is_mark [] byte = no (λ h. h)
 is_mark (mark ∷ more) byte = either (ℕ_discrete (mark_byte mark) byte) (is_mark more byte)
 
--- ---- what comes first
+-- ---- the first item
 
 abbrev First : List ℕ → Type 0
 First bytes = (stored : StoredContent) × (later : List ℕ) × IsFirst bytes stored later

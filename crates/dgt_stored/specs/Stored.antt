@@ -1,5 +1,6 @@
--- What a board stores while no host listens: the body of a message with the code 0f is a list of
--- it. The published header names these bytes; what they mean is known from other programs.
+-- What a board stores while no host is connected: the body of a message with the code 0f is a list
+-- of such items. The published header names these bytes; their meaning is known from other
+-- programs.
 use Rattle.std.specs.Prelude.{◌≡◌, ℕ, ◌+◌, ◌*◌, ◌<◌, ◌≤◌, if◌then◌else◌, List, [], ◌∷◌, ◌++◌}
 use Rattle.dgt_values.specs.declared.pieces.Piece.{Piece}
 use Rattle.dgt_values.specs.Board.{piece_code, square_number}
@@ -35,8 +36,8 @@ mark_byte Mark.Tag = 0x7b
 mark_byte Mark.Watchdog = 0x7c
 mark_byte Mark.Erased = 0x7f
 
--- D4 of the byte of a piece is carried. The byte of the hours has 6 or 7 in its high four bits,
--- one for each player.
+-- D4 of the byte of a piece is carried unread. The high four bits of the byte of the hours are 6
+-- for one player and 7 for the other.
 abbrev pub stored_bytes : StoredContent → List ℕ
 stored_bytes (StoredContent.piece square stands bit) =
     (0x40 + 16 * bit + piece_code stands) ∷ square ∷ []
@@ -54,20 +55,19 @@ abbrev pub IsKnown : StoredContent → Type 0
 IsKnown (StoredContent.unknown byte) = ⊥
 IsKnown _ = Unit {0}
 
--- These bytes begin with it, and then come the others.
+-- These bytes begin with the item, and continue with the others.
 pub record Begins (bytes : List ℕ) (stored : StoredContent) (later : List ℕ) : Type 0 where
   pub in_range : IsStored stored
   pub begins : bytes ≡ stored_bytes stored ++ later
 
--- It is the first that these bytes say. A byte is unknown only if the bytes begin with nothing that
--- is known.
+-- It is the first item of these bytes. A byte is unknown only if the bytes begin with no other
+-- item.
 pub record IsFirst (bytes : List ℕ) (stored : StoredContent) (later : List ℕ) : Type 0 where
   pub begins : Begins bytes stored later
   pub known_first : (other : StoredContent) (others : List ℕ) → IsKnown other
       → Begins bytes other others → IsKnown stored
 
--- A body says these things in this order, and nothing else: each is the first that the bytes after
--- the one before say.
+-- A body is exactly these items in this order: each is the first of the bytes after the one before.
 abbrev pub Says : List ℕ → List StoredContent → Type 0
 Says bytes [] = bytes ≡ []
 Says bytes (stored ∷ more) = (later : List ℕ) × IsFirst bytes stored later × Says later more

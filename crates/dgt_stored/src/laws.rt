@@ -1,5 +1,4 @@
-//! What holds of stored things as such. Nothing here runs: each function stands for the facts that
-//! its contract states.
+//! Laws of stored items. Each function does nothing at run time: its contract states the facts.
 
 ghost use Rattle.std.specs.Prelude.{◌≡◌, ◌≢◌, ℕ, List, [], ◌∷◌, map};
 ghost use Rattle.dgt_values.specs.Equality.{CloneIsSame, EqualIsSame, EqualIsSameRead};
@@ -10,7 +9,7 @@ ghost use Rattle.dgt_stored.specs.Stored.{Begins, IsFirst, IsKnown, Says, Stored
 
 use crate::stored::{Mark, Stored};
 
-/// Two values are equal, as `==` compares them, exactly if they say the same.
+/// Two values are equal by `==` exactly if they mean the same.
 pub fn equal_is_same()
     ensures mark { EqualIsSame ⟦<Mark as PartialEq>⟧.eq }
     ensures stored { EqualIsSameRead stored_content ⟦<Stored as PartialEq>⟧.eq }
@@ -22,13 +21,13 @@ pub fn clone_is_same()
     ensures stored { CloneIsSame ⟦<Stored as Clone>⟧ }
 {}
 
-/// Bytes say one thing first, and leave the same bytes after it.
+/// Bytes begin with one item only, and leave the same bytes after it.
 pub fn one_is_first()
     ensures { (bytes : List ℕ) (one other : StoredContent) (later others : List ℕ) →
         IsFirst bytes one later → IsFirst bytes other others → (one ≡ other) × (later ≡ others) }
 {}
 
-/// Each body says things, and says no others.
+/// Each body is a list of items, and of no others.
 pub fn bodies_are_read()
     ensures each { (body : List ℕ) → (things : List StoredContent) × Says body things }
     ensures once { (body : List ℕ) (things others : List StoredContent) →
@@ -37,7 +36,7 @@ pub fn bodies_are_read()
     one_is_first();
 }
 
-/// The bytes of what is stored, by example: a white pawn on e2, the same with the other bit, a time
+/// The bytes of stored items, by example: a white pawn on e2, the same with the other bit, a time
 /// of 1:30:05 of each player, and the marks.
 pub fn bytes_by_example()
     ensures piece { stored_bytes (StoredContent.piece 52 AnyPiece.WhitePawn 0)
@@ -53,7 +52,7 @@ pub fn bytes_by_example()
         ≡ 0x00 ∷ 0x6a ∷ 0x6b ∷ 0x6c ∷ 0x6d ∷ 0x6e ∷ 0x6f ∷ 0x7a ∷ 0x7b ∷ 0x7c ∷ 0x7f ∷ [] }
 {}
 
-/// What bytes begin with. No piece stands on square 64. A piece without its square is unknown, and
+/// The first item of some bytes. There is no square 64. A piece without its square is unknown, and
 /// so is a time without its seconds.
 pub fn first_by_example()
     ensures piece { (later : List ℕ) → IsFirst (0x41 ∷ 0x34 ∷ later)

@@ -1,4 +1,4 @@
-//! What is stored, and how it is read.
+//! Stored items, and how they are read.
 
 ghost use Rattle.std.specs.Prelude.{◌≡◌, ◌≢◌, ◌<◌, ◌≤◌, ℕ, List, [], drop, length, IfSome, MatchOption};
 ghost use Rattle.dgt_message.specs.Clock.{Time};
@@ -9,7 +9,7 @@ ghost use Rattle.dgt_stored.specs.Stored.{Begins, IsFirst, StoredContent, mark_b
 use dgt_message::Reading;
 use dgt_values::{Piece, Square};
 
-/// A byte that stands by itself.
+/// An item of a single byte.
 #[derive(Clone, Copy, Debug, PartialEq, Eq)]
 pub enum Mark {
     /// Nothing is stored here.
@@ -18,42 +18,42 @@ pub enum Mark {
     PowerUp = 0x6a,
     /// The end of what is stored.
     End = 0x6b,
-    /// Pieces stand on four ranks, as before a game.
+    /// The pieces are on four ranks, as before a game.
     FourRows = 0x6c,
-    /// No piece is on the board.
+    /// The board is empty.
     EmptyBoard = 0x6d,
-    /// All before this was sent to a host.
+    /// Everything before this was sent to a host.
     Downloaded = 0x6e,
-    /// The pieces stand as a game begins.
+    /// The pieces are in the initial position of a game.
     Begin = 0x6f,
     /// The same, with the board turned.
     TurnedBegin = 0x7a,
     /// A tag.
     Tag = 0x7b,
-    /// The board began anew by itself.
+    /// The board restarted by itself.
     Watchdog = 0x7c,
-    /// Nothing was stored here yet.
+    /// Nothing was ever stored here.
     Erased = 0x7f,
 }
 
-/// What is stored.
+/// An item.
 #[derive(Clone, Copy, Debug, PartialEq, Eq)]
 pub enum Stored {
-    /// This piece stands on this square now. The bit D4 of its byte is carried.
+    /// This piece is now on this square. The bit D4 of its byte is carried unread.
     Piece {
         square: Square,
         piece: Piece,
         bit: bool,
     },
-    /// The time of one player. Its flags are 6 or 7, one for each.
+    /// The time of one player. Its flags are 6 for one player and 7 for the other.
     Time(Reading),
     Mark(Mark),
-    /// A byte that is none of these, or begins one that isn't whole.
+    /// A byte of no other kind, or one that begins an item that is cut off.
     Unknown(u8),
 }
 
 impl Mark {
-    // The mark that is sent as this byte, if one is.
+    // The mark with this byte, if there is one.
     fn with_byte(byte: u8) -> Option<Self>
         ensures { MatchOption result ((mark : Mark) → mark_byte mark ≢ byte)
             (λ mark. mark_byte mark ≡ byte) }
@@ -75,7 +75,7 @@ impl Mark {
     }
 }
 
-/// What the first bytes say, and how many they are. `None` if there is none.
+/// The first item of the bytes, and how many bytes it takes. `None` if there are no bytes.
 pub fn first(bytes: &[u8]) -> Option<(Stored, usize)>
     ensures first { MatchOption result (bytes.now ≡ [])
         (λ read. IsFirst bytes.now (stored_content read.0) (drop read.1 bytes.now)) }
