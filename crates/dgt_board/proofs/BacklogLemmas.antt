@@ -1,4 +1,4 @@
--- A backlog falls with each sending, and rises by at most one with each command that is taken.
+-- A backlog falls with each sending, and rises by at most one with each command taken.
 use Rattle.std.proofs.Common.{arith, ◌≡◌, refl, ℕ, ◌+◌, ◌<◌, ◌≤◌, List, [], ◌∷◌, ◌++◌, Some, Bool, true, false, cond, not, length, length-append}
 use Rattle.std.specs.Prelude.{filter}
 use Rattle.dgt_values.specs.declared.kinds.Kind.{Kind}
@@ -31,12 +31,12 @@ acknowledgements-few : (clock : ClockState) (identity : IdentityContent) (messag
 acknowledgements-few (ClockState.times readings) identity message = omega arith
 acknowledgements-few (ClockState.no_clock absence) identity message = omega arith
 
--- a command that adds a reply leaves the clock alone
+-- a command that adds a reply doesn't change the clock
 reply_raises : (owed added : List Reply) (squares news : ℕ) → length added ≤ 1
     → length (owed ++ added) + squares + news ≤ length owed + squares + news + 1
 reply_raises owed added squares news h = rw (length-append owed added) (omega (arith, h))
 
--- a command that adds no reply makes the clock owed at most
+-- a command that adds no reply makes at most the clock owed
 mode_raises : (owed : List Reply) (squares : ℕ) (before after : Bool) (message : Content)
     → length (owed ++ []) + squares + length (cond after (message ∷ []) [])
     ≤ length owed + squares + length (cond before (message ∷ []) []) + 1

@@ -1,4 +1,4 @@
--- The derived `==` of a clock says whether two clocks show the same.
+-- The derived `==` of a clock is true if two clocks show the same.
 use Rattle.std.proofs.Common.{arith, ◌≡◌, refl, ap, List, [], ◌∷◌, Bool, ◌&&◌, ◌==◌, map, Option, Some, None, option_map}
 use Rattle.std.proofs.lemmas.Grind.{common_steps}
 use lib.Pointwise.{pointwise}
@@ -11,7 +11,7 @@ use Rattle.dgt_board.specs.State.{is_reported}
 use Rattle.std.specs.Option.{option_eq}
 use Rattle.dgt_message.specs.contracts.clock.ClockPartialEq.TheImpl as derived
 
--- to test elements by what is read of them is to test what is read
+-- testing elements by their readings is testing the readings
 pointwise-map : {A B : Type 0} (f : A → B) (test : B → B → Bool) (xs ys : List A)
     → pointwise (λ x y. test (f x) (f y)) xs ys ≡ pointwise test (map f xs) (map f ys)
 pointwise-map f test [] [] = refl
@@ -19,7 +19,7 @@ pointwise-map f test [] (y ∷ ys) = refl
 pointwise-map f test (x ∷ xs) [] = refl
 pointwise-map f test (x ∷ xs) (y ∷ ys) = ap (λ rest. test (f x) (f y) && rest) (pointwise-map f test xs ys)
 
--- what `==` answers at two clocks
+-- the result of `==` for two clocks
 pub eq-clock_eq : (a b : Clock) → (derived.eq-value).it a b ≡ clock_eq (clock_seen a) (clock_seen b)
 eq-clock_eq (clock.Times a) (clock.Times b) = grind (arith, common_steps)
 eq-clock_eq (clock.NoClock a) (clock.NoClock b) = ap (λ same. same && a.status.code.value == b.status.code.value)
@@ -27,7 +27,7 @@ eq-clock_eq (clock.NoClock a) (clock.NoClock b) = ap (λ same. same && a.status.
 eq-clock_eq (clock.Times a) (clock.NoClock b) = refl
 eq-clock_eq (clock.NoClock a) (clock.Times b) = refl
 
--- what `==` answers at a clock that was reported, or none, and at a clock
+-- the result of `==` for a clock that was reported, or none, and a clock
 pub option_eq-is_reported : (reported : Option Clock) (shown : Clock)
     → option_eq (derived.eq-value).it reported (Some shown) ≡ is_reported (option_map clock_seen reported)
     (clock_seen shown)

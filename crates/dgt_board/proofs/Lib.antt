@@ -4,3 +4,4 @@ mod RisingLemmas
 mod SendingLemmas
 mod TakingLemmas
 mod BacklogLemmas
+mod DumpLemmas

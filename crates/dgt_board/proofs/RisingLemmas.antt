@@ -1,4 +1,4 @@
--- Squares are reported by their numbers.
+-- Squares are reported in the order of their numbers.
 use Rattle.std.proofs.Common.{arith, ◌≡◌, refl, sym, ℕ, zero, suc, ◌+◌, ◌<◌, ◌≤◌, List, [], ◌∷◌, ◌++◌, Some, Bool, true, false, cond, not, inl, inr}
 use Rattle.std.proofs.lemmas.Bool.{eqb-true}
 use Rattle.std.proofs.lemmas.Bool.Decides.{eqb_tells}
@@ -29,7 +29,7 @@ before_first test a (suc n) at rest e k from below =
     go false here e (inl same) behind = rw same.1 here
     go false here e (inr other) behind = behind e (omega (arith, other.1, from))
 
--- the same of the squares that an update mode has still to report
+-- the same of the squares that an update mode has yet to report
 before_square : (asks : Bool) (test : ℕ → Bool) (at lower : ℕ) (rest : List ℕ)
     → cond asks (filter test every_square) [] ≡ at ∷ rest → lower < at → test lower ≡ false
 unfolding every_square
@@ -50,7 +50,7 @@ same_piece board square same =
     go true e h = sym (same_code _ _ (eqb-true _ _ e))
     go false e h = cc
 
--- the message of the clock is no field
+-- the message of the clock isn't a field update
 no_field : (owed : Bool) (clock : ClockState) (square : ℕ) (piece : Piece)
     → slice_get (cond owed (clock_message clock ∷ []) []) 0 ≡ Some (Content.field square piece) → ⊥
 no_field false clock square piece e = cc

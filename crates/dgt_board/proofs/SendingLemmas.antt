@@ -60,9 +60,9 @@ at_most test (x ∷ xs) = go (test x) (at_most test xs)
     go true rest = omega (arith, rest)
     go false rest = omega (arith, rest)
 
--- ---- what is left
+-- ---- how many messages are left to send
 
--- the replies, the squares that differ if these are asked for, and the clock
+-- the replies, the squares that differ if the mode reports them, and the clock
 abbrev pub left_by : Bool → BoardState → ℕ
 left_by asks board =
     length board.owed + length (cond asks (filter (differs board) every_square) []) + length (clock_news board)
@@ -105,7 +105,7 @@ news_fewer true true m n h = omega arith
 news_fewer true false m n h = absurd (false≢true (sym (h refl)))
 news_fewer false b m n h = omega arith
 
--- a square that holds what was reported doesn't differ
+-- a square with the reported piece doesn't differ
 same_square : (a b : Piece) → a ≡ b → not (piece_code a == piece_code b) ≡ false
 same_square a b e = ap not (eq-eqb (piece_code a) (piece_code b) (ap piece_code e))
 
@@ -132,7 +132,7 @@ reply_news board Reply.Clock h = ap (λ (b : BoardState). b.times_owed) (after_c
 reply_news board (Reply.Of Kind.Dump) h = h
 reply_news board _ h = h
 
--- a reply less
+-- one reply less
 reply_lowers : (asks : Bool) (board : BoardState) (reply : Reply) (rest : List Reply) → board.owed ≡ reply ∷ rest
     → left_by asks (after_sending board (reply_message board reply)) < left_by asks board
 reply_lowers asks board reply rest e =
@@ -146,7 +146,7 @@ reply_lowers asks board reply rest e =
     let owed : length (drop 1 board.owed) + 1 ≡ length board.owed = rw e (omega arith) in
     omega (arith, squares, news, owed)
 
--- ---- a field is sent
+-- ---- a field update is sent
 
 -- the square is then reported
 field_reported : (board : BoardState) (square k : ℕ) → square < length board.reported_squares → k ≡ square
@@ -177,7 +177,7 @@ fewer_squares true asks less test at rest more h fails e =
     rw (more refl) (one_fewer_passes less test at rest h fails every_square e)
 fewer_squares false asks less test at rest more h fails e = cc
 
--- a square less
+-- one square less
 field_lowers : (asks : Bool) (board : BoardState) (square : ℕ) (rest : List ℕ)
     → (updates board.mode ≡ true → asks ≡ true) → square < length board.reported_squares
     → board.owed ≡ [] → unreported_squares board ≡ square ∷ rest
@@ -204,7 +204,7 @@ times_lower asks board none owed =
 
 -- ---- all three
 
--- the first number of a range that passes a test lies in the range
+-- the first number of a range that passes a test is in the range
 first_below : (test : ℕ → Bool) (a n at : ℕ) (rest : List ℕ) → filter test (range_with_len a n) ≡ at ∷ rest → at < a + n
 first_below test a zero at rest e = cc
 first_below test a (suc n) at rest e = go (test a) e (first_below test (a + 1) n at rest)
@@ -216,7 +216,7 @@ first_below test a (suc n) at rest e = go (test a) e (first_below test (a + 1) n
     go true f on = let here : a ≡ at = cc in omega (arith, here)
     go false f on = let below = on f in omega (arith, below)
 
--- so a square that is left has one of the 64 numbers
+-- therefore a square that is left has one of the 64 numbers
 square_below : (asks : Bool) (test : ℕ → Bool) (at : ℕ) (rest : List ℕ)
     → cond asks (filter test every_square) [] ≡ at ∷ rest → at < 64
 unfolding every_square
@@ -250,7 +250,7 @@ next_lowers asks board message more all next =
     go [] [] true e f g h = subst Lowers (same_Some (clock_message board.clock) message h) (times_lower asks board e g)
     go [] [] false e f g h = cc
 
--- so less is left to send
+-- therefore less is left to send
 pub sending_lowers : (board : BoardState) (message : Content) → length board.reported_squares ≡ 64
     → next_message board ≡ Some message → left_to_send (after_sending board message) < left_to_send board
 sending_lowers board message all next =
@@ -259,7 +259,7 @@ sending_lowers board message all next =
 
 -- ---- what is due
 
--- a list of which this element is the first begins so under each map
+-- each map of a list with this first element begins with its image
 first_mapped : (f : ℕ → Content) (xs : List ℕ) (others : List Content) (x : ℕ) → slice_get xs 0 ≡ Some x
     → slice_get (map f xs ++ others) 0 ≡ Some (f x)
 first_mapped f [] others x h = cc

@@ -1,4 +1,4 @@
--- The squares that differ from what was reported, the first of them.
+-- The squares that differ from what was reported, and the first of them.
 use Rattle.std.proofs.Common.{arith, ◌≡◌, refl, ap, sym, ◌∙◌, ◌^◌, ℕ, zero, suc, ◌+◌, ◌<◌, [], Some, None, Bool, true, false, not, add-zero, zero-add}
 use Rattle.std.proofs.lemmas.Bool.{eq-eqb, ne_eqb, false≢true}
 use Rattle.std.proofs.lemmas.Nat.{bit_set_by_shift}
@@ -22,7 +22,7 @@ none_passes test a (suc n) h =
     rw here (none_passes test (a + 1) n
     (λ k l. let next : a + 1 + k ≡ a + suc k = omega arith in rw next (h (suc k) (omega arith))))
 
--- the first place at which a test holds comes first of those that pass
+-- the first place at which a test holds is the first of those that pass
 first_passes : (test : ℕ → Bool) (a n k : ℕ) → k < n → ((j : ℕ) → j < k → test (a + j) ≡ false)
     → test (a + k) ≡ true → slice_get (filter test (range_with_len a n)) 0 ≡ Some (a + k)
 first_passes test a zero k within before holds = absurd (omega arith)
@@ -36,7 +36,7 @@ first_passes test a (suc n) (suc k) within before holds =
     (first_passes test (a + 1) n k (omega arith) (λ j l. rw (next j) (before (suc j) (omega arith)))
     (rw (next k) holds))
 
--- if no square passes, there is no first
+-- if no square passes, there isn't a first
 no_square : (test : ℕ → Bool) → ((k : ℕ) → k < 64 → test k ≡ false) → slice_get (filter test every_square) 0 ≡ None
 unfolding every_square
 no_square test h = rw (none_passes test 0 64 (λ k l. rw (zero-add k) (h k l))) refl
@@ -54,7 +54,7 @@ first_square test at within before holds =
 module _ (board : BoardState) (mask : ℕ) (reported_all : length board.reported_squares ≡ 64)
     (all : length board.squares ≡ 64)
     (reports : DifferingSquares board.reported_squares board.squares mask) where
-  -- a square whose bit is set differs
+  -- a square with its bit set differs
   set_differs : (k : ℕ) → k < 64 → bit_at mask k ≡ 1 → differs board k ≡ true
   set_differs k within set =
       let reported = slice_get-get_or board.reported_squares k Piece.Empty (omega arith) in
@@ -62,7 +62,7 @@ module _ (board : BoardState) (mask : ℕ) (reported_all : length board.reported
       let apart = (reports k within).0 ((bit_set_by_shift mask k).0 (shr_and_one mask k ∙ set)) in
       ap not (ne_eqb _ _ (λ codes. apart (reported ∙ ap Some (same_code _ _ codes) ∙ sym shown)))
 
-  -- a square whose bit is clear doesn't differ
+  -- a square with its bit clear doesn't differ
   clear_same : (k : ℕ) → k < 64 → bit_at mask k ≡ 0 → differs board k ≡ false
   clear_same k within clear =
       let reported = slice_get-get_or board.reported_squares k Piece.Empty (omega arith) in

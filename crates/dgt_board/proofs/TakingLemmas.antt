@@ -1,4 +1,4 @@
--- What a board has taken.
+-- The bytes that a board has taken.
 use Rattle.std.proofs.Common.{◌≡◌, refl, sym, ap, ◌∙◌, ℕ, List, [], ◌∷◌, ◌++◌, Some, append-nil, append_assoc}
 use Rattle.dgt_command.specs.Content.{EventContent}
 use Rattle.dgt_command.specs.Laws.{DivisionsAppend}
@@ -25,13 +25,13 @@ takes_word nothing before after bytes event word state rest = (
   },
 )
 
--- the effects of a whole list are those of its parts in turn
+-- the effects of a whole list are those of its parts in order
 effects-append : (board : BoardState) (events more : List EventContent)
     → effects board (events ++ more) ≡ effects (effects board events) more
 effects-append board [] more = refl
 effects-append board (event ∷ events) more = effects-append (effect board event) events more
 
--- what was taken in turn was taken together
+-- taking in parts is taking together
 pub takes_on : DivisionsAppend → (before between after : BoardView) (bytes more : List ℕ)
     → HasTaken before bytes between → HasTaken between more after → HasTaken before (bytes ++ more) after
 takes_on append before between after bytes more first next =

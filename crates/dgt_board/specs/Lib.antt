@@ -3,5 +3,5 @@ pub mod State
 pub mod Sending
 pub mod View
 pub mod Simulated
--- For bodies alone.
+-- Only for bodies.
 pub mod Kept

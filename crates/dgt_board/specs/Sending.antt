@@ -1,4 +1,4 @@
--- What a board has to send, in its order, and what sending makes of it.
+-- What a board has to send, in order, and how sending changes the board.
 use Rattle.std.specs.Prelude.{ℕ, List, [], ◌∷◌, ◌++◌, length, map, filter, drop, Option, Some, Bool, false, not, ◌==◌, if◌then◌else◌, slice_get, slice_index_or, slice_set}
 use Rattle.std.specs.List.{range_with_len}
 use Rattle.dgt_values.specs.declared.kinds.Kind.{Kind}
@@ -11,7 +11,7 @@ use Rattle.dgt_board.specs.declared.modes.Mode.{Mode}
 use Rattle.dgt_board.specs.declared.replies.Reply.{Reply}
 use Rattle.dgt_board.specs.State.{BoardState, updates}
 
--- the message of an owed reply, as the board stands
+-- the message of an owed reply, in the board's present state
 abbrev pub reply_message : BoardState → Reply → Content
 reply_message board (Reply.Of Kind.Dump) = Content.dump board.squares
 reply_message board (Reply.Of Kind.Serial) = carried_as KnownCode.Serial board.identity.serial
@@ -39,7 +39,7 @@ differs board square =
 unfoldable pub every_square : List ℕ
 every_square = range_with_len 0 64
 
--- the squares that an update mode has still to report, by number
+-- the squares that an update mode has yet to report, by number
 abbrev pub unreported_squares : BoardState → List ℕ
 unreported_squares board = if updates board.mode then filter (differs board) every_square else []
 
@@ -49,7 +49,8 @@ field_of board square = Content.field square (piece_on board.squares square)
 abbrev pub clock_news : BoardState → List Content
 clock_news board = if board.times_owed then clock_message board.clock ∷ [] else []
 
--- what is to be sent as the board stands: the owed replies, the squares that differ, then the clock
+-- what is to be sent in the board's present state: the owed replies, the squares that differ, then
+-- the clock
 abbrev pub pending_messages : BoardState → List Content
 pending_messages board =
     map (reply_message board) board.owed
@@ -67,7 +68,7 @@ left_to_send board = length (pending_messages board)
 abbrev pub backlog : BoardState → ℕ
 backlog board = left_to_send (record board { mode = Mode.Update })
 
--- ---- what sending makes of it
+-- ---- how sending changes the board
 
 abbrev pub reported_squares_after : BoardState → Content → List Piece
 reported_squares_after board (Content.dump pieces) = board.squares
@@ -85,7 +86,7 @@ times_owed_after board (Content.times readings) = false
 times_owed_after board (Content.no_clock absence) = false
 times_owed_after board _ = board.times_owed
 
--- the board after it has sent a message, which leaves what it owes of replies
+-- the board after it has sent a message, except for the replies that it owes
 abbrev pub after_reporting : BoardState → Content → BoardState
 after_reporting board message =
     record board {
@@ -94,6 +95,6 @@ after_reporting board message =
       times_owed = times_owed_after board message;
     }
 
--- the board after sending its next message: an owed reply goes before all else
+-- the board after sending its next message: owed replies are first
 abbrev pub after_sending : BoardState → Content → BoardState
 after_sending board message = record (after_reporting board message) { owed = drop 1 board.owed }

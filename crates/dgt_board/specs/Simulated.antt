@@ -1,4 +1,4 @@
--- What the simulated boards report of themselves and of their clock.
+-- The identity and the clock of the simulated boards.
 use Rattle.std.specs.Prelude.{[], ◌∷◌, codes}
 use Rattle.dgt_message.specs.Clock.{ClockState, time_of, times_of}
 use Rattle.dgt_board.specs.State.{IdentityContent}

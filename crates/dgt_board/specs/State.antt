@@ -1,4 +1,4 @@
--- What a board keeps, and what is done to it.
+-- The state of a board, and what changes it.
 use Rattle.std.specs.Prelude.{IsTrue, ℕ, ◌<◌, ◌≤◌, List, [], ◌∷◌, ◌++◌, length, map, All, Option, Some, None, option_to_list, unwrap_or, Bool, true, false, ◌&&◌, not, ◌==◌, if◌then◌else◌, slice_set}
 use Rattle.std.specs.Option.{option_map_or}
 use Rattle.dgt_values.specs.declared.pieces.Piece.{Piece}
@@ -10,7 +10,7 @@ use Rattle.dgt_board.specs.declared.identities.TheConstants.{MAX_KEPT_BODY}
 use Rattle.dgt_board.specs.declared.modes.Mode.{Mode}
 use Rattle.dgt_board.specs.declared.replies.Reply.{Reply}
 
--- what a board reports of itself when it is asked
+-- what a board reports of itself on request
 pub record IdentityContent : Type 0 where
   pub serial : List ℕ
   pub trademark : List ℕ
@@ -20,7 +20,7 @@ pub record IdentityContent : Type 0 where
   pub clock_version : ℕ
   pub long_serial : List ℕ
 
--- what a board reports of itself is short: none of it makes a message longer than a dump
+-- the identity is short: no part of it makes a message longer than a dump
 pub record IsShortIdentity (identity : IdentityContent) : Type 0 where
   pub serial : length identity.serial ≤ 64
   pub trademark : length identity.trademark ≤ 64
@@ -41,13 +41,13 @@ pub record BoardState : Type 0 where
   pub squares : List Piece  -- from a8 to h1
   pub clock : ClockState
   pub mode : Mode
-  pub reported_squares : List Piece  -- the squares as the board has reported them
-  pub reported_clock : Option ClockState  -- the clock as it has reported it
+  pub reported_squares : List Piece  -- the squares as last reported
+  pub reported_clock : Option ClockState  -- the clock as last reported
   pub times_owed : Bool  -- whether the clock is to be reported
-  pub owed : List Reply  -- what was asked for and is not sent, the oldest first
+  pub owed : List Reply  -- requested and not yet sent, the oldest first
   pub identity : IdentityContent
 
--- a board just made
+-- a new board
 abbrev pub new_board : List Piece → ClockState → IdentityContent → BoardState
 new_board position clock identity =
     record {
@@ -61,26 +61,26 @@ new_board position clock identity =
       identity = identity;
     }
 
--- the board after its line is lost: as new, but for its squares, its clock and its identity
+-- the board after its line is lost: as new, except for its squares, its clock and its identity
 abbrev pub after_line_lost : BoardState → BoardState
 after_line_lost board = new_board board.squares board.clock board.identity
 
--- whether a mode asks for the squares that differ
+-- whether a mode reports the squares that differ
 abbrev pub updates : Mode → Bool
 updates Mode.Idle = false
 updates _ = true
 
--- whether a mode asks for the clock too
+-- whether a mode also reports the clock
 abbrev pub follows_clock : Mode → Bool
 follows_clock Mode.Update = true
 follows_clock Mode.UpdateNice = true
 follows_clock _ = false
 
--- the clock is owed only in a mode that asks for it
+-- the clock is owed only in a mode that reports it
 abbrev pub OwesByItsMode : BoardState → Type 0
 OwesByItsMode board = IsTrue board.times_owed → IsTrue (follows_clock board.mode)
 
--- whether what was reported of the clock is what it shows
+-- whether the clock was last reported as it is
 abbrev pub is_reported : Option ClockState → ClockState → Bool
 is_reported None clock = false
 is_reported (Some reported) clock = clock_eq reported clock
@@ -89,13 +89,13 @@ is_reported (Some reported) clock = clock_eq reported clock
 abbrev pub after_change : BoardState → ℕ → Piece → BoardState
 after_change board square piece = record board { squares = slice_set board.squares square piece }
 
--- whether a clock that is handed in is then owed, by the mode and by whether it was reported
+-- whether a new reading of the clock is then owed, by the mode and by whether it was reported
 abbrev pub owed_when_handed : Mode → Bool → Bool
 owed_when_handed Mode.Update reported = true
 owed_when_handed Mode.UpdateNice reported = not reported
 owed_when_handed _ reported = false
 
--- the board after its clock is handed in
+-- the board after a new reading of its clock
 abbrev pub after_hand_clock : BoardState → ClockState → BoardState
 after_hand_clock board clock =
     record board {
@@ -103,7 +103,7 @@ after_hand_clock board clock =
       times_owed = owed_when_handed board.mode (is_reported board.reported_clock clock);
     }
 
--- ---- what it reads
+-- ---- commands
 
 -- the mode that a command sets, if it sets one
 abbrev pub command_mode : CommandContent → Option Mode
@@ -113,8 +113,8 @@ command_mode CommandContent.UpdateBoard = Some Mode.UpdateBoard
 command_mode CommandContent.UpdateNice = Some Mode.UpdateNice
 command_mode _ = None
 
--- The acknowledgement of a clock message: if the version is asked for it carries the clock's. A
--- board with no clock acknowledges nothing.
+-- The acknowledgement of a clock message. If the message requests the version, it carries the
+-- clock's version. A board without a clock acknowledges nothing.
 abbrev pub acknowledgements : ClockState → IdentityContent → ClockContent → List Reply
 acknowledgements (ClockState.times readings) identity message =
     let asked = message.id == id_number KnownId.Version in
@@ -128,8 +128,8 @@ replies_to board (CommandContent.ClockMessage message) =
     acknowledgements board.clock board.identity message
 replies_to board command = map Reply.Of (option_to_list (requested_kind command))
 
--- The board after a command. A mode that is set follows the clock if it differs from what was
--- reported, whatever was owed before.
+-- The board after a command. In a new mode that follows the clock, the clock is owed if it differs
+-- from what was reported, whatever was owed before.
 abbrev pub after_command : BoardState → CommandContent → BoardState
 after_command board command =
     record board {
@@ -140,12 +140,12 @@ after_command board command =
       owed = board.owed ++ replies_to board command;
     }
 
--- the board after what was read: a fault changes nothing
+-- the board after an event: a fault changes nothing
 abbrev pub effect : BoardState → EventContent → BoardState
 effect board (EventContent.Read command) = after_command board command
 effect board _ = board
 
--- the board after all that was read, in order
+-- the board after these events, in order
 abbrev pub effects : BoardState → List EventContent → BoardState
 effects board [] = board
 effects board (event ∷ events) = effects (effect board event) events

@@ -1,4 +1,4 @@
--- What contracts see of a board, and what `take` and `poll` make of it.
+-- How contracts see a board, and what `take` and `poll` do to it.
 use Rattle.std.specs.Prelude.{◌≡◌, ℕ, ◌<◌, ◌≤◌, List, [], ◌++◌, length, drop, Option, Some, None}
 use Rattle.dgt_values.specs.declared.pieces.Piece.{Piece}
 use Rattle.dgt_message.specs.Clock.{ClockState}
@@ -15,7 +15,7 @@ pub record BoardView : Type 0 where
   pub state : BoardState
   pub partial : List ℕ  -- the bytes of an unfinished command
 
--- a board just made, which has taken no byte
+-- a new board, which has taken no bytes
 abbrev pub new_view : List Piece → ClockState → IdentityContent → BoardView
 new_view position clock identity =
     record { state = new_board position clock identity; partial = [] }
@@ -24,26 +24,26 @@ new_view position clock identity =
 abbrev pub view_after_line_lost : BoardView → BoardView
 view_after_line_lost board = record { state = after_line_lost board.state; partial = [] }
 
--- what holds of each board
+-- facts of each board
 pub record IsBoard (board : BoardView) : Type 0 where
   pub squares : length board.state.squares ≡ 64
   pub reported_squares : length board.state.reported_squares ≡ 64
   pub few_owed : length board.state.owed ≤ MAX_OWED
   pub partial : IsPartial board.partial
 
--- the board after bytes of which the last made this event, if one did
+-- the board after bytes that complete this event at the last one, if there is an event
 abbrev pub after_bytes : BoardView → List ℕ → Option EventContent → BoardView
 after_bytes board bytes None = record board { partial = board.partial ++ bytes }
 after_bytes board bytes (Some event) = record { state = effect board.state event; partial = [] }
 
 -- The board has taken these bytes: after its unfinished command they divide into events and a rest,
--- and each event has had its effect.
+-- and each event took effect.
 pub record HasTaken (before : BoardView) (bytes : List ℕ) (after : BoardView) : Type 0 where
   pub events : List EventContent
   pub divided : Divides (before.partial ++ bytes) events after.partial
   pub state : after.state ≡ effects before.state events
 
--- what `poll` answers of the next message: the board before and after, the slice before and after
+-- what `poll` returns for the next message: the board before and after, the slice before and after
 abbrev pub Polls : Polled → Option Content → BoardView → BoardView → List ℕ → List ℕ → Type 0
 Polls Polled.Nothing None before after old new = (after ≡ before) × (new ≡ old)
 Polls (Polled.NeedRoom need) (Some message) before after old new =

@@ -1,5 +1,3 @@
-//! Boards.
-
 ghost use Rattle.std.specs.Prelude.{◌≡◌, ◌↔◌, ◌≤◌, ◌<◌, ◌+◌, ◌++◌, ℕ, IsTrue, IsSome, IsErr, IfOk, IfSome, IfNone, MatchResult, length, option_map, take};
 ghost use Rattle.std.specs.Borrow.{sem};
 ghost use Rattle.std.specs.Io.BufRead.{Rests};
@@ -22,9 +20,9 @@ use dgt_values::{Piece, Position, Square};
 use std::marker::Model;
 use thiserror::Error;
 
-/// The board owes `MAX_OWED` replies, and takes no byte until it has sent one.
+/// The board owes `MAX_OWED` replies, and takes no bytes until it has sent one of them.
 #[derive(Clone, Copy, Debug, PartialEq, Eq, Error)]
-#[error("the board owes as many replies as it can")]
+#[error("the board owes {MAX_OWED} replies: poll it first")]
 pub struct Busy;
 
 /// How many bytes of a chunk were used, and what the last of them completed.
@@ -34,7 +32,7 @@ pub struct Taken<'a> {
     pub event: Option<CommandEvent<'a>>,
 }
 
-/// A board.
+/// A simulated board.
 ///
 /// Contracts see all that it keeps, and the bytes of an unfinished command.
 #[derive(Drop)]
@@ -63,7 +61,7 @@ impl Board {
     ghost use Rattle.dgt_board.specs.contracts.boards.Board.{the_row};
 
     /// A board with these pieces, this clock and this identity. It is idle, has reported its pieces
-    /// and not its clock, and owes nothing.
+    /// but not its clock, and owes nothing.
     pub fn new(position: Position, clock: Clock, identity: Identity) -> Self
         ensures { result ≡ new_view (pieces_of position) (clock_seen clock) identity }
     {
@@ -73,9 +71,8 @@ impl Board {
         }
     }
 
-    /// Puts a piece on a square, or takes one off. The square is to be sent in each mode of
-    /// updates, the present one or a later one, for as long as it differs from what was reported of
-    /// it.
+    /// Puts a piece on a square, or removes one with `Empty`. In a mode with updates, now or later,
+    /// the square is sent as long as it differs from what was last reported of it.
     pub fn change(&mut self, square: Square, piece: Piece)
         ensures { self.new ≡
             record self.old { state = after_change self.old.state (square_number square) piece } }
@@ -83,9 +80,9 @@ impl Board {
         self.state.change(square, piece);
     }
 
-    /// Sets what the clock shows. In `Update` it is then to be sent, and in `UpdateNice` exactly if
-    /// it differs from what was reported of it. In the other modes it isn't, whatever was to be
-    /// sent before.
+    /// Sets what the clock shows. `Update` then always sends it, and `UpdateNice` only if it
+    /// differs from what was last reported. The other modes don't send it, and a reading that was
+    /// to be sent is dropped.
     pub fn hand_clock(&mut self, clock: Clock)
         ensures { self.new ≡
             record self.old { state = after_hand_clock self.old.state (clock_seen clock) } }
@@ -93,12 +90,13 @@ impl Board {
         self.state.hand_clock(clock);
     }
 
-    /// The line to the host is lost, and what was under way on it. The board keeps its squares, its
-    /// clock and its identity. Otherwise it is as new: it is idle, its squares count as reported
-    /// and its clock does not, it owes nothing, and it holds no byte of an unfinished command.
+    /// Simulates a lost line: bytes under way to the host are lost. The board keeps its squares,
+    /// its clock and its identity. Otherwise it is as new: it is idle, its squares count as
+    /// reported and its clock does not, it owes nothing, and it holds no byte of an unfinished
+    /// command.
     ///
-    /// So a change made before is no longer sent as a field update. Only a dump reports it, which a
-    /// host requests when it follows the board anew.
+    /// A change made before is therefore never sent as a field update. Only a dump reports it,
+    /// which a host requests when it starts over.
     pub fn line_lost(&mut self)
         ensures { self.new ≡ view_after_line_lost self.old }
     {
@@ -107,11 +105,10 @@ impl Board {
         self.state.line_lost();
     }
 
-    /// Uses bytes up to and including the first that completes a command or shows a fault. If none
-    /// does, it uses the whole chunk. A command that was read has its effect; a fault has none.
+    /// Uses the bytes up to and including the first that completes a command or a fault, or the
+    /// whole chunk if none does. A command that was read takes effect; a fault has no effect.
     ///
-    /// It is `Busy` exactly if `MAX_OWED` replies are owed, whatever the chunk is, and then
-    /// nothing changes.
+    /// Returns `Busy` if `MAX_OWED` replies are owed, whatever the chunk is. Then nothing changes.
     pub fn take(&mut self, chunk: &[u8]) -> Result<Taken<'_>, Busy>
         ensures* after_borrow { sem 𝓛 (Rests the_row self.entry (λ new. MatchResult result
             (λ taken. let bytes = take taken.used chunk.now in
@@ -131,7 +128,7 @@ impl Board {
             return Err(Busy);
         }
         if let Some(command) = self.framer.front_command(chunk) {
-            self.state.obey_command(&command);
+            self.state.obey_bare(&command);
             let event = Some(CommandEvent::Command(command));
             return Ok(Taken { used: 1, event });
         }
@@ -148,9 +145,9 @@ impl Board {
         })
     }
 
-    /// Writes the next message into the slice, from its beginning, and counts it as sent. The bytes
-    /// after it stay as they were. If the slice is too short, it stays as it is, and so does the
-    /// board. No message has more than `MAX_SENT` bytes.
+    /// Writes the next message at the beginning of the slice, and counts it as sent. The bytes
+    /// after it stay as they were. If the slice is too short, nothing is written and nothing is
+    /// sent. No message is longer than `MAX_SENT` bytes.
     pub fn poll(&mut self, out: &mut [u8]) -> Polled
         ensures polls { Polls result (next_message self.old.state)
             self.old self.new out.old out.new }
@@ -166,7 +163,7 @@ impl Board {
         self.state.send(out)
     }
 
-    /// Whether there is anything to send: a reply, a square that its mode asks for, or the clock.
+    /// Whether there is anything to send: a reply, a square that the mode reports, or the clock.
     pub fn owes(&self) -> bool
         ensures { IsTrue result ↔ IsSome (next_message self.now.state) }
     {
@@ -182,8 +179,8 @@ impl Board {
         self.state.owed.len()
     }
 
-    /// Does nothing. It stands for a fact: no message that reports the identity or the clock is
-    /// longer than a dump.
+    /// Does nothing at run time. Its contract states that no message that reports the identity or
+    /// the clock is longer than a dump.
     pub fn reports_are_short(&self)
         ensures identity { IsShortIdentity self.now.state.identity }
         ensures clock { IsShortClock self.now.state.clock }
@@ -192,7 +189,7 @@ impl Board {
         is_short_clock(&self.state.clock);
     }
 
-    /// How many bytes are held of an unfinished command.
+    /// How many bytes of an unfinished command are held.
     pub fn partial(&self) -> usize
         ensures length { result ≡ length self.now.partial }
         ensures part_of_a_word { IsPartial self.now.partial }
@@ -201,14 +198,14 @@ impl Board {
         self.framer.partial()
     }
 
-    /// Which changes the board sends by itself.
+    /// Which changes the board reports by itself.
     pub fn mode(&self) -> Mode
         ensures { result ≡ self.now.state.mode }
     {
         self.state.mode
     }
 
-    /// What stands on the squares.
+    /// The pieces on the 64 squares.
     pub fn position(&self) -> &Position
         ensures { pieces_of result.now ≡ self.now.state.squares }
     {

@@ -9,16 +9,16 @@ use dgt_values::{Body, SevenBit};
 use std::marker::Model;
 use thiserror::Error;
 
-/// The most bytes of a trademark, of a battery body or of a long serial number that a board keeps.
+/// The most bytes of a trademark, a battery body or a long serial number that a board keeps.
 pub const MAX_KEPT_BODY: usize = 64;
 
-/// A body has more than `MAX_KEPT_BODY` bytes.
+/// A body is longer than `MAX_KEPT_BODY` bytes.
 #[derive(Clone, Copy, Debug, PartialEq, Eq, Error)]
-#[error("a body has more than {MAX_KEPT_BODY} bytes")]
+#[error("a body is longer than {MAX_KEPT_BODY} bytes")]
 pub struct TooLong;
 
-/// What a board reports of itself when it is asked: its serial number, trademark, version, battery,
-/// the version of its clock, and its long serial number. It keeps its own copy of the bodies.
+/// What a board reports of itself on request: its serial number, trademark, version, battery, the
+/// version of its clock, and its long serial number. It keeps its own copy of the bodies.
 #[derive(Drop)]
 pub struct Identity {
     serial: [SevenBit; 5],
@@ -51,7 +51,6 @@ impl Model for Identity {
         × IsKeptBody identity.battery.items × IsKeptBody identity.long_serial.items };
 }
 
-// A copy of a body.
 fn kept_body(body: Body<'_>) -> Result<ArrayVec<u8, MAX_KEPT_BODY>, TooLong>
     ensures { MatchResult result
         (λ kept. (kept.items ≡ body_bytes body.entry) × IsKeptBody kept.items)
@@ -66,9 +65,9 @@ fn kept_body(body: Body<'_>) -> Result<ArrayVec<u8, MAX_KEPT_BODY>, TooLong>
 
 impl Identity {
     /// An identity of the serial number, the trademark, the main and sub number of the version, the
-    /// body of battery messages, the version byte of the clock, and the long serial number. A
-    /// trademark, a battery body or a long serial number of more than `MAX_KEPT_BODY` bytes is
-    /// `TooLong`.
+    /// body of battery messages, the version byte of the clock, and the long serial number. Returns
+    /// `TooLong` if the trademark, the battery body or the long serial number is longer than
+    /// `MAX_KEPT_BODY` bytes.
     pub fn new(
         serial: [SevenBit; 5],
         trademark: Body<'_>,
@@ -116,7 +115,7 @@ impl Identity {
         Body::from_seven_bit(self.trademark.as_slice())
     }
 
-    // Nothing of it makes a message longer than a dump.
+    // No part of it makes a message longer than a dump.
     pub(crate) fn is_short(&self)
         ensures { IsShortIdentity self.now }
     {

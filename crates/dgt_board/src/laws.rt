@@ -1,5 +1,5 @@
-//! What holds of what a board keeps, of what it sends and of what it has taken, whoever runs it.
-//! Nothing here runs: each function stands for the fact that its contract states.
+//! Laws of what a board keeps, sends and has taken. Each function does nothing at run time: its
+//! contract states a fact.
 
 ghost use Rattle.std.specs.Prelude.{◌≡◌, ◌↔◌, ◌≤◌, ◌<◌, ◌+◌, ◌∷◌, ◌++◌, ℕ, List, [], Option, Some, None, IfSome, false, length, map, option_map, true};
 ghost use Rattle.dgt_values.specs.Equality.{CloneIsSame, EqualIsSame, EqualIsSameReadOf};
@@ -25,8 +25,8 @@ pub fn limits()
     ensures sent { MAX_SENT ≡ 67 }
 {}
 
-/// Two values are equal, as `==` compares them, exactly if they are the same. Of lent bytes the
-/// bytes count, and not where they lie.
+/// Two values are equal by `==` exactly if they are the same. For borrowed bytes, the bytes count
+/// and not their address.
 pub fn equal_is_same()
     ensures mode { EqualIsSame ⟦<Mode as PartialEq>⟧.eq }
     ensures polled { EqualIsSame ⟦<Polled as PartialEq>⟧.eq }
@@ -49,16 +49,16 @@ pub fn clone_is_same()
     ensures taken { CloneIsSame ⟦<Taken<'static> as Clone>⟧ }
 {}
 
-/// A board has nothing to send exactly if nothing is left to send, and then it owes no reply.
+/// A board has no next message exactly if no message is left to send, and then it owes no reply.
 pub fn nothing_to_send()
     ensures nothing_left { (board : BoardState)
         → (next_message board ≡ None) ↔ (left_to_send board ≡ 0) }
     ensures none_owed { (board : BoardState) → next_message board ≡ None → board.owed ≡ [] }
 {}
 
-/// How much is left to send: the owed replies, the squares that an update mode has still to report,
-/// and the clock if it is to be sent. That is at most the replies, 64 squares and the clock. The
-/// number falls with each message that is sent.
+/// The messages left to send are the owed replies, the squares that an update mode has yet to
+/// report, and the clock if it is to be sent. They are at most the replies, 64 squares and the
+/// clock. Each message sent leaves fewer.
 pub fn bounded_sending()
     ensures parts { (board : BoardState) → left_to_send board
         ≡ length board.owed + length (unreported_squares board) + length (clock_news board) }
@@ -68,7 +68,7 @@ pub fn bounded_sending()
         → left_to_send (after_sending board message) < left_to_send board }
 {}
 
-/// Bytes that a board has taken one list after the other it has taken as one list.
+/// Taking two lists of bytes one after the other is the same as taking them as one list.
 pub fn takings_append()
     ensures { (before between after : BoardView) (bytes more : List ℕ)
         → HasTaken before bytes between → HasTaken between more after
@@ -77,7 +77,7 @@ pub fn takings_append()
     dgt_command::laws::divisions_append();
 }
 
-/// Bytes that a board has taken leave it in one way only.
+/// Taking bytes leaves a board in one state only.
 pub fn one_taking()
     ensures { (before after other : BoardView) (bytes : List ℕ)
         → HasTaken before bytes after → HasTaken before bytes other → after ≡ other }
@@ -85,8 +85,9 @@ pub fn one_taking()
     dgt_command::laws::one_division();
 }
 
-/// A backlog is at most the replies, 64 squares and the clock. It falls with each message that is
-/// sent, and rises by at most one with each command that is taken.
+/// A backlog counts the squares that differ in every mode. It is at most the replies, 64 squares
+/// and the clock. It falls with each message sent, and rises by at most one with each command
+/// taken.
 pub fn bounded_backlog()
     ensures bound { (board : BoardState) → backlog board ≤ length board.owed + 65 }
     ensures falls { (board : BoardState) (message : Content) → length board.reported_squares ≡ 64
@@ -96,7 +97,7 @@ pub fn bounded_backlog()
         backlog (effects board events) ≤ backlog board + length events }
 {}
 
-/// A board reports its clock by itself only in a mode that asks for it, whatever is done to it.
+/// Whatever happens to a board, it reports its clock by itself only in a mode that asks for it.
 pub fn clock_is_owed_by_the_mode()
     ensures new { (squares : List Piece) (clock : ClockState) (identity : IdentityContent)
         → OwesByItsMode (new_board squares clock identity) }
@@ -109,8 +110,8 @@ pub fn clock_is_owed_by_the_mode()
     ensures lost { (board : BoardState) → OwesByItsMode (after_line_lost board) }
 {}
 
-/// The modes, idle first and in the order of their commands' bytes: the commands that set them, and
-/// which of them report the squares and the clock.
+/// The modes, idle first and then by the bytes of their commands: which command sets each, and
+/// whether it reports the squares and the clock.
 pub fn modes()
     ensures set { map command_mode (CommandContent.Reset ∷ CommandContent.Update
         ∷ CommandContent.UpdateBoard ∷ CommandContent.UpdateNice ∷ []) ≡ map Some
@@ -127,15 +128,15 @@ pub fn idle_boards_are_silent()
         → OwesByItsMode board → next_message board ≡ None }
 {}
 
-/// Fields are sent by the numbers of their squares: no square with a lower number differs from
-/// what was reported.
+/// Field updates are sent in the order of their squares' numbers: no square with a lower number
+/// differs from what was reported.
 pub fn fields_rise()
     ensures { (board : BoardState) (square lower : ℕ) (piece : Piece) → board.owed ≡ []
         → next_message board ≡ Some (Content.field square piece) → lower < square
         → piece_on board.squares lower ≡ piece_on board.reported_squares lower }
 {}
 
-/// What is short enough for the premises of other laws, in numbers.
+/// Which bodies and clocks are short enough for the premises of other laws.
 pub fn what_is_short()
     ensures identity { (identity : IdentityContent) → length identity.serial ≤ 64
         → length identity.trademark ≤ 64 → length identity.battery ≤ 64
@@ -145,8 +146,8 @@ pub fn what_is_short()
     ensures body { (body : List ℕ) → length body ≤ 64 → AreSevenBit body → IsKeptBody body }
 {}
 
-/// What a board answers that has to send the version 2.3, `93 00 05 02 03`: into six bytes, into
-/// five and into four. If it has nothing to send it says so, and nothing changes.
+/// What `poll` returns if the version 2.3, `93 00 05 02 03`, is to be sent: with room for six
+/// bytes, for five and for four. If nothing is to be sent, it says so and changes nothing.
 pub fn what_is_polled()
     ensures wrote { (polled : Answer) (before after : BoardView) (new : List ℕ) → Polls polled
         (Some (Content.carried 0x13 (2 ∷ 3 ∷ []))) before after (1 ∷ 1 ∷ 1 ∷ 1 ∷ 1 ∷ 1 ∷ []) new

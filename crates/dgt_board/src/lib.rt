@@ -1,10 +1,10 @@
-//! A DGT board of this project: it takes commands, and sends messages.
+//! A simulated DGT board: it takes commands and sends messages.
 //!
-//! A program hands a [`Board`] what happens on the table (`change`, `hand_clock`) and what the host
-//! sends (`take`, in chunks of any length). `poll` writes one message a call, of at most
-//! [`MAX_SENT`] bytes: the owed replies in their order, then the squares that differ from what was
-//! reported, then the clock. `line_lost` makes the board forget all that was said on a line that is
-//! lost. No call takes memory or waits.
+//! A program passes a [`Board`] the changes on the table (`change`, `hand_clock`) and the host's
+//! bytes (`take`, in chunks of any length). Each `poll` writes one message of at most [`MAX_SENT`]
+//! bytes: first the owed replies in their order, then the squares that differ from what was
+//! reported, then the clock. `line_lost` simulates a broken line: the board forgets all requests.
+//! No call allocates memory or waits.
 //!
 //! ```rust
 //! use dgt_board::{Board, Polled};
@@ -21,17 +21,17 @@
 //! }
 //! ```
 //!
-//! After the command `44`, which requests updates, an e2 that becomes empty is reported as
-//! `8e 00 05 34 00`.
+//! After the command `44`, which requests updates, removing a piece from e2 is reported as `8e 00
+//! 05 34 00`.
 //!
-//! The commands and what they ask for are those of the DGT Electronic Board Protocol Description
-//! (the `dgtbrd` header), single-board mode. This project's own choices are:
+//! The commands and their effects are those of the DGT Electronic Board Protocol Description (the
+//! `dgtbrd` header), single-board mode. This project's own choices are:
 //!
 //! - the order of sending, and the limit of [`MAX_OWED`] owed replies;
-//! - that a reply is formed when it is sent, and a square is sent with what it holds then;
-//! - that a board acknowledges each clock message unless it has no clock, and the bytes of that.
+//! - that a reply or a field update reports the state at the time of sending;
+//! - that a board with a clock acknowledges each clock message, and the bytes of that.
 //!
-//! [`laws`] has the facts about what is to be sent and what was taken. The definitions that
+//! [`laws`] states the facts about what is to be sent and what was taken. The definitions that
 //! contracts cite are in `specs/State.antt`, `Sending.antt`, `View.antt` and `Simulated.antt`.
 #![tactic(auto)]
 

@@ -1,16 +1,14 @@
-//! Which changes a board sends by itself.
+//! Which changes a board reports by itself.
 
-/// Which changes a board sends by itself. A new board is idle.
+/// Which changes a board reports by itself. A new board is idle.
 #[derive(Clone, Copy, Debug, PartialEq, Eq)]
 pub enum Mode {
-    /// Nothing.
+    /// None.
     Idle,
-    /// Each square that differs from what was reported, and the clock each time that it is handed
-    /// in.
+    /// Each square that differs from what was reported, and each reading of the clock.
     Update,
     /// Each square that differs from what was reported.
     UpdateBoard,
-    /// Each square that differs from what was reported, and the clock if it differs from what was
-    /// reported.
+    /// Each square, and the clock, if it differs from what was reported.
     UpdateNice,
 }

@@ -2,16 +2,16 @@
 
 use dgt_values::Kind;
 
-/// A reply that a board owes. All but an acknowledgement are formed when they are sent.
+/// A reply that a board owes. All but an acknowledgement report the state at the time of sending.
 ///
-/// The default is what fills the empty places of a list.
+/// The default fills the empty places of a list.
 #[derive(Clone, Copy, Debug, Default, PartialEq, Eq)]
 pub enum Reply {
-    /// The answer to a question of a kind.
+    /// The reply to a request of a kind.
     Of(Kind),
     #[default]
     Clock,
-    /// The acknowledgement of a clock message: its id, and the clock's version if the id asks
-    /// for it, else 0.
+    /// The acknowledgement of a clock message: its id, and the clock's version if the id requests
+    /// it, and otherwise 0.
     Ack { id: u8, version: u8 },
 }

@@ -1,4 +1,4 @@
-//! What a board sends, and in which order.
+//! What a board sends, in order.
 
 ghost use Rattle.std.specs.Prelude.{◌≡◌, ◌↔◌, ◌≤◌, ◌<◌, ℕ, List, IfSome, Some, [], ◌∷◌, false, drop, filter, length, option_map, slice_get};
 ghost use Rattle.dgt_values.specs.Bytes.{number};
@@ -12,18 +12,18 @@ ghost use Rattle.dgt_board.specs.Kept.{WritesMessage, due_message};
 use crate::modes::Mode;
 use crate::replies::Reply;
 use crate::state::{MAX_OWED, State};
-use dgt_message::{Clock, ClockAck, Message, encode, encode_field};
+use dgt_message::{Clock, ClockAck, KnownCode, Message, encode, encode_field};
 use dgt_values::{Kind, NoRoom, SevenBit, Square};
 
-/// The most bytes of a message that a board sends: those of a dump.
+/// The most bytes of a message that a board sends: the size of a dump.
 pub const MAX_SENT: usize = 67;
 
-/// What a board answers that is asked to send.
+/// What [`Board::poll`](crate::Board::poll) did.
 #[derive(Clone, Copy, Debug, PartialEq, Eq)]
 pub enum Polled {
-    /// The message that was sent is at the beginning of the slice, and has this number of bytes.
+    /// A message of this many bytes was written at the beginning of the slice.
     Wrote(usize),
-    /// The next message has this number of bytes and the slice has fewer, so nothing was sent.
+    /// The next message needs this many bytes, more than the slice holds, so nothing was sent.
     NeedRoom(usize),
     /// There is nothing to send.
     Nothing,
@@ -35,17 +35,6 @@ pub enum Due {
     Reply(Reply),
     Field(Square),
     Times,
-}
-
-// Success, the id of the clock message, and the version of the clock if the id asks for it.
-fn acknowledgement<'a>(id: u8, version: u8) -> Message<'a>
-    ensures { content result
-        ≡ Content.ack (record { ack = 0x10 ∷ id ∷ version ∷ 0x00 ∷ []; status = 0x00 }) }
-{
-    Message::Ack(ClockAck {
-        ack: [0x10, id, version, 0x00],
-        status: SevenBit::from_small(0),
-    })
 }
 
 impl State {
@@ -63,7 +52,7 @@ impl State {
         Some(Square::from_small(differing.trailing_zeros() as u8))
     }
 
-    // The first square that is left to report in this mode.
+    // The first square that is yet to be reported in this mode.
     fn unreported_square(&self) -> Option<Square>
         ensures { slice_get (unreported_squares (state_of self.now)) 0
             ≡ option_map square_number result }
@@ -94,15 +83,14 @@ impl State {
         }
     }
 
-    // Writes an owed reply at the beginning of the slice, as the board stands. Each message is
-    // encoded in the arm that makes it: one that is first brought together with the others is
-    // copied as long as a dump is.
+    // Writes an owed reply at the beginning of the slice. Each message is encoded in the arm that
+    // builds it: if the arms shared one call, each message would be copied at the size of a dump.
     fn write_reply(&self, reply: Reply, out: &mut [u8]) -> Result<usize, NoRoom>
         ensures { WritesMessage (reply_message (state_of self.now) reply) out.old out.new result }
     {
         let identity = &self.identity;
         match reply {
-            Reply::Of(Kind::Dump) => encode(&Message::Dump(self.squares), out),
+            Reply::Of(Kind::Dump) => self.write_dump(out),
             Reply::Of(Kind::Serial) => encode(&Message::Serial(identity.serial()), out),
             Reply::Of(Kind::Trademark) => encode(&Message::Trademark(identity.trademark()), out),
             Reply::Of(Kind::Version) => {
@@ -115,11 +103,31 @@ impl State {
                 out,
             ),
             Reply::Clock => self.write_clock(out),
-            Reply::Ack { id, version } => encode(&acknowledgement(id, version), out),
+            Reply::Ack { id, version } => {
+                // success, the id, and the version of the clock if the id asks for it
+                let (ack, status) = ([0x10, id, version, 0x00], SevenBit::from_small(0));
+                encode(&Message::Ack(ClockAck { ack, status }), out)
+            }
         }
     }
 
-    // Writes what the clock shows at the beginning of the slice.
+    // Writes a dump at the beginning of the slice, without building a message: that would copy the
+    // 64 squares part by part, and read them again before these parts are in the cache.
+    fn write_dump(&self, out: &mut [u8]) -> Result<usize, NoRoom>
+        ensures { WritesMessage (Content.dump (state_of self.now).squares) out.old out.new result }
+    {
+        dgt_message::laws::encoding_encodes();
+        if out.len() < MAX_SENT {
+            return Err(NoRoom { need: MAX_SENT });
+        }
+        out[0] = 128 + KnownCode::Dump.number();
+        out[1] = 0;
+        out[2] = MAX_SENT as u8;
+        out[3..MAX_SENT].copy_from_slice(&self.squares.codes());
+        Ok(MAX_SENT)
+    }
+
+    // Writes the clock's reading at the beginning of the slice.
     fn write_clock(&self, out: &mut [u8]) -> Result<usize, NoRoom>
         ensures { WritesMessage (clock_message (state_of self.now).clock) out.old out.new result }
     {
@@ -129,7 +137,7 @@ impl State {
         }
     }
 
-    // Writes what is due at the beginning of the slice, as the board stands.
+    // Writes what is due at the beginning of the slice.
     fn write(&self, due: Due, out: &mut [u8]) -> Result<usize, NoRoom>
         ensures { WritesMessage (due_message (state_of self.now) due) out.old out.new result }
     {
@@ -140,7 +148,7 @@ impl State {
         }
     }
 
-    // The clock is reported.
+    // Counts the clock as reported.
     fn note_clock(&mut self)
         ensures { state_of self.new ≡ record (state_of self.old) {
           reported_clock = Some (state_of self.old).clock;
@@ -151,7 +159,7 @@ impl State {
         self.times_owed = false;
     }
 
-    // What a reply reports counts as reported.
+    // Counts what a reply reports as reported.
     fn note_reply(&mut self, reply: Reply)
         ensures { state_of self.new
             ≡ after_reporting (state_of self.old) (reply_message (state_of self.old) reply) }
@@ -163,7 +171,7 @@ impl State {
         }
     }
 
-    // What was due counts as reported.
+    // Counts what was due as reported.
     fn note_reported(&mut self, due: Due)
         ensures { state_of self.new
             ≡ after_reporting (state_of self.old) (due_message (state_of self.old) due) }
@@ -178,7 +186,7 @@ impl State {
         }
     }
 
-    // The first reply is owed no longer. If none is owed, nothing changes.
+    // Removes the first owed reply, if there is one.
     fn drop_reply(&mut self)
         ensures { state_of self.new
             ≡ record (state_of self.old) { owed = drop 1 (state_of self.old).owed } }
@@ -186,7 +194,7 @@ impl State {
         let _ = self.owed.pop_at(0);
     }
 
-    /// Writes the next message into the slice, from its beginning, and counts it as sent.
+    /// Writes the next message at the beginning of the slice, and counts it as sent.
     pub fn send(&mut self, out: &mut [u8]) -> Polled
         ensures polls { (partial : List ℕ) → Polls result (next_message (state_of self.old))
             (record { state = state_of self.old; partial = partial })

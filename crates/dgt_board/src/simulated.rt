@@ -1,5 +1,5 @@
-//! What the simulated boards of this project report: that of the program `dgt`, and the one that C
-//! has before it says another.
+//! What the simulated boards of this project report: that of the program `dgt`, and the default of
+//! the library for C.
 
 ghost use Rattle.std.specs.Prelude.{◌≡◌};
 ghost use Rattle.dgt_message.specs.Content.{clock_seen};
@@ -25,7 +25,7 @@ impl Identity {
     }
 }
 
-/// A clock that shows 0:00:00 for both players, and doesn't run.
+/// A stopped clock that shows 0:00:00 for both players.
 pub fn simulated_clock() -> Clock
     ensures { clock_seen result ≡ simulated_times }
 {

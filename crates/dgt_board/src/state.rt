@@ -1,9 +1,10 @@
-//! What a board keeps, and what is done to it.
+//! The state of a board, and what changes it.
 
 ghost use Rattle.std.specs.Prelude.{◌≡◌, ◌<◌, ◌++◌, ◌&&◌, not, length};
 ghost use Rattle.dgt_values.specs.Board.{pieces_of, square_number};
 ghost use Rattle.dgt_message.specs.Content.{clock_seen};
 ghost use Rattle.dgt_command.specs.Content.{clock_content, command_content, command_event_content};
+ghost use Rattle.dgt_board.specs.Kept.{IsBare};
 ghost use Rattle.dgt_board.specs.State.{IsShortClock, acknowledgements, after_change, after_command, after_hand_clock, after_line_lost, effect, follows_clock, is_reported, new_board};
 
 use crate::identities::Identity;
@@ -17,7 +18,7 @@ use dgt_values::{Piece, Position, Square};
 /// The most replies that a board owes.
 pub const MAX_OWED: usize = 8;
 
-// What a clock reports makes no message longer than a dump.
+// No reading of the clock makes a message longer than a dump.
 pub(crate) fn is_short_clock(clock: &Clock)
     ensures { IsShortClock (clock_seen clock.now) }
 {
@@ -26,19 +27,19 @@ pub(crate) fn is_short_clock(clock: &Clock)
     }
 }
 
-/// All that a board keeps but the bytes of an unfinished command.
+/// All that a board keeps except the bytes of an unfinished command.
 #[derive(Drop)]
 pub struct State {
     pub squares: Position,
     pub clock: Clock,
     pub mode: Mode,
-    /// The squares as the board has reported them.
+    /// The squares as last reported.
     pub reported_squares: Position,
-    /// The clock as the board has reported it.
+    /// The clock as last reported.
     pub reported_clock: Option<Clock>,
     /// Whether the clock is to be sent.
     pub times_owed: bool,
-    /// The replies that were asked for and are not sent, the oldest first.
+    /// The replies that were requested and not yet sent, the oldest first.
     pub owed: ArrayVec<Reply, MAX_OWED>,
     pub identity: Identity,
 }
@@ -46,7 +47,7 @@ pub struct State {
 impl State {
     ghost use Rattle.dgt_board.specs.Kept.{state_of};
 
-    /// A board just made, which has reported its squares.
+    /// A new board, which has reported its squares.
     pub fn new(position: Position, clock: Clock, identity: Identity) -> Self
         ensures { state_of result ≡ new_board (pieces_of position) (clock_seen clock) identity }
     {
@@ -62,7 +63,7 @@ impl State {
         }
     }
 
-    /// A piece is put on a square, or taken off.
+    /// Puts a piece on a square, or removes one.
     pub fn change(&mut self, square: Square, piece: Piece)
         ensures { state_of self.new
             ≡ after_change (state_of self.old) (square_number square) piece }
@@ -70,14 +71,14 @@ impl State {
         self.squares.set(square, piece);
     }
 
-    // Whether a clock differs from what was reported.
+    // Whether a clock's reading differs from what was last reported.
     fn is_news(&self, clock: Clock) -> bool
         ensures { result ≡ not (is_reported (state_of self.now).reported_clock (clock_seen clock)) }
     {
         self.reported_clock != Some(clock)
     }
 
-    /// The clock shows something.
+    /// Sets what the clock shows.
     pub fn hand_clock(&mut self, clock: Clock)
         ensures { state_of self.new ≡ after_hand_clock (state_of self.old) (clock_seen clock) }
     {
@@ -89,7 +90,7 @@ impl State {
         self.clock = clock;
     }
 
-    /// The line is lost: what was asked for is forgotten, and the squares count as reported.
+    /// Loses the line: forgets all requests, and counts the squares as reported.
     pub fn line_lost(&mut self)
         ensures { state_of self.new ≡ after_line_lost (state_of self.old) }
     {
@@ -100,19 +101,24 @@ impl State {
         self.owed.clear();
     }
 
-    /// The effect of what was read: a fault changes nothing.
+    /// Applies the effect of an event; a fault changes nothing.
     pub fn obey(&mut self, event: &CommandEvent<'_>)
         requires { length self.old.owed.items < MAX_OWED }
         ensures { state_of self.new ≡ effect (state_of self.old) (command_event_content event.now) }
     {
-        if let CommandEvent::Command(command) = event {
-            self.obey_command(command);
+        match event {
+            CommandEvent::Command(Command::ClockMessage(message)) => self.acknowledge(message),
+            CommandEvent::Command(command) => self.obey_bare(command),
+            _ => {}
         }
     }
 
-    /// The effect of a command.
-    pub fn obey_command(&mut self, command: &Command<'_>)
-        requires { length self.old.owed.items < MAX_OWED }
+    /// Applies the effect of a command that isn't a clock message. Inlined, so that the command
+    /// needn't be in memory.
+    #[inline(always)]
+    pub fn obey_bare(&mut self, command: &Command<'_>)
+        requires room { length self.old.owed.items < MAX_OWED }
+        requires bare { IsBare (command_content command.now) }
         ensures { state_of self.new
             ≡ after_command (state_of self.old) (command_content command.now) }
     {
@@ -122,7 +128,6 @@ impl State {
             Command::UpdateBoard => self.enter(Mode::UpdateBoard),
             Command::UpdateNice => self.enter(Mode::UpdateNice),
             Command::Clock => self.owed.push(Reply::Clock),
-            Command::ClockMessage(message) => self.acknowledge(message),
             _ => {
                 if let Some(kind) = kind_of_command(command) {
                     self.owed.push(Reply::Of(kind));
@@ -131,8 +136,8 @@ impl State {
         }
     }
 
-    // A mode that follows the clock owes it if it differs from what was reported, whatever was owed
-    // before.
+    // In a mode that follows the clock, the clock is to be sent if it differs from what was
+    // reported, whatever was to be sent before.
     fn enter(&mut self, mode: Mode)
         ensures { state_of self.new ≡ record (state_of self.old) {
           mode = mode;
@@ -147,7 +152,7 @@ impl State {
         };
     }
 
-    // A board with no clock has nothing to acknowledge with.
+    // A board without a clock acknowledges nothing.
     fn acknowledge(&mut self, message: &ClockCommand<'_>)
         requires { length self.old.owed.items < MAX_OWED }
         ensures { state_of self.new ≡ record (state_of self.old) {

@@ -1,4 +1,4 @@
--- A number has one known id, and a byte is the code of one command of one byte.
+-- A number belongs to one known id, and a byte is the code of one command of one byte.
 use Rattle.std.proofs.Common.{◌≡◌, ◌≢◌, ℕ, Bool, true, false, cond, refl, sym, ap, subst, List, [], ◌∷◌, Some}
 use Rattle.std.proofs.Common.{None}
 use Rattle.std.specs.List.{list_all}
@@ -13,7 +13,7 @@ use Rattle.dgt_command.specs.Content.{command_content, ClockMessage, Leds, Read}
 use Rattle.dgt_command.specs.Ids.{id_number, id_with, known_ids}
 use Rattle.dgt_command.specs.Words.{BeginsNoCommand, HasForm}
 
--- what a search finds passes its test, and each test that all members pass
+-- the result of a search passes its test, and each test that all members pass
 found_passes : {X : Type 0} (listed test : X → Bool) (xs : List X) (x : X) → list_all listed xs ≡ true
     → find test xs ≡ Some x → (test x ≡ true) × (listed x ≡ true)
 found_passes listed test [] x all e = cc
@@ -36,11 +36,11 @@ id_found : (known : KnownId) → id_with (id_number known) ≡ Some known
 id_found Display = refl
 id_found _ = refl
 
--- a number has one id
+-- a number has only one id
 pub one_id : (number : ℕ) (known : KnownId) → (id_with number ≡ Some known) ↔ (number ≡ id_number known)
 one_id number known = (found_id number known, λ e. rw e (id_found known))
 
--- whether a command is its code alone
+-- whether a command is one byte
 abbrev is_bare : Command → Bool
 is_bare (command.ClockMessage message) = false
 is_bare (command.Leds leds) = false
@@ -66,7 +66,7 @@ abbrev pub first_byte : List ℕ → ℕ
 first_byte [] = 0
 first_byte (b ∷ rest) = b
 
--- a byte that is the code of no command of one byte begins no command, but for the longer ones
+-- a byte that is no command of one byte begins no command but the longer ones
 pub no_command : (byte : ℕ) → bare_command byte ≡ None → byte ≢ 0x2b → byte ≢ 0x60 → BeginsNoCommand byte
 no_command byte none not_clock not_leds (ClockMessage message) rest h = not_clock (sym (ap first_byte h))
 no_command byte none not_clock not_leds (Leds leds) rest h = not_leds (sym (ap first_byte h))

@@ -34,7 +34,7 @@ bytes_left [] ys h i = omega arith
 bytes_left (x ∷ xs) ys h zero = h 0
 bytes_left (x ∷ xs) ys h (suc i) = bytes_left xs ys (λ j. h (suc j)) i
 
--- what follows in bytes is bytes
+-- the rest of bytes is bytes
 pub bytes_right : (xs ys : List ℕ) → AreBytes (xs ++ ys) → AreBytes ys
 bytes_right [] ys h i = h i
 bytes_right (x ∷ xs) ys h i = bytes_right xs ys (λ j. h (suc j)) i
@@ -54,7 +54,7 @@ pub record Completed (r : List ℕ) : Type 0 where
   pub noise : IsNoise event
   pub form : HasForm event (r ++ 0 ∷ zeros count)
 
--- zero begins no command
+-- zero doesn't begin a command
 zero_begins_none : BeginsNoCommand 0
 zero_begins_none = no_command 0 refl (λ e. omega arith) (λ e. omega arith)
 
@@ -64,7 +64,7 @@ zeros_push n =
     replicate-append-replicate {A = ℕ} 1 n 0 ∙
     (ap (λ (k : ℕ). zeros k) (omega arith) ∙ sym (replicate_more {X = ℕ} n 0))
 
--- zeros complete a clock message whose size and third byte are right
+-- zeros complete a clock message with the right size and third byte
 body_zeros : (size : ℕ) (rest : List ℕ) → 3 ≤ size → size < 256 → length rest + 3 < size + 2
     → Completed (0x2b ∷ size ∷ 3 ∷ rest)
 body_zeros size [] large byte short =
@@ -91,7 +91,7 @@ body_zeros size (id ∷ p) large byte short =
       form = subst (λ (zs : List ℕ). HasForm (Read (ClockMessage found.0)) (0x2b ∷ size ∷ 3 ∷ id ∷ zs)) shifted found.1;
     }
 
--- zeros complete what begins as a clock message
+-- zeros complete the beginning of a clock message
 clock_zeros : (rest : List ℕ) → slice_index rest 0 < 256 → length rest + 1 < word_length (0x2b ∷ rest)
     → Completed (0x2b ∷ rest)
 clock_zeros [] byte h =
@@ -135,7 +135,7 @@ led_zeros (size ∷ rest) byte h =
       form = ap (λ (k : ℕ). 0x60 ∷ k ∷ (rest ++ 0 ∷ zeros n)) (sym long);
     }
 
--- what is shorter than its frame becomes one by zeros
+-- bytes shorter than their frame become one by zeros
 pub completed : (r : List ℕ) → AreBytes r → length r < word_length r → Completed r
 completed [] bytes h =
     record { event = Stray 0; count = 0; few = omega arith; noise = tt; form = (zero_begins_none, refl) }
@@ -153,7 +153,7 @@ completed (b ∷ rest) bytes h = elim (cases_eq b 0x2b) [
   ]
 ]
 
--- a proper prefix of a frame is what is shorter than its frame
+-- a proper prefix of a frame is shorter than its frame, and conversely
 pub IsPartial-from_short : (r : List ℕ) → AreBytes r → length r < word_length r → IsPartial r
 IsPartial-from_short r bytes h =
     let found = completed r bytes h in
@@ -168,7 +168,7 @@ IsPartial-from_short r bytes h =
       };
     }
 
--- a partial frame begins with no frame
+-- a partial frame doesn't begin with a frame
 pub not_both : (r : List ℕ) (e : EventContent) (w x : List ℕ) → IsPartial r → HasForm e w → r ≡ w ++ x → ⊥
 not_both r e w x partial form is =
     let whole : List ℕ = r ++ partial.next ∷ partial.more in
@@ -185,7 +185,7 @@ short_from_IsPartial r partial = elim (cases_lt (length r) (word_length r)) [
   | inr h ↦ let found = begins r h in absurd (not_both r found.event found.word found.after partial found.form found.is)
 ]
 
--- what begins with a frame is no part of one
+-- a list that begins with a frame isn't part of one
 pub no_word_within : NoWordBeginsAPart
 no_word_within e w x word partial = not_both (w ++ x) e w x partial word.form refl
 
@@ -194,7 +194,7 @@ pub partial_bytes : (r more : List ℕ) → IsPartial r → AreBytes more → Ar
 partial_bytes r more partial are =
     bytes_append r more (bytes_left r (partial.next ∷ partial.more) partial.word.are_bytes) are
 
--- what a division leaves
+-- the rest of a division
 pub partial_left : (bytes rest : List ℕ) (events : List EventContent) → Divides bytes events rest → IsPartial rest
 partial_left bytes rest [] divides = divides.1
 partial_left bytes rest (e ∷ events) divides = partial_left divides.1 rest events divides.4
@@ -270,7 +270,7 @@ divided_words s (event ∷ events) rest h =
       ap (λ (es : List EventContent). event ∷ es) more.2,
     )
 
--- frames in a row, and a part of one after them, are no others
+-- consecutive frames, and a part of one after them, are no others
 words_once : (xs ys : List Word) (r q : List ℕ)
     → AllByRecursion (λ word. IsWord word.event word.bytes) xs
     → AllByRecursion (λ word. IsWord word.event word.bytes) ys → IsPartial r → IsPartial q
@@ -337,7 +337,7 @@ Divides-append s t [] fs r q h k = subst (λ (z : List ℕ). Divides (z ++ t) fs
 Divides-append s t (e ∷ es) fs r q h k =
     (h.0, h.1 ++ t, h.2, ap (λ (z : List ℕ). z ++ t) h.3 ∙ append_assoc h.0 h.1 t, Divides-append h.1 t es fs r q h.4 k)
 
--- the events of a prefix of bytes come first among theirs, and its rest goes on
+-- the events of a prefix of bytes are the first of theirs, and its rest is continued
 pub divides_prefix : PrefixesDivideFirst
 divides_prefix s t [] fs r q h k = (fs, refl, subst (λ (z : List ℕ). Divides (z ++ t) fs q) h.0 k)
 divides_prefix s t (e ∷ es) [] r q h k =
@@ -352,7 +352,7 @@ divides_prefix s t (e ∷ es) (f ∷ fs) r q h k =
       on.2,
     )
 
--- so they do after frames
+-- the same after frames
 pub commands_are_read_back : CommandsAreReadBack
 commands_are_read_back bytes es cs h all = Divides-append bytes (flat_map command_encoding cs) es (map Read cs) [] [] h
     (read_back cs all)
@@ -394,7 +394,7 @@ zeros_settle_the_reader r partial =
       ),
     )
 
--- nothing is held of a frame that is whole, and else a part of one
+-- nothing is held of a whole frame, and otherwise a part of one
 pub held_is_partial : (is_whole : Bool) (word : List ℕ) → (is_whole ≡ false → IsPartial word)
     → IsPartial (if is_whole then [] else word)
 held_is_partial true word h = nothing_is_partial

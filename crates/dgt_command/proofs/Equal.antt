@@ -1,4 +1,4 @@
--- What the derived `==` says of clock messages.
+-- The derived `==` of clock messages.
 use Rattle.std.proofs.Common.{◌≡◌, ℕ, nat_eq, refl, ap, sym, ◌∙◌, List, [], ◌∷◌, length, true, false}
 use Rattle.std.specs.Prelude.{◌↔◌, IsTrue, slice_index}
 use Rattle.std.proofs.lemmas.Bool.Decides.{Decides-and, Decides-eqb}
@@ -29,14 +29,14 @@ differ number a b apart = (λ t. absurd (never t), λ e. absurd (go (ap number e
     go : number a ≡ number b → ⊥
     go same = let equal : IsTrue (nat_eq (number a) (number b)) = (Decides-eqb (number a) (number b)).1 same in cc
 
--- the id of a clock message, and what it carries
+-- the id of a clock message, and its payload
 abbrev id_of : ClockContent → ℕ
 id_of said = said.id
 
 abbrev payload_of : ClockContent → List ℕ
 payload_of said = said.payload
 
--- one of the bytes that it carries
+-- one of the bytes of the payload
 abbrev byte_of : ℕ → ClockContent → ℕ
 byte_of i said = slice_index said.payload i
 
@@ -56,7 +56,7 @@ abbrev letters_of : ClockContent → List ℕ
 letters_of p =
     byte_of 0 p ∷ byte_of 1 p ∷ byte_of 2 p ∷ byte_of 3 p ∷ byte_of 4 p ∷ byte_of 5 p ∷ byte_of 6 p ∷ byte_of 7 p ∷ []
 
--- displays say the same exactly if their parts are the same
+-- displays mean the same exactly if their parts are the same
 same_display : (places others : List ℕ) (dots more beep long : ℕ) → length places ≡ 6 → length others ≡ 6
     → ((places ≡ others) × ((dots ≡ more) × (beep ≡ long)))
     ↔ (clock_content (clock.Display places dots beep) ≡ clock_content (clock.Display others more long))
@@ -65,7 +65,7 @@ same_display places others dots more beep long h k = (
   λ e. (members 6 places h ∙ ap places_of e ∙ sym (members 6 others k), (ap (byte_of 6) e, ap (byte_of 7) e)),
 )
 
--- settings say the same exactly if their parts are the same
+-- settings mean the same exactly if their parts are the same
 same_setting : (left other right another : List ℕ) (control byte : ℕ)
     → length left ≡ 3 → length other ≡ 3 → length right ≡ 3 → length another ≡ 3
     → ((left ≡ other) × ((right ≡ another) × (control ≡ byte)))
@@ -78,7 +78,7 @@ same_setting left other right another control byte h k m n = (
   ),
 )
 
--- texts say the same exactly if their parts are the same
+-- texts mean the same exactly if their parts are the same
 same_text : (letters others : List ℕ) (beep long : ℕ) → length letters ≡ 8 → length others ≡ 8
     → ((letters ≡ others) × (beep ≡ long))
     ↔ (clock_content (clock.Text letters beep) ≡ clock_content (clock.Text others long))
@@ -87,14 +87,14 @@ same_text letters others beep long h k = (
   λ e. (members 8 letters h ∙ ap letters_of e ∙ sym (members 8 others k), ap (byte_of 8) e),
 )
 
--- a raw clock message says nothing that has a case of its own
+-- a raw clock message has no variant of its own
 raw_apart : (raw : RawClock) (said : ClockContent) → has_own_case said.id (length said.payload) ≡ true
     → clock_content (clock.Raw raw) ≡ said → ⊥
 raw_apart raw said own e =
     let same : false ≡ true = sym raw.unread ∙ ap (λ (p : ClockContent). has_own_case p.id (length p.payload)) e ∙ own
     in cc
 
--- two clock messages are equal exactly if they say the same
+-- two clock messages are equal exactly if they mean the same
 pub equal_clocks : EqualIsSameReadOf HasArrays clock_content (derived_clock.eq-value).it
 equal_clocks (clock.Display places dots beep) (clock.Display others more long) h k =
     let bytes = Decides-and _ _ (Decides-eqb dots more) (Decides-eqb beep long) in

@@ -1,5 +1,5 @@
--- What the derived `==` says of commands and of events. Different commands differ in their codes, and events by
--- a number a case.
+-- The derived `==` of commands and of events. Different commands differ in their codes, and events
+-- in a number for each variant.
 use Rattle.std.proofs.Common.{◌≡◌, ℕ, refl, ap, List, []}
 use Rattle.std.proofs.lemmas.Bool.Decides.{Decides-and, Decides-eqb}
 use Rattle.std.specs.Prelude.{◌↔◌, IsTrue, Option, Some, None, IfSome}
@@ -26,7 +26,7 @@ abbrev leds_of : CommandContent → List ℕ
 leds_of (content.Leds leds) = leds
 leds_of _ = []
 
--- two commands are equal exactly if they say the same
+-- two commands are equal exactly if they mean the same
 pub equal_commands : EqualIsSameReadOf CommandHasArrays command_content (derived_command.eq-value).it
 equal_commands command.Reset command.Reset h k = (λ _. refl, λ _. refl)
 equal_commands command.Clock command.Clock h k = (λ _. refl, λ _. refl)
@@ -47,7 +47,7 @@ equal_commands (command.Leds a) (command.Leds b) h k =
     (λ t. ap (λ (leds : List ℕ). content.Leds leds) (same.0 t), λ e. same.1 (ap leds_of e))
 equal_commands a b h k = differ command_code (command_content a) (command_content b) refl
 
--- the number of an event's case
+-- the number of an event's variant
 abbrev event_case_of : EventContent → ℕ
 event_case_of (content.Read read) = 0
 event_case_of content.BadSize = 1
@@ -98,7 +98,7 @@ equal_found None None h k = (λ _. refl, λ _. refl)
 equal_found (Some a) None h k = differ how_many (Some (command_event_content a)) None refl
 equal_found None (Some b) h k = differ how_many None (Some (command_event_content b)) refl
 
--- two answers are equal exactly if they use and report the same
+-- two results are equal exactly if they use and report the same
 pub equal_fed : EqualIsSameReadOf FedHasArrays fed_seen (derived_fed.eq-value).it
 equal_fed a b h k =
     let same = Decides-and _ _ (Decides-eqb a.used b.used) (equal_found a.event b.event h k) in

@@ -1,4 +1,4 @@
--- A list by its places.
+-- A list and the members at its places.
 use Rattle.std.proofs.Common.{◌≡◌, ℕ, zero, suc, List, [], ◌∷◌, length, get_or, refl, sym, ◌∙◌, ap, arith}
 
 -- the members at the next places, from this one on
@@ -6,7 +6,7 @@ abbrev pub at_places : ℕ → ℕ → List ℕ → List ℕ
 at_places from zero xs = []
 at_places from (suc count) xs = get_or xs from 0 ∷ at_places (suc from) count xs
 
--- each stands one place later in a list that has one member more before them
+-- each is one place later in a list with one more member before them
 one_later : (from count a : ℕ) (xs : List ℕ) → at_places (suc from) count (a ∷ xs) ≡ at_places from count xs
 one_later from zero a xs = refl
 one_later from (suc count) a xs = ap (λ l. get_or xs from 0 ∷ l) (one_later (suc from) count a xs)

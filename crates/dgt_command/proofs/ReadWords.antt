@@ -28,7 +28,7 @@ encodes_its_command c word h = ap command_in h.encoded ∙ encoded_command c
 pub word_is_read : (c : CommandContent) (word : List ℕ) → EncodesCommand c word → IsWord (Read (command_in word)) word
 word_is_read c word h = rw (encodes_its_command c word h) (record { form = h.encoded; are_bytes = h.are_bytes })
 
--- a command of one byte is that of which the byte is the code
+-- a command of one byte is the one with this code
 pub byte_is_read : (read : Option Command) (word : List ℕ) → IsEncoding word → length word ≡ 1
     → bare_command (slice_index word 0) ≡ read
     → IfSome read (λ each. Read (command_content each) ≡ Read (command_in word))

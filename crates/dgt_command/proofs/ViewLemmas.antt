@@ -1,4 +1,4 @@
--- What a whole command looks like, byte by byte.
+-- The bytes of a whole command, one by one.
 use Rattle.std.proofs.Common.{◌≡◌, ℕ, suc, ◌+◌, ◌-◌, ◌<◌, ◌≤◌, List, [], ◌∷◌, ◌++◌, length, get_or, take, drop, refl}
 use Rattle.std.proofs.Common.{sym, ap, subst, ◌∙◌, ◌⊎◌, inl, inr, arith, length-append}
 use Rattle.dgt_command.specs.Content.{ClockContent, CommandContent, ClockMessage, Leds}

@@ -1,4 +1,4 @@
--- No frame begins another. A list that is long enough begins with one, and zeros complete others.
+-- No frame begins another. A long enough list begins with one, and zeros complete any other.
 use Rattle.std.proofs.Common.{◌≡◌, ◌≢◌, ℕ, ◌+◌, ◌-◌, ◌<◌, ◌≤◌, false, List, [], ◌∷◌, ◌++◌, length, get_or, take, drop}
 use Rattle.std.proofs.Common.{refl, sym, ap, subst, ◌∙◌, inl, inr, arith, length-append, Option, Some, None}
 use Rattle.std.proofs.lemmas.Bool.{cases_eq, cases_lt, le-ltb, lt-ltb, ne_eqb, eq-eqb}
@@ -11,7 +11,7 @@ use Rattle.dgt_command.specs.Lengths.{word_length}
 use Rattle.dgt_command.specs.Words.{BeginsNoCommand, HasForm}
 use Rattle.dgt_command.proofs.CodeLemmas.{bare_form, no_command}
 
--- the length of a clock message of a size that is no fault
+-- the length of a clock message of a valid size
 abbrev pub body_length : ℕ → List ℕ → ℕ
 body_length size rest = if slice_index rest 0 == 3 then size + 2 else 3
 
@@ -19,14 +19,14 @@ body_length size rest = if slice_index rest 0 == 3 then size + 2 else 3
 nothing : ClockContent
 nothing = record { id = 0; payload = [] }
 
--- a byte that begins no command begins no clock message and no LED frame
+-- a byte that doesn't begin a command doesn't begin a clock message or an LED frame
 not_clock : (b : ℕ) → BeginsNoCommand b → (b == 0x2b) ≡ false
 not_clock b h =
     ne_eqb b 0x2b
     (λ e. h (ClockMessage nothing) (after_code (ClockMessage nothing))
     (ap (λ (x : ℕ). x ∷ after_code (ClockMessage nothing)) (sym e)))
 
--- nor an LED frame
+-- or an LED frame
 not_leds : (b : ℕ) → BeginsNoCommand b → (b == 0x60) ≡ false
 not_leds b h =
     ne_eqb b 0x60 (λ e. h (Leds []) (after_code (Leds [])) (ap (λ (x : ℕ). x ∷ after_code (Leds [])) (sym e)))
@@ -39,7 +39,7 @@ encoding_length (ClockMessage message) x = rw (le-ltb (length message.payload + 
 encoding_length (Leds leds) x = omega arith
 encoding_length _ x = refl
 
--- a frame with anything after it reports its own length
+-- a frame with any bytes after it reports its own length
 pub form_length : (e : EventContent) (w x : List ℕ) → HasForm e w → word_length (w ++ x) ≡ length w
 form_length (Read c) w x h = subst (λ (v : List ℕ). word_length (v ++ x) ≡ length v) (sym h) (encoding_length c x)
 form_length BadSize w x (size, small, is) = subst (λ (v : List ℕ). word_length (v ++ x) ≡ length v) (sym is)
@@ -52,18 +52,18 @@ form_length BadEnd w x (size, inner, last, long, other, some, is) =
 form_length (Stray b) w x (none, is) = subst (λ (v : List ℕ). word_length (v ++ x) ≡ length v) (sym is)
     (rw (not_clock b none, not_leds b none) refl)
 
--- the event of one byte, by the command that it is the code of
+-- the event of one byte, by its command
 abbrev pub event_of_byte : Option Command → ℕ → EventContent
 event_of_byte (Some each) b = Read (command_content each)
 event_of_byte None b = Stray b
 
--- a byte that begins no command is stray
+-- a byte that doesn't begin a command is stray
 stray_byte : (found : Option Command) (b : ℕ) → bare_command b ≡ found → BeginsNoCommand b
     → event_of_byte found b ≡ Stray b
 stray_byte None b e none = refl
 stray_byte (Some each) b e none = absurd (none (command_content each) [] (sym (bare_form b each e)))
 
--- the event of a clock message of this id, by what follows it
+-- the event of a clock message of this id, by the bytes after it
 abbrev pub end_event : ℕ → List ℕ → EventContent
 end_event id more =
     if get_or more (length more - 1) 0 == 0 then Read
@@ -120,7 +120,7 @@ form_event BadEnd w (size, inner, final, long, other, some, is) =
 form_event (Stray b) w (none, is) =
     ap event_of is ∙ rw (not_clock b none, not_leds b none) (stray_byte (bare_command b) b refl none)
 
--- Two lists that begin alike begin with the same frame.
+-- Two lists with the same beginning begin with the same frame.
 pub record SameWord (e f : EventContent) (w v x y : List ℕ) : Type 0 where
   pub event : e ≡ f
   pub word : w ≡ v
@@ -143,13 +143,13 @@ same_word e f w v x y h k is =
       after = append_cancel_left w x y (is ∙ ap (λ u. u ++ y) (sym word));
     }
 
--- the frame of one byte, by the command that it is the code of
+-- the frame of one byte, by its command
 word_of_byte : (found : Option Command) (b : ℕ) → bare_command b ≡ found → b ≢ 0x2b → b ≢ 0x60 → (e : EventContent)
     × HasForm e (b ∷ [])
 word_of_byte (Some each) b e not_clock not_leds = (Read (command_content each), bare_form b each e)
 word_of_byte None b e not_clock not_leds = (Stray b, (no_command b e not_clock not_leds, refl))
 
--- a byte that begins no longer frame is a frame itself
+-- a byte that doesn't begin a longer frame is a frame itself
 pub byte_word : (b : ℕ) → b ≢ 0x2b → b ≢ 0x60 → (e : EventContent) × HasForm e (b ∷ [])
 byte_word b c l = word_of_byte (bare_command b) b refl c l
 
@@ -237,7 +237,7 @@ body_begins size (third ∷ rest) large h = elim (cases_eq third 3) [
   }
 ]
 
--- bytes as long as what begins as a clock message begin with a frame
+-- bytes as long as the beginning of a clock message begin with a frame
 clock_begins : (rest : List ℕ) → word_length (0x2b ∷ rest) ≤ length rest + 1 → Begins (0x2b ∷ rest)
 clock_begins [] h = absurd (omega arith)
 clock_begins (size ∷ rest) h = elim (cases_lt size 3) [

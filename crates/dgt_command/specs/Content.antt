@@ -1,4 +1,4 @@
--- Commands and the events of a reader of their bytes, without where they lie in memory.
+-- Commands and the events of a decoder, without the addresses of their bytes.
 use Rattle.std.specs.Prelude.{ℕ, List, [], ◌∷◌, slice_index as nth, Option, Some, None}
 use Rattle.dgt_values.specs.declared.kinds.Kind.{Kind}
 use Rattle.dgt_command.specs.declared.carried.LedBytes.{LedBytes}
@@ -13,7 +13,7 @@ use Rattle.dgt_command.specs.declared.command.CommandEvent.TheVariants as event
 use Rattle.dgt_command.specs.declared.ids.KnownId.{KnownId}
 use Rattle.dgt_command.specs.Ids.{id_number}
 
--- A clock message by its id and what it carries, which determine its case.
+-- A clock message by its id and its payload, which determine its variant.
 pub record ClockContent : Type 0 where
   pub id : ℕ
   pub payload : List ℕ
@@ -44,7 +44,7 @@ raw_payload raw = payload_bytes raw.payload
 abbrev pub known_clock : KnownId → List ℕ → ClockContent
 known_clock known payload = record { id = id_number known; payload = payload }
 
--- the places of a display, counted from left to right, are sent C, B, A, F, E, D
+-- the places of a display from left to right are sent in the order C, B, A, F, E, D
 abbrev pub display_content : (ℕ → ℕ) → ℕ → ℕ → ClockContent
 display_content place dots beep =
     known_clock KnownId.Display
@@ -87,7 +87,7 @@ command_event_content event.BadStart = BadStart
 command_event_content event.BadEnd = BadEnd
 command_event_content (event.Stray byte) = Stray byte
 
--- the kind of the reply that a command asks for, if the host awaits it
+-- the kind of the reply that a command requests, if the host awaits it
 abbrev pub requested_kind : CommandContent → Option Kind
 requested_kind Dump = Some Kind.Dump
 requested_kind Serial = Some Kind.Serial

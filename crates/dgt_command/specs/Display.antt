@@ -1,9 +1,9 @@
--- What the clock shows of six characters.
+-- How the clock shows six characters.
 use Rattle.std.specs.Prelude.{◌≡◌, ℕ, ◌<◌, List, slice_index as nth}
 use Rattle.dgt_values.specs.Segment.{IsShownBy}
 use Rattle.dgt_command.specs.Content.{ClockContent, display_content}
 
--- a display whose places show the six characters, from left to right
+-- a display that shows the six characters, from left to right
 abbrev pub Shows : List ℕ → ℕ → ℕ → ClockContent → Type 0
 Shows text dots beep message =
     (place : ℕ → ℕ) × ((i : ℕ) → i < 6 → IsShownBy (nth text i) (place i))

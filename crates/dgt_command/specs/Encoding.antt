@@ -9,7 +9,7 @@ use Rattle.dgt_command.specs.Content.{CommandContent, Reset, Clock, Dump, Update
 abbrev pub AreBytes : List ℕ → Type 0
 AreBytes bytes = (i : ℕ) → nth bytes i < 256
 
--- the byte that each command begins with
+-- the first byte of each command
 abbrev pub command_code : CommandContent → ℕ
 command_code (ClockMessage message) = 0x2b
 command_code Reset = 0x40
@@ -38,11 +38,11 @@ pub record EncodesCommand (command : CommandContent) (bytes : List ℕ) : Type 0
   pub are_bytes : AreBytes bytes
   pub encoded : bytes ≡ command_encoding command
 
--- some command is encoded by these bytes
+-- these bytes encode some command
 abbrev pub IsEncoding : List ℕ → Type 0
 IsEncoding bytes = (command : CommandContent) × EncodesCommand command bytes
 
--- the commands that are their code alone
+-- the commands of one byte
 abbrev pub bare_commands : List Command
 bare_commands =
     command.Reset ∷ command.Clock ∷ command.Dump ∷ command.Update ∷ command.UpdateBoard

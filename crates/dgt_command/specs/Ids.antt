@@ -1,4 +1,4 @@
--- The ids of clock messages that have a case of their own, and how many bytes each of them carries.
+-- The ids of clock messages with a variant of their own, and how many bytes each of them carries.
 use Rattle.std.specs.Prelude.{ℕ, Bool, true, false, ◌==◌, List, [], ◌∷◌, find, Option, unwrap_or}
 use Rattle.std.specs.Option.{option_map}
 use Rattle.dgt_command.specs.declared.ids.KnownId.{KnownId}
@@ -21,7 +21,7 @@ known_ids = Display ∷ Icons ∷ End ∷ Button ∷ Version ∷ SetAndRun ∷ B
 abbrev pub id_with : ℕ → Option KnownId
 id_with number = find (λ id. id_number id == number) known_ids
 
--- icons have any number of bytes, and every other id has one number
+-- icons have any number of bytes, and every other id a fixed number
 abbrev pub has_size : KnownId → ℕ → Bool
 has_size Display size = size == 8
 has_size Icons size = true

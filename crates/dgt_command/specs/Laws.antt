@@ -1,4 +1,4 @@
--- What holds of frames and of how bytes divide into them.
+-- Laws of frames and of the division of bytes into them.
 use Rattle.std.specs.Prelude.{◌≡◌, ℕ, ◌<◌, ◌≤◌, List, [], ◌++◌, length, map, replicate}
 use Rattle.std.specs.List.{flat_map, AllByRecursion}
 use Rattle.dgt_command.specs.Content.{CommandContent, EventContent, Read}
@@ -14,7 +14,7 @@ EachDividesOnce =
     Divides bytes events rest → Divides bytes others remainder →
     (events ≡ others) × (rest ≡ remainder))
 
--- each list of bytes is frames and a rest, and no other frames and no other rest
+-- each list of bytes is a list of frames and a rest, in one way only
 abbrev pub EachHasItsWords : Type 0
 EachHasItsWords =
     ((bytes : List ℕ) → AreBytes bytes →
@@ -43,20 +43,20 @@ CommandsAreReadBack =
     AllByRecursion (λ command. EncodesCommand command (command_encoding command)) commands →
     Divides (bytes ++ flat_map command_encoding commands) (events ++ map Read commands) []
 
--- after a part of a frame, 255 zeros are noise and leave no rest
+-- a part of a frame and 255 zeros are noise and leave no rest
 abbrev pub ZerosSettleTheReader : Type 0
 ZerosSettleTheReader =
     (rest : List ℕ) → IsPartial rest →
     (events : List EventContent) × IsNoiseList events × Divides (rest ++ replicate 255 0) events []
 
--- bytes that follow others are divided from the rest on that those left
+-- bytes after others are divided from the rest of those on
 abbrev pub DivisionsAppend : Type 0
 DivisionsAppend =
     (bytes more : List ℕ) (events others : List EventContent) (rest remainder : List ℕ) →
     Divides bytes events rest → Divides (rest ++ more) others remainder →
     Divides (bytes ++ more) (events ++ others) remainder
 
--- the events of a prefix of bytes come first among theirs, and the rest of the prefix goes on
+-- the events of a prefix of bytes are the first of theirs, and the rest of the prefix is continued
 abbrev pub PrefixesDivideFirst : Type 0
 PrefixesDivideFirst =
     (prefix more : List ℕ) (events all : List EventContent) (rest last : List ℕ) →

@@ -1,9 +1,9 @@
--- How long frames are, and bytes that are read up to the end of one.
+-- How long frames are, and reading up to the end of one.
 use Rattle.std.specs.Prelude.{◌≡◌, ℕ, ◌+◌, ◌<◌, ◌≤◌, ◌==◌, List, ◌++◌, length, take, slice_index as nth, nat_lt, Bool, false, IsTrue, if◌then◌else◌}
 use Rattle.dgt_command.specs.Words.{IsPartial, IsWholeWord}
 
--- The length of the frame that bytes begin, as far as the first three of them determine it. A byte
--- that hasn't come counts as 0: then this is more than those that have.
+-- The length of the frame that begins with these bytes, as far as the first three determine it. A
+-- missing byte counts as 0: the length is then more than the number of bytes.
 abbrev pub word_length : List ℕ → ℕ
 word_length bytes =
     if nth bytes 0 == 0x2b then clock_length bytes
@@ -14,8 +14,8 @@ word_length bytes =
     clock_length bytes =
         if nat_lt (nth bytes 1) 3 then 2 else if nth bytes 2 == 0x03 then nth bytes 1 + 2 else 3
 
--- This many bytes of the chunk are added to a part of a frame: those up to the one that completes
--- the frame, or all.
+-- This many bytes of the chunk are added to a part of a frame: up to the one that completes the
+-- frame, or all.
 pub record Adds (part chunk new : List ℕ) (count : ℕ) (is_whole : Bool) : Type 0 where
   pub used : count ≤ length chunk
   pub word : new ≡ part ++ take count chunk

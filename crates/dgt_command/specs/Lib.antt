@@ -7,5 +7,5 @@ pub mod Framing
 pub mod Display
 pub mod Equality
 pub mod Laws
--- For bodies alone
+-- Only for bodies
 pub mod Lengths

@@ -1,4 +1,4 @@
--- The frames of the line from the host to the board, and how a list of bytes divides into them.
+-- The frames of the line from the host to the board, and the division of bytes into them.
 use Rattle.std.specs.Prelude.{◌≡◌, ◌≢◌, ℕ, ◌+◌, ◌<◌, ◌≤◌, List, [], ◌∷◌, ◌++◌, length, flat_map}
 use Rattle.std.specs.List.{AllByRecursion}
 use Rattle.dgt_command.specs.Content.{CommandContent, ClockMessage, Leds, EventContent, Read, BadSize, BadStart, BadEnd, Stray}
@@ -8,8 +8,8 @@ abbrev pub BeginsNoCommand : ℕ → Type 0
 BeginsNoCommand byte =
     (command : CommandContent) (rest : List ℕ) → command_encoding command ≢ byte ∷ rest
 
--- Each event has its frames: a command its encoding, a fault what is read until it shows, and a
--- stray byte itself.
+-- Each event has its frames: a command its encoding, a fault the bytes up to the one that reveals
+-- it, and a stray byte itself.
 abbrev pub HasForm : EventContent → List ℕ → Type 0
 HasForm (Read command) word = word ≡ command_encoding command
 HasForm BadSize word = (size : ℕ) × (size < 3) × (word ≡ 0x2b ∷ size ∷ [])
@@ -42,7 +42,7 @@ Divides bytes (event ∷ events) rest =
     (word : List ℕ) × (after : List ℕ)
     × IsWord event word × (bytes ≡ word ++ after) × Divides after events rest
 
--- some bytes in a row, and the event that they are said to be
+-- some consecutive bytes, and their event
 pub record Word : Type 0 where
   pub event : EventContent
   pub bytes : List ℕ

@@ -5,13 +5,13 @@ ghost use Rattle.dgt_command.specs.declared.carried.TheConstants.{MAX_LED_BYTES,
 
 use dgt_values::TooMuch;
 
-/// The most bytes that a clock message carries: its size, one byte, counts three more.
+/// The most bytes that a clock message carries: its size, one byte, also counts three other bytes.
 pub const MAX_PAYLOAD: usize = 252;
 
 /// The most bytes that an LED frame carries: its size is one byte.
 pub const MAX_LED_BYTES: usize = 255;
 
-/// The payload of a clock message, lent by whoever holds it: at most `MAX_PAYLOAD` bytes, of any
+/// The payload of a clock message, borrowed from its owner: at most `MAX_PAYLOAD` bytes of any
 /// values.
 #[derive(Clone, Copy, Debug, PartialEq, Eq)]
 pub struct Payload<'a> {
@@ -22,7 +22,7 @@ pub struct Payload<'a> {
 impl<'a> Payload<'a> {
     ghost use Rattle.dgt_command.specs.Content.{payload_bytes};
 
-    /// The payload of these bytes. More than `MAX_PAYLOAD` bytes are `TooMuch`.
+    /// The payload of these bytes. Returns `TooMuch` for more than `MAX_PAYLOAD` bytes.
     pub fn new(bytes: &'a [u8]) -> Result<Self, TooMuch>
         ensures ok { IfOk result (λ payload. payload_bytes payload ≡ bytes.now) }
         ensures refused { IsErr result ↔ (MAX_PAYLOAD < length bytes.now) }
@@ -33,7 +33,7 @@ impl<'a> Payload<'a> {
         Ok(Payload { bytes })
     }
 
-    /// The bytes.
+    /// The payload as a slice.
     pub fn bytes(self) -> &'a [u8]
         ensures bytes { result.now ≡ payload_bytes self.entry }
         ensures fits { length result.now ≤ MAX_PAYLOAD }
@@ -42,8 +42,8 @@ impl<'a> Payload<'a> {
     }
 }
 
-/// The bytes of an LED frame after its size, lent by whoever holds them: at most `MAX_LED_BYTES`,
-/// of any values.
+/// The bytes of an LED frame after its size, borrowed from their owner: at most `MAX_LED_BYTES`, of
+/// any values.
 #[derive(Clone, Copy, Debug, PartialEq, Eq)]
 pub struct LedBytes<'a> {
     pub(crate) bytes: &'a [u8],
@@ -53,7 +53,7 @@ pub struct LedBytes<'a> {
 impl<'a> LedBytes<'a> {
     ghost use Rattle.dgt_command.specs.Content.{led_bytes};
 
-    /// The LED bytes that these are. More than `MAX_LED_BYTES` bytes are `TooMuch`.
+    /// LED bytes. Returns `TooMuch` for more than `MAX_LED_BYTES` bytes.
     pub fn new(bytes: &'a [u8]) -> Result<Self, TooMuch>
         ensures ok { IfOk result (λ leds. led_bytes leds ≡ bytes.now) }
         ensures refused { IsErr result ↔ (MAX_LED_BYTES < length bytes.now) }
@@ -64,7 +64,7 @@ impl<'a> LedBytes<'a> {
         Ok(LedBytes { bytes })
     }
 
-    /// The bytes.
+    /// The bytes as a slice.
     pub fn bytes(self) -> &'a [u8]
         ensures bytes { result.now ≡ led_bytes self.entry }
         ensures fits { length result.now ≤ MAX_LED_BYTES }

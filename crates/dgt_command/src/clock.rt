@@ -1,4 +1,4 @@
-//! What a clock message asks of the clock.
+//! Clock messages.
 
 ghost use Rattle.std.specs.Prelude.{◌≡◌, length, false};
 ghost use Rattle.dgt_command.specs.Ids.{has_own_case};
@@ -7,8 +7,8 @@ use crate::carried::Payload;
 use crate::ids::KnownId;
 use dgt_values::Known;
 
-/// A clock message with no case of its own: another id, or a known id with a payload of another
-/// length.
+/// A clock message without a variant of its own: another id, or a known id with a payload of
+/// another length.
 #[derive(Clone, Copy, Debug, PartialEq, Eq)]
 pub struct RawClock<'a> {
     id: u8,
@@ -16,7 +16,7 @@ pub struct RawClock<'a> {
     ghost unread: { has_own_case id (length payload.bytes.now) ≡ false },
 }
 
-// Whether a clock message of this id and this many bytes of payload has a case of its own.
+// Whether a clock message with this id and payload length has a variant of its own.
 fn has_case(id: u8, size: usize) -> bool
     ensures { result ≡ has_own_case id size }
 {
@@ -36,8 +36,8 @@ impl<'a> RawClock<'a> {
     ghost use Rattle.dgt_command.specs.Content.{payload_bytes, raw_id, raw_payload};
     ghost use Rattle.dgt_command.specs.Ids.{has_own_case};
 
-    /// The clock message of this id and payload. `Known` says that the id and the payload's length
-    /// are those of another case of [`ClockCommand`].
+    /// The clock message of this id and payload. Returns `Known` if another variant of
+    /// [`ClockCommand`] covers this id and payload length.
     pub fn new(id: u8, payload: Payload<'a>) -> Result<Self, Known>
         ensures id { IfOk result (λ raw. raw_id raw ≡ id) }
         ensures payload { IfOk result (λ raw. raw_payload raw ≡ payload_bytes payload.entry) }
@@ -57,7 +57,7 @@ impl<'a> RawClock<'a> {
         self.id
     }
 
-    /// The payload.
+    /// The bytes after the id.
     pub fn payload(self) -> Payload<'a>
         ensures payload { payload_bytes result ≡ raw_payload self.entry }
         ensures unread { has_own_case (raw_id self.entry) (length (raw_payload self.entry))
@@ -67,11 +67,10 @@ impl<'a> RawClock<'a> {
     }
 }
 
-/// What a clock message asks of the clock. The bytes of a case are carried as they are, in any
-/// values.
+/// A message to the clock. The bytes of each variant are sent as they are, whatever their values.
 #[derive(Clone, Copy, Debug, PartialEq, Eq)]
 pub enum ClockCommand<'a> {
-    /// Show these segments. `places` are the six digits from left to right, a segment byte each.
+    /// Show these segments. `places` are the six digits from left to right, one segment byte each.
     Display {
         places: [u8; 6],
         dots: u8,
@@ -79,13 +78,13 @@ pub enum ClockCommand<'a> {
     },
     /// Show these icons.
     Icons(Payload<'a>),
-    /// End what is shown, and show the times again.
+    /// End the display of a text or of segments, and show the times again.
     End,
     /// Report the buttons.
     Button,
     /// Report the clock's version.
     Version,
-    /// Set the clock and let it run. `left` and `right` are hours, minutes and seconds.
+    /// Set the clock and start it. `left` and `right` are hours, minutes and seconds.
     SetAndRun {
         left: [u8; 3],
         right: [u8; 3],
@@ -93,11 +92,11 @@ pub enum ClockCommand<'a> {
     },
     /// Beep for this duration.
     Beep(u8),
-    /// Show this text. `letters` are the eight characters from left to right, a byte each.
+    /// Show this text. `letters` are the eight characters from left to right, one byte each.
     Text {
         letters: [u8; 8],
         beep: u8,
     },
-    /// A clock message with no case of its own.
+    /// A clock message without a variant of its own.
     Raw(RawClock<'a>),
 }

@@ -1,4 +1,4 @@
-//! The code of each command: the byte that it begins with.
+//! The code of each command: its first byte.
 
 ghost use Rattle.std.specs.Prelude.{◌≡◌};
 ghost use Rattle.dgt_command.specs.Encoding.{bare_command, command_code};
@@ -6,17 +6,17 @@ ghost use Rattle.dgt_command.specs.Content.{command_content};
 
 use crate::command::Command;
 
-// The byte that a clock message begins with, and the two that frame what follows its size.
+// The first byte of a clock message, and the two that enclose what follows its size.
 pub(crate) const CLOCK_MESSAGE: u8 = 0x2b;
 
 pub(crate) const START: u8 = 0x03;
 
 pub(crate) const END: u8 = 0x00;
 
-// The byte that an LED frame begins with.
+// The first byte of an LED frame.
 pub(crate) const LEDS: u8 = 0x60;
 
-// The commands that are one byte.
+// The commands of one byte.
 const RESET: u8 = 0x40;
 
 const CLOCK: u8 = 0x41;
@@ -39,7 +39,7 @@ const VERSION: u8 = 0x4d;
 
 const LONG_SERIAL: u8 = 0x55;
 
-// The byte that the command begins with.
+// The first byte of the command.
 pub(crate) fn first_byte(command: &Command) -> u8
     ensures { result ≡ command_code (command_content command.now) }
 {
@@ -60,7 +60,7 @@ pub(crate) fn first_byte(command: &Command) -> u8
     }
 }
 
-// The command that is this byte alone, if one is.
+// The command of one byte that is this byte, if there is one.
 pub(crate) fn command_of_byte(byte: u8) -> Option<Command<'static>>
     ensures { result ≡ bare_command byte }
 {

@@ -12,11 +12,11 @@ pub enum Command<'a> {
     Clock,
     /// Send all squares.
     Dump,
-    /// From now on send each changed square, and the clock's times.
+    /// From now on, send each changed square and the clock's times.
     Update,
-    /// From now on send each changed square.
+    /// From now on, send each changed square.
     UpdateBoard,
-    /// From now on send each changed square, and the clock's times if they changed.
+    /// From now on, send each changed square, and the clock's times if they changed.
     UpdateNice,
     /// Send the serial number.
     Serial,
@@ -36,8 +36,8 @@ pub enum Command<'a> {
 
 /// The event of one frame on the line from the host to the board: a command or a fault.
 ///
-/// A fault is the event of the byte that shows it, and the next byte begins a new frame. That is
-/// this project's own choice. The bytes of an LED frame are not looked at, so it has no fault.
+/// A fault is reported at the byte that reveals it, and the next byte begins a new frame. That is
+/// this project's own choice. An LED frame has no faults: its bytes may be any.
 #[derive(Clone, Copy, Debug, PartialEq, Eq)]
 pub enum CommandEvent<'a> {
     /// A command.
@@ -48,6 +48,6 @@ pub enum CommandEvent<'a> {
     BadStart,
     /// The last byte of a clock message isn't 00.
     BadEnd,
-    /// A byte outside a frame that begins no command.
+    /// A byte outside a frame that doesn't begin a command.
     Stray(u8),
 }

@@ -1,4 +1,4 @@
-//! The reader of commands, which lends its events.
+//! The decoder of commands. Its events borrow from it.
 
 ghost use Rattle.std.specs.Prelude.{◌≡◌, ◌+◌, ◌<◌, ◌≤◌, [], ◌++◌, length, take, IfSome, IfNone};
 ghost use Rattle.std.specs.Borrow.{sem};
@@ -16,11 +16,11 @@ use std::marker::Model;
 pub struct CommandFed<'a> {
     /// How many bytes of the chunk were used.
     pub used: usize,
-    /// The event of the frame that the last of them completed, if they completed one.
+    /// The event of the frame that the last used byte completed, if it completed one.
     pub event: Option<CommandEvent<'a>>,
 }
 
-/// Reads commands as their bytes come, in chunks of any length. Contracts see the bytes of the
+/// Reads commands from bytes in chunks of any length. Contracts see it as the bytes of the
 /// unfinished frame.
 #[derive(Drop)]
 pub struct CommandDecoder {
@@ -39,7 +39,7 @@ impl Model for CommandDecoder {
 impl CommandDecoder {
     ghost use Rattle.dgt_command.specs.contracts.decoder.CommandDecoder.{the_row};
 
-    /// A reader that holds nothing.
+    /// A decoder without bytes.
     pub fn new() -> Self
         ensures { result ≡ [] }
     {
@@ -48,10 +48,10 @@ impl CommandDecoder {
         }
     }
 
-    /// Uses bytes of the chunk up to and including the first that completes a frame, and gives its
-    /// event. If no byte completes one, it uses the whole chunk.
+    /// Uses the bytes of the chunk up to and including the first that completes a frame, and
+    /// returns its event. If no byte completes one, it uses the whole chunk.
     ///
-    /// A command lends what it carries from the reader until the next call.
+    /// A command borrows what it carries from the decoder until the next call.
     pub fn feed(&mut self, chunk: &[u8]) -> CommandFed<'_>
         ensures* after_borrow { sem 𝓛 (Rests the_row self.entry (λ new.
             new ≡ rest_after result.event (self.old ++ take result.used chunk.now))) }
@@ -74,7 +74,7 @@ impl CommandDecoder {
         CommandFed { used, event }
     }
 
-    /// How many bytes are held of a frame that isn't finished: fewer than [`MAX_WORD`].
+    /// How many bytes of an unfinished frame are held: fewer than [`MAX_WORD`].
     pub fn partial(&self) -> usize
         ensures length { result ≡ length self.now }
         ensures unfinished { IsPartial self.now }
@@ -83,7 +83,7 @@ impl CommandDecoder {
         self.framer.partial()
     }
 
-    /// Forgets all bytes, as if just made.
+    /// Forgets all bytes.
     pub fn reset(&mut self)
         ensures { self.new ≡ [] }
     {

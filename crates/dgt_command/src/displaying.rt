@@ -7,7 +7,7 @@ ghost use Rattle.dgt_command.specs.Display.{HasNoSegments, Shows};
 use crate::clock::ClockCommand;
 use dgt_values::{NoSegment, segment};
 
-/// The clock message that shows six characters, from left to right. `NoSegment` says that one of
+/// The clock message that shows six characters, from left to right. Returns `NoSegment` if one of
 /// them is not a digit, a space or a hyphen.
 pub fn display(text: [char; 6], dots: u8, beep: u8) -> Result<ClockCommand<'static>, NoSegment>
     ensures ok { IfOk result (λ command. Shows text dots beep (clock_content command)) }

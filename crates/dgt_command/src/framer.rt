@@ -1,4 +1,4 @@
-//! The frames of the line, one by one, as their bytes come.
+//! Reads the frames of commands, one by one.
 
 ghost use Rattle.std.specs.Prelude.{◌≡◌, ◌≢◌, ◌+◌, ◌<◌, ◌≤◌, [], ◌++◌, length, take, true, false, Some};
 ghost use Rattle.std.specs.Prelude.{IsTrue, IfSome, IfNone, MatchOption, OnSome, is_some};
@@ -18,11 +18,11 @@ use std::marker::Model;
 /// The most bytes of a frame: a clock message or an LED frame with a size of 255.
 pub const MAX_WORD: usize = 257;
 
-/// What the last byte of a frame made known, without what the frame carries: [`WordFramer::event`]
-/// lends that.
+/// What the last byte of a frame completed, without what the frame carries: [`WordFramer::event`]
+/// returns that.
 #[derive(Clone, Copy, Debug, PartialEq, Eq)]
 pub enum FoundWord {
-    /// A command, whose bytes the framer keeps.
+    /// A command. The framer keeps its bytes.
     Command,
     /// The second byte of a clock message, its size, is below 3.
     BadSize,
@@ -30,7 +30,7 @@ pub enum FoundWord {
     BadStart,
     /// The last byte of a clock message isn't 00.
     BadEnd,
-    /// A byte outside a frame that begins no command.
+    /// A byte outside a frame that doesn't begin a command.
     Stray(u8),
 }
 
@@ -39,19 +39,19 @@ pub enum FoundWord {
 pub struct AdvancedWord {
     /// How many bytes of the chunk were used.
     pub used: usize,
-    /// What the last of them made known, if they completed a frame.
+    /// What the last of them completed, if they completed a frame.
     pub found: Option<FoundWord>,
 }
 
-/// Keeps the bytes of a frame that isn't finished yet, or of the one that has just become whole: at
-/// most [`MAX_WORD`].
+/// Keeps the bytes of a frame that isn't finished yet, or of the one that is just complete: at most
+/// [`MAX_WORD`].
 ///
-/// It reads as a [`CommandDecoder`](crate::CommandDecoder) does, in two steps: `advance` answers
-/// what was found, owned, and `event` lends it, as often as it is asked before the next `advance`.
-/// So a type that owns it can look at an event, write its own state, and then lend the event.
+/// It reads as a [`CommandDecoder`](crate::CommandDecoder) does, in two steps. `advance` returns an
+/// owned value that says what was found, and `event` returns the event until the next `advance`. An
+/// owner of the framer can change its own state between the two.
 ///
-/// Contracts see the bytes kept (`word`) and whether they are a whole frame (`is_whole`). The rest,
-/// of which the next bytes are read on, is the bytes kept if they aren't whole, and else empty
+/// Contracts see the bytes kept (`word`) and whether they are a whole frame (`is_whole`). Reading
+/// continues from the rest: the bytes kept if they aren't whole, and otherwise no bytes
 /// (`rest_of`).
 #[derive(Drop)]
 pub struct WordFramer {
@@ -71,8 +71,8 @@ impl Model for WordFramer {
     ghost invariant = { λ framer. IsPartial (if framer.is_whole then [] else framer.word) };
 }
 
-// Adds bytes of the chunk to a part of a frame, up to the one that completes it: how many, and
-// whether one did.
+// Adds bytes of the chunk to a part of a frame, up to the one that completes it. Returns how many,
+// and whether one did.
 #[inline(never)]
 fn add_each(word: &mut Kept<MAX_WORD>, chunk: &[u8]) -> (usize, bool)
     requires { IsPartial word.old }
@@ -87,7 +87,7 @@ fn add_each(word: &mut Kept<MAX_WORD>, chunk: &[u8]) -> (usize, bool)
     (chunk.len(), false)
 }
 
-// The same. A frame that begins with the chunk, and is whole in it, is copied at once.
+// The same. A frame that is whole at the beginning of the chunk is copied in one step.
 #[inline(always)]
 fn add_bytes(word: &mut Kept<MAX_WORD>, chunk: &[u8]) -> (usize, bool)
     requires { IsPartial word.old }
@@ -101,7 +101,7 @@ fn add_bytes(word: &mut Kept<MAX_WORD>, chunk: &[u8]) -> (usize, bool)
     (length, true)
 }
 
-// Whether a whole frame is a command, and no fault.
+// Whether a whole frame is a command, rather than a fault.
 fn is_command(word: &[u8]) -> bool
     requires { IsWholeWord word.now }
     ensures command { IsTrue result → IsEncoding word.now }
@@ -116,7 +116,7 @@ fn is_command(word: &[u8]) -> bool
     }
 }
 
-// What a frame is.
+// Classifies a whole frame.
 fn found_word(word: &[u8]) -> FoundWord
     requires { IsWholeWord word.now }
     ensures event { IsWord (word_found_in word.now result) word.now }
@@ -134,7 +134,7 @@ fn found_word(word: &[u8]) -> FoundWord
 }
 
 impl WordFramer {
-    /// A framer that keeps nothing.
+    /// A framer without bytes.
     pub fn new() -> Self
         ensures { result ≡ record { word = []; is_whole = false } }
     {
@@ -144,7 +144,7 @@ impl WordFramer {
         }
     }
 
-    /// How many bytes are kept of a frame that isn't finished: fewer than [`MAX_WORD`].
+    /// How many bytes of an unfinished frame are kept: fewer than [`MAX_WORD`].
     pub fn partial(&self) -> usize
         ensures length { result ≡ length (rest_of self.now) }
         ensures unfinished { IsPartial (rest_of self.now) }
@@ -153,7 +153,7 @@ impl WordFramer {
         if self.is_whole { 0 } else { self.word.len() }
     }
 
-    /// Forgets all bytes, as if just made.
+    /// Forgets all bytes.
     pub fn reset(&mut self)
         ensures { self.new ≡ record { word = []; is_whole = false } }
     {
@@ -161,8 +161,8 @@ impl WordFramer {
         self.is_whole = false;
     }
 
-    /// Uses bytes of the chunk up to and including the first that completes a frame, and returns
-    /// what that frame is. If no byte completes one, it uses the whole chunk.
+    /// Uses the bytes of the chunk up to and including the first that completes a frame, and
+    /// classifies that frame. If no byte completes one, it uses the whole chunk.
     pub fn advance(&mut self, chunk: &[u8]) -> AdvancedWord
         ensures within { result.used ≤ length chunk.now }
         ensures progress { 0 < length chunk.now → 0 < result.used }
@@ -195,8 +195,8 @@ impl WordFramer {
         AdvancedWord { used, found }
     }
 
-    /// The event of what was found, or `None` if a command was found and the frame kept is none.
-    /// One that `advance` has just found is kept until the next byte.
+    /// The event of what was found, or `None` if a command was found and no whole command is kept.
+    /// A command that `advance` has just found is kept until the next byte.
     #[inline(never)]
     pub fn event(&self, found: FoundWord) -> Option<CommandEvent<'_>>
         ensures { MatchOption result
@@ -216,10 +216,10 @@ impl WordFramer {
         }
     }
 
-    /// The command of one byte that the chunk begins with, if no frame is unfinished. It is none of
-    /// the framer's bytes: a caller that takes it goes on after it.
+    /// The command of one byte at the beginning of the chunk, if no frame is unfinished. The framer
+    /// doesn't use that byte: a caller that takes the command continues after it.
     ///
-    /// A caller that reads many commands asks this before it asks to `advance`.
+    /// A caller that reads many commands calls this before `advance`.
     #[inline(always)]
     pub fn front_command(&self, chunk: &[u8]) -> Option<Command<'static>>
         ensures command { IfSome result (λ command. (rest_of self.now ≡ [])

@@ -1,9 +1,9 @@
-//! The ids of clock messages that have a case of their own.
+//! The ids of clock messages with a variant of their own.
 
 ghost use Rattle.std.specs.Prelude.{◌≡◌};
 ghost use Rattle.dgt_command.specs.Ids.{id_number, id_with};
 
-/// The id of a clock message with a case of its own in [`ClockCommand`](crate::ClockCommand).
+/// The id of a clock message with a variant of its own in [`ClockCommand`](crate::ClockCommand).
 #[derive(Clone, Copy, Debug, PartialEq, Eq)]
 pub enum KnownId {
     Display = 0x01,
@@ -28,14 +28,14 @@ const KNOWN_IDS: &[KnownId] = &[
 ];
 
 impl KnownId {
-    /// The number that it is sent as.
+    /// The id as a number.
     pub fn number(self) -> u8
         ensures { result ≡ id_number self }
     {
         self as u8
     }
 
-    /// The id with this number, if one has it.
+    /// The id with this number, if there is one.
     pub fn with_number(number: u8) -> Option<Self>
         ensures { result ≡ id_with number }
     {

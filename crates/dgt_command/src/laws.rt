@@ -1,5 +1,4 @@
-//! What holds of commands, of the frames on the line and of how bytes divide into them, whoever
-//! reads or writes them.
+//! Laws of commands, of their frames and of the division of bytes into frames.
 
 ghost use Rattle.std.specs.Prelude.{◌≡◌, ◌↔◌, ◌∷◌, ◌++◌, ℕ, List, [], None, Some, map, replicate};
 ghost use Rattle.dgt_values.specs.declared.kinds.Kind.{Kind};
@@ -26,8 +25,8 @@ pub fn limits()
     ensures led_bytes { MAX_LED_BYTES ≡ 255 }
 {}
 
-/// Two values are equal, as `==` compares them, exactly if they say the same. Of lent bytes the
-/// bytes count, and not where they lie.
+/// Two values are equal by `==` exactly if they mean the same. For borrowed bytes, the bytes count
+/// and not their address.
 pub fn equal_is_same()
     ensures payload { EqualIsSameRead payload_bytes ⟦<Payload<'static> as PartialEq>⟧.eq }
     ensures led_bytes { EqualIsSameRead led_bytes ⟦<LedBytes<'static> as PartialEq>⟧.eq }
@@ -59,20 +58,19 @@ pub fn clone_is_same()
     ensures advanced { CloneIsSame ⟦<AdvancedWord as Clone>⟧ }
 {}
 
-/// A number is that of at most one known id, and each known id is found by its number.
+/// Each number belongs to at most one known id, and each known id is found by its number.
 pub fn a_number_has_one_id()
     ensures { (number : ℕ) (known : KnownId)
         → (id_with number ≡ Some known) ↔ (number ≡ id_number known) }
 {}
 
-/// One division: each list of bytes divides into frames and a rest that some frame extends, and in
-/// only one way.
+/// Each list of bytes divides into frames and a rest that some frame extends, in exactly one way.
 pub fn one_division()
     ensures { EachDividesOnce }
 {}
 
-/// One list of frames: each list of bytes is frames in a row and a rest that some frame extends,
-/// and in only one way.
+/// Each list of bytes is a list of frames followed by a rest that some frame extends, in exactly
+/// one way.
 pub fn words_of_bytes()
     ensures { EachHasItsWords }
 {}
@@ -87,25 +85,25 @@ pub fn commands_are_read_back()
     ensures { CommandsAreReadBack }
 {}
 
-/// Zeros settle the reader: any part of a frame and 255 zeros are clock messages, LED frames and
-/// faults, and leave no rest.
+/// Zeros settle a decoder: any part of a frame followed by 255 zeros is a list of clock messages,
+/// LED frames and faults, without a rest.
 pub fn zeros_settle_the_reader()
     ensures { ZerosSettleTheReader }
 {}
 
-/// Bytes that come in chunks divide as they do together: what follows is divided from the rest on.
+/// Bytes in chunks divide as they do together: the next chunk is divided from the rest on.
 pub fn divisions_append()
     ensures { DivisionsAppend }
 {}
 
-/// If bytes and a prefix of them divide, the events of the prefix come first, and its rest is
-/// continued.
+/// If some bytes and a prefix of them divide, the events of the prefix are the first ones, and its
+/// rest is continued.
 pub fn prefixes_divide_first()
     ensures { PrefixesDivideFirst }
 {}
 
-/// Parts of frames. No byte at all is one. None begins with a whole frame, and with bytes after it
-/// each is bytes. What a division leaves is one.
+/// Facts about parts of frames: the empty list is one, none begins with a whole frame, all consist
+/// of bytes, and the rest of a division is one.
 pub fn parts_of_words()
     ensures nothing { IsPartial [] }
     ensures no_word { NoWordBeginsAPart }
@@ -120,12 +118,12 @@ pub fn words_are_short()
     ensures { WordsAreShort }
 {}
 
-/// The bytes of a command are those of no other command: they determine it.
+/// No two commands have the same bytes.
 pub fn encodings_give_commands()
     ensures { EncodingsGiveCommands }
 {}
 
-/// The kinds of replies by the commands that ask for them: the clock's has none.
+/// Which kind of reply each command requests: the clock's has none.
 pub fn kinds_of_requests()
     ensures requests { map requested_kind (CommandContent.Dump ∷ CommandContent.Serial
         ∷ CommandContent.Trademark ∷ CommandContent.Version ∷ CommandContent.Battery

@@ -3,8 +3,8 @@
 //! A [`Command`] is one byte, a clock message `2b size 03 id payload 00`, or an LED frame `60 size`
 //! with `size` further bytes. The size of a clock message counts all bytes after itself.
 //!
-//! A dump request is `42`, and a beep of length 3 is `2b 04 03 0b 03 00`. This looks for a dump
-//! request:
+//! A dump request is `42`, and a beep of length 3 is `2b 04 03 0b 03 00`. This function looks for a
+//! dump request:
 //!
 //! ```rust
 //! use dgt_command::{Command, CommandDecoder, CommandEvent};
@@ -27,18 +27,17 @@
 //! | write a command | [`encode`]; [`length`] returns how many bytes it needs |
 //! | read what a host sends, cut anywhere | [`CommandDecoder`]: one [`CommandEvent`] a call |
 //! | read one whole command | [`view_command`] |
-//! | know which reply a command requests | [`kind_of_command`] |
-//! | read in a type that keeps a state of its own beside the reader | [`WordFramer`] |
+//! | find out which reply a command requests | [`kind_of_command`] |
+//! | read commands in a type with a state of its own | [`WordFramer`] |
 //!
-//! Nothing here allocates. An event lends what its command carries until the next call.
+//! Nothing here allocates. An event borrows what its command carries until the next call.
 //!
 //! These forms, the command bytes and the [`KnownId`]s are those of the DGT Electronic Board
-//! Protocol Description (the `dgtbrd` header), single-board mode. That other bytes are reported one
-//! by one, and where reading continues after a fault of a clock message, is this project's own
-//! choice: see [`CommandEvent`].
+//! Protocol Description (the `dgtbrd` header), single-board mode. This project chose to report
+//! other bytes one by one, and where reading continues after a fault: see [`CommandEvent`].
 //!
-//! [`laws`] has the facts about the bytes themselves. They divide into frames in one way, and what
-//! was encoded is read back. 255 zeros settle a reader that was left in the middle of a frame.
+//! [`laws`] states that bytes divide into frames in one way, that encoded commands are read back,
+//! and that 255 zeros complete any command that was left unfinished.
 #![tactic(auto)]
 
 mod carried;

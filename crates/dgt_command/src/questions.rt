@@ -1,4 +1,4 @@
-//! What commands ask for.
+//! Which reply a command requests.
 
 ghost use Rattle.std.specs.Prelude.{◌≡◌};
 ghost use Rattle.dgt_command.specs.Content.{command_content, requested_kind};

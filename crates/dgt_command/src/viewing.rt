@@ -1,4 +1,4 @@
-//! Commands read from their bytes.
+//! Reads commands from their bytes.
 
 ghost use Rattle.std.specs.Prelude.{◌≡◌, ◌+◌, ◌<◌, ◌≤◌, ◌∷◌, ◌++◌, [], length, IfNone, IfSome};
 ghost use Rattle.dgt_command.specs.Content.{CommandContent, clock_content, command_content, payload_bytes};
@@ -10,9 +10,9 @@ use crate::codes::{CLOCK_MESSAGE, END, LEDS, START, command_of_byte};
 use crate::command::Command;
 use crate::ids::KnownId;
 
-/// The command whose bytes are exactly these, or `None` if they are those of no command.
+/// The command with exactly these bytes, or `None` if there is none.
 ///
-/// The command lends what it carries from the slice.
+/// The command borrows what it carries from the slice.
 pub fn view_command(bytes: &[u8]) -> Option<Command<'_>>
     ensures some { IfSome result (λ command. EncodesCommand (command_content command) bytes.now) }
     ensures none { IfNone result
@@ -32,7 +32,7 @@ pub fn view_command(bytes: &[u8]) -> Option<Command<'_>>
     }
 }
 
-// The clock message of this id that carries these bytes.
+// The clock message with this id and these payload bytes.
 fn clock_command(id: u8, carried: Payload<'_>) -> ClockCommand<'_>
     ensures id { (clock_content result).id ≡ id }
     ensures carried { (clock_content result).payload ≡ payload_bytes carried.entry }

@@ -1,4 +1,4 @@
-//! Commands written as bytes.
+//! Writes commands as bytes.
 
 ghost use Rattle.std.specs.Prelude.{◌≡◌, ◌+◌, ◌<◌, ◌≤◌, [], ◌∷◌, ◌++◌, length, OnOk};
 ghost use Rattle.dgt_values.specs.Bytes.{WritesPrefix};
@@ -13,7 +13,7 @@ use crate::framer::MAX_WORD;
 use crate::ids::KnownId;
 use dgt_values::NoRoom;
 
-/// How many bytes the command has: 1 to 257.
+/// How many bytes the command takes: 1 to 257.
 pub fn length(command: &Command) -> usize
     ensures length { result ≡ length (command_encoding (command_content command.now)) }
     ensures limit { result ≤ MAX_WORD }
@@ -25,8 +25,8 @@ pub fn length(command: &Command) -> usize
     }
 }
 
-/// Writes the command at the beginning of the slice, and returns how many bytes it has. The bytes
-/// after it stay as they were. It returns `NoRoom` if the slice is shorter than the command; then
+/// Writes the command at the beginning of the slice, and returns how many bytes it takes. The bytes
+/// after it stay as they were. Returns `NoRoom` if the slice is shorter than the command; then
 /// nothing is written.
 pub fn encode(command: &Command, out: &mut [u8]) -> Result<usize, NoRoom>
     ensures written { WritesPrefix (command_encoding (command_content command.now))
@@ -61,7 +61,7 @@ fn write(command: &Command, out: &mut [u8])
     }
 }
 
-// Fills the slice with what follows the code of a clock message.
+// Fills the slice with the bytes of a clock message after its code.
 fn write_clock(message: &ClockCommand, out: &mut [u8])
     requires { length out.old ≡ length (clock_content message.now).payload + 4 }
     ensures { out.new
@@ -76,7 +76,7 @@ fn write_clock(message: &ClockCommand, out: &mut [u8])
     end.copy_from_slice(&[END]);
 }
 
-/// The id of a clock message: the byte that says which case it is.
+/// The id of a clock message: the byte that determines its variant.
 pub fn clock_id(message: &ClockCommand) -> u8
     ensures { result ≡ (clock_content message.now).id }
 {
@@ -109,7 +109,7 @@ fn payload_length(message: &ClockCommand) -> usize
     }
 }
 
-// Fills the slice with what a clock message carries.
+// Fills the slice with a clock message's payload.
 fn write_payload(message: &ClockCommand, out: &mut [u8])
     requires { length out.old ≡ length (clock_content message.now).payload }
     ensures { out.new ≡ (clock_content message.now).payload }

@@ -89,7 +89,7 @@ faulty_order = record {
 
 -- ---- One act
 
--- `-` is no hexadecimal digits
+-- `-` is not hexadecimal digits
 no_digits : (word bytes : List ℕ) → word ≡ codes "-" → decode_of word ≡ Ok bytes → ⊥
 no_digits word bytes e h = let both : decode_of (codes "-") ≡ Ok bytes = ap decode_of (sym e) ∙ h in absurd cc
 

@@ -163,7 +163,7 @@ clock_fits word bytes clock e h =
     let same : h.body ≡ bytes = decode_of-same word h.body bytes h.digits (sized_hex word 7 bytes e) in
     rw same at h.fits
 
--- what the word of a clock is decoded to is no body that is refused
+-- the body that the word of a clock encodes is not refused
 pub clock_not_refused : (word bytes : List ℕ) (clock : ClockState) (why : BodyError) → decode_sized word 7 ≡ Ok bytes
     → IsClockWord word clock → Refuses bytes why → ⊥
 clock_not_refused word bytes clock (Length _) e h r =

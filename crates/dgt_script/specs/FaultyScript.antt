@@ -1,4 +1,4 @@
--- The lines of a script for a world with faults, and the acts that they ask for.
+-- The lines of a script for a world with faults, and their acts.
 use Rattle.std.specs.Prelude.{◌≡◌, ℕ, List, [], ◌∷◌, codes}
 use Rattle.dgt_link.specs.Faults.{FaultyContent}
 use Rattle.dgt_script.specs.declared.script_words.FaultyVerb.{FaultyVerb}
@@ -15,7 +15,7 @@ faulty_text faulty.BoardLost = codes "boardlost"
 faulty_text faulty.Restart = codes "restart"
 faulty_text faulty.GiveUp = codes "giveup"
 
--- what has to follow a first word, word for word
+-- the kinds of the words after a first word
 abbrev pub faulty_kinds : FaultyVerb → List WordKind
 faulty_kinds (faulty.Plain verb) = kinds_after verb
 faulty_kinds faulty.GarbleUp = some_bytes ∷ []
@@ -24,7 +24,7 @@ faulty_kinds faulty.BoardLost = []
 faulty_kinds faulty.Restart = []
 faulty_kinds faulty.GiveUp = []
 
--- these words ask for this act
+-- these words are this act
 abbrev pub AsksFaulty : List (List ℕ) → FaultyContent → Type 0
 AsksFaulty parts (FaultyContent.Plain act) = Asks parts act
 AsksFaulty parts (FaultyContent.GarbleUp bytes) =

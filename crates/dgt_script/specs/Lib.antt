@@ -4,5 +4,5 @@ pub mod Script
 pub mod FaultyScript
 pub mod ScriptLines
 pub mod Outcomes
--- for bodies alone
+-- only for bodies
 pub mod ScriptReading

@@ -1,4 +1,4 @@
--- The lines that say what came of an act.
+-- The lines of the outcomes of acts.
 use Rattle.std.specs.Prelude.{ℕ, List, codes}
 use Rattle.dgt_link.specs.declared.acts.Outcome.{Outcome}
 use Rattle.dgt_link.specs.declared.acts.Outcome.TheVariants.{Done, Nothing, NoRoom, Busy, TooMany}

@@ -1,4 +1,4 @@
--- The lines of a script, and the acts that they ask for.
+-- The lines of a script, and their acts.
 use Rattle.std.specs.Prelude.{◌≡◌, ◌≢◌, ℕ, ◌+◌, ◌<◌, ◌≤◌, ◌==◌, ◌⊎◌, ⊤, List, [], ◌∷◌, length}
 use Rattle.std.specs.List.{slice_split}
 use Rattle.dgt_values.specs.declared.pieces.Piece.{Piece}
@@ -43,8 +43,8 @@ AreOf [] (word ∷ parts) = ⊥
 AreOf (kind ∷ kinds) [] = ⊥
 AreOf (kind ∷ kinds) (word ∷ parts) = IsOf kind word × AreOf kinds parts
 
--- Words that should be of these kinds go wrong where `bad` begins: at the first that is of another
--- kind or one too many, or after the last, if one is missing.
+-- Words that should be of these kinds are wrong where `bad` begins: at the first word that is of
+-- another kind or one too many, or after the last word if one is missing.
 abbrev pub GoesWrong : List WordKind → List (List ℕ) → List (List ℕ) → Type 0
 GoesWrong [] [] bad = ⊥
 GoesWrong [] (word ∷ parts) bad = bad ≡ word ∷ parts
@@ -60,18 +60,18 @@ HasWordAfter first has_value parts value =
 
 -- ---- Lines
 
--- the words that a line may begin with, the kinds of the words after each one, and which words of a
--- line ask for which act
+-- the words that a line may begin with, the kinds of the words after each, and the act of the words
+-- of a line
 pub record Vocabulary (V A : Type 0) : Type 1 where
   pub text_of : V → List ℕ
   pub kinds_of : V → List WordKind
   pub asks : List (List ℕ) → A → Type 0
 
--- this line asks for this act
+-- this line is this act
 abbrev pub AsksFor : {V A : Type 0} → Vocabulary V A → List ℕ → A → Type 0
 AsksFor vocabulary line act = (length line ≤ 519) × vocabulary.asks (words line) act
 
--- the words of a line go wrong where `bad` begins: at the first, if no line may begin with it, or
+-- the words of a line are wrong where `bad` begins: at the first, if no line may begin with it, or
 -- after it
 abbrev pub IsBadFrom : {V A : Type 0} → Vocabulary V A → List (List ℕ) → List (List ℕ) → Type 0
 IsBadFrom {V} vocabulary parts bad =
@@ -79,7 +79,7 @@ IsBadFrom {V} vocabulary parts bad =
     ⊎ ((verb : V) × (rest : List (List ℕ)) × (parts ≡ vocabulary.text_of verb ∷ rest)
     × GoesWrong (vocabulary.kinds_of verb) rest bad)
 
--- this line asks for no act, and goes wrong at this offset, where the bad words begin
+-- this line is wrong at this offset, where the bad words begin
 abbrev pub IsBadAt : {V A : Type 0} → Vocabulary V A → List ℕ → ℕ → Type 0
 IsBadAt vocabulary line at =
     ((519 < length line) × (at ≡ 519))
@@ -88,7 +88,7 @@ IsBadAt vocabulary line at =
 
 -- ---- Lines for a world without faults
 
--- what has to follow a first word, word for word
+-- the kinds of the words after a first word
 abbrev pub kinds_after : Verb → List WordKind
 kinds_after verb.Change = a_square ∷ a_letter ∷ []
 kinds_after verb.Clock = a_clock ∷ []
@@ -99,7 +99,7 @@ kinds_after verb.ToHost = a_count ∷ []
 kinds_after verb.Break = []
 kinds_after verb.HostBreak = []
 
--- these words ask for this act
+-- these words are this act
 abbrev pub Asks : List (List ℕ) → ActContent → Type 0
 Asks parts (Change square piece) =
     (first : List ℕ) × (second : List ℕ) × (parts ≡ verb_text verb.Change ∷ first ∷ second ∷ [])
@@ -117,7 +117,7 @@ plain_words = record { text_of = verb_text; kinds_of = kinds_after; asks = Asks 
 
 -- ---- One meaning
 
--- a line has one of these at most
+-- a line has at most one of these
 abbrev pub IsSingleValued : {A : Type 0} → (List ℕ → A → Type 0) → Type 0
 IsSingleValued {A} has =
     (line : List ℕ) (first second : A) → has line first → has line second → first ≡ second

@@ -21,7 +21,7 @@ pub record KeepsLine (buffer : LineBuffer) (line : List ℕ) : Type 0 where
   pub prefix : buffer.bytes.items ≡ take 519 line
   pub long : buffer.is_long ≡ nat_lt 519 (length line)
 
--- what is given is the line if it has at most 519 bytes, and else none
+-- the line if it has at most 519 bytes, and none otherwise
 abbrev pub IsShort : List ℕ → Option (Bor (List ℕ)) → Type 0
 IsShort line given =
     MatchOption given (519 < length line) (λ bytes. (bytes.now ≡ line) × (length line ≤ 519))

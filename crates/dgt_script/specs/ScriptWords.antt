@@ -1,4 +1,4 @@
--- The words of a script line, and what each one stands for.
+-- The words of a script line, and their values.
 use Rattle.std.specs.Prelude.{◌≡◌, ℕ, ◌<◌, ◌≤◌, ◌⊎◌, List, [], ◌∷◌, Ok, codes, decimal, length}
 use Rattle.std.specs.List.{join_with_byte}
 use Rattle.hex.specs.Hex.{decode_of}
@@ -67,7 +67,7 @@ pub record IsCommandWord (word : List ℕ) (command : CommandContent) : Type 0 w
 abbrev pub IsCountWord : List ℕ → ℕ → Type 0
 IsCountWord word count = (1 ≤ count) × (count ≤ 65535) × (word ≡ decimal count)
 
--- `-` for no byte, or hexadecimal digits of 1 to 257 bytes
+-- `-` for no bytes, or hexadecimal digits of 1 to 257 bytes
 abbrev pub IsBytesWord : List ℕ → List ℕ → Type 0
 IsBytesWord word bytes =
     ((word ≡ codes "-") × (bytes ≡ []))

@@ -1,4 +1,4 @@
-//! Where bytes are cut.
+//! Finds the end of a line.
 
 ghost use Rattle.std.specs.Prelude.{◌≡◌, ◌≢◌, ◌<◌, ◌≤◌, All, length, slice_index, take};
 

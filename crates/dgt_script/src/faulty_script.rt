@@ -25,9 +25,9 @@ use dgt_link::FaultyAct;
 /// | `restart` | `Restart` |
 /// | `giveup` | `GiveUp` |
 ///
-/// `BYTES` is `-` for no byte, or two hexadecimal digits of either case for each byte. The bytes of
-/// the line are put in `store`, which may hold any bytes after a refusal. Any other line, and one
-/// of more than 519 bytes, is `BadLine`.
+/// `BYTES` is `-` for no bytes, or two hexadecimal digits of either case per byte. They are put in
+/// `store`, which may hold any bytes after a refusal. Returns `BadLine` for any other line, and for
+/// a line of more than 519 bytes.
 pub fn read_faulty_act<'a>(
     line: &[u8],
     store: &'a mut [u8; MAX_WORD],

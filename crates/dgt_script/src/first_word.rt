@@ -1,4 +1,4 @@
-//! The lines of a script, by the words that they may begin with.
+//! Reads the lines of a script by their first words.
 
 ghost use Rattle.std.specs.Prelude.{IfOk, IfErr};
 ghost use Rattle.dgt_script.specs.Script.{bad_offset, AsksFor, IsBadAt, Vocabulary};
@@ -10,22 +10,22 @@ use crate::script_words::Store;
 
 /// A word that a line may begin with.
 pub(crate) trait FirstWord<'a>: Sized {
-    /// What a line asks for.
+    /// The act of a line.
     type Act;
 
-    // all such words, and the acts that lines ask for
+    // all such words, and the acts of lines
     ghost vocabulary: { Vocabulary Self Self.Act };
 
-    /// The first word of this text.
+    /// The first word with this text.
     fn of_text(text: &[u8]) -> Option<Self>
         ensures { FindsWord vocabulary.text_of text.now result };
 
-    /// The act that the words after this first one ask for.
+    /// The act of this first word with the words after it.
     fn read_rest(self, rest: Option<&[u8]>, store: &'a mut Store) -> Result<Self::Act, Wrong>
         ensures { ReadsAfter vocabulary self (left_words rest.entry) result };
 }
 
-/// The act that a line asks for.
+/// The act of a line.
 pub(crate) fn read_line<'a, V: FirstWord<'a>>(
     line: &[u8],
     store: &'a mut Store,

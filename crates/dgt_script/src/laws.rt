@@ -1,5 +1,5 @@
-//! What holds of the lines of a script as such. Nothing here runs: each function stands for the
-//! facts that its contract states.
+//! Facts about the lines of a script. Nothing here runs: the contract of each function states a
+//! fact.
 
 ghost use Rattle.std.specs.Prelude.{◌≡◌, ◌≢◌, ◌↔◌, ◌∷◌, ℕ, List};
 ghost use Rattle.dgt_values.specs.Equality.{CloneIsSame, EqualIsSame};
@@ -14,25 +14,25 @@ ghost use Rattle.dgt_script.specs.declared.script_words.Verb.{Verb};
 use crate::script::LineFault;
 use crate::script_lines::MAX_LINE;
 
-/// The limit by its number: the most bytes of a line that can be an act.
+/// The longest line that can be an act, in bytes.
 pub fn limits()
     ensures line { MAX_LINE ≡ 519 }
 {}
 
-/// Two values are equal, as `==` answers, exactly if they are the same.
+/// `==` is true exactly if both values are the same.
 pub fn equal_is_same()
     ensures line_fault { EqualIsSame ⟦<LineFault as PartialEq>⟧.eq }
 {}
 
-/// A clone is the value itself, and cloning never fails.
+/// A clone equals the original, and cloning never fails.
 pub fn clone_is_same()
     ensures line_fault { CloneIsSame ⟦<LineFault as Clone>⟧ }
 {}
 
-/// No line asks for two acts or goes wrong at two places, and none that asks for an act goes wrong.
+/// A line is at most one act, or wrong at one offset.
 ///
-/// The same holds of lines for a world with faults. There a line of a plain script asks for the
-/// same act, and one that goes wrong after its first word goes wrong at the same place.
+/// The same holds for lines for a world with faults. There a line of a plain script is the same
+/// act. A line of a plain script that is wrong after its first word is wrong at the same offset.
 pub fn lines_have_one_meaning()
     ensures one_act { IsSingleValued (AsksFor plain_words) }
     ensures act_or_fault { (line : List ℕ) (act : ActContent) (at : ℕ) →
@@ -51,7 +51,7 @@ pub fn lines_have_one_meaning()
     dgt_command::laws::encodings_give_commands();
 }
 
-/// The words after a verb ask for an act exactly if they are of the kinds that follow it.
+/// A line is an act exactly if the words after the first one are of the kinds that may follow it.
 pub fn kinds_are_asked_for()
     ensures plain { (verb : Verb) (rest : List (List ℕ)) →
         AreOf (kinds_after verb) rest ↔ ((act : ActContent) × Asks (verb_text verb ∷ rest) act) }

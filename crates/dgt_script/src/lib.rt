@@ -1,18 +1,18 @@
-//! The lines of a script for a simulated DGT board, and the lines that say what came of each.
+//! The lines of a script for a simulated DGT board, and the lines of their outcomes.
 //!
 //! | To | Use |
 //! |---|---|
-//! | read a line, as `change e4 P` | [`read_act`] |
-//! | read a line of a world with faults, as `garbleup 8000` | [`read_faulty_act`] |
-//! | keep a line that comes in chunks | [`LineBuffer`], and [`len_before`] finds its end |
-//! | write what came of an act | [`outcome_text`] |
+//! | read a line such as `change e4 P` | [`read_act`] |
+//! | read a line of a world with faults, such as `garbleup 8000` | [`read_faulty_act`] |
+//! | keep a line that arrives in chunks | [`LineBuffer`], and [`len_before`] finds its end |
+//! | write the outcome of an act | [`outcome_text`] |
 //!
 //! ```rust
 //! use dgt_command::MAX_WORD;
 //! use dgt_link::{Outcome, World};
 //! use dgt_script::{LineFault, read_act};
 //!
-//! /// Does what a line of a script says, such as `change e4 P`.
+//! /// Does the act of a line of a script, such as `change e4 P`.
 //! pub fn play(world: &mut World, line: &[u8]) -> Result<Outcome, LineFault> {
 //!     let mut store = [0; MAX_WORD];
 //!     let act = read_act(line, &mut store)?;
@@ -20,8 +20,8 @@
 //! }
 //! ```
 //!
-//! The formats are this project's own choice. No call takes memory. [`laws`] has the facts about
-//! lines as such, and `specs/Script.antt` the definitions that contracts cite.
+//! The formats are this project's own. No call allocates memory. [`laws`] contains facts about
+//! lines, and `specs/Script.antt` the definitions that contracts cite.
 #![tactic(auto)]
 
 mod cutting;

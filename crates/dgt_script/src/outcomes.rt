@@ -1,11 +1,11 @@
-//! What is written of what comes of an act.
+//! The lines of outcomes.
 
 ghost use Rattle.std.specs.Prelude.{◌≡◌};
 ghost use Rattle.dgt_script.specs.Outcomes.{outcome_line};
 
 use dgt_link::Outcome;
 
-/// The line of what came of an act.
+/// The line of the outcome of an act.
 pub fn outcome_text(outcome: Outcome) -> &'static [u8]
     ensures { result.now ≡ outcome_line outcome }
 {

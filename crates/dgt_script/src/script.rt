@@ -16,31 +16,31 @@ use dgt_command::MAX_WORD;
 use dgt_link::Act;
 use thiserror::Error;
 
-/// Why a line of a script asks for no act.
+/// Why a line of a script was refused.
 #[derive(Clone, Copy, Debug, PartialEq, Eq, Error)]
 pub enum LineFault {
-    /// Byte `at` begins the first word that is not allowed in its place or is one too many. If a
-    /// word is missing, `at` is the length of the line. If the line has more than 519 bytes, `at`
-    /// is 519.
+    /// The first word that is not allowed in its place, or is one too many, starts at the byte
+    /// offset `at`. If a word is missing, `at` is the length of the line. If the line has more than
+    /// 519 bytes, `at` is 519.
     #[error("bad at {at}")]
     BadLine { at: usize },
 }
 
-/// A line goes wrong where this many of its bytes are left.
+/// A wrong line. `left` bytes of it are left from its first wrong word on.
 #[derive(Clone, Copy)]
 pub(crate) struct Wrong {
     pub(crate) left: usize,
 }
 
-/// Reads a line of a script, without its line feed: what it asks a world to do. The bytes of a
-/// command are put in `store`, which may hold any bytes after a refusal.
+/// Reads the act of a line of a script, without its line feed. The bytes of a command are put in
+/// `store`, which may hold any bytes after a refusal.
 ///
 /// The words of a line are its parts between single spaces. A line is one of
 ///
 /// | Line | Act |
 /// |---|---|
-/// | `change SQUARE LETTER` | `Change`: a square as `e4`, and a piece's letter, or `.` for none |
-/// | `clock HEX` | `ClockRead`: fourteen hexadecimal digits, the bytes of times, or of no clock |
+/// | `change SQUARE LETTER` | `Change`: a square such as `e4`, and the piece, or `.` for none |
+/// | `clock HEX` | `ClockRead`: fourteen hexadecimal digits, the bytes of times or of no clock |
 /// | `host HEX` | `Host`: 2 to 514 hexadecimal digits, the bytes of exactly one command |
 /// | `send` | `BoardSend` |
 /// | `toboard N` | `ToBoard`: 1 to 65535, in decimal with no leading zero |
@@ -48,8 +48,8 @@ pub(crate) struct Wrong {
 /// | `break` | `Break` |
 /// | `hostbreak` | `HostBreak` |
 ///
-/// Hexadecimal digits may be of either case. Any other line, and one of more than 519 bytes, is
-/// `BadLine`.
+/// Hexadecimal digits may be of either case. Returns `BadLine` for any other line, and for a line
+/// of more than 519 bytes.
 pub fn read_act<'a>(line: &[u8], store: &'a mut [u8; MAX_WORD]) -> Result<Act<'a>, LineFault>
     ensures asked { IfOk result (λ act. AsksFor plain_words line.now (act_content act)) }
     ensures bad { IfErr result (λ fault. IsBadAt plain_words line.now (bad_offset fault)) }
@@ -91,7 +91,7 @@ impl<'a> FirstWord<'a> for Verb {
     }
 }
 
-// Below, `rest` is what stands after the first word and its space.
+// Below, `rest` is the text after the first word and its space.
 fn change_line(rest: Option<&[u8]>) -> Result<Act<'static>, Wrong>
     ensures { ReadsAfter plain_acts verb.Change (left_words rest.entry) result }
 {
@@ -140,7 +140,7 @@ fn count_line(rest: Option<&[u8]>) -> Result<usize, Wrong>
     Ok(count)
 }
 
-/// The next word, and what stands after the space that ends it.
+/// The next word, and the text after the space that ends it.
 pub(crate) fn next_word<'a>(rest: Option<&'a [u8]>) -> Result<(&'a [u8], Option<&'a [u8]>), Wrong>
     ensures { MatchResult result
         (λ cut. left_words rest.entry ≡ cut.0.now ∷ left_words cut.1)
@@ -164,7 +164,7 @@ pub(crate) fn no_word(rest: Option<&[u8]>) -> Result<(), Wrong>
     }
 }
 
-/// A line that goes wrong at the next word, or at its end if there is none.
+/// A line that is wrong at the next word, or at its end if there is none.
 pub(crate) fn wrong_from(rest: Option<&[u8]>) -> Wrong
     ensures { result.left ≡ length (words_text (left_words rest.entry)) }
 {
@@ -174,7 +174,7 @@ pub(crate) fn wrong_from(rest: Option<&[u8]>) -> Wrong
     }
 }
 
-/// The first word, and what stands after the space that ends it.
+/// The first word, and the text after the space that ends it.
 pub(crate) fn cut_word(line: &[u8]) -> (&[u8], Option<&[u8]>)
     ensures { words line.now ≡ result.0.now ∷ left_words result.1 }
 {

@@ -1,4 +1,4 @@
-//! The lines of a script, from chunks of any lengths.
+//! Collects the lines of a script from chunks of any lengths.
 
 ghost use Rattle.std.specs.Prelude.{◌≡◌, ◌↔◌, List, [], ◌++◌, IsTrue, ℕ};
 ghost use Rattle.dgt_script.specs.ScriptLines.{IsShort, KeepsLine};
@@ -26,7 +26,7 @@ impl LineBuffer {
         }
     }
 
-    /// Adds bytes to the line. Those for which there is no room aren't kept.
+    /// Adds bytes to the line. Only the first 519 bytes of a line are kept.
     pub fn add(&mut self, chunk: &[u8])
         ensures { (line : List ℕ) → KeepsLine self.old line →
             KeepsLine self.new (line ++ chunk.now) }

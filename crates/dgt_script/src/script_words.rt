@@ -31,7 +31,7 @@ pub(crate) enum Verb {
     HostBreak,
 }
 
-/// The words that a line may begin with if the world may have faults.
+/// The words that a line may begin with in a world with faults.
 #[derive(Clone, Copy)]
 pub(crate) enum FaultyVerb {
     Plain(Verb),
@@ -53,7 +53,7 @@ macro_rules! match_word {
     }};
 }
 
-/// What a first word begins.
+/// The act that a first word begins.
 pub(crate) fn verb_word(word: &[u8]) -> Option<Verb>
     ensures { FindsWord verb_text word.now result }
 {
@@ -69,7 +69,7 @@ pub(crate) fn verb_word(word: &[u8]) -> Option<Verb>
     })
 }
 
-/// What a first word begins if the world may have faults.
+/// The act that a first word begins in a world with faults.
 pub(crate) fn faulty_word(word: &[u8]) -> Option<FaultyVerb>
     ensures { FindsWord faulty_text word.now result }
 {
@@ -106,8 +106,8 @@ pub(crate) fn piece_word(word: &[u8]) -> Option<Piece>
     Piece::from_letter(char::from(*letter)).ok()
 }
 
-/// The clock of fourteen hexadecimal digits of either case: the seven bytes of the body of a
-/// message of the times, or of one that no clock is connected.
+/// The clock of fourteen hexadecimal digits of either case: the body of a times or no-clock
+/// message.
 pub(crate) fn clock_word(word: &[u8]) -> Option<Clock>
     ensures { MatchOption result
         ((clock : ClockState) → ¬ (IsClockWord word.now clock))
@@ -132,9 +132,8 @@ fn clock_of(message: Message<'_>) -> Option<Clock>
     }
 }
 
-/// The command whose bytes are these hexadecimal digits of either case, two for each byte. The
-/// bytes are put at the front of `store`, which has room for those of any command, and the command
-/// lends what it carries from there.
+/// The command of these hexadecimal digits of either case, two for each byte. The bytes are put at
+/// the start of `store`, which has room for any command, and the command borrows from there.
 pub(crate) fn command_word<'a>(word: &[u8], store: &'a mut Store) -> Option<Command<'a>>
     ensures { MatchOption result
         ((command : CommandContent) → ¬ (IsCommandWord word.now command))
@@ -144,7 +143,7 @@ pub(crate) fn command_word<'a>(word: &[u8], store: &'a mut Store) -> Option<Comm
     view_command(hex_bytes(word, store)?)
 }
 
-/// No byte for `-`, or the 1 to 257 bytes of hexadecimal digits of either case, two for each byte.
+/// No bytes for `-`, or the 1 to 257 bytes of hexadecimal digits of either case, two for each byte.
 /// The bytes are put at the start of `store`.
 pub(crate) fn bytes_word<'a>(word: &[u8], store: &'a mut Store) -> Option<&'a [u8]>
     ensures { MatchOption result

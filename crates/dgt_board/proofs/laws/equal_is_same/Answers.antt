@@ -2,7 +2,7 @@ use Rattle.dgt_command.specs.declared.decoder.CommandFed.{CommandFed}
 use Rattle.dgt_board.specs.declared.boards.Taken.{Taken}
 use Rattle.dgt_board.proofs.laws.equal_is_same.Goals as goal
 
--- what a reader of commands would answer
+-- the result of a decoder of commands
 as_fed : Taken → CommandFed
 as_fed taken = record { used = taken.used; event = taken.event }
 

@@ -33,8 +33,8 @@ returns-in-Some c =
     let front = c.in-Some.ensures.command in
     let before : c.args.self.now.partial ≡ [] = rw (← c.self.view_is) front.0 in
     let word : IsWord event (c.args.self.now.partial ++ bytes) = rw before front.1 in
-    let state : state_of c.obey_command.new.self ≡ effect c.args.self.now.state event =
-    rw (← c.self.view_is) c.obey_command.ensures in
-    let after : BoardView = record { state = state_of c.obey_command.new.self; partial = [] } in
+    let state : state_of c.obey_bare.new.self ≡ effect c.args.self.now.state event =
+    rw (← c.self.view_is) c.obey_bare.ensures in
+    let after : BoardView = record { state = state_of c.obey_bare.new.self; partial = [] } in
     let both = takes_word c.parts_of_words.ensures.nothing c.args.self.now after bytes event word state refl in
     search rules
