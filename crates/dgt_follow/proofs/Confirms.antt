@@ -1,4 +1,4 @@
--- What a follower notes of the messages that it hears.
+-- What a follower records of the messages that it hears.
 use Rattle.std.proofs.Common.{◌≡◌, Bool, true, false, not, ◌&&◌, Option, refl, ap, ◌∙◌, ℕ, List, [], ◌∷◌, ◌++◌}
 use Rattle.dgt_values.specs.declared.pieces.Piece.{Piece}
 use Rattle.dgt_message.specs.Content.{Content, answered_kind}
@@ -16,7 +16,7 @@ Heard before after said =
     (after.host.picture ≡ picture_after_all before.host.picture said)
     × (after.pace.confirmed ≡ true → confirmed_after_all before.pace.confirmed before.host.picture said ≡ true)
 
--- an event that is no message confirms nothing
+-- an event that isn't a message confirms nothing
 kept : (f between after : FollowerView) (said : List Content) → between.host.picture ≡ f.host.picture
     → (between.pace.confirmed ≡ true → f.pace.confirmed ≡ true) → Heard between after said → Heard f after said
 unfolding Heard

@@ -1,4 +1,4 @@
--- What a follower makes of the events of bytes that come in chunks.
+-- How a follower changes by the events of bytes in chunks.
 use Rattle.std.proofs.Common.{◌≡◌, ◌+◌, Option, Some, None, Bool, is_some, option_map, refl, sym, ap, ◌∙◌, ℕ, List, [], ◌∷◌, ◌++◌, append_assoc, append-nil, length, ◌-◌, take, drop, rules}
 use Rattle.std.proofs.Math.Seq.{take-add}
 use Rattle.std.proofs.lemmas.List.{take_all}
@@ -30,7 +30,7 @@ follower_after_event-unread : (f : FollowerView) (now : ℕ) (unread : List ℕ)
 follower_after_event-unread f now unread (Message said) = refl
 follower_after_event-unread f now unread _ = refl
 
--- nor does a part that is put back after them, and that none of them reads
+-- a part that is restored after them, and that none of them reads, doesn't matter
 follower_after_events-part : {X : Type 0} (put : FollowerView → X → FollowerView)
     → ((f : FollowerView) (first last : X) → put (put f first) last ≡ put f last)
     → ((f : FollowerView) (now : ℕ) (x : X) (event : Event)
@@ -68,7 +68,7 @@ in_two later still f now s more whole e =
     (sym (still s more))
     ∙ ap (λ (bytes : List ℕ). with_unread (follower_after_events f now (events bytes)) (unfinished_message bytes)) e
 
--- ---- nor does it matter whether a message was unfinished before
+-- ---- whether a message was unfinished before doesn't matter
 
 follower_after_event-unfinished : (f : FollowerView) (now : ℕ) (unfinished : Option ℕ) (event : Event)
     → follower_after_event (with_unfinished f unfinished) now event
@@ -136,7 +136,7 @@ heard_more in_chunks f before after now chunk i n e g =
 
 -- ---- one call
 
--- the bytes that a call uses make the event that it returns, and no other
+-- the bytes that a call uses complete the event that it returns, and no other
 first_event_heard : (held chunk : List ℕ) (used : ℕ) (event : Option Event) → FirstEvent held chunk used event
     → events (held ++ take used chunk) ≡ at_place_if_any (length held + used) event
 first_event_heard held chunk used None (all, none) =
@@ -164,7 +164,7 @@ pub same_unfinished : (pace : PaceView) (now : ℕ) (awaited : List Kind) (pictu
 same_unfinished pace now awaited picture None = refl
 same_unfinished pace now awaited picture (Some event) = refl
 
--- the host after a call, with what the pace notes of the event and of the bytes, is the follower
+-- the host after a call, with the pace's record of the event and of the bytes, is the follower
 -- after it
 pub heard_once : (host : HostView) (pace : PaceView) (now used : ℕ) (chunk : List ℕ) (event : Option Event)
     → FirstEvent host.unread chunk used event
@@ -178,7 +178,7 @@ heard_once host pace now used chunk event first =
     (sym (one_event (following host pace) now (length host.unread + used) (take used chunk) event
     (first_event_heard host.unread chunk used event first)))
 
--- ---- what it does to the host and to the counts
+-- ---- the effect on the host and on the counts
 
 host_of_events : (f : FollowerView) (now : ℕ) (xs : List Placed)
     → (follower_after_events f now xs).host ≡ host_after_events f.host xs
@@ -200,7 +200,7 @@ pub counts_of_heard : (f : FollowerView) (now : ℕ) (bytes : List ℕ)
     → KeepsCount f.pace (follower_after f now bytes).pace
 counts_of_heard f now bytes = assumption (counts_of_events f now (events (f.host.unread ++ bytes)))
 
--- a value is there if what it is seen as is there
+-- a value exists if its view exists
 pub is_some_seen : {A B : Type 0} (see : A → B) (value : Option A) (seen : Option B) (known : Bool)
     → known ≡ is_some value → option_map see value ≡ seen → known ≡ is_some seen
 is_some_seen see None seen known e same = rw (← same) e

@@ -1,4 +1,4 @@
--- What calls of a follower make of its picture, one after another.
+-- How consecutive calls of a follower change its picture.
 use Rattle.std.proofs.Common.{◌≡◌, Bool, true, Option, refl, sym, ap, ◌∙◌, ℕ, List, [], ◌∷◌, ◌++◌, append_assoc, append-nil, length, ◌-◌}
 use Rattle.dgt_values.specs.declared.pieces.Piece.{Piece}
 use Rattle.dgt_message.specs.Content.{Content}
@@ -54,7 +54,7 @@ module _ (later : EventsAppend) (still : UnfinishedAppend) (quiet : UnfinishedIs
       ap (λ (s : List ℕ). messages (events s)) (append-nil unread ∙ sym held)
       ∙ ap messages (quiet.no_event unread)
 
-  -- what is heard after some bytes
+  -- the messages heard after some bytes
   joined : (f between after : FollowerView) (bytes more : List ℕ)
       → between.host.unread ≡ unfinished_message (f.host.unread ++ bytes)
       → Made f between (messages (events (f.host.unread ++ bytes)))

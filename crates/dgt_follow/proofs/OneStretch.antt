@@ -1,4 +1,4 @@
--- One stretch of faulty bytes among messages that come whole.
+-- One stretch of faulty bytes among whole messages.
 use Rattle.std.proofs.Common.{◌≡◌, ◌≤◌, ◌+◌, true, false, Option, Some, refl, sym, ap, ◌∙◌, ℕ, List, [], ◌∷◌, ◌++◌, map, option_to_list, arith}
 use Rattle.dgt_message.specs.Content.{Content}
 use Rattle.dgt_message.specs.Content.Content.{dump}

@@ -1,4 +1,4 @@
--- An overdue answer is a doubt, and is soon asked for again; and a confirmed picture is not in doubt.
+-- An overdue answer is a doubt, and is soon requested again. A confirmed picture is not in doubt.
 use Rattle.std.proofs.Common.{◌≡◌, ◌≤◌, ◌/◌, Bool, true, false, not, ◌&&◌, ◌||◌, if◌then◌else◌, is_some, nat_le, nat_lt, min, max, Option, Some, None, refl, ℕ, List, arith, rules}
 use Rattle.dgt_values.specs.declared.kinds.Kind.{Kind}
 use Rattle.dgt_values.specs.declared.pieces.Piece.{Piece}
@@ -12,7 +12,7 @@ use Rattle.dgt_follow.specs.declared.pace.TheConstants.{OVERDUE}
 use Rattle.dgt_follow.specs.Pace.{PaceView, asking, asks_at_once, due_time, is_before, is_calm, is_due, is_overdue, is_stuck, is_unanswered, is_unasked, pace_after_asking, pace_after_event, pace_at, settled_time, time_after, trusts, usual_time, wait, wants_confirming, wants_serial}
 use Rattle.dgt_follow.specs.Follower.{DisturbedIsAskedAnew, OverdueIsAskedAnew, OverdueIsDoubt, SureStaysSure, is_sure}
 
--- ---- what is unanswered is not calm
+-- ---- without an answer a pace is not calm
 
 owed_or_calm : (some answered quiet : Bool) → (some && not answered) ≡ true → ((some && answered) && quiet) ≡ false
 owed_or_calm true false quiet e = refl
@@ -59,7 +59,7 @@ is_doubt what pace now late =
     kept what (pace_at pace now) now (doubted pace.doubtful (is_overdue pace now) (is_stuck pace now) late)
     (ended pace.confirmed (is_overdue pace now) (is_stuck pace now) late)
 
--- ---- and is soon asked for again
+-- ---- and is soon requested again
 
 soon : (disturbed owed : Bool) (overdue period quarter : ℕ) → owed ≡ true
     → (if disturbed then quarter else if owed then min period (max overdue quarter) else period)
@@ -96,7 +96,7 @@ and_false : (a b : Bool) → a ≡ false → (a && b) ≡ false
 and_false false b e = refl
 and_false true b e = cc
 
--- what is not calm and due by then is asked anew
+-- a pace that isn't calm and is due by then starts over
 due_anew : (pace : PaceView) (full : Bool) (now : ℕ) → is_calm pace ≡ false → usual_time pace ≤ now
     → asking pace full now ≡ Asking.Anew
 due_anew pace full now busy late =

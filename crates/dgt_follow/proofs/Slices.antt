@@ -1,4 +1,4 @@
--- What stands in a slice after a host has asked, and a mode's command and the clock's request with it.
+-- A slice after a host's request, with a mode's command and the clock's request.
 use Rattle.std.proofs.Common.{◌≡◌, ◌+◌, ◌<◌, ◌≤◌, ℕ, List, [], ◌∷◌, ◌++◌, Some, Ok, refl, sym, ap, ◌∙◌, append_assoc, length, drop, slice_set, arith}
 use Rattle.std.proofs.lemmas.List.{drop-drop, length-append, length-drop}
 use Rattle.std.proofs.Math.Seq.{set-append_seam}
@@ -11,7 +11,7 @@ use Rattle.dgt_follow.specs.declared.asking.UpdateMode.{UpdateMode}
 use Rattle.dgt_follow.specs.Pace.{clock_request, mode_command}
 use Rattle.dgt_follow.specs.Follower.{HostAsks}
 
--- a byte that is set where the first bytes end follows them
+-- a byte that is set at the end of the first bytes follows them
 set_after : (xs ys : List ℕ) (n b : ℕ) → length xs ≡ n → 0 < length ys
     → slice_set (xs ++ ys) n b ≡ (xs ++ b ∷ []) ++ drop 1 ys
 set_after xs [] n b long some = absurd (omega (arith, some))
@@ -25,7 +25,7 @@ set_in_slice bytes old n b long room =
     set_after bytes (drop n old) n b long (omega (arith, length-drop n old, room))
     ∙ ap (λ (kept : List ℕ). (bytes ++ b ∷ []) ++ kept) (drop-drop 1 n old)
 
--- ---- an asking
+-- ---- a request
 
 -- the new slice has the clock's request after this many bytes of this one
 abbrev RequestFollows : UpdateMode → ℕ → ℕ → List ℕ → List ℕ → Type 0

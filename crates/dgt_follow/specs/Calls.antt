@@ -1,4 +1,4 @@
--- What calls of a follower do to it, one after another, and what holds of its picture after them.
+-- The effect of consecutive calls of a follower, and facts about its picture after them.
 use Rattle.std.specs.Prelude.{◌≡◌, ℕ, List, [], ◌∷◌, ◌++◌, Option, Some, Bool, false, true, option_to_list, IsTrue}
 use Rattle.std.specs.List.{AllByRecursion, flat_map}
 use Rattle.dgt_values.specs.declared.kinds.Kind.{Kind}
@@ -14,11 +14,11 @@ use Rattle.dgt_follow.specs.declared.asking.UpdateMode.{UpdateMode}
 use Rattle.dgt_follow.specs.Pace.{pace_after_asking, pace_at, pace_disturbed}
 use Rattle.dgt_follow.specs.Follower.{FollowerView, asking_of, follower_after, following, host_after_asking}
 
--- A call that is done. Only the loss of the line is none of these: it makes the follower as new.
+-- A call that is done. The loss of the line isn't included: it makes the follower as new.
 pub data Call : Type 0 where
   Hears : (now : ℕ) (bytes : List ℕ) → Call
   Asks : (now : ℕ) → Call
-  Sends : (kind : Option Kind) → Call  -- another command, whose reply has this kind
+  Sends : (kind : Option Kind) → Call  -- another command, which requests a reply of this kind
   SetsMode : (mode : UpdateMode) → Call
   SetsConfirm : (confirm : Bool) → Call
   SetsIdentify : (identify : Bool) → Call
@@ -58,7 +58,7 @@ bytes_heard (Hears now bytes ∷ more) = bytes ++ bytes_heard more
 bytes_heard (call ∷ more) = bytes_heard more
 
 -- Whatever is called, the picture is that of the messages among the bytes, and it is confirmed only
--- if they confirm it. The unread bytes are those of an unfinished message, as they always are.
+-- if they confirm it. The unread bytes are those of an unfinished message, as always.
 abbrev pub ConfirmedOverCalls : Type 0
 ConfirmedOverCalls =
     (follower : FollowerView) (calls : List Call) →
@@ -69,12 +69,13 @@ ConfirmedOverCalls =
     × (IsTrue after.pace.confirmed →
     IsTrue (confirmed_after_all follower.pace.confirmed follower.host.picture said))
 
--- **After one stretch of faulty bytes a picture that both sides confirm is right.** The follower
+-- **After one stretch of faulty bytes, a picture that both sides confirm is right.** The follower
 -- shows what the board has reported, or knows no picture. The board sends messages. The line alters
--- or loses at most one of them, or inserts bytes: what is heard in its place says at most one
--- message. The bytes are heard in any chunks, and anything is asked and sent meanwhile. If the
--- follower is confirmed then, and the board has repeated its picture since that last changed, the
--- picture is what the board has reported.
+-- or loses at most one of them, or inserts bytes: what is heard instead contains at most one
+-- message.
+-- The bytes are heard in any chunks, and anything is asked and sent meanwhile. If the follower is
+-- then confirmed, and the board has repeated its picture since its last change, the picture is what
+-- the board has reported.
 abbrev pub OneStretchIsSeen : Type 0
 OneStretchIsSeen =
     (follower : FollowerView) (calls : List Call) (reported : List Piece)

@@ -1,4 +1,4 @@
--- What contracts see of a follower, what it makes of the bytes that it hears, and what it asks.
+-- How contracts see a follower, how heard bytes change it, and what it requests.
 use Rattle.std.specs.Prelude.{◌≡◌, ◌≤◌, ◌/◌, Option, Bool, if◌then◌else◌, max, not, ◌&&◌, ◌||◌, IsTrue, IsFalse, ℕ, List, [], ◌∷◌, ◌++◌, None, Some, false, Result, Ok, Err}
 use Rattle.dgt_values.specs.Bytes.{WritesPrefix}
 use Rattle.dgt_values.specs.declared.kinds.Kind.{Kind}
@@ -25,7 +25,7 @@ abbrev pub new_follower : ℕ → ℕ → UpdateMode → FollowerView
 new_follower period patience mode =
     following new_host (new_pace period patience mode false false)
 
--- ---- what it hears
+-- ---- hearing
 
 abbrev pub follower_after_event : FollowerView → ℕ → Event → FollowerView
 follower_after_event follower now event =
@@ -58,11 +58,11 @@ follower_after follower now bytes =
     (unfinished_by follower.pace.unfinished now bytes
     (unfinished_message (follower.host.unread ++ bytes)))
 
--- the clock that was reported last, if it was readable
+-- the clock as last reported, if the report was readable
 abbrev pub clock_known : FollowerView → Option ClockState
 clock_known follower = if follower.pace.unreadable then None else follower.host.clock
 
--- a follower that hears bytes at a time in two chunks is the one that hears them in one
+-- hearing bytes at one time in two chunks is the same as hearing them in one
 abbrev pub FollowedInChunks : Type 0
 FollowedInChunks =
     (follower : FollowerView) (now : ℕ) (bytes more : List ℕ) →
@@ -79,14 +79,14 @@ ConfirmedAsHeard =
     × (IsTrue after.pace.confirmed →
     IsTrue (confirmed_after_all follower.pace.confirmed follower.host.picture said))
 
--- no asking confirms anything
+-- no request confirms anything
 abbrev pub AskingsConfirmNothing : Type 0
 AskingsConfirmNothing =
     (what : Asking) (pace : PaceView) (now : ℕ) →
     IsTrue (pace_after_asking what (pace_at pace now) now).confirmed → IsTrue pace.confirmed
 
 -- An answer a second late and a message unfinished for a second are a doubt after the next call,
--- whatever that asks, and end the confirmation.
+-- whatever that requests, and end the confirmation.
 abbrev pub OverdueIsDoubt : Type 0
 OverdueIsDoubt =
     (what : Asking) (pace : PaceView) (now : ℕ) →
@@ -94,22 +94,22 @@ OverdueIsDoubt =
     let after = pace_after_asking what (pace_at pace now) now in
     IsTrue after.doubtful × IsFalse after.confirmed
 
--- An asking that stays without an answer is asked anew when it is overdue and a quarter of the
--- period has passed.
+-- If a request has no answer, the follower starts over when the answer is overdue and a quarter of
+-- the period has passed.
 abbrev pub OverdueIsAskedAnew : Type 0
 OverdueIsAskedAnew =
     (pace : PaceView) (full : Bool) (now : ℕ) → IsTrue (is_unanswered pace) →
     time_after pace.asked (max OVERDUE (pace.period / 4)) ≤ now →
     asking (pace_at pace now) full now ≡ Asking.Anew
 
--- A follower that was disturbed begins anew when a quarter of the period has passed. So does one
--- with a message that has been unfinished for a second.
+-- A follower starts over when a quarter of the period has passed after a disturbance. So does one
+-- with a message that is unfinished for a second.
 abbrev pub DisturbedIsAskedAnew : Type 0
 DisturbedIsAskedAnew =
     (pace : PaceView) (full : Bool) (now : ℕ) → IsTrue (pace.disturbed || is_stuck pace now) →
     time_after pace.asked (pace.period / 4) ≤ now → asking (pace_at pace now) full now ≡ Asking.Anew
 
--- A picture that is confirmed is not in doubt.
+-- A confirmed picture is not in doubt.
 abbrev pub is_sure : PaceView → Bool
 is_sure pace = not (pace.confirmed && pace.doubtful)
 
@@ -121,23 +121,23 @@ SureStaysSure =
     × ((what : Asking) → IsTrue (is_sure (pace_after_asking what (pace_at pace now) now)))
     × IsTrue (is_sure (pace_disturbed pace))
 
--- ---- what it asks
+-- ---- requests
 
--- what it asks at this time
+-- the request at this time
 abbrev pub asking_of : FollowerView → ℕ → Asking
 asking_of follower now =
     asking (pace_at follower.pace now) (awaits_too_many follower.host (Some Kind.Dump)) now
 
--- The host after an asking: a dump is awaited too, after a new beginning that alone, or a serial
--- number. The picture, the clock and the unread bytes stay as they are.
+-- The host after a request: it also awaits a dump, after a new start only that, or a serial number.
+-- The picture, the clock and the unread bytes stay as they are.
 abbrev pub host_after_asking : Asking → HostView → HostView
 host_after_asking Asking.Nothing host = host
 host_after_asking Asking.Identify host = host_awaiting host (Some Kind.Serial)
 host_after_asking Asking.Heartbeat host = host_awaiting host (Some Kind.Dump)
 host_after_asking Asking.Anew host = host_awaiting (without_awaited host) (Some Kind.Dump)
 
--- What a host asks is written at the beginning of the slice, whose other bytes are as they were. Or
--- the slice is too short for that, and nothing changes.
+-- A host's request is written at the beginning of the slice, and its other bytes are unchanged. Or
+-- the slice is too short for it, and nothing changes.
 abbrev pub HostAsks : Asking → UpdateMode → HostView → HostView → List ℕ → List ℕ
     → Result ℕ NoRoom → Type 0
 HostAsks what mode before after old new (Ok written) =
@@ -146,7 +146,7 @@ HostAsks what mode before after old new (Ok written) =
 HostAsks what mode before after old new (Err fault) =
     WritesPrefix (asking_bytes mode what) old new (Err fault) × (after ≡ before)
 
--- The same of a follower.
+-- The same for a follower.
 abbrev pub Asks : Asking → ℕ → FollowerView → FollowerView → List ℕ → List ℕ → Result ℕ NoRoom
     → Type 0
 Asks what now before after old new (Ok written) =

@@ -1,4 +1,4 @@
--- When a follower asks its board, and what: what it counts and what it notes of the messages.
+-- When a follower sends a request, and which: what it counts and what it records of the messages.
 use Rattle.std.specs.Prelude.{◌≡◌, ℕ, ◌+◌, ◌-◌, ◌/◌, ◌^◌, max, min, nat_le, nat_lt, List, [], ◌∷◌, ◌++◌, Option, Some, None, is_some, Bool, false, true, not, ◌==◌, ◌&&◌, ◌||◌, if◌then◌else◌}
 use Rattle.dgt_values.specs.declared.kinds.Kind.{Kind}
 use Rattle.dgt_message.specs.declared.known.KnownCode.{KnownCode}
@@ -18,35 +18,35 @@ use Rattle.dgt_follow.specs.declared.asking.UpdateMode.{UpdateMode}
 
 pub record PaceView : Type 0 where
   -- its settings
-  pub period : ℕ  -- milliseconds from one asking to the next, if nothing disturbs
+  pub period : ℕ  -- milliseconds from one request to the next, without a disturbance
   pub patience : ℕ  -- how many heartbeats may follow one another
-  pub mode : UpdateMode  -- what the board is asked to report
-  pub confirm : Bool  -- whether a picture that isn't confirmed is asked for again
+  pub mode : UpdateMode  -- which changes the board is asked to report
+  pub confirm : Bool  -- whether a picture that isn't confirmed is requested again
   pub identify : Bool  -- whether the board's serial number is requested while it is unknown
-  -- what it asked
-  pub left : ℕ  -- how many heartbeats may still follow
-  pub tries : ℕ  -- how often the serial number may still be requested
-  pub asked : Option ℕ  -- when it last asked for a dump
+  -- what it requested
+  pub left : ℕ  -- how many more heartbeats the patience allows
+  pub tries : ℕ  -- how many more times the serial number may be requested
+  pub asked : Option ℕ  -- when it last requested a dump
   pub requested : Bool  -- whether it has requested the serial number since
-  pub wanted : Bool  -- whether it is to ask as soon as no answer is owed
-  -- what it noted since it last asked for a dump
-  pub answered : Bool  -- whether a dump that was awaited has come
-  pub disturbed : Bool  -- whether something has come that a sound line and board don't send
-  pub pardons : Bool  -- whether the last new beginning gave up replies that may still come
-  -- what it noted in all
-  pub settling : Bool  -- whether no awaited dump has come since the last new beginning
-  pub heard : Option ℕ  -- when the last whole message came
-  pub unfinished : Option ℕ  -- when the last byte came of a message that isn't finished
-  pub doubtful : Bool  -- a disturbance or an overdue answer since the last dump that was awaited
-  -- A dump that was awaited repeated the picture. Since then nothing changed the picture, nothing
-  -- came unasked, nothing disturbed, and no answer was overdue.
+  pub wanted : Bool  -- whether a request is due as soon as no answer is owed
+  -- what it recorded since it last requested a dump
+  pub answered : Bool  -- whether an awaited dump was heard
+  pub disturbed : Bool  -- whether anything was heard that a sound line and board don't send
+  pub pardons : Bool  -- whether the last new start gave up replies that may yet arrive
+  -- what it recorded in all
+  pub settling : Bool  -- whether no awaited dump was heard since the last new start
+  pub heard : Option ℕ  -- the time of the last whole message
+  pub unfinished : Option ℕ  -- the time of the last byte of an unfinished message
+  pub doubtful : Bool  -- a disturbance or an overdue answer since the last awaited dump
+  -- An awaited dump repeated the picture. Since then there was no change of the picture, no unasked
+  -- message, no disturbance and no overdue answer.
   pub confirmed : Bool
   pub changed : Option ℕ  -- when a message last changed the picture
-  pub serial : Option (List ℕ)  -- the serial number that was reported last
-  pub unreadable : Bool  -- whether the last report of the clock had no reading
+  pub serial : Option (List ℕ)  -- the serial number that was last reported
+  pub unreadable : Bool  -- whether the last report of the clock contained no reading
 
--- A pace that has asked nothing and noted nothing. A period is a second at least: a new beginning
--- and its dump take a third of that on the line.
+-- A pace without requests and records. A period is at least a second: a new start and its dump
+-- occupy the line for a third of that.
 abbrev pub new_pace : ℕ → ℕ → UpdateMode → Bool → Bool → PaceView
 new_pace period patience mode confirm identify =
     record {
@@ -73,36 +73,35 @@ new_pace period patience mode confirm identify =
       unreadable = false;
     }
 
--- a pace that keeps its settings, and nothing else
+-- a pace that keeps only its settings
 abbrev pub forgetting : PaceView → PaceView
 forgetting pace = new_pace pace.period pace.patience pace.mode pace.confirm pace.identify
 
--- ---- what it notes
+-- ---- records
 
--- a message of this kind is not the one that is awaited first
+-- a message of this kind is not the first awaited
 abbrev pub is_unasked : List Kind → Option Kind → Bool
 is_unasked awaited None = false
 is_unasked [] (Some kind) = true
 is_unasked (first ∷ more) (Some kind) = not (is_same_kind first kind)
 
--- a dump that isn't the picture that is known
+-- a dump that differs from the known picture
 abbrev pub contradicts : Option (List Piece) → Content → Bool
 contradicts picture (Content.dump pieces) = changes picture (Content.dump pieces)
 contradicts picture said = false
 
--- A cut, refused, misstated or stray message, one that is unasked, or a dump that isn't the picture
--- that is known. A clock that shows no times, as while it is set, disturbs nothing: its message has
--- come whole, and was refused for a digit alone. Nor does an unasked message while such are
--- pardoned.
+-- A cut or refused message, a bad length, a stray byte, an unasked message, or a dump that differs
+-- from the known picture. Two things are not disturbances: a clock without digits, as while it is
+-- being set, and an unasked message while such messages are pardoned.
 abbrev pub disturbs : Bool → List Kind → Option (List Piece) → Event → Bool
 disturbs pardons awaited picture (Message said) =
     (is_unasked awaited (answered_kind said) && not pardons) || contradicts picture said
 disturbs pardons awaited picture (Refused code (BadReading at)) = false
 disturbs pardons awaited picture _ = true
 
--- The picture is confirmed after an event, if it was or wasn't before it. The first awaited dump
--- after a new beginning, while the pace is settling, doesn't confirm it: that may be a late answer
--- to an earlier asking.
+-- The picture is confirmed after an event, given whether it was before. The first awaited dump
+-- after a new start, while the pace is settling, doesn't confirm it: that may be a late answer to
+-- an earlier request.
 abbrev pub confirmed_by : Bool → Bool → List Kind → Option (List Piece) → Event → Bool
 confirmed_by confirmed settling awaited picture (Message said) =
     not (is_unasked awaited (answered_kind said))
@@ -113,7 +112,7 @@ confirmed_by confirmed settling awaited picture _ = false
 abbrev pub changed_at : Option ℕ → ℕ → Option (List Piece) → Event → Option ℕ
 changed_at before now picture event = if changes_by picture (Some event) then Some now else before
 
--- a dump that is awaited
+-- an awaited dump
 abbrev pub is_answer : List Kind → Event → Bool
 is_answer awaited (Message (Content.dump pieces)) = not (is_unasked awaited (Some Kind.Dump))
 is_answer awaited _ = false
@@ -127,22 +126,22 @@ serial_by before (Message (Content.carried code body)) =
     if code == known_number KnownCode.Serial then Some body else before
 serial_by before _ = before
 
--- A clock that has no reading yet sends nothing but zeros.
+-- A clock without a reading so far sends only zeros.
 abbrev pub is_zero : Time → Bool
 is_zero t = (t.hours == 0 && t.minutes == 0) && (t.seconds == 0 && t.flags == 0)
 
 abbrev pub is_blank : Times → Bool
 is_blank t = (is_zero t.first && is_zero t.second) && t.status == 0
 
--- the last report of the clock was refused for a digit, or says nothing
+-- the last report of the clock was refused for a digit, or contains no reading
 abbrev pub unreadable_by : Bool → Event → Bool
 unreadable_by before (Refused code (BadReading at)) = true
 unreadable_by before (Message (Content.times readings)) = is_blank readings
 unreadable_by before (Message (Content.no_clock absence)) = false
 unreadable_by before _ = before
 
--- when the last byte came of a message that isn't finished, after bytes were heard at this time
--- that leave these unread
+-- the time of the last byte of an unfinished message, after bytes were heard at this time that
+-- leave these unread
 abbrev pub unfinished_by : Option ℕ → ℕ → List ℕ → List ℕ → Option ℕ
 unfinished_by before now [] unread = before
 unfinished_by before now (byte ∷ more) [] = None
@@ -172,11 +171,11 @@ pace_after_event_if_any pace now awaited picture None = pace
 pace_after_event_if_any pace now awaited picture (Some event) =
     pace_after_event pace now awaited picture event
 
--- the pace after bytes were lost or altered, as whoever reads the line has found out
+-- the pace after a report that bytes were lost or altered
 abbrev pub pace_disturbed : PaceView → PaceView
 pace_disturbed pace = record pace { disturbed = true; doubtful = true; confirmed = false }
 
--- the counts and the settings of both are the same, whatever was noted
+-- the counts and the settings of both are the same, whatever was recorded
 pub record KeepsCount (before after : PaceView) : Type 0 where
   pub period : after.period ≡ before.period
   pub patience : after.patience ≡ before.patience
@@ -189,13 +188,13 @@ pub record KeepsCount (before after : PaceView) : Type 0 where
   pub requested : after.requested ≡ before.requested
   pub wanted : after.wanted ≡ before.wanted
 
--- ---- when it asks
+-- ---- when a request is due
 
--- the last asking has no answer yet
+-- the last request has no answer yet
 abbrev pub is_unanswered : PaceView → Bool
 is_unanswered pace = is_some pace.asked && not pace.answered
 
--- the last asking was answered, and nothing has disturbed since
+-- the last request was answered, without a disturbance since
 abbrev pub is_calm : PaceView → Bool
 is_calm pace = (is_some pace.asked && pace.answered) && not pace.disturbed
 
@@ -203,17 +202,17 @@ abbrev pub time_after : Option ℕ → ℕ → ℕ
 time_after None duration = 0
 time_after (Some time) duration = time + duration
 
--- the answer to the last asking is a second late
+-- the answer to the last request is a second late
 abbrev pub is_overdue : PaceView → ℕ → Bool
 is_overdue pace now = is_unanswered pace && nat_le (time_after pace.asked OVERDUE) now
 
--- a message has been unfinished for a second
+-- a message is unfinished for a second
 abbrev pub is_stuck : PaceView → ℕ → Bool
 is_stuck pace now =
     is_some pace.unfinished && nat_le (time_after pace.unfinished UNFINISHED) now
 
--- The pace at this time. An answer that is overdue by then is a doubt. A message that has been
--- unfinished for a second disturbs.
+-- The pace at this time. An answer that is overdue by then is a doubt. A message that is unfinished
+-- for a second is a disturbance.
 abbrev pub pace_at : PaceView → ℕ → PaceView
 pace_at pace now =
     record pace {
@@ -223,53 +222,54 @@ pace_at pace now =
       confirmed = (pace.confirmed && not (is_overdue pace now)) && not (is_stuck pace now);
     }
 
--- From the last asking to the next: a period, and a quarter of it after a disturbance. An
--- unanswered asking is repeated after a quarter, but not before it is overdue.
+-- The time between two requests: a period, and a quarter of it after a disturbance. An unanswered
+-- request is repeated after a quarter, but not before it is overdue.
 abbrev pub wait : PaceView → ℕ
 wait pace =
     if pace.disturbed then pace.period / 4
     else if is_unanswered pace then min pace.period (max OVERDUE (pace.period / 4))
     else pace.period
 
--- the later of two times, if they are known
+-- the later of two times, as far as they are known
 abbrev pub later : Option ℕ → Option ℕ → Option ℕ
 later None second = second
 later first None = first
 later (Some first) (Some second) = Some (max first second)
 
--- A picture that isn't confirmed is to be asked for again. After a disturbance a quarter of the
+-- A picture that isn't confirmed is to be requested again. After a disturbance a quarter of the
 -- period is soon enough.
 abbrev pub wants_confirming : PaceView → Bool
 wants_confirming pace =
     (pace.confirm && not pace.confirmed) && (not pace.disturbed && not (is_unanswered pace))
 
--- The serial number is to be requested: it is unknown, and was not requested since the last asking.
+-- The serial number is to be requested: it is unknown, and was not requested since the last request
+-- of a dump.
 abbrev pub wants_serial : PaceView → Bool
 wants_serial pace =
     (pace.identify && not (is_some pace.serial))
     && ((nat_lt 0 pace.tries && not pace.requested) && is_calm pace)
 
--- it is to ask as soon as it can, and owes no answer
+-- a request is due as soon as possible, and no answer is owed
 abbrev pub asks_at_once : PaceView → Bool
 asks_at_once pace = wants_serial pace || (pace.wanted && not (is_unanswered pace))
 
--- a wait after the last asking
+-- a wait after the last request
 abbrev pub usual_time : PaceView → ℕ
 usual_time pace = time_after pace.asked (wait pace)
 
--- a second after the picture last changed, and after the last asking
+-- a second after the picture last changed, and after the last request
 abbrev pub settled_time : PaceView → ℕ
 settled_time pace = time_after (later pace.asked pace.changed) SETTLED
 
--- The first time at which it asks; one that has never asked asks at any time. A picture that is to
--- be confirmed is asked for a second after it last changed, and a second after the last asking.
+-- The first time at which a request is due; without a request so far that is any time. To confirm a
+-- picture, it is requested a second after its last change, and a second after the last request.
 abbrev pub due_time : PaceView → ℕ
 due_time pace =
     if asks_at_once pace then 0
     else if wants_confirming pace then min (usual_time pace) (settled_time pace)
     else usual_time pace
 
--- a time before the last asking
+-- a time before the last request
 abbrev pub is_before : ℕ → Option ℕ → Bool
 is_before now None = false
 is_before now (Some asked) = nat_lt now asked
@@ -277,31 +277,31 @@ is_before now (Some asked) = nat_lt now asked
 abbrev pub is_due : PaceView → ℕ → Bool
 is_due pace now = nat_le (due_time pace) now || is_before now pace.asked
 
--- this time, if any time in milliseconds is as late
+-- this time, if a `u64` can hold it
 abbrev pub counted : ℕ → Option ℕ
 counted time = if nat_lt time (2 ^ 64) then Some time else None
 
--- the first time at which it asks, or finds an answer overdue and isn't in doubt before
+-- the first time at which a request is due, or an answer becomes overdue without a doubt before
 abbrev pub doubt_time : PaceView → ℕ
 doubt_time pace =
     if is_unanswered pace && not pace.doubtful
     then min (due_time pace) (time_after pace.asked OVERDUE)
     else due_time pace
 
--- the same, or the time at which a message has been unfinished for a second
+-- the same, or the time at which a message is unfinished for a second
 abbrev pub next_due : PaceView → Option ℕ
 next_due pace =
     if is_some pace.unfinished
     then counted (min (doubt_time pace) (time_after pace.unfinished UNFINISHED))
     else counted (doubt_time pace)
 
--- ---- what it asks
+-- ---- which request is due
 
--- it is calm, the host can await one more reply, and its patience has not run out
+-- it is calm, the host can await one more reply, and patience is left
 abbrev pub trusts : PaceView → Bool → Bool
 trusts pace full = is_calm pace && (not full && nat_lt 0 pace.left)
 
--- what it asks at this time, if the host awaits as many replies as it can or doesn't
+-- the request at this time, by whether the host awaits as many replies as it can
 abbrev pub asking : PaceView → Bool → ℕ → Asking
 asking pace full now =
     if not (is_due pace now) then Asking.Nothing
@@ -309,7 +309,7 @@ asking pace full now =
     else if trusts pace full then Asking.Heartbeat
     else Asking.Anew
 
--- the command that asks for this mode
+-- the command for this mode
 abbrev pub mode_command : UpdateMode → CommandContent
 mode_command UpdateMode.Squares = CommandContent.UpdateBoard
 mode_command UpdateMode.Clock = CommandContent.Update
@@ -321,9 +321,9 @@ clock_request UpdateMode.Squares = []
 clock_request UpdateMode.Clock = command_encoding CommandContent.Clock
 clock_request UpdateMode.ClockChanges = command_encoding CommandContent.Clock
 
--- The bytes of an asking: of a heartbeat the mode's command and a dump request, of a new beginning
--- those of a host's restart and the mode's command. If the mode reports the clock, a reading of it
--- is requested, too. The serial number is requested by itself.
+-- The bytes of a request. A heartbeat is the mode's command and a dump request, and a new start is
+-- a host's restart and the mode's command. If the mode reports the clock, a reading of it is also
+-- requested. The serial number is requested separately.
 abbrev pub asking_bytes : UpdateMode → Asking → List ℕ
 asking_bytes mode Asking.Nothing = []
 asking_bytes mode Asking.Identify = command_encoding CommandContent.Serial
@@ -333,7 +333,7 @@ asking_bytes mode Asking.Heartbeat =
 asking_bytes mode Asking.Anew =
     restart_bytes ++ command_encoding (mode_command mode) ++ clock_request mode
 
--- the pace that has asked for a dump at this time: a dump that is owed then is a doubt
+-- the pace that has requested a dump at this time: a dump that is owed then is a doubt
 abbrev pub pace_asked : PaceView → ℕ → PaceView
 pace_asked pace now =
     record pace {
@@ -347,8 +347,8 @@ pace_asked pace now =
       confirmed = pace.confirmed && not (is_unanswered pace);
     }
 
--- The pace after an asking, if it was this one at that time. A new beginning gives up the replies
--- that are owed. If the pace was calm, they are the caller's own, and may come.
+-- The pace after a request at that time. A new start gives up the owed replies. If the pace was
+-- calm, they are the caller's own, and may yet arrive.
 abbrev pub pace_after_asking : Asking → PaceView → ℕ → PaceView
 pace_after_asking Asking.Nothing pace now = pace
 pace_after_asking Asking.Identify pace now =

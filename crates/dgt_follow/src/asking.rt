@@ -1,26 +1,26 @@
-//! What a follower asks of its board.
+//! What a follower requests of its board.
 
 ghost use Rattle.std.specs.Prelude.{◌≡◌, ◌≤◌, ◌∷◌, [], if◌then◌else◌, length};
 ghost use Rattle.dgt_command.specs.Encoding.{command_encoding};
 ghost use Rattle.dgt_follow.specs.Pace.{clock_request, mode_command};
 
-/// What a follower asks. If its mode reports the clock, the last byte requests a reading of it.
+/// What a follower writes. If its mode reports the clock, the last byte requests a reading of it.
 #[derive(Clone, Copy, Debug, PartialEq, Eq)]
 pub enum Asking {
-    /// Nothing: it isn't due.
+    /// Nothing: no request is due.
     Nothing,
-    /// The board's serial number, by the command `45`: 1 byte.
+    /// A request of the board's serial number, the command `45`: 1 byte.
     Identify,
     /// The mode's command and a dump request: 2 bytes, or 3 if the clock is requested.
     Heartbeat,
-    /// What a host's `restart` writes, which ends any part of a command that the board has, and
-    /// then the mode's command: 258 bytes, or 259 if the clock is requested. The host gives up the
-    /// replies that it awaited.
+    /// A host's `restart`, which completes any unfinished command of the board, and then the mode's
+    /// command: 258 bytes, or 259 if the clock is requested. The host gives up the replies that it
+    /// awaited.
     Anew,
 }
 
-/// What the board is asked to report by itself. In the modes that report the clock each asking
-/// requests a reading of it, by the command `41`, `Clock`.
+/// Which changes the board is asked to report by itself. In the modes that report the clock, each
+/// request also contains the command `41`, `Clock`.
 #[derive(Clone, Copy, Debug, PartialEq, Eq)]
 pub enum UpdateMode {
     /// Each changed square: the command `44`, `UpdateBoard`.
@@ -54,7 +54,7 @@ impl UpdateMode {
         }
     }
 
-    /// How many bytes request a reading of the clock.
+    /// How many bytes a request of the clock takes in this mode.
     pub(crate) fn request_length(self) -> usize
         ensures count { result ≡ length (clock_request self) }
         ensures at_most { result ≤ 1 }

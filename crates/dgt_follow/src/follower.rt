@@ -1,5 +1,3 @@
-//! The follower.
-
 ghost use Rattle.std.specs.Prelude.{◌≡◌, ◌↔◌, ◌<◌, ◌≤◌, ℕ, ◌+◌, List, ◌++◌, OnOk, Option, None, Some, false, drop, if◌then◌else◌, length, option_map, take, true, IsTrue};
 ghost use Rattle.std.specs.List.{FoldsTo};
 ghost use Rattle.dgt_values.specs.Board.{pieces_of};
@@ -22,16 +20,16 @@ use dgt_host::{Clock, Event, Host, MAX_AWAITED, Position, RESTART_LENGTH, SendFa
 use dgt_values::NoRoom;
 use std::marker::Model;
 
-// How many bytes a heartbeat has without a request of the clock.
+// The size of a heartbeat without a request of the clock.
 const HEARTBEAT_LENGTH: usize = 2;
 
-// How many bytes a new beginning has without a request of the clock.
+// The size of a new start without a request of the clock.
 const ANEW_LENGTH: usize = RESTART_LENGTH + 1;
 
-// The byte that requests a reading of the clock.
+// The command that requests a reading of the clock.
 const CLOCK_REQUEST: u8 = 0x41;
 
-/// The most bytes that a follower writes when it asks: a host's restart, the mode's command and a
+/// The most bytes that a follower writes at once: a host's restart, the mode's command and a
 /// request of the clock.
 pub const MAX_ASKING: usize = RESTART_LENGTH + 2;
 
@@ -45,7 +43,7 @@ pub struct Followed {
     pub unasked: bool,
 }
 
-/// A host that asks for the whole board again and again. See the [crate's page](crate).
+/// A host that requests the whole board again and again. See the [crate's page](crate).
 #[derive(Drop)]
 pub struct Follower {
     host: Host,
@@ -60,8 +58,8 @@ impl Model for Follower {
     ghost view = { λ follower. record { host = follower.host; pace = follower.pace } };
 }
 
-// Appends a request of the clock to the bytes that were written into the slice, if the mode reports
-// the clock. Returns how many bytes there are then.
+// Appends a request of the clock to the bytes written into the slice, if the mode reports the
+// clock. Returns the new number of bytes.
 fn request_clock(mode: UpdateMode, written: usize, out: &mut [u8]) -> usize
     requires { written + length (clock_request mode) ≤ length out.old }
     ensures count { result ≡ written + length (clock_request mode) }
@@ -77,7 +75,7 @@ fn request_clock(mode: UpdateMode, written: usize, out: &mut [u8]) -> usize
     }
 }
 
-// Writes a heartbeat: what a host's `follow` writes, with this mode's command, and the request of
+// Writes a heartbeat: the bytes of a host's `follow` with this mode's command, and the request of
 // the clock.
 fn heartbeat(host: &mut Host, mode: UpdateMode, out: &mut [u8]) -> Result<usize, NoRoom>
     requires { awaits_too_many host.old (Some Kind.Dump) ≡ false }
@@ -92,8 +90,8 @@ fn heartbeat(host: &mut Host, mode: UpdateMode, out: &mut [u8]) -> Result<usize,
     Ok(request_clock(mode, HEARTBEAT_LENGTH, out))
 }
 
-// Begins anew: the host gives up what it awaits, and the mode's command and the request of the
-// clock follow its restart.
+// Starts over: the host gives up what it awaits and restarts, and the mode's command and the
+// request of the clock follow.
 fn begin_anew(host: &mut Host, mode: UpdateMode, out: &mut [u8]) -> Result<usize, NoRoom>
     ensures { HostAsks Asking.Anew mode host.old host.new out.old out.new result }
 {
@@ -118,7 +116,7 @@ fn identify(host: &mut Host, mode: UpdateMode, out: &mut [u8]) -> Result<usize, 
     Ok(host.send(&Command::Serial, out).unwrap())
 }
 
-// Has the listener hear the event at this place, if there is one.
+// Passes the event, if there is one, to the listener with its place.
 fn report<L: Listener>(listener: &mut L, place: usize, event: &Option<Event<'_>>)
     ensures { FoldsTo L.hears listener.old
         (at_place_if_any place (event_content_if_any event.now)) listener.new }
@@ -129,14 +127,14 @@ fn report<L: Listener>(listener: &mut L, place: usize, event: &Option<Event<'_>>
 }
 
 impl Follower {
-    /// A follower that has never asked, and asks for changed squares ([`UpdateMode::Squares`]).
+    /// A follower that has never sent a request. Its mode is [`UpdateMode::Squares`].
     ///
-    /// `period` is in milliseconds, from one asking to the next. A shorter one than
+    /// `period` is the time from one request to the next, in milliseconds. A period below
     /// [`LEAST_PERIOD`](crate::LEAST_PERIOD) counts as that.
     ///
-    /// `patience` is how many heartbeats may follow one another before it begins anew whatever it
-    /// has heard; with 0 it always begins anew. A board that is out of step may go on answering
-    /// what nobody asked, so that no answer proves that the heartbeats are read.
+    /// `patience` is how many heartbeats may follow one another before the follower starts over,
+    /// whatever it has heard; with 0 it always starts over. A board that is out of step may keep
+    /// sending replies that nobody requested, so no reply proves that the heartbeats are read.
     pub fn new(period: u64, patience: u32) -> Self
         ensures { result ≡ new_follower period patience UpdateMode.Squares }
     {
@@ -146,18 +144,18 @@ impl Follower {
         }
     }
 
-    /// Uses bytes of the chunk, which came at this time, up to and including the first that makes
-    /// an event, or all of it, as [`Host::hear`] does, and returns how many. Call again with the
-    /// bytes that are left.
+    /// Uses the bytes of the chunk, received at this time, up to and including the first that
+    /// completes an event, or all of them, as [`Host::hear`] does. Returns how many. Call again
+    /// with the remaining bytes.
     ///
-    /// A dump that was awaited answers the last asking. Disturbances are a cut, refused, misstated
-    /// or stray message, an unasked one, and a dump that isn't the picture that was known. After a
-    /// disturbance the next asking begins anew. It is due at once, but not before a quarter of the
-    /// period after the last one.
+    /// An awaited dump answers the last request. Disturbances are a cut or refused message, a bad
+    /// length, a stray byte, an unasked message, and a dump that differs from the known picture.
+    /// After a disturbance the next request starts over. It is due at once, but not before a
+    /// quarter of the period after the last one.
     ///
-    /// Two things are no disturbance. One is a clock that shows no digits, as a clock does while it
-    /// is set. The other is an unasked message after a new beginning that followed no disturbance,
-    /// up to the next asking: it may answer a request of the caller's that was given up.
+    /// Two things are not disturbances. One is a clock without digits, as while it is being set.
+    /// The other is an unasked message after a new start without a disturbance, until the next
+    /// request: it may answer a request of the caller's that was given up.
     pub fn hear(&mut self, now: u64, chunk: &[u8]) -> usize
         ensures heard { self.new ≡ follower_after self.old now (take result chunk.now) }
         ensures first { (event : Option EventSaid)
@@ -178,8 +176,8 @@ impl Follower {
         used
     }
 
-    /// Does what [`Follower::hear`] does, and has the listener hear the event, if there is one, at
-    /// its place: how many bytes of the chunk come up to and including the one that makes it.
+    /// Does the same as [`Follower::hear`], and passes the event, if there is one, to the listener.
+    /// Its place is how many bytes of the chunk there are up to and including its last one.
     pub fn hear_with<L: Listener>(&mut self, now: u64, chunk: &[u8], listener: &mut L) -> Followed
         ensures heard { self.new ≡ follower_after self.old now (take result.used chunk.now) }
         ensures reported { (event : Option EventSaid)
@@ -206,8 +204,8 @@ impl Follower {
         }
     }
 
-    /// Uses all of the chunk, which came at this time, as [`Follower::hear`] does one event after
-    /// another. Whatever chunks bytes come in at a time, the follower afterwards is the same
+    /// Uses the whole chunk, received at this time, as repeated calls of [`Follower::hear`] do.
+    /// However bytes received at one time are cut into chunks, the follower is the same afterwards
     /// (`laws::followed_in_chunks`).
     pub fn hear_all(&mut self, now: u64, chunk: &[u8])
         ensures { self.new ≡ follower_after self.old now chunk.now }
@@ -219,40 +217,40 @@ impl Follower {
         }
     }
 
-    /// Asks the board, if that is due, and returns how many bytes it wrote at the beginning of the
-    /// slice, at most [`MAX_ASKING`]. If it isn't due, the result is 0.
+    /// Writes a request at the beginning of the slice, if one is due, and returns how many bytes it
+    /// takes: at most [`MAX_ASKING`], and 0 if none is due.
     ///
-    /// The first asking is due at any time, and each other one a period after the last. It is due
-    /// earlier
+    /// The first request is due at any time, and each other one a period after the last. It is due
+    /// earlier:
     ///
-    /// - after a disturbance: a quarter of the period after the last;
-    /// - if the last has no answer: a quarter of the period after it, but no less than a second
-    ///   ([`OVERDUE`](crate::OVERDUE));
-    /// - after [`Follower::set_confirm`]: a second after the picture last changed and after the
-    ///   last asking, until it is confirmed;
-    /// - after [`Follower::ask_now`]: at once, or when the last asking is answered;
-    /// - if `now` is before the last asking, since the caller's clock has gone back.
+    /// - after a disturbance: a quarter of the period after the last request;
+    /// - if the last request has no answer: a quarter of the period after it, but no less than a
+    ///   second ([`OVERDUE`](crate::OVERDUE));
+    /// - after [`Follower::set_confirm`], until the picture is confirmed: a second after the
+    ///   picture last changed and after the last request;
+    /// - after [`Follower::ask_now`]: at once, or when the last request is answered;
+    /// - if `now` is before the last request, since the caller's clock was set back.
     ///
-    /// It writes a heartbeat, the mode's command and `42`, on these conditions:
+    /// It writes a heartbeat, which is the mode's command and `42`, if all of this is true:
     ///
-    /// - an awaited dump came since the last asking, and nothing disturbed it since;
-    /// - fewer than 16 replies are awaited, and the patience has not run out.
+    /// - an awaited dump was heard since the last request, and there was no disturbance after it;
+    /// - fewer than 16 replies are awaited, and patience is left.
     ///
-    /// Otherwise it begins anew: the host gives up what it awaits, and 255 zeros, `44 42` and the
-    /// mode's command are written. Either way the picture stays known, and a dump is awaited. If
+    /// Otherwise it starts over: the host gives up what it awaits, and 255 zeros, `44 42` and the
+    /// mode's command are written. In both cases the picture stays known, and a dump is awaited. If
     /// the mode reports the clock, `41` follows, which requests a reading of it.
     ///
-    /// After [`Follower::set_identify`] it writes `45` once after each asking that was answered,
-    /// while the serial number is unknown, at most three times ([`TRIES`](crate::TRIES)).
+    /// After [`Follower::set_identify`] it writes `45` once after each answered request, while the
+    /// serial number is unknown, at most three times ([`TRIES`](crate::TRIES)).
     ///
-    /// An answer that is a second late is a doubt from the next call on, whether that writes or
-    /// not. A message that has been unfinished for a second ([`UNFINISHED`](crate::UNFINISHED)) is
-    /// a disturbance from then on. If it has lost a byte, the others would wait unread until the
-    /// next message comes.
+    /// If an answer is a second late, the next call puts the picture in doubt, whether it writes or
+    /// not. A message that is unfinished for a second ([`UNFINISHED`](crate::UNFINISHED)) is a
+    /// disturbance. If it has lost a byte, its other bytes would stay unread until the next
+    /// message.
     ///
-    /// `NoRoom` if the slice is shorter than what is due in this mode, and then nothing changes. A
-    /// heartbeat needs 2 bytes with [`UpdateMode::Squares`] and 3 else, a new beginning 258 and
-    /// 259.
+    /// Returns `NoRoom` if the slice is shorter than what is due in this mode; then nothing
+    /// changes. A heartbeat takes 2 bytes with [`UpdateMode::Squares`] and 3 in the other modes,
+    /// and a new start 258 and 259.
     pub fn ask(&mut self, now: u64, out: &mut [u8]) -> Result<usize, NoRoom>
         ensures { Asks (asking_of self.old now) now self.old self.new out.old out.new result }
     {
@@ -271,18 +269,19 @@ impl Follower {
         Ok(written)
     }
 
-    /// The first time at which [`Follower::ask`] writes, or finds a doubt: an overdue answer, or a
-    /// message that stays unfinished. It holds if nothing is heard before. It is 0 if the follower
-    /// asks at once, and `None` if it is past the last time that a `u64` counts.
+    /// The first time at which [`Follower::ask`] writes or finds a doubt: an overdue answer, or an
+    /// unfinished message. It assumes that nothing is heard before. It is 0 if a request is due at
+    /// once, and `None` if the time is too large for a `u64`.
     pub fn due_at(&self) -> Option<u64>
         ensures { result ≡ next_due self.now.pace }
     {
         self.pace.due_at()
     }
 
-    /// Sends another command, as [`Host::send`] does. It doesn't count as an asking.
+    /// Sends another command, as [`Host::send`] does. It doesn't count as a request of the
+    /// follower's.
     ///
-    /// After `Reset` the board reports no change until the next asking.
+    /// After `Reset` the board reports no change until the next request.
     pub fn send(&mut self, command: &Command<'_>, out: &mut [u8]) -> Result<usize, SendFault>
         ensures sends { let said = command_content command.now in
             Sends (record { kind = requested_kind said; bytes = command_encoding said })
@@ -295,24 +294,24 @@ impl Follower {
         self.host.send(command, out)
     }
 
-    /// What the board is asked to report by itself.
+    /// Which changes the board is asked to report by itself.
     pub fn mode(&self) -> UpdateMode
         ensures { result ≡ self.now.pace.mode }
     {
         self.pace.mode()
     }
 
-    /// Has each asking from now on ask for this mode. When the next one is due stays as it was.
+    /// Sets the mode that each later request asks for. It doesn't change when the next one is due.
     pub fn set_mode(&mut self, mode: UpdateMode)
         ensures { self.new ≡ following self.old.host (record self.old.pace { mode = mode }) }
     {
         self.pace.set_mode(mode);
     }
 
-    /// The line to the board is lost, and what was under way on it. The follower is as new, with
-    /// its settings: its period, its patience, its mode, and whether it confirms and identifies. It
-    /// knows no picture and no serial number, and its next asking is due at once and
-    /// begins anew.
+    /// Reports that the line to the board was lost, with all bytes under way. The follower is then
+    /// as new, but keeps its settings: its period, its patience, its mode, and whether it confirms
+    /// and identifies. It knows no picture and no serial number. Its next request is due at once
+    /// and starts over.
     pub fn line_lost(&mut self)
         ensures { self.new ≡ following new_host (forgetting self.old.pace) }
     {
@@ -320,26 +319,26 @@ impl Follower {
         self.pace.line_lost();
     }
 
-    /// Bytes from the board were lost or altered, as whoever reads the line has found out: a serial
-    /// port counts overruns and framing errors. It is a disturbance, and the picture is in doubt
-    /// until the next dump that is awaited. Hand the bytes before the fault to
-    /// [`Follower::hear`] first.
+    /// Reports that bytes from the board were lost or altered. The reader of the line may know it:
+    /// a serial port counts overruns and framing errors. It is a disturbance, and the picture is in
+    /// doubt until the next awaited dump. Pass the bytes before the fault to [`Follower::hear`]
+    /// first.
     pub fn line_disturbed(&mut self)
         ensures { self.new ≡ following self.old.host (pace_disturbed self.old.pace) }
     {
         self.pace.note_disturbance();
     }
 
-    /// The picture of the board, if a dump was heard.
+    /// The position of the board, or `None` before the first dump.
     pub fn picture(&self) -> Option<&Position>
         ensures { option_map (λ position. pieces_of position.now) result ≡ self.now.host.picture }
     {
         self.host.picture()
     }
 
-    /// What the board reported last of its clock, if it reported any of it. `None` while that has
-    /// no reading: if the clock shows no digits, so that the report was refused, or if all its
-    /// bytes are zero, as before its first reading.
+    /// What the board last reported of its clock, or `None` if it has reported nothing. It is also
+    /// `None` if the last report contains no reading: either the clock shows no digits, and the
+    /// report was refused, or all its bytes are zero, as before its first reading.
     pub fn clock(&self) -> Option<&Clock>
         ensures { option_map (λ clock. clock_seen clock.now) result ≡ clock_known self.now }
     {
@@ -350,39 +349,38 @@ impl Follower {
         }
     }
 
-    /// Whether the picture may be wrong: since the last dump that was awaited there was a
-    /// disturbance, or an answer was overdue.
+    /// Whether the picture may be wrong: since the last awaited dump there was a disturbance, or an
+    /// answer was overdue.
     pub fn in_doubt(&self) -> bool
         ensures { result ≡ self.now.pace.doubtful }
     {
         self.pace.in_doubt()
     }
 
-    /// Whether the picture is confirmed: an awaited dump repeated it, and since then nothing
-    /// changed it, no message came unasked, nothing disturbed and no answer was overdue. The first
-    /// awaited dump after a new beginning doesn't confirm, since it may be a late answer to an
-    /// earlier asking.
+    /// Whether the picture is confirmed: an awaited dump repeated it, and since then there was no
+    /// change, no unasked message, no disturbance and no overdue answer. The first awaited dump
+    /// after a new start doesn't confirm, since it may be a late answer to an earlier request.
     ///
-    /// It was right when the board sent that dump, if at most one message was altered, lost or
-    /// inserted since the last whole dump before it (`dgt_host::laws::one_fault_is_seen`). Two
-    /// faults that agree can make it wrong. A change that is lost afterwards shows with the next
-    /// dump.
+    /// A confirmed picture is what the board had reported, up to that dump or including it, if at
+    /// most one message was altered, lost or inserted since the last whole dump before it
+    /// (`dgt_host::laws::one_fault_is_seen`). Two faults that agree can make it wrong, and so can
+    /// one in a dump that is the first to report a change. The next dump shows it.
     pub fn confirmed(&self) -> bool
         ensures { result ≡ self.now.pace.confirmed }
     {
         self.pace.confirmed()
     }
 
-    /// Has a picture that isn't confirmed be asked for again, a second after its last change, or
-    /// not.
+    /// Sets whether a picture that isn't confirmed is requested again, a second after its last
+    /// change.
     pub fn set_confirm(&mut self, confirm: bool)
         ensures { self.new ≡ following self.old.host (record self.old.pace { confirm = confirm }) }
     {
         self.pace.set_confirm(confirm);
     }
 
-    /// Has an asking be due at once, or as soon as the last one is answered: a picture is wanted
-    /// that is no older than this call.
+    /// Makes a request due at once, or as soon as the last one is answered. Use it to get a picture
+    /// at least as new as this call.
     pub fn ask_now(&mut self)
         ensures { self.new ≡ following self.old.host (record self.old.pace { wanted = true }) }
     {
@@ -396,7 +394,7 @@ impl Follower {
         self.pace.serial()
     }
 
-    /// Has the serial number of the board be requested while it is unknown, or not.
+    /// Sets whether the serial number of the board is requested while it is unknown.
     pub fn set_identify(&mut self, identify: bool)
         ensures { self.new
             ≡ following self.old.host (record self.old.pace { identify = identify }) }
@@ -404,14 +402,14 @@ impl Follower {
         self.pace.set_identify(identify);
     }
 
-    /// The time of the last whole message, if one was heard.
+    /// The time of the last whole message, or `None` before the first.
     pub fn last_heard(&self) -> Option<u64>
         ensures { result ≡ self.now.pace.heard }
     {
         self.pace.last_heard()
     }
 
-    /// How many heartbeats may still follow one another, of those that the patience allows.
+    /// How many more heartbeats the patience allows before the follower starts over.
     pub fn heartbeats_left(&self) -> u32
         ensures left { result ≡ self.now.pace.left }
         ensures at_most { self.now.pace.left ≤ self.now.pace.patience }
@@ -419,7 +417,7 @@ impl Follower {
         self.pace.heartbeats_left()
     }
 
-    /// The host, with all that it awaits and has unread.
+    /// The host, with its awaited replies and its unread bytes.
     pub fn host(&self) -> &Host
         ensures { result.now ≡ self.now.host }
     {

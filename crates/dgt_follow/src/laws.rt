@@ -1,5 +1,5 @@
-//! What holds of a follower whatever it hears. Nothing here runs: each function stands for the
-//! facts that its contract states.
+//! Laws of a follower, for all bytes that it may receive. Each function does nothing at run time:
+//! its contract states the facts.
 
 ghost use Rattle.std.specs.Prelude.{◌≡◌, ◌≤◌, ◌↔◌, ◌∷◌, ◌++◌, IsTrue, ℕ, Bool, List, [], Option, None, Ok, Some, length, replicate, false, true};
 ghost use Rattle.dgt_values.specs.declared.kinds.Kind.{Kind};
@@ -21,7 +21,7 @@ use crate::{
     Asking, Followed, LEAST_PERIOD, MAX_ASKING, OVERDUE, SETTLED, TRIES, UNFINISHED, UpdateMode,
 };
 
-/// The limits by their numbers, and that no asking has more bytes.
+/// The limits by their numbers, and that no request is longer.
 pub fn limits()
     ensures max_asking { MAX_ASKING ≡ 259 }
     ensures least_period { LEAST_PERIOD ≡ 1000 }
@@ -33,7 +33,7 @@ pub fn limits()
         length (asking_bytes mode what) ≤ MAX_ASKING }
 {}
 
-/// Two values are equal, as `==` compares them, exactly if they are the same.
+/// Two values are equal by `==` exactly if they are the same.
 pub fn equal_is_same()
     ensures asking { EqualIsSame ⟦<Asking as PartialEq>⟧.eq }
     ensures update_mode { EqualIsSame ⟦<UpdateMode as PartialEq>⟧.eq }
@@ -47,7 +47,7 @@ pub fn clone_is_same()
     ensures followed { CloneIsSame ⟦<Followed as Clone>⟧ }
 {}
 
-/// A follower that hears bytes at a time in two chunks is the one that hears them in one.
+/// Hearing bytes at one time in two chunks is the same as hearing them in one.
 pub fn followed_in_chunks()
     ensures { FollowedInChunks }
 {
@@ -55,8 +55,8 @@ pub fn followed_in_chunks()
     dgt_decode::laws::unfinished_append();
 }
 
-/// A follower's picture is that of the messages that it heard, and confirmed only if they confirm
-/// it, over any calls: so `dgt_host::laws::one_fault_is_seen` holds of it.
+/// After any calls, a follower's picture is that of the messages that it heard, and is confirmed
+/// only if they confirm it. Therefore `dgt_host::laws::one_fault_is_seen` holds for it.
 pub fn confirmed_as_heard()
     ensures heard { ConfirmedAsHeard }
     ensures asked { AskingsConfirmNothing }
@@ -67,7 +67,7 @@ pub fn confirmed_as_heard()
     dgt_decode::laws::unfinished_is_quiet();
 }
 
-/// No one stretch of faulty bytes makes a confirmed picture wrong.
+/// A single stretch of faulty bytes never makes a confirmed picture wrong.
 pub fn one_stretch_is_seen()
     ensures { OneStretchIsSeen }
 {
@@ -76,8 +76,8 @@ pub fn one_stretch_is_seen()
     dgt_host::laws::one_fault_is_seen();
 }
 
-/// What the calls of a follower leave is what `specs/Calls.antt` says of them: of `ask` if it wrote
-/// what was due, and of `send` if the command was written. Its settings are kept.
+/// The effect of a follower's calls is as `specs/Calls.antt` says: of `ask` if it wrote what was
+/// due, and of `send` if the command was written. The settings are kept.
 pub fn calls_leave()
     ensures asked { (before after : FollowerView) (now written : ℕ) (old new : List ℕ) →
         Asks (asking_of before now) now before after old new (Ok written) →
@@ -108,8 +108,8 @@ pub fn calls_leave()
         ≡ first ++ (last ++ []) }
 {}
 
-/// An answer that is a second late is a doubt, and so is a message that has been unfinished for a
-/// second. The board is soon asked anew, also after any other disturbance.
+/// An answer that is a second late is a doubt, and so is a message that is unfinished for a second.
+/// The follower soon starts over, as after any other disturbance.
 pub fn overdue_is_doubt()
     ensures doubt { OverdueIsDoubt }
     ensures asked { OverdueIsAskedAnew }
@@ -121,8 +121,8 @@ pub fn confirmed_is_sure()
     ensures { SureStaysSure }
 {}
 
-/// What a follower hears makes of its host what it makes of any host, and changes nothing of when
-/// it asked, how many heartbeats are left, its period, its patience and its mode.
+/// What a follower hears changes its host as it changes any host. It doesn't change the time of the
+/// last request, the heartbeats left, the period, the patience or the mode.
 pub fn hearing_is_the_hosts()
     ensures host { (follower : FollowerView) (now : ℕ) (bytes : List ℕ) →
         (follower_after follower now bytes).host ≡ host_after follower.host bytes }
@@ -130,10 +130,11 @@ pub fn hearing_is_the_hosts()
         KeepsCount follower.pace (follower_after follower now bytes).pace }
 {}
 
-/// When a follower asks, and what, with a period of 10,000 and a patience of 6. It begins anew at
-/// first. If it asked at 1,000 and was answered, it asks a heartbeat from 11,000 on. It begins anew
-/// then if no reply more can be awaited or no heartbeat is left. It does so from 3,500 on if
-/// something disturbed it or it was not answered, and with a period of 2,000 from 2,000 on.
+/// When a follower sends a request, and which, with a period of 10,000 and a patience of 6. It
+/// starts over at first. If its request at 1,000 was answered, it sends a heartbeat from 11,000 on.
+/// It starts over then if no more replies can be awaited or no heartbeat is left. After a
+/// disturbance or without an answer it starts over from 3,500 on, and with a period of 2,000 from
+/// 2,000 on.
 pub fn askings_by_time()
     ensures first { (mode : UpdateMode) → asking (new_pace 10000 6 mode false false) false 0
         ≡ Asking.Anew }
@@ -188,8 +189,9 @@ pub fn askings_by_time()
     }) false 999 ≡ Asking.Heartbeat }
 {}
 
-/// What time alone brings. A message is stuck a second after its last byte: it disturbs then, and
-/// is forgotten. An overdue answer is a doubt and doesn't disturb. Else nothing changes.
+/// The effects of time. A message is stuck a second after its last byte: that is a disturbance, and
+/// the message is forgotten. An overdue answer is a doubt, but not a disturbance. Otherwise nothing
+/// changes.
 pub fn what_time_brings()
     ensures before { (pace : PaceView) → pace.unfinished ≡ Some 3000 → is_stuck pace 3999 ≡ false }
     ensures stuck { (pace : PaceView) → pace.unfinished ≡ Some 3000 → is_stuck pace 4000 ≡ true }
@@ -216,11 +218,11 @@ pub fn what_time_brings()
         unfinished_by before now [] unread ≡ before }
 {}
 
-/// What makes a follower ask before its period is over. It asks at once if that is wanted and no
-/// answer is owed. To confirm a picture that changed at 3,000 it asks from 4,000 on. One that
-/// hasn't changed is asked for a second after the last asking. Neither happens after a disturbance
-/// or while an answer is owed. The serial number is requested once after each answer, three times
-/// in all.
+/// When a follower sends a request before its period is over. It does so at once after `ask_now`,
+/// if no answer is owed. To confirm a picture that changed at 3,000 it does so from 4,000 on. A
+/// picture that hasn't changed is requested a second after the last request. Neither happens after
+/// a disturbance or while an answer is owed. The serial number is requested once after each answer,
+/// three times in all.
 pub fn askings_out_of_turn()
     ensures now { (mode : UpdateMode) → asking (record (new_pace 10000 6 mode false false) {
       asked = Some 1000;
@@ -296,9 +298,10 @@ pub fn askings_out_of_turn()
         (after.requested ≡ false) × (after.wanted ≡ false) × (after.pardons ≡ false) }
 {}
 
-/// When a follower that asked at 1,000 with a period of 10,000 is due: at 11,000 if it was
-/// answered, at 2,000 to find an answer overdue, and then at 3,500. If a message is unfinished
-/// whose last byte came at 3,000, it is due at 4,000. A period of less than a second is one.
+/// When a follower with a period of 10,000 is due after a request at 1,000: at 11,000 if it was
+/// answered, and otherwise at 2,000 to find the answer overdue, and then at 3,500. If the last byte
+/// of an unfinished message was received at 3,000, it is due at 4,000. A period of less than a
+/// second counts as a second.
 pub fn due_times()
     ensures answered { (mode : UpdateMode) → next_due (record (new_pace 10000 6 mode false false) {
       asked = Some 1000;
@@ -332,8 +335,8 @@ pub fn due_times()
         (new_pace 1001 patience mode false false).period ≡ 1001 }
 {}
 
-/// The bytes of a heartbeat in each mode, and how many those of a new beginning have. A heartbeat
-/// takes one of those that are left, and a new beginning gives all of them back.
+/// The bytes of a heartbeat in each mode, and the number of bytes of a new start. A heartbeat uses
+/// up one of those left, and a new start restores all of them.
 pub fn askings_in_bytes()
     ensures squares { asking_bytes UpdateMode.Squares Asking.Heartbeat ≡ 0x44 ∷ 0x42 ∷ [] }
     ensures clock { asking_bytes UpdateMode.Clock Asking.Heartbeat
@@ -349,9 +352,9 @@ pub fn askings_in_bytes()
         → (pace_after_asking Asking.Anew pace now).left ≡ 6 }
 {}
 
-/// What a follower notes: any fault disturbs it, and so does a message of a kind that is not the
-/// first awaited, unless such are pardoned, and a dump that isn't the known picture. A clock
-/// without digits doesn't. An awaited dump answers it, and any message is heard.
+/// What a follower records. Disturbances are any fault, a dump that isn't the known picture, and a
+/// message of a kind that isn't the first awaited, unless such messages are pardoned. A clock
+/// without digits isn't one. An awaited dump is an answer, and any message is recorded as heard.
 pub fn notes_of_events()
     ensures fault { (pace : PaceView) (now : ℕ) (byte : ℕ) →
         (pace_after_event pace now [] None (Event.Stray byte)).disturbed ≡ true }
@@ -392,9 +395,9 @@ pub fn notes_of_events()
         (pace_after_event pace now [] None (Event.Stray byte)).heard ≡ pace.heard }
 {}
 
-/// What confirms a picture: an awaited dump that repeats it. The first one after a new beginning
-/// doesn't, but leaves a picture confirmed that was. What comes unasked ends it. A field that makes
-/// another picture ends it, and that is the time of the last change.
+/// What confirms a picture: an awaited dump that repeats it. The first dump after a new start
+/// doesn't confirm, but a confirmed picture stays confirmed. An unasked message ends it. A field
+/// update that changes the picture ends it, and sets the time of the last change.
 pub fn what_confirms()
     ensures dump { (pace : PaceView) (now : ℕ) (known pieces : List Piece) (later : List Kind) →
         pace.settling ≡ false → repeats (Some known) pieces ≡ true →
@@ -434,8 +437,8 @@ pub fn what_confirms()
         (pace_after_asking Asking.Anew pace now).pardons ≡ false }
 {}
 
-/// A serial number that is reported is known, whatever else is heard. The clock is unknown while it
-/// is unreadable, until a report of it can be read that isn't all zeros.
+/// A serial number that was reported stays known, whatever else is heard. The clock is unknown
+/// while it is unreadable, until a report of it can be read that isn't all zeros.
 pub fn what_is_known()
     ensures serial { (pace : PaceView) (now : ℕ) (digits : List ℕ) (awaited : List Kind)
         (picture : Option (List Piece)) →

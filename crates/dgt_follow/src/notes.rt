@@ -1,4 +1,4 @@
-//! What a pace notes of one event.
+//! What a pace records of one event.
 
 ghost use Rattle.std.specs.Prelude.{◌≡◌, ◌↔◌, Option, is_some, if◌then◌else◌, ◌&&◌, ◌||◌, not, List, Some, IsTrue};
 ghost use Rattle.dgt_values.specs.declared.kinds.Kind.{Kind};
@@ -12,8 +12,8 @@ ghost use Rattle.dgt_follow.specs.Pace.{confirmed_by, disturbs, heard_at, is_ans
 use dgt_host::{Event, Message};
 use dgt_message::{BodyFault, Reading, Times, serial_bytes};
 
-/// What a host said of an event: whether it was a message that wasn't asked for, whether it changed
-/// a picture that was known, and whether one was known before it.
+/// What a host reported of an event: whether it was an unasked message, whether it changed a known
+/// picture, and whether a picture was known before it.
 #[derive(Clone, Copy, Debug)]
 pub(crate) struct Seen {
     pub(crate) unasked: bool,
@@ -21,8 +21,8 @@ pub(crate) struct Seen {
     pub(crate) known: bool,
 }
 
-/// Whether an event is one that a sound line and board don't send. `pardons` says whether a message
-/// may come unasked.
+/// Whether an event is one that a sound line and board don't send. `pardons` says whether unasked
+/// messages are allowed.
 pub(crate) fn is_disturbance(event: &Event<'_>, seen: Seen, pardons: bool) -> bool
     ensures { (awaited : List Kind) (picture : Option (List Piece)) →
         (IsTrue seen.unasked ↔ IsUnasked awaited (Some (event_content event.now))) →
@@ -40,8 +40,8 @@ pub(crate) fn is_disturbance(event: &Event<'_>, seen: Seen, pardons: bool) -> bo
     }
 }
 
-/// Whether the picture is confirmed after an event, if it was or wasn't before it. `settling` says
-/// whether no dump has come since the last new beginning.
+/// Whether the picture is confirmed after an event, given whether it was before. `settling` says
+/// whether no dump was heard since the last new start.
 pub(crate) fn is_confirmed(confirmed: bool, settling: bool, event: &Event<'_>, seen: Seen) -> bool
     ensures { (awaited : List Kind) (picture : Option (List Piece)) →
         (IsTrue seen.unasked ↔ IsUnasked awaited (Some (event_content event.now))) →
@@ -69,7 +69,7 @@ pub(crate) fn last_changed(before: Option<u64>, now: u64, changed: bool) -> Opti
     if changed { Some(now) } else { before }
 }
 
-/// Whether an event is a dump that was awaited.
+/// Whether an event is an awaited dump.
 pub(crate) fn is_awaited_dump(event: &Event<'_>, unasked: bool) -> bool
     ensures { (awaited : List Kind) →
         (IsTrue unasked ↔ IsUnasked awaited (Some (event_content event.now))) →
@@ -81,21 +81,19 @@ pub(crate) fn is_awaited_dump(event: &Event<'_>, unasked: bool) -> bool
     }
 }
 
-/// The first or the second.
 pub(crate) fn either(first: bool, second: bool) -> bool
     ensures { result ≡ (first || second) }
 {
     first || second
 }
 
-/// The first, and not the second.
 pub(crate) fn unless(first: bool, second: bool) -> bool
     ensures { result ≡ (first && not second) }
 {
     first && !second
 }
 
-/// When the last whole message came, after an event, if this was so before it.
+/// The time of the last whole message after an event.
 pub(crate) fn last_heard(before: Option<u64>, now: u64, event: &Event<'_>) -> Option<u64>
     ensures { result ≡ heard_at before now (event_content event.now) }
 {
@@ -105,7 +103,7 @@ pub(crate) fn last_heard(before: Option<u64>, now: u64, event: &Event<'_>) -> Op
     }
 }
 
-/// The serial number that was reported last, after an event.
+/// The serial number that was last reported, after an event.
 pub(crate) fn last_serial(before: Option<[u8; 5]>, event: &Event<'_>) -> Option<[u8; 5]>
     ensures { result ≡ serial_by before (event_content event.now) }
 {
@@ -121,7 +119,7 @@ fn is_zero(time: Reading) -> bool
     time.hours() == 0 && time.minutes() == 0 && time.seconds() == 0 && time.flags() == 0
 }
 
-// Whether a report of the clock has nothing but zeros.
+// Whether a report of the clock is all zeros.
 fn is_blank(times: Times) -> bool
     ensures { result ≡ blank_times (times_seen times) }
 {
@@ -129,7 +127,7 @@ fn is_blank(times: Times) -> bool
     is_zero(times.first()) && is_zero(times.second()) && status == 0
 }
 
-/// Whether the last report of the clock had no reading, after an event.
+/// Whether the last report of the clock contained no reading, after an event.
 pub(crate) fn is_unreadable(before: bool, event: &Event<'_>) -> bool
     ensures { result ≡ unreadable_by before (event_content event.now) }
 {

@@ -1,4 +1,4 @@
-//! When a follower asks, and what.
+//! When a follower sends a request, and which.
 
 ghost use Rattle.std.specs.Prelude.{◌≡◌, ◌↔◌, ◌≤◌, ℕ, Option, is_some, List, ◌++◌, Some, IsTrue, length, true};
 ghost use Rattle.dgt_values.specs.declared.kinds.Kind.{Kind};
@@ -17,24 +17,24 @@ use crate::times::{due_after, earlier, later_of, precedes};
 use dgt_host::Event;
 use std::marker::Model;
 
-/// The least period, in milliseconds. A new beginning and its dump take a third of it on the line:
+/// The least period, in milliseconds. A new start and its dump occupy the line for a third of it:
 /// shorter periods would fill the line of a sound board.
 pub const LEAST_PERIOD: u64 = 1000;
 
-/// An answer that hasn't come this number of milliseconds after the asking is overdue.
+/// An answer is overdue this many milliseconds after the request.
 pub const OVERDUE: u64 = 1000;
 
-/// A message that hasn't been finished this number of milliseconds after its last byte disturbs.
+/// An unfinished message is a disturbance this many milliseconds after its last byte.
 pub const UNFINISHED: u64 = 1000;
 
-/// This number of milliseconds after a change the picture is asked for, to confirm it.
+/// To confirm a picture, it is requested this many milliseconds after its last change.
 pub const SETTLED: u64 = 1000;
 
-/// How often the serial number is requested at most, from a board that doesn't send it.
+/// The most requests of the serial number to a board that doesn't send it.
 pub const TRIES: u32 = 3;
 
-/// What decides when a follower asks, and what: its settings, what it asked last, and what it has
-/// noted since. The fields lie in this order: the wide ones first, so that they fit closely.
+/// What determines when a follower sends a request, and which: its settings, its last request, and
+/// what it has recorded since. The wide fields are first, to save space.
 #[derive(Drop)]
 pub struct Pace {
     period: u64,
@@ -93,10 +93,9 @@ impl Model for Pace {
     ghost invariant = { λ pace. pace.left ≤ pace.patience };
 }
 
-// When it asks.
 impl Pace {
     /// A pace with this period in milliseconds, at least [`LEAST_PERIOD`], this patience and this
-    /// mode, which has asked nothing.
+    /// mode, without requests so far.
     pub fn new(period: u64, patience: u32, mode: UpdateMode, confirm: bool, identify: bool) -> Self
         ensures { result ≡ new_pace period patience mode confirm identify }
     {
@@ -125,21 +124,21 @@ impl Pace {
         }
     }
 
-    // Whether the last asking has no answer yet.
+    // Whether the last request has no answer yet.
     fn awaits_answer(&self) -> bool
         ensures { result ≡ is_unanswered self.now }
     {
         self.asked.is_some() && !self.answered
     }
 
-    // Whether the last asking was answered, and nothing has disturbed since.
+    // Whether the last request was answered, without a disturbance since.
     fn is_calm(&self) -> bool
         ensures { result ≡ is_calm self.now }
     {
         self.asked.is_some() && self.answered && !self.disturbed
     }
 
-    // Whether the answer to the last asking is overdue at this time.
+    // Whether the answer to the last request is overdue at this time.
     fn is_overdue(&self, now: u64) -> bool
         ensures { result ≡ is_overdue_at self.now now }
     {
@@ -149,7 +148,7 @@ impl Pace {
         }
     }
 
-    // Whether a message has been unfinished for a second at this time.
+    // Whether a message is unfinished for a second at this time.
     fn is_stuck(&self, now: u64) -> bool
         ensures { result ≡ is_stuck_at self.now now }
     {
@@ -159,7 +158,7 @@ impl Pace {
         }
     }
 
-    // How long to wait after the last asking.
+    // The time to wait after the last request.
     fn waiting_time(&self) -> u64
         ensures { result ≡ wait self.now }
     {
@@ -172,7 +171,7 @@ impl Pace {
         }
     }
 
-    // Whether a picture that isn't confirmed is to be asked for again.
+    // Whether a picture that isn't confirmed is to be requested again.
     fn wants_confirming(&self) -> bool
         ensures { result ≡ wants_confirming self.now }
     {
@@ -190,14 +189,14 @@ impl Pace {
             && self.is_calm()
     }
 
-    // Whether it asks as soon as it can.
+    // Whether a request is due as soon as possible.
     fn asks_at_once(&self) -> bool
         ensures { result ≡ asks_at_once self.now }
     {
         self.wants_serial() || self.wanted && !self.awaits_answer()
     }
 
-    // The first time at which it asks. `None` if that is past the last time that a `u64` counts.
+    // The first time at which a request is due. `None` if it is too large for a `u64`.
     fn asks_at(&self) -> Option<u64>
         ensures { result ≡ counted (due_time self.now) }
     {
@@ -215,7 +214,8 @@ impl Pace {
         }
     }
 
-    // The first time at which it asks, or finds an answer overdue and has no doubt before.
+    // The first time at which a request is due, or an answer becomes overdue without a doubt
+    // before.
     fn doubts_at(&self) -> Option<u64>
         ensures { result ≡ counted (doubt_time self.now) }
     {
@@ -226,8 +226,8 @@ impl Pace {
         }
     }
 
-    /// The first time at which it asks, or finds an answer overdue and has no doubt before, or a
-    /// message that isn't finished. `None` if that is past the last time that a `u64` counts.
+    /// The first time at which a request is due, an answer becomes overdue without a doubt before,
+    /// or a message is stuck. `None` if it is too large for a `u64`.
     pub fn due_at(&self) -> Option<u64>
         ensures { result ≡ next_due self.now }
     {
@@ -238,7 +238,7 @@ impl Pace {
         }
     }
 
-    // Whether it asks at this time.
+    // Whether a request is due at this time.
     fn is_due(&self, now: u64) -> bool
         ensures { result ≡ is_due_at self.now now }
     {
@@ -250,7 +250,6 @@ impl Pace {
     }
 }
 
-// What it asks.
 impl Pace {
     // Whether a heartbeat is enough.
     fn heartbeat_suffices(&self, full: bool) -> bool
@@ -259,7 +258,7 @@ impl Pace {
         self.is_calm() && !full && self.left > 0
     }
 
-    /// What it asks at this time. `full` says whether the host awaits as many replies as it can.
+    /// The request at this time. `full` says whether the host awaits as many replies as it can.
     pub fn next_asking(&self, full: bool, now: u64) -> Asking
         ensures { result ≡ asking self.now full now }
     {
@@ -274,8 +273,8 @@ impl Pace {
         }
     }
 
-    /// The pace at this time: whether an answer is overdue then, or a message unfinished for too
-    /// long, is noted.
+    /// The pace at this time: it records whether an answer is overdue, or a message unfinished for
+    /// too long.
     pub fn at(&self, now: u64) -> Pace
         ensures { result ≡ pace_at self.now now }
     {
@@ -290,7 +289,7 @@ impl Pace {
         }
     }
 
-    // Notes that a dump was asked for at this time.
+    // Records that a dump was requested at this time.
     fn note_asked(&mut self, now: u64)
         ensures { self.new ≡ pace_asked self.old now }
     {
@@ -305,7 +304,7 @@ impl Pace {
         self.pardons = false;
     }
 
-    /// Notes that this was asked at this time, or nothing, by the pace at that time.
+    /// Records this request, or none, at this time.
     pub fn note_asking(&mut self, asking: Asking, now: u64)
         ensures { self.new ≡ pace_after_asking asking self.old now }
     {
@@ -330,9 +329,8 @@ impl Pace {
     }
 }
 
-// What it notes.
 impl Pace {
-    // Notes an event that was heard at this time.
+    // Records an event that was heard at this time.
     fn note_event(&mut self, event: &Event<'_>, seen: Seen, now: u64)
         ensures { (awaited : List Kind) (picture : Option (List Piece)) →
             (IsTrue seen.unasked ↔ IsUnasked awaited (Some (event_content event.now))) →
@@ -354,7 +352,8 @@ impl Pace {
         self.unreadable = is_unreadable(self.unreadable, event);
     }
 
-    /// Notes the event that was heard at this time, if there is one, and what the host said of it.
+    /// Records the event that was heard at this time, if there is one, and what the host reported
+    /// of it.
     pub(crate) fn note(&mut self, event: &Option<Event<'_>>, seen: Seen, now: u64)
         ensures { (awaited : List Kind) (picture : Option (List Piece)) →
             (IsTrue seen.unasked ↔ IsUnasked awaited (event_content_if_any event.now)) →
@@ -368,7 +367,7 @@ impl Pace {
         }
     }
 
-    /// Notes how many bytes were heard at this time, and how many are unread after them.
+    /// Records how many bytes were heard at this time, and how many are unread after them.
     pub(crate) fn note_unread(&mut self, now: u64, used: usize, unread: usize)
         ensures { (bytes after : List ℕ) → used ≡ length bytes → unread ≡ length after →
             self.new ≡ record self.old {
@@ -381,44 +380,43 @@ impl Pace {
     }
 }
 
-// Its settings.
 impl Pace {
-    /// What the board is asked to report.
+    /// Which changes the board is asked to report.
     pub fn mode(&self) -> UpdateMode
         ensures { result ≡ self.now.mode }
     {
         self.mode
     }
 
-    /// Has the next asking ask for this mode.
+    /// Sets the mode that the next request asks for.
     pub fn set_mode(&mut self, mode: UpdateMode)
         ensures { self.new ≡ record self.old { mode = mode } }
     {
         self.mode = mode;
     }
 
-    /// Has a picture that isn't confirmed be asked for again, or not.
+    /// Sets whether a picture that isn't confirmed is requested again.
     pub fn set_confirm(&mut self, confirm: bool)
         ensures { self.new ≡ record self.old { confirm = confirm } }
     {
         self.confirm = confirm;
     }
 
-    /// Has the serial number be requested while it is unknown, or not.
+    /// Sets whether the serial number is requested while it is unknown.
     pub fn set_identify(&mut self, identify: bool)
         ensures { self.new ≡ record self.old { identify = identify } }
     {
         self.identify = identify;
     }
 
-    /// Has it ask as soon as no answer is owed.
+    /// Makes a request due as soon as no answer is owed.
     pub fn ask_now(&mut self)
         ensures { self.new ≡ record self.old { wanted = true } }
     {
         self.wanted = true;
     }
 
-    /// Notes that bytes were lost or altered.
+    /// Records that bytes were lost or altered.
     pub fn note_disturbance(&mut self)
         ensures { self.new ≡ pace_disturbed self.old }
     {
@@ -427,7 +425,7 @@ impl Pace {
         self.confirmed = false;
     }
 
-    /// Forgets what was asked and noted, and keeps its settings.
+    /// Forgets all requests and records, and keeps the settings.
     pub fn line_lost(&mut self)
         ensures { self.new ≡ forgetting self.old }
     {
@@ -441,46 +439,44 @@ impl Pace {
     }
 }
 
-// What it knows.
 impl Pace {
-    /// When the last whole message came.
+    /// The time of the last whole message.
     pub fn last_heard(&self) -> Option<u64>
         ensures { result ≡ self.now.heard }
     {
         self.heard
     }
 
-    /// Whether something has disturbed the line, or an answer was overdue, since the last dump that
-    /// was awaited.
+    /// Whether there was a disturbance, or an answer was overdue, since the last awaited dump.
     pub fn in_doubt(&self) -> bool
         ensures { result ≡ self.now.doubtful }
     {
         self.doubtful
     }
 
-    /// Whether an awaited dump repeated the picture, and since then nothing changed it, nothing
-    /// disturbed and no answer was overdue.
+    /// Whether an awaited dump repeated the picture, and since then there was no change, no
+    /// disturbance and no overdue answer.
     pub fn confirmed(&self) -> bool
         ensures { result ≡ self.now.confirmed }
     {
         self.confirmed
     }
 
-    /// The serial number that was reported last.
+    /// The serial number that was last reported.
     pub fn serial(&self) -> Option<[u8; 5]>
         ensures { result ≡ self.now.serial }
     {
         self.serial
     }
 
-    /// Whether the last report of the clock had no reading.
+    /// Whether the last report of the clock contained no reading.
     pub fn clock_is_unreadable(&self) -> bool
         ensures { result ≡ self.now.unreadable }
     {
         self.unreadable
     }
 
-    /// How many heartbeats may still follow one another, of those that its patience allows.
+    /// How many more heartbeats the patience allows.
     pub fn heartbeats_left(&self) -> u32
         ensures left { result ≡ self.now.left }
         ensures at_most { self.now.left ≤ self.now.patience }

@@ -1,9 +1,9 @@
-//! Times in milliseconds that may be unknown, or past the last one that a `u64` counts.
+//! Times in milliseconds that may be unknown, or too large for a `u64`.
 
 ghost use Rattle.std.specs.Prelude.{◌≡◌, ℕ, min};
 ghost use Rattle.dgt_follow.specs.Pace.{counted, is_before, later, time_after};
 
-/// The later of two times, if they are known.
+/// The later of two times, as far as they are known.
 pub(crate) fn later_of(first: Option<u64>, second: Option<u64>) -> Option<u64>
     ensures { result ≡ later first second }
 {
@@ -14,8 +14,8 @@ pub(crate) fn later_of(first: Option<u64>, second: Option<u64>) -> Option<u64>
     }
 }
 
-/// So long after a time, if that is known; else 0. `None` if that is past the last time that a
-/// `u64` counts.
+/// This duration after a time, or 0 if the time is unknown. `None` if that is too large for a
+/// `u64`.
 pub(crate) fn due_after(time: Option<u64>, duration: u64) -> Option<u64>
     ensures { result ≡ counted (time_after time duration) }
 {
@@ -25,7 +25,7 @@ pub(crate) fn due_after(time: Option<u64>, duration: u64) -> Option<u64>
     }
 }
 
-/// The earlier of two times, where `None` is past the last one.
+/// The earlier of two times, if `None` is later than all others.
 pub(crate) fn earlier(first: Option<u64>, second: Option<u64>) -> Option<u64>
     ensures { (a b : ℕ) → first ≡ counted a → second ≡ counted b → result ≡ counted (min a b) }
 {

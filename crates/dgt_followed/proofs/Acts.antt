@@ -1,4 +1,4 @@
--- What a follower writes when it asks is acts of a faulty world.
+-- A follower's request is a list of acts of a faulty world.
 use Rattle.std.proofs.Common.{◌≡◌, ◌<◌, Bool, true, false, not, ◌&&◌, if◌then◌else◌, nat_lt, Some, None, Ok, refl, sym, ap, subst, zero, suc, ◌∙◌, ℕ, List, [], ◌∷◌, ◌++◌, append_assoc, append-nil, length, take, drop, rules, arith}
 use Rattle.std.proofs.lemmas.List.{length-append, take_at}
 use Rattle.dgt_values.specs.declared.kinds.Kind.{Kind}
@@ -147,7 +147,7 @@ restart_done : (world : WorldView) → HasRoom world.down restart_bytes
 restart_done world room =
     let free = fits world.down restart_bytes room in record { answers = rw free refl; leaves = refl }
 
--- ---- an asking
+-- ---- a request
 
 -- the request of the clock, if the mode reports it
 reading_done : (mode : UpdateMode) (world : WorldView) → HasRoom world.down (clock_request mode)
@@ -170,7 +170,7 @@ room_last : (line : LineContents) (first next last : List ℕ) → HasRoom line 
     → HasRoom (with_bytes (with_bytes line first) next) last
 room_last line first next last room = omega (arith, length-append {A = ℕ})
 
--- the line with all of them, one after the other
+-- the line with all of them, in order
 in_a_row : (world : WorldView) (host : HostView) (first next last : List ℕ)
     → record world { host = host; down = with_bytes (with_bytes (with_bytes world.down first) next) last }
     ≡ after_writing world host (first ++ next ++ last)
@@ -179,7 +179,7 @@ in_a_row world host first next last =
     (ap (λ (bytes : List ℕ). bytes ++ last) (append_assoc world.down.bytes first next)
     ∙ append_assoc world.down.bytes (first ++ next) last)
 
--- what an asking leaves of a world with room for it
+-- the effect of a request on a world with room for it
 abbrev after_acts : UpdateMode → Asking → WorldView → WorldView
 after_acts mode what world = after_writing world (host_after_asking what world.host) (asking_bytes mode what)
 
@@ -226,7 +226,7 @@ acts_done mode Asking.Anew world few free room =
     (restart_done world (room_first world.down restart_bytes next last room))
     (mode_done mode between (room_next world.down restart_bytes next last room)) refl room
 
--- the bytes that stand at the beginning of a slice
+-- the bytes at the beginning of a slice
 pub prefix_of : (bytes old new : List ℕ) (written : ℕ) → written ≡ length bytes → new ≡ bytes ++ drop written old
     → take written new ≡ bytes
 prefix_of bytes old new written e f = rw f (take_at bytes (drop written old) written (sym e))

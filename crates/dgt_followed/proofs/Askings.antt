@@ -1,5 +1,5 @@
--- What askings heal, the picture or the clock, is promised to heal once there were enough of them
--- since it was unsettled: one more than the patience.
+-- The picture or the clock is promised to heal once there were enough requests since it was
+-- unsettled: one more than the patience.
 use Rattle.std.proofs.Common.{◌≡◌, ◌⊎◌, inl, inr, ◌+◌, ◌-◌, ◌<◌, ◌≤◌, Bool, true, false, ◌||◌, if◌then◌else◌, Some, refl, ℕ, List, [], ◌∷◌, arith}
 use Rattle.dgt_values.specs.declared.kinds.Kind.{Kind}
 use Rattle.dgt_follow.specs.declared.asking.Asking.{Asking}
@@ -18,7 +18,7 @@ neither false false e = (refl, refl)
 neither false true e = cc
 neither true b e = cc
 
--- one asking more, with a heartbeat less left
+-- one request more, with one heartbeat less left
 one_more : (since left patience : ℕ) → 0 < left → since + left ≤ patience → (since + 1) + (left - 1) ≤ patience
 one_more since left patience some few = omega (arith, some, few)
 
@@ -30,19 +30,19 @@ left_after Asking.Identify now before after e few = rw e few
 left_after Asking.Heartbeat now before after e few = rw e (omega (arith, few))
 left_after Asking.Anew now before after e few = rw e (omega arith)
 
--- It is promised to heal, or the follower has not yet asked often enough.
+-- It is promised to heal, or the follower has not yet sent enough requests.
 abbrev pub Hope : (WorldView → Type 0) → (FollowedView → ℕ) → FollowedView → Type 0
 Hope Promised count followed =
     Promised followed.world ⊎ (count followed + followed.pace.left ≤ followed.pace.patience)
 
--- what always holds
+-- facts that always hold
 pub record Hopes (Promised : WorldView → Type 0) (count : FollowedView → ℕ) (followed : FollowedView) : Type 0 where
   pub sane : IsSane followed.world
   pub left : followed.pace.left ≤ followed.pace.patience
   pub hope : Hope Promised count followed
 
 module _ (Promised : WorldView → Type 0) (count : FollowedView → ℕ) where
-  -- anything but an asking
+  -- any act but a request
   pub other_hope : (ends : Bool) (before after : FollowedView) → after.pace.patience ≡ before.pace.patience
       → after.pace.left ≡ before.pace.left → count after ≡ (if ends then 0 else count before)
       → (ends ≡ false → Promised before.world → Promised after.world) → Hopes Promised count before
@@ -69,7 +69,7 @@ module _ (Promised : WorldView → Type 0) (count : FollowedView → ℕ) where
             (rw since (rw pace (one_more (count before) before.pace.left before.pace.patience some few)))
       ]
 
-  -- ---- all that happens
+  -- ---- all happenings
 
   module _
       (stay_sane : (acts : List FaultyContent) (world after : WorldView) (answers : List Outcome)

@@ -1,4 +1,4 @@
--- A host that awaits nothing and begins anew leaves an exact world exact.
+-- A host that awaits nothing and starts over leaves an exact world exact.
 use Rattle.std.proofs.Common.{◌≡◌, inl, refl, sym, ap, ◌∙◌, ℕ, List, [], ◌∷◌, ◌++◌, append_assoc, map, replicate}
 use Rattle.std.proofs.lemmas.List.Elements.{filter_map-append}
 use Rattle.std.specs.Prelude.{filter_map}
@@ -17,11 +17,11 @@ use Rattle.dgt_link.proofs.Dividing.{anew_divides}
 use Rattle.dgt_link.proofs.Soundness.{asked_sound, noise-kinds}
 use Rattle.dgt_followed.specs.Restated.{IsRestatedWorld}
 
--- a state in which these are under way to the board, too
+-- a state in which these are also under way to the board
 abbrev more_down : MachineState → List EventContent → MachineState
 more_down x more = record x { down = x.down ++ more; awaited = Kind.Dump ∷ [] }
 
--- of noise and what is asked for anew only a dump has a kind
+-- of noise and the new requests, only a dump has a kind
 anew-kinds : (noise : List EventContent) → IsNoiseList noise
     → filter_map kind_of_event (noise ++ map EventContent.Read commands_anew) ≡ Kind.Dump ∷ []
 anew-kinds noise is_noise =

@@ -1,4 +1,4 @@
--- What the calls of a follower do is what happens to it and to the world of its host.
+-- The effects of a follower's calls are happenings to it and to the world of its host.
 use Rattle.std.proofs.Common.{◌≡◌, ◌<◌, true, false, Ok, refl, sym, ap, ℕ, List, length, take, rules}
 use Rattle.std.proofs.lemmas.Bool.{false≢true}
 use Rattle.dgt_command.specs.Content.{CommandContent, requested_kind}

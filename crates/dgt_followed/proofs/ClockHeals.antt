@@ -1,4 +1,4 @@
--- Askings after the last fault heal the clock, in the modes that report it: the patience and one more.
+-- After the last fault, one request more than the patience heals the clock, in the modes that report it.
 use Rattle.std.proofs.Common.{◌≡◌, inl, inr, ◌+◌, false, Some, refl, ap, ℕ, List, [], ◌∷◌, arith}
 use Rattle.std.specs.Prelude.{IsTrue}
 use Rattle.dgt_command.specs.Content.{CommandContent}
@@ -19,7 +19,7 @@ use Rattle.dgt_followed.proofs.Askings.{Hope, Hopes, heartbeat_hope, neither, ot
 abbrev count : FollowedView → ℕ
 count followed = followed.clock_since
 
--- the acts of a heartbeat and of a new beginning that ask for the clock, by their mode's command
+-- the acts of a heartbeat and of a new start that request the clock, by their mode's command
 abbrev heartbeat_acts : CommandContent → List FaultyContent
 heartbeat_acts command = sends command ∷ sends CommandContent.Dump ∷ sends CommandContent.Clock ∷ []
 

@@ -1,4 +1,4 @@
--- Askings after the last fault heal the picture: the patience and one more.
+-- After the last fault, one request more than the patience heals the picture.
 use Rattle.std.proofs.Common.{◌≡◌, inl, true, false, refl, ap, ℕ, List, [], ◌∷◌}
 use Rattle.dgt_follow.specs.declared.asking.Asking.{Asking}
 use Rattle.dgt_follow.specs.declared.asking.UpdateMode.{UpdateMode}
@@ -14,7 +14,7 @@ use Rattle.dgt_followed.proofs.Askings.{Hope, Hopes, heartbeat_hope, neither, ot
 abbrev count : FollowedView → ℕ
 count followed = followed.since
 
--- after the mode's command and the clock's request the board goes on reporting its changes
+-- after the mode's command and the clock's request the board keeps reporting its changes
 mode_is_calm : (mode : UpdateMode) → AreCalm (sends (mode_command mode) ∷ reading_acts mode)
 mode_is_calm UpdateMode.Squares = ((refl, refl), tt)
 mode_is_calm UpdateMode.Clock = ((refl, refl), ((refl, refl), tt))

@@ -1,4 +1,4 @@
--- What happens to a follower that notes what it hears, and nothing else, are calls of it.
+-- The happenings to a follower that records only what it hears are calls of it.
 use Rattle.std.proofs.Common.{◌≡◌, ◌⊎◌, inl, inr, true, false, Option, Some, None, refl, sym, ap, ◌∙◌, ℕ, List, [], ◌∷◌, ◌++◌, append_assoc, append-nil, map, option_to_list}
 use Rattle.dgt_values.specs.declared.kinds.Kind.{Kind}
 use Rattle.dgt_message.specs.Content.{Content}
@@ -49,7 +49,7 @@ same_follower : (host host' : HostView) (pace pace' : PaceView) → host ≡ hos
     → following host pace ≡ following host' pace'
 same_follower host host' pace pace' e f = rw (e, f) refl
 
--- ---- the host after what it asks
+-- ---- the host after its request
 
 sent_host : (command : CommandContent) (world after : WorldView) → FaultyStep (sends command) world Outcome.Done after
     → after.host ≡ host_awaiting world.host (requested_kind command)
@@ -150,7 +150,7 @@ act_leads before after (inr (kind, sent)) pace = (
   same_follower after.world.host (host_awaiting before.world.host kind) after.pace before.pace sent pace,
 )
 
--- ---- all that happens
+-- ---- all happenings
 
 no_bytes : (call : Call) → is_setting call ≡ true → bytes_heard (call ∷ []) ≡ []
 no_bytes (Call.SetsMode mode) sets = refl

@@ -14,7 +14,7 @@ use Rattle.dgt_followed.specs.OneByte.{OneByteIsAStretch, with_fault}
 abbrev One : List Content → Type 0
 One said = (heard : Option Content) × (said ≡ option_to_list heard)
 
--- these bytes say one message at most
+-- these bytes contain at most one message
 abbrev SaysOne : List ℕ → Type 0
 SaysOne bytes = One (messages (events bytes))
 
@@ -69,7 +69,7 @@ both_are g k =
     ∙ ap (λ (m : List Content). m ++ messages (segments_events (k ∷ []))) (no_cuts rest)
     ∙ last_is k)
 
--- of two segments one has no message
+-- one of two segments contains no message
 of_both : (g k : List ℕ) → (verdict g ≡ None) ⊎ (verdict k ≡ None) → One (messages (segments_events (g ∷ k ∷ [])))
 of_both g k (inl none) =
     same _ (messages (segment_events (verdict k) k))
@@ -173,7 +173,7 @@ nothing_left (suc n) (b ∷ s) few = nothing_left n s (omega (arith, few))
 alone_waits : (b : ℕ) → verdict (b ∷ []) ≡ None
 alone_waits b = verdict-short (b ∷ []) (search rules)
 
--- a part of a message is not finished
+-- a part of a message is unfinished
 part_waits : (h p : ℕ) (t : List ℕ) → announced_total (h ∷ t) ≡ suc (length t) → p < length t
     → verdict (h ∷ take p t) ≡ None
 part_waits h zero t e within = verdict-short (h ∷ []) (search rules)

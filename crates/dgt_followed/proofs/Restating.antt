@@ -32,7 +32,7 @@ clock_restates : (picture : Option (List Piece)) (clock : ClockState) → AllRes
 clock_restates picture (ClockState.times readings) = tt
 clock_restates picture (ClockState.no_clock absence) = tt
 
--- a dump that is sent at rest is the picture to come
+-- a dump sent at rest is the picture to come
 reply_restates : (x : MachineState) (reply : Reply) (later : List Reply) → IsSound x → IsAtRest x.board (reply ∷ later)
     → AllRestate (coming_picture x) (reply_message x.board reply ∷ [])
 reply_restates x (Reply.Of Kind.Dump) later sound rest = (rw rest sound.picture, tt)

@@ -1,4 +1,4 @@
--- What a board has reported is what the messages that it has sent say.
+-- What a board has reported is the picture after the messages that it has sent.
 use Rattle.std.proofs.Common.{◌≡◌, Bool, true, false, Option, Some, None, refl, sym, ap, ◌∙◌, List, [], ◌∷◌, if◌then◌else◌}
 use Rattle.std.specs.Prelude.{◌&&◌}
 use Rattle.std.specs.List.{AllByRecursion}
@@ -31,7 +31,7 @@ use Rattle.dgt_followed.specs.Heard.{HeardStep, KeepsPower, SentIsReported, Time
 
 -- ---- the message that a board sends
 
--- what the board has reported becomes what the message says of it
+-- a message updates what the board has reported
 abbrev Reports : BoardState → Content → Type 0
 Reports board message =
     picture_after (Some board.reported_squares) message ≡ Some (reported_squares_after board message)

@@ -1,4 +1,4 @@
--- In a world without faults each dump restates the picture, and what a follower hears is no doubt.
+-- In a world without faults each dump restates the picture, and a follower hears no doubt.
 use Rattle.std.proofs.Common.{◌≡◌, ◌≢◌, refl, sym, ℕ, zero, suc, List, [], ◌∷◌, ◌++◌, replicate, take, drop, map}
 use Rattle.std.specs.List.{AllByRecursion}
 use Rattle.dgt_message.specs.Content.{Content}

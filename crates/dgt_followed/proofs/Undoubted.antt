@@ -1,4 +1,4 @@
--- What a follower hears on a sound line, and what it asks in time, is no doubt.
+-- What a follower hears on a sound line, and what it requests in time, is not a doubt.
 use Rattle.std.proofs.Common.{◌≡◌, ◌⊎◌, inl, inr, Bool, true, false, not, ◌&&◌, ◌||◌, Option, Some, None, refl, ℕ, List, [], ◌∷◌, ◌++◌, All}
 use Rattle.std.proofs.lemmas.List.Elements.{All-nil}
 use Rattle.dgt_values.specs.declared.kinds.Kind.{Kind}
@@ -15,7 +15,7 @@ use Rattle.dgt_link.specs.Sound.{IsExact}
 use Rattle.dgt_followed.specs.Restated.{AllRestate, HasNoDoubt}
 use Rattle.dgt_link.proofs.Subsequences.{same_kind_itself}
 
--- ---- a message that is asked for, and a dump that restates the picture
+-- ---- an awaited message, and a dump that restates the picture
 
 pub restates : (picture : Option (List Piece)) (said : Content) (later : List Content)
     → AllRestate picture (said ∷ later) → contradicts picture said ≡ false
@@ -74,7 +74,7 @@ agreeing_ends pace now pieces later =
     and_false true = refl
     and_false false = refl
 
--- it asks for a dump, and owes none
+-- it requests a dump, and owes none
 owes_none : (owed : Bool) (what : Asking) → (what ≡ Asking.Nothing → ⊥) → (what ≡ Asking.Identify → ⊥)
     → (what ≡ Asking.Nothing) ⊎ ((what ≡ Asking.Identify) ⊎ (owed ≡ false)) → owed ≡ false
 owes_none owed what some other (inl e) = absurd (some e)
@@ -85,7 +85,7 @@ brings_none : (doubtful overdue stuck : Bool) → doubtful ≡ false → overdue
     → ((doubtful || overdue) || stuck) ≡ false
 brings_none doubtful overdue stuck calm early fresh = rw (calm, early, fresh) refl
 
--- time brings no doubt, if no answer is overdue and no message was left unfinished
+-- time raises no doubt, if no answer is overdue and no message is unfinished
 time_brings_none : (pace : PaceView) (now : ℕ) → HasNoDoubt pace → is_overdue pace now ≡ false
     → is_stuck pace now ≡ false → HasNoDoubt (pace_at pace now)
 time_brings_none pace now calm early fresh =

@@ -1,4 +1,4 @@
--- A board and a follower on lines that may fail: which acts an asking is, and what happens to both.
+-- A board and a follower on lines that may fail: the acts of a request, and what happens to both.
 use Rattle.std.specs.Prelude.{◌≡◌, ℕ, ◌+◌, ◌<◌, ◌≤◌, List, [], ◌∷◌, length, map, Bool, ◌||◌, if◌then◌else◌}
 use Rattle.dgt_command.specs.Content.{CommandContent}
 use Rattle.dgt_host.specs.Host.{HostView}
@@ -12,7 +12,7 @@ use Rattle.dgt_link.specs.Faults.{FaultyContent, FaultyRuns, FaultyStep, is_faul
 use Rattle.dgt_link.specs.Healing.{IsSane}
 use Rattle.dgt_link.specs.View.{LineContents, WorldView, with_bytes}
 
--- ---- an asking
+-- ---- a request
 
 -- the acts that request a reading of the clock, in the modes that report it
 abbrev pub reading_acts : UpdateMode → List FaultyContent
@@ -20,7 +20,7 @@ reading_acts UpdateMode.Squares = []
 reading_acts UpdateMode.Clock = sends CommandContent.Clock ∷ []
 reading_acts UpdateMode.ClockChanges = sends CommandContent.Clock ∷ []
 
--- the acts that an asking is
+-- the acts of a request
 abbrev pub asking_acts : UpdateMode → Asking → List FaultyContent
 asking_acts mode Asking.Nothing = []
 asking_acts mode Asking.Identify = sends CommandContent.Serial ∷ []
@@ -35,39 +35,39 @@ all_done acts = map (λ _. Outcome.Done) acts
 abbrev pub RunsDone : List FaultyContent → WorldView → WorldView → Type 0
 RunsDone acts world after = FaultyRuns acts world (all_done acts) after
 
--- the line has room for this number of bytes more
+-- the line has room for this many more bytes
 abbrev pub HasRoom : LineContents → List ℕ → Type 0
 HasRoom line bytes = length line.bytes + length bytes ≤ line.capacity
 
--- the host has become this one and has written these bytes into its line
+-- the host is now this one and has written these bytes into its line
 abbrev pub after_writing : WorldView → HostView → List ℕ → WorldView
 after_writing world host bytes = record world { host = host; down = with_bytes world.down bytes }
 
 -- ---- what happens
 
--- a world whose host is a follower's, the follower's pace, and two counts
+-- the world of a follower's host, the follower's pace, and two counts
 pub record FollowedView : Type 0 where
   pub world : WorldView
   pub pace : PaceView
-  pub since : ℕ  -- how often it has asked since the last fault, break or reset
-  -- how often it has asked in a mode that reports the clock, since the last act that unsettles the
-  -- clock and since it last asked in another mode
+  pub since : ℕ  -- the number of requests since the last fault, break or reset
+  -- the number of requests in a mode that reports the clock, since the last act that unsettles the
+  -- clock and since the last request in another mode
   pub clock_since : ℕ
 
 abbrev pub follower_of : FollowedView → FollowerView
 follower_of followed = following followed.world.host followed.pace
 
 pub data Happening : Type 0 where
-  -- the follower is had to ask at this time, and writes what is due
+  -- the follower is asked at this time, and writes what is due
   Ask : (now : ℕ) → Happening
   -- anything else: a delivery, a sending, another command, a change, a fault
   Other : (act : FaultyContent) → Happening
 
--- after it what was asked before counts for nothing
+-- after it, earlier requests don't count
 abbrev pub unsettles : FaultyContent → Bool
 unsettles act = is_fault act || stops act
 
--- the count after an act that is no asking
+-- the count after an act that is not a request
 abbrev pub count_after : FaultyContent → ℕ → ℕ
 count_after act since = if unsettles act then 0 else since
 
@@ -76,7 +76,7 @@ count_after_asking Asking.Nothing since = since
 count_after_asking Asking.Identify since = since
 count_after_asking _ since = since + 1
 
--- after it no reading of the clock that was requested before counts
+-- after it, earlier requests of the clock don't count
 abbrev pub unsettles_clock : FaultyContent → Bool
 unsettles_clock act = is_fault act || stops_clock act
 
@@ -94,8 +94,8 @@ pub record KeepsPatience (before after : PaceView) : Type 0 where
   pub patience : after.patience ≡ before.patience
   pub left : after.left ≡ before.left
 
--- An asking is the acts that are due at its time, each of them done. Any other act has the outcome
--- that it has, and the follower may note of it whatever it likes.
+-- A request is the acts that are due at its time, each of them done. Any other act has any of its
+-- outcomes, and the follower may record anything of it.
 abbrev pub FollowedStep : Happening → FollowedView → FollowedView → Type 0
 FollowedStep (Happening.Ask now) before after =
     let what = asking_of (follower_of before) now in
@@ -116,8 +116,8 @@ FollowedRuns (happening ∷ later) before after =
     (between : FollowedView) × FollowedStep happening before between
     × FollowedRuns later between after
 
--- what holds of the world after any happenings by which this count rises from zero above the
--- patience, if the world was sane
+-- facts of the world after any happenings by which this count rises from zero above the patience,
+-- if the world was sane
 abbrev pub AfterAskings : (FollowedView → ℕ) → (WorldView → Type 0) → Type 0
 AfterAskings count Holds =
     (happenings : List Happening) (before after : FollowedView) → IsSane before.world

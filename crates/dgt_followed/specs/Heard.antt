@@ -1,4 +1,4 @@
--- A board and a follower that notes what it hears, and nothing else, on lines that may fail.
+-- A board and a follower that records only what it hears, on lines that may fail.
 use Rattle.std.specs.Prelude.{◌≡◌, ◌≢◌, ℕ, List, [], ◌∷◌, ◌++◌, Bool, true, false, if◌then◌else◌, Option, None, Some, take, option_to_list, IsTrue}
 use Rattle.std.specs.List.{AllByRecursion, flat_map}
 use Rattle.dgt_values.specs.declared.pieces.Piece.{Piece}
@@ -18,11 +18,11 @@ use Rattle.dgt_followed.specs.Followed.{FollowedStep, FollowedView, Happening, f
 -- ---- what happens, and when
 
 pub data TimedHappening : Type 0 where
-  -- at this time the follower asks, and writes what is due
+  -- at this time the follower is asked, and writes what is due
   Asks : (now : ℕ) → TimedHappening
-  -- at this time it hears this number of bytes of the up line, or all that are there
+  -- at this time it hears this many bytes of the up line, or all that are there
   Hears : (now count : ℕ) → TimedHappening
-  -- this call sets or notes something, and neither hears nor asks
+  -- this call sets or records something, and neither hears nor asks
   Sets : (call : Call) → TimedHappening
   -- any other act, by which its host may send a command and notices nothing
   Acts : (act : FaultyContent) → TimedHappening
@@ -43,8 +43,8 @@ is_setting Call.AsksNow = true
 is_setting Call.Disturbs = true
 is_setting call = false
 
--- By these acts the host hears bytes, loses the line, begins anew or gives up replies. A follower
--- hears and begins anew by calls of its own.
+-- By these acts the host hears bytes, loses the line, starts over or gives up replies. A follower
+-- hears and starts over by calls of its own.
 abbrev pub is_noticed : FaultyContent → Bool
 is_noticed (FaultyContent.Plain (ActContent.ToHost count)) = true
 is_noticed (FaultyContent.Plain ActContent.Break) = true
@@ -53,7 +53,7 @@ is_noticed FaultyContent.Restart = true
 is_noticed FaultyContent.GiveUp = true
 is_noticed act = false
 
--- What it hears makes of it what `follower_after` says. It notes no other act.
+-- `follower_after` describes the effect of what it hears. It records no other act.
 abbrev pub NotesOnly : TimedHappening → FollowedView → FollowedView → Type 0
 NotesOnly (TimedHappening.Asks now) before after = Unit {0}
 NotesOnly (TimedHappening.Hears now count) before after =
@@ -81,7 +81,7 @@ abbrev pub fitting : Option Content → LineContents → List Content
 fitting None line = []
 fitting (Some message) line = if overflows line (encoding message) then [] else message ∷ []
 
--- the message that the board sends by this, if it sends one
+-- the message that the board sends by this, if there is one
 abbrev pub sent_by : TimedHappening → FollowedView → List Content
 sent_by (TimedHappening.Acts (FaultyContent.Plain ActContent.BoardSend)) before =
     fitting (next_message before.world.board.state) before.world.up
@@ -100,9 +100,9 @@ HeardRuns (happening ∷ later) said bytes before after =
 abbrev pub KeepsPower : TimedHappening → Type 0
 KeepsPower happening = happening ≢ TimedHappening.Acts FaultyContent.BoardLost
 
--- ---- what holds of it
+-- ---- facts about it
 
--- What happens to a follower are calls of it, which hear the same bytes.
+-- The happenings to a follower are calls of it, which hear the same bytes.
 abbrev pub HappeningsAreCalls : Type 0
 HappeningsAreCalls =
     (happenings : List TimedHappening) (said : List Content) (bytes : List ℕ)
@@ -111,7 +111,7 @@ HappeningsAreCalls =
     × (follower_of after ≡ follower_after_calls (follower_of before) calls)
 
 -- Whatever happens, the picture is that of the messages among the bytes, and it is confirmed only
--- if they confirm it. The unread bytes are those of an unfinished message, as they always are.
+-- if they confirm it. The unread bytes are those of an unfinished message, as always.
 abbrev pub ConfirmedAsDelivered : Type 0
 ConfirmedAsDelivered =
     (happenings : List TimedHappening) (said : List Content) (bytes : List ℕ)
@@ -123,7 +123,8 @@ ConfirmedAsDelivered =
     × (IsTrue after.pace.confirmed →
     IsTrue (confirmed_after_all before.pace.confirmed picture heard))
 
--- What the board has reported is what the messages say that it has sent, while it keeps its power.
+-- What the board has reported is the picture after the messages that it has sent, while it keeps
+-- its power.
 abbrev pub SentIsReported : Type 0
 SentIsReported =
     (happenings : List TimedHappening) (said : List Content) (bytes : List ℕ)
@@ -132,9 +133,9 @@ SentIsReported =
     Some after.world.board.state.reported_squares
     ≡ picture_after_all (Some before.world.board.state.reported_squares) said
 
--- The bytes are those of messages, but for one stretch between them, which says at most one
--- message. It came in place of at most one. At first the follower shows what the board has
--- reported, or knows no picture. Nothing is confirmed, and no byte is unread.
+-- The bytes are those of messages, except for one stretch between them, which contains at most one
+-- message and replaces at most one. At first the follower shows what the board has reported, or
+-- knows no picture. Nothing is confirmed, and no byte is unread.
 pub record IsOneStretch (reported : List Piece) (before : FollowedView) (said : List Content)
     (bytes : List ℕ) : Type 0 where
   pub first : List Content
@@ -151,10 +152,10 @@ pub record IsOneStretch (reported : List Piece) (before : FollowedView) (said : 
   pub unconfirmed : before.pace.confirmed ≡ false
   pub right : IsRight reported before.world.host.picture
 
--- **After one stretch of faulty bytes a picture that both sides confirm is right, in worlds.** The
--- bytes that are delivered are those of these messages, but for one stretch. If the follower is
--- confirmed then, and the messages repeat the picture since they last changed it, its picture is
--- what they report.
+-- **After one stretch of faulty bytes, a picture that both sides confirm is right, in worlds.** The
+-- delivered bytes are those of these messages, except for one stretch. If the follower is then
+-- confirmed, and the messages repeat the picture since they last changed it, its picture is what
+-- they report.
 abbrev pub OneStretchIsSeenInWorlds : Type 0
 OneStretchIsSeenInWorlds =
     (happenings : List TimedHappening) (sent said : List Content) (bytes : List ℕ)

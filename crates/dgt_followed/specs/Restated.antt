@@ -21,8 +21,8 @@ use Rattle.dgt_link.specs.View.{WorldView}
 use Rattle.dgt_followed.specs.Followed.{FollowedView, follower_of}
 use Rattle.dgt_followed.specs.Heard.{HeardStep, TimedHappening}
 
--- These messages come to a host that shows this picture, or knows none. Each dump among them is the
--- picture that the host shows by then, if it knows one.
+-- A host that shows this picture, or knows none, hears these messages. Each dump among them is the
+-- picture that the host then shows, if it knows one.
 abbrev pub AllRestate : Option (List Piece) → List Content → Type 0
 AllRestate picture [] = Unit {0}
 AllRestate picture (Content.dump pieces ∷ later) =
@@ -44,7 +44,7 @@ abbrev pub DumpsAtRest : MachineState → List Move → Type 0
 DumpsAtRest x [] = Unit {0}
 DumpsAtRest x (move ∷ moves) = SendsAtRest x move × DumpsAtRest (after_move x move) moves
 
--- The pace is in no doubt, and nothing has disturbed it since it last asked.
+-- The pace is in no doubt, and there was no disturbance since its last request.
 pub record HasNoDoubt (pace : PaceView) : Type 0 where
   pub doubtful : pace.doubtful ≡ false
   pub disturbed : pace.disturbed ≡ false
@@ -75,8 +75,8 @@ RunsAtRest = RunsBy StepAtRest
 
 -- ---- a follower in such a world
 
--- At this time no answer is overdue, and no message has been unfinished for a second. If it asks
--- for a dump, none is owed. If it begins anew, its host awaits nothing.
+-- At this time no answer is overdue, and no message is unfinished for a second. If a dump is
+-- requested, none is owed. If the follower starts over, its host awaits nothing.
 pub record AsksInTime (now : ℕ) (before : FollowedView) : Type 0 where
   pub early : is_overdue before.pace now ≡ false
   pub fresh : is_stuck before.pace now ≡ false
@@ -84,8 +84,8 @@ pub record AsksInTime (now : ℕ) (before : FollowedView) : Type 0 where
       (what ≡ Asking.Nothing) ⊎ ((what ≡ Asking.Identify) ⊎ (is_unanswered before.pace ≡ false))
   pub idle : asking_of (follower_of before) now ≡ Asking.Anew → before.world.host.awaited ≡ []
 
--- It asks in time, or hears or sets something, or something happens that is no fault, and none is
--- reported. A dump is sent only after each change of a square has been reported.
+-- It asks in time, or hears or sets something, or something happens that is not a fault, and none
+-- is reported. A dump is sent only after each change of a square has been reported.
 abbrev pub IsSoundHappening : TimedHappening → FollowedView → Type 0
 IsSoundHappening (TimedHappening.Asks now) before = AsksInTime now before
 IsSoundHappening (TimedHappening.Hears now count) before = Unit {0}

@@ -1,28 +1,28 @@
-//! A DGT board and a follower on lines that lose and alter bytes, and what the follower's askings
-//! promise of its picture and its clock.
+//! A DGT board and a follower on lines that lose and alter bytes: how the follower's requests make
+//! its picture and its clock right again.
 //!
-//! Nothing here runs: each function stands for the facts that its contract states.
-//! [`asking_is_acts`] says that what [`Follower::ask`](dgt_follow::Follower::ask) writes and leaves
-//! are acts of a [`FaultyWorld`](dgt_link::FaultyWorld). [`askings_heal`] says how many askings
-//! after the last fault are enough: one more than the patience. [`clocks_heal`] says the same of
-//! the clock, in the modes that report it.
+//! Each function does nothing at run time: its contract states the facts. [`asking_is_acts`] says
+//! that each call of [`Follower::ask`](dgt_follow::Follower::ask) is a list of acts of a
+//! [`FaultyWorld`](dgt_link::FaultyWorld). [`askings_heal`] says how many requests after the last
+//! fault are enough: one more than the patience. [`clocks_heal`] says the same of the clock, in the
+//! modes that report it.
 //!
-//! [`worlds_confirm_as_delivered`] says that a follower's picture is that of the messages that were
-//! delivered to it, and confirmed only if they confirm it, whatever else happens. After one stretch
-//! of faulty bytes a picture that both sides confirm is what the board has reported.
+//! [`worlds_confirm_as_delivered`] says that a follower's picture is that of the messages delivered
+//! to it, and is confirmed only if they confirm it, whatever else happens. After one stretch of
+//! faulty bytes, a picture that both sides confirm is what the board has reported.
 //! [`one_byte_is_a_stretch`] says that one faulty byte of a message is such a stretch.
 //!
-//! [`sound_lines_raise_no_doubt`] says that without faults nothing that a follower hears is a
-//! doubt, if the board has reported each change of a square before it sends a dump.
-//! [`sound_worlds_raise_no_doubt`] says the same of a world's bytes, and that a follower which asks
-//! in time is never in doubt there. [`unreported_changes_are_doubts`] says why the premise is
+//! [`sound_lines_raise_no_doubt`] says that without faults a follower hears nothing that raises a
+//! doubt, if the board reports each change of a square before it sends a dump.
+//! [`sound_worlds_raise_no_doubt`] says the same of a world's bytes, and that a follower that asks
+//! in time is never in doubt there. [`unreported_changes_are_doubts`] shows why the premise is
 //! needed.
 //!
-//! `FollowedRuns` of `specs/Followed.antt` is what happens to a world and a follower's pace, one
-//! thing after another: the follower asks at some time, or anything else is done. No premise is
-//! about time: an asking that isn't due writes nothing and isn't counted. `HeardRuns` of
-//! `specs/Heard.antt` adds when it hears what, and that it notes nothing else. The front page of
-//! dgt_follow has an example of a program that asks.
+//! `FollowedRuns` of `specs/Followed.antt` describes what happens to a world and a follower's pace,
+//! step by step: the follower asks at some time, or another act happens. No premise is about time:
+//! a call of `ask` that isn't due writes nothing and isn't counted. `HeardRuns` of
+//! `specs/Heard.antt` adds when the follower hears which bytes, and that it records nothing else.
+//! The front page of dgt_follow contains a program that uses a follower.
 #![tactic(auto)]
 
 ghost use Rattle.std.specs.Prelude.{◌≡◌, ◌≢◌, ◌⊎◌, ◌<◌, ◌≤◌, ◌+◌, [], ◌∷◌, ◌++◌, ℕ, Bool, List, Option, None, Some, length, map, option_to_list, slice_set, take, false, true};
@@ -61,8 +61,8 @@ ghost use Rattle.dgt_link.specs.View.{IsQuietWorld, LineContents, WorldView, wit
 
 /// What a follower's `ask` writes and leaves are acts of the faulty world of its host, each of them
 /// done: `Host(mode)` and `Host(Dump)`, or `Restart` and `Host(mode)`, or `Host(Serial)`, or none.
-/// In a mode that reports the clock `Host(Clock)` follows either of the first two. The bytes that
-/// it wrote follow those in the down line, if that has room for them.
+/// In a mode that reports the clock, `Host(Clock)` follows either of the first two. The bytes
+/// written follow those in the down line, if it has room for them.
 pub fn asking_is_acts()
     ensures { (follower after : FollowerView) (now written : ℕ) (old new : List ℕ)
         (world : WorldView) → let what = asking_of follower now in
@@ -72,10 +72,11 @@ pub fn asking_is_acts()
         (after_writing world after.host (take written new)) }
 {}
 
-/// What the calls of a follower do to it, to its host's world and to the counts is a step of
-/// `HeardStep`, and so of `FollowedStep`: `ask` asks, `hear` and `hear_all` of bytes of the up line
-/// are the act `ToHost`, and `send` is the act `Host(command)`. A call that sets something leaves
-/// the world as it is. So what holds of all happenings holds of these calls.
+/// The effect of a follower's calls on it, on its host's world and on the counts is a step of
+/// `HeardStep`, and therefore of `FollowedStep`. `ask` is a request, `hear` and `hear_all` of bytes
+/// of the up line are the act `ToHost`, and `send` is the act `Host(command)`. A call that only
+/// sets something leaves the world as it is. Laws about all happenings therefore hold for these
+/// calls.
 pub fn calls_are_happenings()
     ensures ask { (before : FollowedView) (after : FollowerView) (now written : ℕ)
         (old new : List ℕ) → let what = asking_of (follower_of before) now in
@@ -120,9 +121,9 @@ pub fn calls_are_happenings()
     dgt_follow::laws::hearing_is_the_hosts();
 }
 
-/// Once the follower has asked more often than its patience allows heartbeats, the world is
-/// promised to heal, whatever failed and whatever else is sent, delivered and noted. Those askings
-/// come with no fault, no break that both sides see and no reset among them. If the world is quiet,
+/// Suppose the follower has asked more often than its patience allows heartbeats, without a fault,
+/// a break that both sides notice or a reset in between. Then the world is promised to heal,
+/// whatever failed before and whatever else is sent, delivered and recorded. If the world is quiet,
 /// the picture is the board's position.
 pub fn askings_heal()
     ensures promised { AfterAskings (λ followed. followed.since) IsPromisedWorld }
@@ -134,13 +135,13 @@ pub fn askings_heal()
     dgt_link::healing::steps_heal();
 }
 
-/// Once the follower has asked more often than its patience allows heartbeats, each time in a mode
-/// that reports the clock, the world's clock is promised to heal. That holds whatever failed, and
-/// whatever else is sent, delivered and noted. If the world is quiet, the host's clock is the
-/// board's.
+/// Suppose the follower has asked more often than its patience allows heartbeats, each time in a
+/// mode that reports the clock. Then the world's clock is promised to heal, whatever failed before
+/// and whatever else is sent, delivered and recorded. If the world is quiet, the host's clock is
+/// the board's.
 ///
-/// An asking with `Squares` begins the count anew, and so does any other act that unsettles the
-/// clock: a fault, a break, a restart, a reset or the command `UpdateBoard`.
+/// A request with `Squares` restarts the count, and so does any other act that unsettles the clock:
+/// a fault, a break, a restart, a reset or the command `UpdateBoard`.
 pub fn clocks_heal()
     ensures clock_promised { AfterAskings (λ followed. followed.clock_since) IsClockPromisedWorld }
     ensures clock { AfterAskings (λ followed. followed.clock_since) (λ world.
@@ -150,10 +151,10 @@ pub fn clocks_heal()
     dgt_link::healing::clocks_heal();
 }
 
-/// What the words of the other laws come to. Each asking for a dump counts, and nothing but a
-/// fault, a break or a reset begins the count anew. An asking in a mode with the clock counts for
-/// the clock, and nothing begins that count anew but what unsettles the clock. Any act may happen
-/// with any outcome that it has, if patience and counts are as said. Steps in a row are runs.
+/// Facts about the terms of the other laws. Each request for a dump counts, and only a fault, a
+/// break or a reset restarts the count. A request in a mode with the clock counts for the clock,
+/// and only what unsettles the clock restarts that count. Any act may happen, with any of its
+/// outcomes, if patience and counts agree. Consecutive steps are runs.
 pub fn askings_count()
     ensures asking { (what : Asking) (since : ℕ) → what ≢ Asking.Nothing →
         what ≢ Asking.Identify → count_after_asking what since ≡ since + 1 }
@@ -181,9 +182,10 @@ pub fn askings_count()
         FollowedRuns later between after → FollowedRuns (happening ∷ later) before after }
 {}
 
-/// Without faults no dump contradicts the picture, if no square has changed unreported when a dump
-/// is sent. So nothing that a follower hears is a doubt. An asking adds none, if no answer is
-/// overdue, no message has been unfinished for a second, and no dump is owed when it asks for one.
+/// Without faults no dump contradicts the picture, if no square has an unreported change when a
+/// dump is sent. Nothing that a follower hears then raises a doubt. A call of `ask` raises none if
+/// no reply is overdue, no message has been unfinished for a second, and no dump is owed when it
+/// requests one.
 pub fn sound_lines_raise_no_doubt()
     ensures restated { (x : MachineState) (moves : List Move) → IsSound x →
         AllRestate x.picture x.up → DumpsAtRest x moves → let after = after_moves x moves in
@@ -204,8 +206,8 @@ pub fn sound_lines_raise_no_doubt()
     dgt_link::laws::answers_in_order();
 }
 
-/// A square that has changed unreported when a dump is sent makes that dump a doubt, without any
-/// fault. The next dump that is awaited and repeats the picture ends it.
+/// A square with an unreported change when a dump is sent makes that dump a doubt, without any
+/// fault. The next awaited dump that repeats the picture ends the doubt.
 pub fn unreported_changes_are_doubts()
     ensures raised { (x : MachineState) (pace : PaceView) (now : ℕ) (later : List Reply) →
         x.up ≡ [] → x.board.owed ≡ Reply.Of Kind.Dump ∷ later →
@@ -219,10 +221,10 @@ pub fn unreported_changes_are_doubts()
         (Event.Message (Content.dump pieces))).doubtful ≡ false }
 {}
 
-/// What the words of these laws come to. The first dump restates an unknown picture, and any other
-/// the picture that the messages before it leave. A dump alone is sent at rest only if each change
-/// of a square has been reported. What is asked for of one move is asked for of each. A follower
-/// just made is in no doubt.
+/// Facts about the terms of these laws. The first dump restates an unknown picture, and any other
+/// restates the picture that the messages before it leave. Only a dump has to be sent at rest, with
+/// each change of a square reported. What is required of one move is required of each. A new
+/// follower is in no doubt.
 pub fn dumps_restate()
     ensures unknown { (pieces : List Piece) →
         AllRestate None (Content.dump pieces ∷ Content.dump pieces ∷ []) }
@@ -251,11 +253,11 @@ pub fn dumps_restate()
         HasNoDoubt (new_follower period patience mode).pace }
 {}
 
-/// The same of the bytes of a world without faults, while it stands for an exact state. In one in
-/// which nothing is under way to the host each dump under way restates the picture. That stays so
-/// by any acts but `HostBreak`, if no square has changed unreported when a dump is sent. While it
-/// is so, no bytes that a follower hears are a doubt, in whatever chunks they are delivered. So a
-/// follower that asks in time is never in doubt there.
+/// The same of the bytes of a world without faults, as long as it stands for an exact state. If
+/// nothing is under way to the host, each dump under way restates the picture. That remains true
+/// after any acts but `HostBreak`, if no square has an unreported change when a dump is sent. Until
+/// then no bytes that a follower hears raise a doubt, in whatever chunks they are delivered. A
+/// follower that asks in time is therefore never in doubt there.
 pub fn sound_worlds_raise_no_doubt()
     ensures begun { (world : WorldView) → IsExactWorld world → world.host.unread ≡ [] →
         world.up.bytes ≡ [] → IsRestatedWorld world }
@@ -284,9 +286,9 @@ pub fn sound_worlds_raise_no_doubt()
     dgt_command::laws::parts_of_words();
 }
 
-/// What the words of that law come to. It asks of a sending of the board that a dump is sent at
-/// rest, and nothing of another act. A follower asks in time if no answer is owed, nothing is
-/// awaited and no message has been unfinished for a second. What it hears is no matter, and a fault
+/// Facts about the terms of that law. It requires that the board sends a dump only at rest, and
+/// nothing of other acts. A follower asks in time if no reply is owed, nothing is awaited and no
+/// message has been unfinished for a second. It doesn't matter what the follower hears, and a fault
 /// is not sound.
 pub fn happenings_are_sound()
     ensures world { (world : WorldView) (is : IsRestatedWorld world) →
@@ -327,13 +329,13 @@ pub fn happenings_are_sound()
         SoundRuns (happening ∷ []) before after → IsSoundHappening happening before }
 {}
 
-/// What is delivered to a follower in a world that may fail is what it hears, whatever else
-/// happens: these are happenings of `FollowedRuns`, and calls of the follower. So its picture is
-/// that of the messages among the bytes that were delivered, and is confirmed only if they confirm
+/// In a world that may fail, a follower hears exactly what is delivered to it, whatever else
+/// happens: these are happenings of `FollowedRuns`, and calls of the follower. Its picture is
+/// therefore that of the messages among the delivered bytes, and is confirmed only if they confirm
 /// it.
 ///
-/// After one stretch of faulty bytes among them a picture that both sides confirm is right. If the
-/// board sent all else meanwhile, the picture is what it has reported.
+/// After one stretch of faulty bytes among them, a picture that both sides confirm is right. If the
+/// board sent everything else meanwhile, the picture is what it has reported.
 pub fn worlds_confirm_as_delivered()
     ensures followed { (happenings : List TimedHappening) (said : List Content) (bytes : List ℕ)
         (before after : FollowedView) → HeardRuns happenings said bytes before after →
@@ -356,15 +358,15 @@ pub fn worlds_confirm_as_delivered()
 }
 
 /// One byte of a message that a line alters, loses, repeats or inserts is such a stretch: what is
-/// heard of the message then says one message at most.
+/// then heard of the message contains one message at most.
 pub fn one_byte_is_a_stretch()
     ensures { OneByteIsAStretch }
 {
     dgt_message::laws::encoding_encodes();
 }
 
-/// What `with_fault` makes of three bytes if the second is altered, lost or repeated, or another is
-/// inserted before it or after the last.
+/// The results of `with_fault` for three bytes if the second is altered, lost or repeated, or if
+/// another is inserted before it or after the last.
 pub fn faults_of_bytes()
     ensures altered { (a b c other : ℕ) →
         with_fault (a ∷ b ∷ c ∷ []) 1 1 (other ∷ []) ≡ a ∷ other ∷ c ∷ [] }
@@ -377,9 +379,9 @@ pub fn faults_of_bytes()
         with_fault (a ∷ b ∷ c ∷ []) 3 0 (other ∷ []) ≡ a ∷ b ∷ c ∷ other ∷ [] }
 {}
 
-/// What the words of that law come to. A delivery is heard as `follower_after` says. The bytes of
-/// all deliveries come in a row, and so do the messages sent. No host notices garbled lines, a
-/// board that loses its power, or a command that it sends.
+/// Facts about the terms of that law. A delivery is heard as `follower_after` says. The bytes of
+/// all deliveries are appended in order, and so are the messages sent. A host doesn't notice
+/// garbled lines, a board's loss of power, or a command that it sends.
 pub fn happenings_are_heard()
     ensures unnoticed { (bytes : List ℕ) (command : CommandContent) →
         map is_noticed (FaultyContent.GarbleUp bytes ∷ FaultyContent.GarbleDown bytes
@@ -435,7 +437,7 @@ pub fn happenings_are_heard()
         (said ≡ sent_by happening before ++ []) × (bytes ≡ bytes_by happening before ++ []) }
 {}
 
-/// `askings_heal` and `clocks_heal` in full.
+/// `askings_heal` and `clocks_heal`, written out.
 pub fn patience_and_one_more_heal()
     ensures picture { (happenings : List Happening) (before after : FollowedView) →
         IsSane before.world →

@@ -75,7 +75,7 @@ a_clock_stop (FaultyContent.Plain ActContent.HostBreak) is = (3, omega arith, re
 a_clock_stop FaultyContent.Restart is = (4, omega arith, refl)
 a_clock_stop _ is = absurd (false≢true is)
 
--- what holds of each of these acts holds of one of them
+-- a property of each of these acts holds for one of them
 one_of : (P : FaultyContent → Type 0) (acts : List FaultyContent) (act : FaultyContent) → AllByRecursion P acts
     → Contains acts act → P act
 one_of P [] act all has = absurd (nothing_contained act has)

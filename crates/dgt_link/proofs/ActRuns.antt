@@ -23,7 +23,7 @@ module _ {A : Type 0} (Does : A → WorldView → Outcome → WorldView → Type
       (next, step, run-push acts outcomes act outcome next between after rest last)
   run-push _ _ act outcome world between after none step = absurd none
 
-  -- what each of these acts keeps is kept by all of them
+  -- a property that each of these acts keeps is kept by all of them
   pub run_keeps : (P : A → Type 0) (Q : WorldView → Type 0)
       → ((act : A) (world after : WorldView) (answer : Outcome) → P act → Q world → Does act world answer after
       → Q after)

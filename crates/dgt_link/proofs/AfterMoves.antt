@@ -1,4 +1,4 @@
--- What holds after any moves.
+-- Facts after any moves.
 use Rattle.std.proofs.Common.{◌≡◌, refl, sym, ap, ◌∙◌, List, [], ◌∷◌, ◌++◌, Option, Some, None}
 use Rattle.std.specs.Prelude.{flat_map, unwrap_or}
 use Rattle.std.specs.List.{AllByRecursion}
@@ -22,7 +22,7 @@ moves_exact x [] others exact = exact
 moves_exact x (move ∷ moves) others exact =
     moves_exact (after_move x move) moves others.1 (move_exact x move others.0 exact)
 
--- ---- what moves ask
+-- ---- the requests of moves
 
 pub commands_after-append : (before : List CommandContent) (asked more : List (Option CommandContent))
     → commands_after before (asked ++ more) ≡ commands_after (commands_after before asked) more

@@ -1,4 +1,4 @@
--- In an exact state messages come in the order in which they were asked for.
+-- In an exact state messages arrive in the order of their requests.
 use Rattle.std.proofs.Common.{◌≡◌, refl, ap, ◌∙◌, List, [], ◌∷◌, ◌++◌, Option, Some, None, All}
 use Rattle.std.proofs.lemmas.List.Elements.{All-head, All-nil, All-tail, filter_map-append}
 use Rattle.std.specs.Prelude.{filter_map, slice_get}
@@ -10,7 +10,7 @@ use Rattle.dgt_host.specs.Host.{IsUnasked}
 use Rattle.dgt_link.specs.Machine.{MachineState}
 use Rattle.dgt_link.specs.Sound.{IsExact, kind_of_event, kind_of_reply}
 
--- messages without a kind come for nothing that is awaited
+-- messages without a kind answer nothing that is awaited
 no_kinds : (messages : List Content) → All (λ other. answered_kind other ≡ None) messages
     → filter_map answered_kind messages ≡ []
 no_kinds [] none = refl

@@ -1,4 +1,4 @@
--- What is asked for by acts, and goes on being asked for.
+-- The requests of acts, which continue to count.
 use Rattle.std.proofs.Common.{◌≡◌, refl, sym, List, [], ◌∷◌, ◌++◌, false, length, map, arith}
 use Rattle.std.proofs.lemmas.Bool.{false≢true}
 use Rattle.std.proofs.lemmas.List.Elements.{Contains-append_left, Contains-push}
@@ -35,7 +35,7 @@ acts_still_asked commands (act ∷ acts) (answer ∷ answers) calm is =
     (acts_still_asked (commands_after commands (act_requests answer act)) acts answers calm.1
     (act_still_asked commands act answer calm.0.1 is))
 
--- what is asked for by more acts, whatever was asked for by the first ones
+-- the requests of later acts, whatever the first ones requested
 after_any : (more : List ActContent) (others : List Outcome)
     → ((commands : List CommandContent) → IsAsked (commands_after commands (run_requests more others)))
     → (commands : List CommandContent) (acts : List ActContent) (answers : List Outcome)

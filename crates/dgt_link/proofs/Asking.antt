@@ -1,4 +1,4 @@
--- What acts ask of the board, what they make of the promise, and which of their moves are breaks.
+-- What acts request of the board, how they change the promise, and which of their moves are breaks.
 use Rattle.std.proofs.Common.{◌≡◌, ◌≢◌, refl, ap, ◌∙◌, ℕ, zero, suc, List, [], ◌∷◌, Option, replicate, arith}
 use Rattle.std.proofs.lemmas.Grind.{flat_map-append}
 use Rattle.std.specs.Prelude.{Contains, flat_map}
@@ -13,7 +13,7 @@ use Rattle.dgt_link.proofs.Lists.{all_append, all_replicate}
 use Rattle.dgt_link.proofs.Promises.{anew_is_promised, dump_asked, picture_keeps_coming}
 use Rattle.dgt_link.proofs.AfterMoves.{moves-mode, moves_promise}
 
--- ---- what moves ask is what their acts ask
+-- ---- the requests of moves are those of their acts
 
 requests-takes : (count : ℕ) → flat_map requests (replicate count Move.Take) ≡ []
 requests-takes zero = refl
@@ -60,7 +60,7 @@ requests-run (act ∷ acts) (outcome ∷ outcomes) moves (first, later, are, fol
     refl
 requests-run _ _ moves none = absurd none
 
--- the acts that are done ask for the picture, and it is promised
+-- the acts that are done request the picture, and it is promised
 pub run_promises : (x : MachineState) (acts : List ActContent) (outcomes : List Outcome) (moves : List Move)
     → AreMovesOfRun acts outcomes moves → IsAskedBy acts outcomes → IsPromised (after_moves x moves)
 run_promises x acts outcomes moves are asked = moves_promise x moves (rw (requests-run acts outcomes moves are) asked)
@@ -73,13 +73,13 @@ mode-step x act outcome moves are =
     ∙ ap (λ (asked : List (Option CommandContent)). mode_after (coming_mode x) asked)
     (requests-step act outcome moves are)
 
--- ---- a dump is asked for, or all begins anew
+-- ---- a dump is requested, or everything starts over
 
 pub dump_is_coming : (x : MachineState) (moves : List Move)
     → AreMovesOfStep (ActContent.Host CommandContent.Dump) Outcome.Done moves → PictureIsComing (after_moves x moves)
 dump_is_coming x moves e = rw e (dump_asked x)
 
--- a break is always done, and comes to its own move
+-- a break is always done, and is its own move
 pub break_moves : (x : MachineState) (outcome : Outcome) (moves : List Move) → outcome ≡ Outcome.Done
     → AreMovesOfStep ActContent.Break outcome moves → after_moves x moves ≡ after_move x Move.Break
 break_moves x Outcome.Done moves e are = rw are refl
@@ -93,7 +93,7 @@ host_break_moves x Outcome.Done moves e (noise, is_noise, are) =
     rw are (record { noise = noise; is_noise = is_noise; down = refl }, anew_is_promised x noise is_noise)
 host_break_moves x _ moves e are = cc
 
--- ---- an act but a break comes to other moves than that, and so does one but a host break
+-- ---- an act that isn't a break has other moves than that, and so has one that isn't a host break
 
 sending_is_none : (P : Move → Type 0) → P Move.Reply → ((square : ℕ) → P (Move.Report square)) → P Move.ReportClock
     → (move : Move) → IsSending move → P move
@@ -146,7 +146,7 @@ run_is_other (act ∷ acts) (outcome ∷ outcomes) moves none (first, later, are
     (run_is_other acts outcomes later (λ has. none (suc has.0, omega (arith, has.1), has.2)) follow))
 run_is_other _ _ moves none are = absurd are
 
--- ---- a picture that is coming stays so
+-- ---- a picture to come stays so
 
 moves_keep_coming : (x : MachineState) (moves : List Move) → AllByRecursion (λ move. move ≢ Move.Break) moves
     → PictureIsComing x → PictureIsComing (after_moves x moves)

@@ -1,4 +1,4 @@
--- What is known of a board's backlog.
+-- Facts about a board's backlog.
 use Rattle.std.proofs.Common.{◌≡◌, ◌+◌, ◌<◌, ◌≤◌, List, Some, length}
 use Rattle.dgt_message.specs.Content.{Content}
 use Rattle.dgt_command.specs.Content.{EventContent}
@@ -10,7 +10,7 @@ abbrev pub BacklogFalls : Type 0
 BacklogFalls = (board : BoardState) (message : Content) → length board.reported_squares ≡ 64
     → next_message board ≡ Some message → backlog (after_sending board message) < backlog board
 
--- a backlog rises by one for each event at most
+-- a backlog rises by at most one for each event
 abbrev pub BacklogRises : Type 0
 BacklogRises = (board : BoardState) (events : List EventContent)
     → backlog (effects board events) ≤ backlog board + length events

@@ -1,4 +1,4 @@
--- What an act leaves of a world that stands for a state after garbage.
+-- The effect of an act on a world that stands for a state after garbage.
 use Rattle.std.proofs.Common.{◌≡◌, refl, sym, ap, ◌∙◌, ◌⊎◌, inl, inr, ℕ, ◌≤◌, List, [], ◌∷◌, ◌++◌, length, take, drop, replicate}
 use Rattle.std.proofs.Common.{Option, Some, None, false, append_assoc, option_to_list, arith}
 use Rattle.std.proofs.lemmas.List.{append-nil}
@@ -45,9 +45,9 @@ Sends message world after =
 abbrev pub after_sent : MachineState → Content → MachineState
 after_sent x message = record x { board = after_sending x.board message; up = x.up ++ message ∷ [] }
 
--- ---- what a host knows that began with less
+-- ---- the knowledge of a host that began with less
 
--- what the one knows the other knows too
+-- everything that the one knows the other knows, too
 record KnowsNoMore (known host : HostView) : Type 0 where
   pub picture : IsUnknownOr known.picture host.picture
   pub clock : IsUnknownOr known.clock host.clock
@@ -86,7 +86,7 @@ knows_no_more known host (message ∷ messages) less =
 
 -- ---- what is awaited
 
--- whatever is heard, what is awaited stays among the same kinds
+-- whatever is heard, the awaited kinds stay among the same kinds
 awaited_after_stays : (awaited : List Kind) (kind : Option Kind) (kinds : List Kind) → IsSubsequence awaited kinds
     → IsSubsequence (awaited_after awaited kind) kinds
 awaited_after_stays awaited None kinds h = h
@@ -104,7 +104,7 @@ events_await host [] kinds h = h
 events_await host (x ∷ reported) kinds h =
     events_await (host_after_event host x.event) reported kinds (event_awaits host x.event kinds h)
 
--- what is awaited after messages doesn't depend on what else is known
+-- the awaited kinds after messages don't depend on what else is known
 same_awaited : (host other : HostView) (messages : List Content) → host.awaited ≡ other.awaited
     → (host_after_messages host messages).awaited ≡ (host_after_messages other messages).awaited
 same_awaited host other [] e = e
@@ -112,7 +112,7 @@ same_awaited host other (message ∷ messages) e =
     same_awaited (host_after_message host message) (host_after_message other message) messages
     (ap (λ (awaited : List Kind). awaited_after awaited (answered_kind message)) e)
 
--- the state whose host awaits this
+-- the state with these awaited replies of its host
 abbrev pub awaiting : MachineState → List Kind → MachineState
 awaiting x awaited = record x { awaited = awaited }
 
@@ -123,7 +123,7 @@ events_in_a_row : (host : HostView) (reported more : List Placed)
 events_in_a_row host [] more = refl
 events_in_a_row host (x ∷ reported) more = events_in_a_row (host_after_event host x.event) reported more
 
--- that a message is cut off reports nothing
+-- cutting off a message reports nothing
 cut_reports_nothing : (host : HostView) (held : List ℕ) → host_after_events host (cut_of held) ≡ host
 cut_reports_nothing host [] = refl
 cut_reports_nothing host (b ∷ held) = refl
@@ -132,7 +132,7 @@ same_behind : (prefix xs ys : List ℕ) → prefix ++ xs ≡ prefix ++ ys → xs
 same_behind [] xs ys e = e
 same_behind (b ∷ prefix) xs ys e = same_behind prefix xs ys cc
 
--- what is written of messages begins with a byte with a set top bit
+-- encoded messages begin with a byte with a set top bit
 first_has_top_bit : (messages : List Content) (b : ℕ) (rest : List ℕ) → flat_map encoding messages ≡ b ∷ rest → 128 ≤ b
 first_has_top_bit [] b rest e = cc
 first_has_top_bit (message ∷ messages) b rest e = omega (arith, first_same e)
@@ -140,7 +140,7 @@ first_has_top_bit (message ∷ messages) b rest e = omega (arith, first_same e)
     first_same : {x y : ℕ} {xs ys : List ℕ} → x ∷ xs ≡ y ∷ ys → x ≡ y
     first_same h = cc
 
--- whatever the host made of garbage, after it it hears what begins there
+-- whatever the effect of garbage on the host, it hears what begins after it
 behind_garbage : BeginsAnew
     → ((host : HostView) (n : ℕ) (reported : List Placed)
     → host_after_events host (shifted n reported) ≡ host_after_events host reported)
@@ -169,11 +169,11 @@ heard_world world count =
       up = without_first world.up count;
     }
 
--- all that the host has of a message and then hears
+-- all bytes that the host holds of a message and then hears
 abbrev all_heard : WorldView → ℕ → List ℕ
 all_heard world count = world.host.unread ++ take count world.up.bytes
 
--- an act that is no break leads a state after garbage by its moves
+-- an act that isn't a break leads a state after garbage by its moves
 abbrev pub ActsBehind : Type 0
 ActsBehind =
     (act : ActContent) (garbage : List ℕ) (world : WorldView) (answer : Outcome) (after : WorldView) (x : MachineState)
@@ -181,7 +181,7 @@ ActsBehind =
     → StandsBehindAfter act answer world x after
 
 module _ (laws : Grammars) where
-  -- the host hears what begins with a message, and knew at least what the state's host knows
+  -- the host hears the beginning of a message, and knew at least what the state's host knows
   hear_true : (garbage more : List ℕ) (world : WorldView) (count : ℕ) (x : MachineState) (host : HostView)
       → StandsBehind garbage world x → KnowsNoMore (host_of x) host
       → (AwaitsWhatComes world x → IsSubsequence host.awaited (coming_kinds x))
@@ -228,7 +228,7 @@ module _ (laws : Grammars) where
             rw (same_awaited host state_host prefix.heard refl) sound.awaited),
       )
 
-  -- the host hears garbage alone
+  -- the host hears only garbage
   hear_garbage : (garbage left : List ℕ) (world : WorldView) (count : ℕ) (x : MachineState)
       → StandsBehind garbage world x → (x.picture ≡ None) × (x.host_clock ≡ None)
       → drop count world.up.bytes ≡ left ++ flat_map encoding x.up

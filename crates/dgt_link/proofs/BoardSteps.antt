@@ -1,4 +1,4 @@
--- What the board sends is the step of its act, of whatever world.
+-- The board's sending is the step of its act, in whatever world.
 use Rattle.std.proofs.Common.{◌≡◌, refl, Some}
 use Rattle.dgt_message.specs.Content.{Content}
 use Rattle.dgt_message.specs.Encoding.{Encodes, encoding}

@@ -1,4 +1,4 @@
--- What each act makes of the hope for a host's clock, and what counts for it after many.
+-- How each act changes what is promised of a host's clock, and what counts for it after many acts.
 use Rattle.std.proofs.Common.{◌≡◌, refl, sym, ◌∙◌, ap, inr, List, [], ◌∷◌, Some, None, true, false, arith}
 use Rattle.std.specs.Prelude.{IsTrue, filter_map}
 use Rattle.dgt_command.specs.Content.{CommandContent}
@@ -37,7 +37,7 @@ clock_hope =
     (λ count. refl) in
     record { command = command_stays; breaks = refl; settling = settling; comes = step_keeps_clock }
 
--- what begins anew ends it
+-- starting over ends it
 anew_ends : (act : FaultyContent) → begins_anew act ≡ true → stops_clock act ≡ false → ⊥
 anew_ends FaultyContent.Restart is going = cc
 anew_ends (FaultyContent.Plain ActContent.HostBreak) is going = cc

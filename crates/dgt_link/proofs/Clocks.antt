@@ -1,4 +1,4 @@
--- What keeps a clock coming, and that it is the board's at quiet.
+-- What keeps a clock coming, and that it is the board's when the world is quiet.
 use Rattle.std.proofs.Common.{IsTrue, false, Bool, ◌≡◌, ◌≢◌, refl, sym, ap, ◌∙◌, ◌⊎◌, inl, inr, List, [], ◌∷◌, ◌++◌, Option, Some, None, ◌&&◌}
 use Rattle.std.proofs.lemmas.List.Elements.{Contains-append_left, Contains-push}
 use Rattle.std.proofs.lemmas.Bool.{cond_both, false≢true}
@@ -31,13 +31,13 @@ clock_after_known (Some clock) (Content.times readings) known = refl
 clock_after_known (Some clock) (Content.no_clock absence) known = refl
 clock_after_known (Some clock) _ known = refl
 
--- a clock that comes, by its four ways: under way, owed, asked for, never reported
+-- a clock to come, in its four ways: under way, owed, requested, never reported
 abbrev Comes : Option ClockState → Option ClockState → List Reply → List EventContent → Type 0
 Comes seen reported owed down =
     IsSome seen ⊎ (Contains owed Reply.Clock
     ⊎ (Contains down (EventContent.Read CommandContent.Clock) ⊎ (reported ≡ None)))
 
--- a message that is sent makes the clock known or leaves what was reported of it
+-- sending a message makes the clock known or leaves what was reported of it
 sent_reported : (board : BoardState) (seen : Option ClockState) (message : Content)
     → IsSome (clock_after seen message) ⊎ (reported_clock_after board message ≡ board.reported_clock)
 sent_reported board seen (Content.times readings) = inl refl
@@ -63,7 +63,7 @@ sent_comes board clock up message owed down (inr (inr (inr none))) =
     go (inl known) = inl (rw (clock_after_all-append clock up message) known)
     go (inr same) = inr (inr (inr (same ∙ none)))
 
--- what reports the clock makes it known
+-- a report of the clock makes it known
 reported_known : (seen : Option ClockState) (clock : ClockState) → IsSome (clock_after seen (clock_message clock))
 reported_known seen (ClockState.times readings) = refl
 reported_known seen (ClockState.no_clock absence) = refl
@@ -102,7 +102,7 @@ clock_owed : (board : BoardState) (event : EventContent) → event ≡ EventCont
     → Contains (effect board event).owed Reply.Clock
 clock_owed board event e = rw e (Contains-push board.owed Reply.Clock)
 
--- what is read reports nothing
+-- noise reports nothing
 effect_reported : (board : BoardState) (event : EventContent)
     → (effect board event).reported_clock ≡ board.reported_clock
 effect_reported board (EventContent.Read command) = refl
@@ -178,19 +178,19 @@ no_break ActContent.Break other = cc
 no_break ActContent.HostBreak other = cc
 no_break _ other = (λ e. cc, λ e. cc)
 
--- an act that is no break keeps a clock coming
+-- an act that isn't a break keeps a clock to come
 pub step_keeps_clock : (x : MachineState) (act : ActContent) (answer : Outcome) (moves : List Move)
     → is_break act ≡ false → AreMovesOfStep act answer moves → ClockIsComing x → ClockIsComing (after_moves x moves)
 step_keeps_clock x act answer moves other are coming =
     moves_keep x moves (step_is_no_break act answer moves (no_break act other).0 are)
     (step_is_other act answer moves (no_break act other).1 are) coming
 
--- a reading that is asked for comes
+-- a requested reading arrives
 pub clock_is_asked : (x : MachineState) (moves : List Move)
     → AreMovesOfStep (ActContent.Host CommandContent.Clock) Outcome.Done moves → ClockIsComing (after_moves x moves)
 clock_is_asked x moves e = rw e (inr (inr (inl (Contains-push x.down (EventContent.Read CommandContent.Clock)))))
 
--- ---- at quiet
+-- ---- when everything is quiet
 
 -- if the mode follows the clock and nothing is owed, the clock was reported
 must_be_reported : (owed : Bool) (reported : Option ClockState) (clock : ClockState) → owed ≡ false → reported ≡ None

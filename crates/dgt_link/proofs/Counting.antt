@@ -1,4 +1,4 @@
--- What a world at fault keeps, and how a host that begins anew, or asks for a dump, comes to know the board again.
+-- What a world at fault keeps, and how a host that starts over, or requests a dump, knows the board again.
 use Rattle.std.proofs.Common.{◌≡◌, ◌≢◌, ◌⊎◌, refl, sym, ap, subst, ◌∙◌, inl, inr, ℕ, zero, suc, List, [], ◌∷◌, ◌++◌, length, drop, replicate, map}
 use Rattle.std.proofs.Common.{Option, Some, false, true, Bool, append_assoc, arith, rules}
 use Rattle.std.proofs.lemmas.Bool.{false≢true}
@@ -147,9 +147,9 @@ module _ (laws : Grammars) where
   step_sane act world Outcome.Done after sane step = faulty_sane act world after sane step.leaves
   step_sane act world _ after sane step = rw step.leaves sane
 
--- ---- what counts, and what stands after it
+-- ---- what counts, and the state of the world after it
 
--- the world stands for a state after garbage, and what was asked for comes to it
+-- the world stands for a state after garbage, and what was requested arrives
 pub record Follows (in_turn : Bool) (asked : List CommandContent) (world : WorldView) : Type 0 where
   pub garbage : List ℕ
   pub state : MachineState
@@ -163,7 +163,7 @@ pub record Holds (c : Counted) (world : WorldView) : Type 0 where
   pub sane : IsSane world
   pub follows : IsTrue c.in_step → Follows c.in_turn c.asked world
 
--- what holds of that state
+-- facts of that state
 pub follows_with : {in_turn : Bool} {asked : List CommandContent} {world : WorldView} (Q : MachineState → Type 0)
     (f : Follows in_turn asked world) → Q f.state → StandsWith Q world
 follows_with Q f holds = record { garbage = f.garbage; state = f.state; stands = f.stands; holds = holds }
@@ -172,7 +172,7 @@ pub follows_in_step : (in_turn : Bool) (asked : List CommandContent) (world : Wo
     → Follows in_turn asked world → IsInStep world
 follows_in_step in_turn asked world f = follows_with (λ x. Unit {0}) f tt
 
--- nothing was asked for yet
+-- nothing was requested yet
 pub in_step_follows : (world : WorldView) → IsInStep world → Follows false [] world
 in_step_follows world is =
     record {
@@ -184,7 +184,7 @@ in_step_follows world is =
       awaits = λ none. absurd (false≢true none);
     }
 
--- a reading that was asked for comes, also if it was asked for just now
+-- a requested reading arrives, even if it was just requested
 asked_clock : (asked : List CommandContent) (command : CommandContent) (x : MachineState) (moves : List Move)
     → AreMovesOfStep (ActContent.Host command) Outcome.Done moves
     → (Contains asked CommandContent.Clock → ClockIsComing x)
@@ -211,7 +211,7 @@ clock_comes act Outcome.Done x moves asked other are clock has =
 clock_comes act answer x moves asked other are clock has =
     step_keeps_clock x act answer moves other are (clock has)
 
--- an act that is no break
+-- an act that isn't a break
 plain_follows : Grammars → (act : ActContent) (world : WorldView) (answer : Outcome) (after : WorldView)
     (in_turn : Bool) (asked : List CommandContent)
     → is_break act ≡ false → Follows in_turn asked world → Step act world answer after
@@ -265,7 +265,7 @@ modes_stay (_ ∷ commands) = modes_stay commands
 abbrev pub forgotten : MachineState → MachineState
 forgotten x = commanded_state x.board x.down
 
--- all that is under way to the host may count as garbage, whatever it is
+-- everything under way to the host may count as garbage
 pub forgotten_stands : (garbage : List ℕ) (world : WorldView) (up : LineContents) (x : MachineState)
     → StandsBehind garbage world x
     → StandsBehind (world.host.unread ++ up.bytes) (record world { up = up }) (forgotten x)
@@ -282,7 +282,7 @@ forgotten_stands garbage world up x stands =
       partial = stands.partial;
     }
 
--- what is under way to the host is replaced by garbage
+-- garbage replaces what is under way to the host
 pub garbled_stands : (bytes : List ℕ) (world after : WorldView) (garbage : List ℕ) (x : MachineState)
     → StandsBehind garbage world x → FaultyBecomes (FaultyContent.GarbleUp bytes) world after
     → StandsBehind (world.host.unread ++ bytes) after (forgotten x)
@@ -306,7 +306,7 @@ garbled_follows in_turn asked bytes world after f same =
       awaits = λ none. absurd (false≢true none);
     }
 
--- what the host awaits doesn't matter to what its world stands for
+-- the awaited replies of the host don't affect the state of its world
 pub given_up_stands : (world after : WorldView) (garbage : List ℕ) (x : MachineState)
     → StandsBehind garbage world x → FaultyBecomes FaultyContent.GiveUp world after → StandsBehind garbage after x
 given_up_stands world after garbage x stands same =
@@ -335,7 +335,7 @@ given_up_follows in_turn asked world after f same =
       awaits = λ turn. rw same tt;
     }
 
--- ---- a break, and a host that begins anew
+-- ---- a break, and a host that starts over
 
 module _ (laws : Grammars) where
   pub break_follows : (world after : WorldView) → IsSane world → Becomes ActContent.Break world after
@@ -361,7 +361,7 @@ module _ (laws : Grammars) where
         awaits = λ turn. tt;
       })
 
-  -- what comes to the board of a host that begins anew after other commands
+  -- the requests of a host that starts over, after other commands
   anew_mode : (before : Mode) (events noise : List EventContent) → IsNoiseList noise
       → last_mode before (filter_map event_mode (events ++ (noise ++ map EventContent.Read commands_anew)))
       ≡ Mode.UpdateBoard
@@ -387,7 +387,7 @@ module _ (laws : Grammars) where
         mode = anew_mode board.mode events noise is_noise;
       }
 
-  -- the dump that such a host awaits comes last
+  -- the dump that such a host awaits is the last
   anew_awaits : (board : BoardState) (events noise : List EventContent) → IsNoiseList noise
       → IsSubsequence (Kind.Dump ∷ [])
       (coming_kinds (commanded_state board (events ++ (noise ++ map EventContent.Read commands_anew))))
@@ -422,7 +422,7 @@ module _ (laws : Grammars) where
             (map EventContent.Read commands_anew) [] [] noise.2 (anew_divides laws.nothing))),
       )
 
-  -- a host that begins anew asks for no reading
+  -- a host that starts over requests no reading
   no_reading_anew : Contains commands_anew CommandContent.Clock → ⊥
   no_reading_anew has =
       elim (Contains-cons CommandContent.Clock CommandContent.UpdateBoard (CommandContent.Dump ∷ []) has) [
@@ -434,7 +434,7 @@ module _ (laws : Grammars) where
             ]
       ]
 
-  -- the host awaits the dump alone, and its restart bytes come after these, and then garbage to the host
+  -- the host awaits only the dump, and its restart bytes follow these, and then garbage to the host
   anew_follows : (world after : WorldView) (bytes up : List ℕ) → IsSane world
       → AreBytes bytes → after.board ≡ world.board → after.down.bytes ≡ bytes ++ restart_bytes
       → after.host.unread ++ after.up.bytes ≡ up → after.host.awaited ≡ Kind.Dump ∷ []
@@ -478,7 +478,7 @@ module _ (laws : Grammars) where
 
 -- ---- each act, and acts in order
 
--- what isn't done
+-- an act that isn't done
 unchanged : (c : Counted) (world after : WorldView) → after ≡ world → Holds c world → IsTrue c.in_step
     → Follows c.in_turn c.asked after
 unchanged c world after same holds in_step = rw same (holds.follows in_step)
@@ -574,7 +574,7 @@ module _ (laws : Grammars) where
       (step_holds c act world answer between holds step) runs
   run_holds _ world _ after c holds none = absurd none
 
--- ---- what is known at the start
+-- ---- facts at the start
 
 sane_holds : (world : WorldView) → IsSane world → Holds (nothing_counted false) world
 sane_holds world sane = record { sane = sane; follows = λ none. absurd (false≢true none) }
@@ -591,7 +591,7 @@ module _ (laws : Grammars) (acts : List FaultyContent) (world after : WorldView)
   in_step_counted_holds is =
       run_holds laws acts world answers after (nothing_counted true) (in_step_holds world sane is) runs
 
--- ---- at quiet
+-- ---- when everything is quiet
 
 pub nothing_said : (messages : List Content) → flat_map encoding messages ≡ [] → messages ≡ []
 nothing_said [] e = refl
@@ -609,13 +609,13 @@ quiet_behind once garbage world x stands quiet =
       pending = nothing_first (pending_messages x.board) (rw stands.board at quiet.pending);
     }
 
--- what the state knows the host knows
+-- everything that the state knows the host knows
 pub host_knows : {X : Type 0} {known seen : Option X} {x : X} → IsUnknownOr known seen → known ≡ Some x
     → seen ≡ Some x
 host_knows (inl none) is = cc
 host_knows (inr same) is = sym same ∙ is
 
--- all that is awaited was still to come, and nothing comes any more
+-- each awaited reply was yet to be heard, and nothing is under way any more
 pub awaited_has_come : (world : WorldView) (is : IsInTurnWorld world) → IsQuiet is.state → world.host.awaited ≡ []
 awaited_has_come world is still =
     quiet_awaited (awaiting is.state world.host.awaited)
@@ -632,9 +632,9 @@ counted_in_turn c world holds turn =
     let f = holds.follows turn.in_step in
     record { garbage = f.garbage; state = f.state; stands = f.stands; holds = f.awaits turn.in_turn }
 
--- ---- a world with no fault
+-- ---- a world without a fault
 
--- what divides is bytes
+-- bytes that divide are bytes
 divided_bytes : (bytes : List ℕ) (events : List EventContent) (rest : List ℕ) → Divides bytes events rest
     → AreBytes bytes
 divided_bytes bytes [] rest (same, partial) =
@@ -669,7 +669,7 @@ world_in_turn world is =
       holds = rw is.stands.awaited is.stands.sound.awaited;
     }
 
--- nothing comes to the board
+-- nothing is under way to the board
 pub empty_in_step : (world : WorldView) → IsSane world → world.down.bytes ≡ [] → world.board.partial ≡ []
     → IsInStep world
 empty_in_step world sane down partial =

@@ -1,4 +1,4 @@
--- What counts, and goes on counting with the acts that follow it.
+-- What counts, and continues to count after later acts.
 use Rattle.std.proofs.Common.{arith, ◌≡◌, ◌⊎◌, inl, inr, refl, sym, subst, List, [], ◌∷◌, ◌++◌, ℕ, true, false, length}
 use Rattle.std.proofs.lemmas.Bool.{false≢true}
 use Rattle.std.proofs.lemmas.List.Elements.{Contains-append_left}
@@ -38,7 +38,7 @@ one_of_three P first second third one p q r has =
       | inr later ↦ one_of_two P second third one q r later
     ]
 
--- ---- what these acts keep counts after all of them
+-- ---- a property that these acts keep counts after all of them
 
 goes_on : (P : Counted → Type 0) (Q : FaultyContent → Type 0)
     → ((c : Counted) (act : FaultyContent) (answer : Outcome) → Q act → P c → P (counted_after c act answer))
@@ -109,7 +109,7 @@ anew_counts P c FaultyContent.Restart is p = p
 anew_counts P c (FaultyContent.Plain ActContent.HostBreak) is p = p
 anew_counts P c _ is p = absurd (false≢true is)
 
--- ---- what is awaited, and that the board reads what was sent
+-- ---- the awaited replies, and that the board reads what was sent
 
 turn_step : (c : Counted) (act : FaultyContent) (answer : Outcome) → is_fault act ≡ false → IsInTurn c
     → IsInTurn (counted_after c act answer)
@@ -121,7 +121,7 @@ turn_step c FaultyContent.Restart Outcome.Done none is = record { in_step = refl
 turn_step c FaultyContent.Restart _ none is = is
 turn_step c _ answer none is = absurd (false≢true (sym none))
 
--- the host begins anew, or both sides lose the line
+-- the host starts over, or both sides lose the line
 turn_begins : (c : Counted) (act : FaultyContent)
     → (begins_anew act ≡ true) ⊎ (act ≡ FaultyContent.Plain ActContent.Break)
     → IsInTurn (counted_after c act Outcome.Done)
@@ -203,7 +203,7 @@ module _ (acts later : List FaultyContent) (act : FaultyContent) (answers others
       (λ c. healing_goes_on (counted_after c act Outcome.Done) later others calm
       (anew_counts IsHealing c act begins anew_heals)) (nothing_counted false) acts answers same
 
-  -- ---- what is awaited, and that the board reads what was sent
+  -- ---- the awaited replies, and that the board reads what was sent
 
   pub in_turn_again : (begins_anew act ≡ true) ⊎ (act ≡ FaultyContent.Plain ActContent.Break) → AreFaultless later
       → IsInTurn (counted_after_all (nothing_counted false) (acts ++ act ∷ later) (answers ++ Outcome.Done ∷ others))

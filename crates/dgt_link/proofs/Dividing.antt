@@ -23,7 +23,7 @@ module _ (nothing : IsPartial []) where
         (refl, nothing),
       ))
 
-  -- what a host asks with that begins anew is what it asks for
+  -- the bytes of a host that starts over are its requests
   pub anew_divides : Divides follow_bytes (map EventContent.Read commands_anew) []
   anew_divides = (
     0x44 ∷ [],

@@ -1,4 +1,4 @@
--- After faults: once the board has sent a dump, what the host shows was reported, and stood there in this order.
+-- After faults: once the board has sent a dump, what the host shows was reported, in this order.
 use Rattle.std.proofs.Common.{◌≡◌, refl, sym, ap, subst, ◌∙◌, inr, ℕ, List, [], ◌∷◌, ◌++◌, Some, append_assoc, false}
 use Rattle.std.proofs.lemmas.List.{append-nil}
 use Rattle.std.proofs.lemmas.Option.{same_Some}
@@ -94,7 +94,7 @@ module _ (behind : ActsBehind) where
         rest
     known_goes seen before _ garbage world x _ worlds all stands some goes never = absurd never
 
-    -- a picture comes, and has come once nothing is under way
+    -- a picture is to come, and is known once nothing is under way
     comes_goes : (before : List Piece) (acts : List ActContent) (garbage : List ℕ) (world : WorldView)
         (x : MachineState) (answers : List Outcome) (earlier : List WorldView) (first : WorldView)
         (later : List WorldView) → Unbroken acts → StandsBehind garbage world x → PictureComes x
@@ -135,7 +135,7 @@ module _ (behind : ActsBehind) where
     abbrev started : MachineState
     started = after_sent (forgotten is.state) (Content.dump is.state.board.squares)
 
-    -- all that is under way before the dump counts as garbage
+    -- everything under way before the dump counts as garbage
     sent_stands : (between : WorldView) → Step ActContent.BoardSend world Outcome.Done between
         → StandsBehind (world.host.unread ++ world.up.bytes) between started
     sent_stands between step =

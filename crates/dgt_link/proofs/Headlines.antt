@@ -1,4 +1,4 @@
--- Acts that were all done: what they put on the board, and what they ask for.
+-- Acts that were all done: their effect on the board, and their requests.
 use Rattle.std.proofs.Common.{◌≡◌, ◌⊎◌, inl, inr, refl, sym, ap, ◌∙◌, ◌≤◌, List, [], ◌∷◌, ◌++◌, length, map, true, arith, false}
 use Rattle.std.proofs.lemmas.Bool.{false≢true}
 use Rattle.std.proofs.lemmas.List.Elements.{filter_map-append, Contains-append_left, Contains-push}
@@ -75,9 +75,9 @@ ran_all (one ∷ acts) world after (_ ∷ answers) (between, step, runs) count =
     absurd (omega (arith, few_done acts between after answers runs, count))
 ran_all _ world after _ none count = absurd none
 
--- ---- what they ask for
+-- ---- their requests
 
--- these commands ask for this
+-- these commands request this
 record IsAskedFor (commands : List CommandContent) (asking : Asking) : Type 0 where
   dump : IsTrue asking.dump → Contains commands CommandContent.Dump
   mode : updates (last_mode Mode.Idle (filter_map command_mode commands)) ≡ asking.updates
@@ -115,7 +115,7 @@ command_more commands asking one is =
 none_asked_for : IsAskedFor [] nothing_asked
 none_asked_for = record { dump = λ h. absurd (false≢true h); mode = refl }
 
--- what begins anew asks for both
+-- starting over requests both
 anew_more : (commands : List CommandContent)
     → IsAskedFor ((commands ++ CommandContent.UpdateBoard ∷ []) ++ CommandContent.Dump ∷ [])
     (record { dump = true; updates = true })
@@ -139,13 +139,13 @@ acts_more commands asking (act.HostBreak ∷ acts) is =
     (record { dump = true; updates = true }) acts (anew_more commands)
 acts_more commands asking (_ ∷ acts) is = acts_more commands asking acts is
 
--- acts that ask for the picture do so once all are done
+-- acts that request the picture do so once all are done
 pub asked_if_done : (acts : List Act) → AskForPicture acts → IsAskedBy (map act_content acts) (all_done acts)
 asked_if_done acts ask =
     let is = acts_more [] nothing_asked acts none_asked_for in
     record { dump = is.dump ask.dump; mode = is.mode ∙ ask.updates }
 
--- ---- acts that ask for the picture, and calm ones after them
+-- ---- acts that request the picture, and calm ones after them
 
 abbrev plain_of : Act → FaultyContent
 plain_of one = FaultyContent.Plain (act_content one)

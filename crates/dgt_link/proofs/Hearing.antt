@@ -1,4 +1,4 @@
--- What a host hears of messages in a row, in whatever parts.
+-- What a host hears of consecutive messages, in whatever parts.
 use Rattle.std.proofs.Common.{◌≡◌, refl, sym, ap, ◌∙◌, ◌⊎◌, inl, inr, ℕ, ◌+◌, ◌-◌, List, [], ◌∷◌, ◌++◌, length}
 use Rattle.std.specs.List.{flat_map}
 use Rattle.std.specs.Prelude.{map}
@@ -11,7 +11,7 @@ use Rattle.dgt_link.specs.Stands.{AreEncoded}
 use Rattle.dgt_link.proofs.Lists.{IsShorter, Reaches, prefixes, left_empty, not_empty, right_empty}
 use Rattle.dgt_decode.proofs.Division.{nil_raised}
 
--- no bytes make no event, and hold nothing
+-- no bytes complete no event, and hold nothing
 no_events : events [] ≡ []
 unfolding events
 no_events = refl
@@ -28,7 +28,7 @@ host_after_messages host (message ∷ messages) = host_after_messages (host_afte
 tail_same : {X : Type 0} (x y : X) (xs ys : List X) → x ∷ xs ≡ y ∷ ys → xs ≡ ys
 tail_same x y xs ys h = cc
 
--- the events, wherever they stand
+-- the events, at whatever places
 abbrev pub known : List Placed → List Event
 known xs = map (λ x. x.event) xs
 
@@ -36,7 +36,7 @@ known_behind : (n : ℕ) (xs : List Placed) → known (shifted n xs) ≡ known x
 known_behind n [] = refl
 known_behind n (x ∷ xs) = ap (λ (more : List Event). x.event ∷ more) (known_behind n xs)
 
--- what a host hears of events that are messages
+-- the effect of events that are messages on a host
 pub heard_of : (xs : List Placed) (messages : List Content) → known xs ≡ map Message messages → (host : HostView)
     → host_after_events host xs ≡ host_after_messages host messages
 heard_of [] [] e host = refl
@@ -47,7 +47,7 @@ heard_of [] (message ∷ messages) e host = cc
 heard_of (x ∷ xs) [] e host = cc
 
 module _ (reads : Reads) where
-  -- a message alone
+  -- a single message
   read_alone : (message : Content) → IsMessage message
       → events (encoding message) ≡ at_place (0 + length (encoding message)) (Message message) ∷ []
   read_alone message is = rw (no_events, nothing_unfinished) at (reads.encoding [] message is).0
@@ -55,7 +55,7 @@ module _ (reads : Reads) where
   pub held_alone : (message : Content) → IsMessage message → unfinished_message (encoding message) ≡ []
   held_alone message is = (reads.encoding [] message is).1
 
-  -- after bytes that made an event, the rest of a message makes none
+  -- after bytes with an event, the rest of a message completes none
   nothing_more : (prefix rest : List ℕ) (x y : Placed) (xs : List Placed) → events prefix ≡ x ∷ xs
       → events (prefix ++ rest) ≡ y ∷ [] → events (unfinished_message prefix ++ rest) ≡ []
   nothing_more prefix rest x y xs e whole =
@@ -67,7 +67,7 @@ module _ (reads : Reads) where
       nil_raised (length prefix - length (unfinished_message prefix)) (events (unfinished_message prefix ++ rest))
       (right_empty xs behind (tail_same x y (xs ++ behind) [] all))
 
-  -- a part of a message makes no event, and all of it is held
+  -- a part of a message completes no event, and all of it is held
   prefix_waits : (word prefix more : List ℕ) (next : ℕ) (y : Placed) → events word ≡ y ∷ []
       → unfinished_message word ≡ []
       → word ≡ prefix ++ next ∷ more → (events prefix ≡ []) × (unfinished_message prefix ≡ prefix)
@@ -83,7 +83,7 @@ module _ (reads : Reads) where
           ∙ rw e at held in
           absurd (not_empty (unfinished_message prefix) next more all)
 
-  -- what a prefix of messages in a row says, and what is left of them
+  -- the messages in a prefix of messages in a row, and the rest of them
   pub record IsPrefix (prefix more : List ℕ) (messages : List Content) : Type 0 where
     pub heard : List Content
     pub left : List Content

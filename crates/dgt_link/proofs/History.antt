@@ -1,4 +1,4 @@
--- What a host shows of a square stood there, and nothing comes back that it no longer shows.
+-- The pieces that a host shows on a square were there, and it never returns to an earlier one.
 use Rattle.std.proofs.Common.{◌≡◌, refl, sym, ap, subst, ◌∙◌, ◌⊎◌, inl, inr, ℕ, zero, suc, List, [], ◌∷◌, ◌++◌, Bool, true, false, Option, Some, None, append_assoc, replicate, ◌&&◌, if◌then◌else◌}
 use Rattle.std.proofs.lemmas.List.{append-nil}
 use Rattle.std.specs.Prelude.{slice_set}
@@ -54,7 +54,7 @@ module _ {X : Type 0} where
   shown_again (first ∷ xs) ys (z ∷ zs) x (inl (same, rest)) = inl (same, shown_again xs ys (z ∷ zs) x rest)
   shown_again (first ∷ xs) ys (z ∷ zs) x (inr rest) = inr (shown_again (first ∷ xs) ys zs x rest)
 
-  -- what stood at some other moment counts for nothing
+  -- pieces at any other moment don't count
   pub stood_before : (xs ys : List X) (y : X) → IsInOrderOf xs ys → IsInOrderOf xs (y ∷ ys)
   stood_before [] ys y is = tt
   stood_before (x ∷ xs) ys y is = inr is
@@ -71,7 +71,7 @@ module _ {X : Type 0} where
   some_not_shown (x ∷ xs) ys zs (w ∷ ws) (inl (same, rest)) = inl (same, some_not_shown xs ys zs (w ∷ ws) rest)
   some_not_shown (x ∷ xs) ys zs (w ∷ ws) (inr rest) = inr (some_not_shown (x ∷ xs) ys zs ws rest)
 
-  -- what stood twice in a row may count once
+  -- pieces that were there twice in a row may count once
   pub stood_once : (xs ys zs : List X) (y : X) → IsInOrderOf xs (ys ++ y ∷ y ∷ zs) → IsInOrderOf xs (ys ++ y ∷ zs)
   stood_once [] ys zs y is = tt
   stood_once (x ∷ xs) [] zs y (inl (same, rest)) = inl (same, stood_once xs [] zs y rest)
@@ -79,7 +79,7 @@ module _ {X : Type 0} where
   stood_once (x ∷ xs) (first ∷ ys) zs y (inl (same, rest)) = inl (same, stood_once xs (first ∷ ys) zs y rest)
   stood_once (x ∷ xs) (first ∷ ys) zs y (inr rest) = inr (stood_once (x ∷ xs) ys zs y rest)
 
--- ---- what is still to be shown
+-- ---- what is yet to be shown
 
 module _ (square : ℕ) where
   -- what the host shows now and after each message under way
@@ -120,7 +120,7 @@ module _ (square : ℕ) where
       ∙ sym (append_assoc (shown square picture) (along (picture_after picture first) up)
       (shown square (picture_after (picture_after_all (picture_after picture first) up) message)))
 
-  -- what is shown now is shown once more
+  -- the piece shown now is shown again
   again : (seen stood : List Piece) (picture : Option (List Piece)) (up : List Content)
       → IsInOrderOf (seen ++ along picture up) stood
       → IsInOrderOf ((seen ++ shown square picture) ++ along picture up) stood
@@ -131,7 +131,7 @@ module _ (square : ℕ) where
       rw (b.is, append_assoc seen (v ∷ []) (v ∷ b.rest))
       (shown_again seen b.rest stood v (rw b.is at is))
 
-  -- ---- what a message of the board shows
+  -- ---- the effect of a board's message
 
   abbrev pub ShowsNow : BoardState → Content → Type 0
   ShowsNow board message =
@@ -180,7 +180,8 @@ module _ (square : ℕ) where
   abbrev pub now : MachineState → Piece
   now x = piece_on x.board.squares square
 
-  -- what was shown, is shown and will be by what is under way, stood there in this order
+  -- the pieces that were shown, are shown and will be shown by messages under way were there in
+  -- this order
   abbrev pub Goes : List Piece → List Piece → MachineState → Type 0
   Goes seen before x = IsInOrderOf (seen ++ along x.picture x.up) (before ++ now x ∷ [])
 
@@ -195,7 +196,7 @@ module _ (square : ℕ) where
       (more_stood ((seen ++ shown square x.picture) ++ along x.picture x.up) (before ++ now x ∷ []) (now y ∷ [])
       (again seen (before ++ now x ∷ []) x.picture x.up goes))
 
-  -- all that was under way is lost
+  -- everything under way is lost
   lost : (seen before : List Piece) (x y : MachineState) → y.picture ≡ None → y.up ≡ [] → Goes seen before x
       → GoesOn seen before x y
   lost seen before x y picture up goes =
@@ -313,7 +314,7 @@ module _ (square : ℕ) where
       (goes_all (seen ++ shown square x.picture) (before ++ now x ∷ []) (after_move x move) moves
       (goes_on seen before x move goes))
 
-  -- from a state of which nothing is known and nothing is under way to the host
+  -- from a state of which nothing is known and with nothing under way to the host
   pub in_order : (x : MachineState) (moves : List Move) → x.picture ≡ None → x.up ≡ []
       → IsInOrderOf (shown_on square x moves) (stood_on square x moves)
   in_order x moves picture up = goes_all [] [] x moves (rw (picture, up) tt)

@@ -1,4 +1,4 @@
--- What each act makes of a hope for a world: that its picture, or its clock, is promised.
+-- How each act changes what is promised of a world's picture or its clock.
 use Rattle.std.proofs.Common.{◌≡◌, refl, sym, ◌∙◌, ℕ, List, [], ◌∷◌, ◌++◌, Bool, Some, true, false, replicate}
 use Rattle.std.proofs.lemmas.Bool.{false≢true}
 use Rattle.std.specs.Prelude.{IsTrue}
@@ -25,7 +25,7 @@ use Rattle.dgt_link.proofs.Settling.{by_settling}
 abbrev pub Follows : (Mode → Bool) → MachineState → Type 0
 Follows asks x = IsTrue (asks (coming_mode x))
 
--- what is asked of the mode to come, what ends that, and what comes
+-- the property of the mode to come, what ends that, and what is to come
 pub record Hope (asks : Mode → Bool) (ends : FaultyContent → Bool) (Comes : MachineState → Type 0) : Type 0 where
   pub command : (before : Mode) (command : CommandContent)
       → ends (sends command) ≡ false → IsTrue (asks before) → IsTrue (asks (mode_after before (Some command ∷ [])))
@@ -37,7 +37,7 @@ pub record Hope (asks : Mode → Bool) (ends : FaultyContent → Bool) (Comes : 
 pub settling_is_plain : (act : ActContent) → IsSettling act → is_break act ≡ false
 settling_is_plain = by_settling (λ act. is_break act ≡ false) refl (λ count. refl) (λ count. refl)
 
--- an act that is no break leads the state after the garbage by its moves
+-- an act that isn't a break leads the state after the garbage by its moves
 module _ (behind : ActsBehind) where
   pub led : (Q R : MachineState → Type 0) (act : ActContent) (world : WorldView) (answer : Outcome) (after : WorldView)
       → is_break act ≡ false
@@ -78,7 +78,7 @@ given_up Q world after _ is step = let a = step.answers in cc
 
 module _ (asks : Mode → Bool) (ends : FaultyContent → Bool) (Comes : MachineState → Type 0)
     (hope : Hope asks ends Comes) where
-  -- what doesn't end it leaves a mode that asks
+  -- an act that doesn't end it leaves a mode that asks
   mode_stays : (before : Mode) (act : ActContent) (answer : Outcome) → is_break act ≡ false
       → ends (FaultyContent.Plain act) ≡ false → IsTrue (asks before)
       → IsTrue (asks (mode_after before (act_requests answer act)))
@@ -134,7 +134,7 @@ module _ (behind : ActsBehind) (asks : Mode → Bool) (ends : FaultyContent → 
       (λ x moves are any. mode_is_set mode command x moves sets asked are) is
       (plain_step (ActContent.Host command) world Outcome.Done after step)
 
-  -- a mode that asks is set, and what this makes comes
+  -- a mode that asks is set, and that makes it come
   pub set_promises : (Q : MachineState → Type 0) (command : CommandContent) (mode : Mode) (world after : WorldView)
       → ((x : MachineState) (moves : List Move) → AreMovesOfStep (ActContent.Host command) Outcome.Done moves → Q x
       → Comes (after_moves x moves))
@@ -146,7 +146,7 @@ module _ (behind : ActsBehind) (asks : Mode → Bool) (ends : FaultyContent → 
       record { coming = comes x moves are q; mode = mode_is_set mode command x moves sets asked are }) is
       (plain_step (ActContent.Host command) world Outcome.Done after step)
 
-  -- it is asked for, while the mode to come asks for changes
+  -- it is requested, while the mode to come asks for changes
   pub asked_promises : (command : CommandContent) → ends (sends command) ≡ false
       → ((x : MachineState) (moves : List Move) → AreMovesOfStep (ActContent.Host command) Outcome.Done moves
       → Comes (after_moves x moves))
@@ -200,7 +200,7 @@ module _ (behind : ActsBehind) (asks : Mode → Bool) (ends : FaultyContent → 
         anew FaultyContent.Restart world after refl going given step
     kept FaultyContent.Restart world after _ none going given is step = rw step.leaves is
 
-  -- ---- what settles
+  -- ---- acts that settle
 
   pub settled_promised : (count : ℕ) (old new : WorldView) → SettlesIn count old new
       → StandsWith (IsPromisedBy Comes asks) old → StandsWith (IsPromisedBy Comes asks) new

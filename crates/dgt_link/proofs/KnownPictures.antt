@@ -1,4 +1,4 @@
--- A picture that is known is what the board had reported when it sent the last message that was heard.
+-- A known picture is what the board had reported when it sent the last message that was heard.
 use Rattle.std.proofs.Common.{◌≡◌, ◌≢◌, refl, sym, ap, subst, ◌∙◌, ◌⊎◌, inl, inr, rules, ℕ, List, [], ◌∷◌, ◌++◌, Bool, true, false, Option, Some, append_assoc, ◌&&◌, if◌then◌else◌}
 use Rattle.std.proofs.lemmas.List.{append-nil}
 use Rattle.std.proofs.lemmas.Bool.{false≢true}
@@ -48,12 +48,12 @@ last_of (first ∷ prefix) back (y ∷ xs) x e =
       | inr (rest, is, both) ↦ inr (rest, is, rw (same, both) refl)
     ]
 
--- ---- a move that is no break
+-- ---- a move that isn't a break
 
 abbrev pub IsPlain : Move → Type 0
 IsPlain move = (move ≢ Move.Break) × (¬ (IsHostBreak move))
 
--- what a move that hears nothing makes of what is under way, and of the picture
+-- the effect of a move that hears nothing on what is under way, and on the picture
 record Sends (x : MachineState) (move : Move) : Type 0 where
   pub up : (after_move x move).up ≡ x.up ++ sent_by x move
   pub picture : (after_move x move).picture ≡ x.picture
@@ -120,7 +120,7 @@ reported_at_once x report = go report.earlier report.later report.split report.s
     go [] (move ∷ later) split sent picture = cc
     go (move ∷ earlier) later split sent picture = cc
 
--- a picture that is known stays so
+-- a known picture stays known
 hear_stays_seen : (x : MachineState) (up : List Content) → IsSome x.picture → IsSome (after_hear x up).picture
 hear_stays_seen x [] some = some
 hear_stays_seen x (message ∷ later) some = picture_after_known x.picture message some
@@ -189,7 +189,7 @@ sent-append x (first ∷ moves) move =
     ∙ sym (append_assoc (sent_by x first) (sent_by_all (after_move x first) moves)
     (sent_by (after_moves (after_move x first) moves) move))
 
--- all that is under way is heard
+-- everything under way is heard
 since_now : (x : MachineState) (moves : List Move) (prefix : List Content) → IsSound x
     → (after_moves x moves).up ≡ prefix → Since x moves prefix []
 since_now x moves prefix sound all =
@@ -383,7 +383,7 @@ module _ (behind : ActsBehind) where
         shown = λ square. in_order square (forgotten is.state) reached.moves refl refl;
       }
 
--- ---- what is known of the state
+-- ---- facts of the state
 
 both_known : (known seen : Option (List Piece)) → IsSome known → IsUnknownOr known seen → seen ≡ known
 both_known known seen some (inl none) = absurd (false≢true (ap is_some (sym none) ∙ some))

@@ -1,4 +1,4 @@
--- What has been moved out of a line, some bytes at a time.
+-- The bytes moved out of a line, some at a time.
 use Rattle.std.proofs.Common.{◌≡◌, refl, sym, subst, ap, ◌∙◌, ◌⊎◌, inl, inr, ℕ, ◌+◌, ◌-◌, ◌<◌, ◌≤◌, List, [], ◌∷◌, ◌++◌}
 use Rattle.std.proofs.Common.{Option, Some, None, length, take, drop, get_or, suc, false, IsTrue, IfSome, IfNone, arith}
 use Rattle.std.proofs.Common.{drop-cons, append_assoc}
@@ -39,7 +39,7 @@ prefix_bytes bytes prefix k used is within =
 
 -- ---- the board sends
 
--- what was written at the front
+-- the bytes written at the beginning
 prefix_taken : (count : ℕ) (written new old more : List ℕ) → new ≡ written ++ drop count old → count ≡ length written
     → take count (new ++ more) ≡ written
 prefix_taken count written new old more e is =
@@ -47,7 +47,7 @@ prefix_taken count written new old more e is =
     ∙ ap (λ (n : ℕ). take n (written ++ (drop count old ++ more))) is ∙ take-append_seam written
     (drop count old ++ more)
 
--- what is polled into the beginning of a buffer, for which the line has room, is sent by it
+-- the bytes polled into the beginning of a buffer are sent by it if the line has room for them
 pub polled_is_sent : (count room : ℕ) (next : Option Content) (before after : BoardView) (line left : LineContents)
     (old new more : List ℕ)
     → Polls (Polled.Wrote count) next before after old new → length old ≤ room
@@ -68,7 +68,7 @@ polled_is_sent count room (Some message) before after line left old new more
 
 -- ---- the board takes
 
--- what was taken in turn was taken together
+-- taking in turn is taking together
 abbrev TakingsAppend : Type 0
 TakingsAppend =
     (before between after : BoardView) (bytes more : List ℕ) → HasTaken before bytes between
@@ -111,7 +111,7 @@ partial_prefix before bytes n within part =
           part.word;
     }
 
--- with bytes that end no frame a board owes no more
+-- after bytes that complete no frame a board owes no more
 stays : (board : BoardView) (bytes : List ℕ) → length board.state.owed < 8 → IsPartial (board.partial ++ bytes)
     → (between : BoardView) × HasTaken board bytes between × (is_full between.state ≡ false)
 stays board bytes room part = (
@@ -121,7 +121,7 @@ stays board bytes room part = (
       (length board.state.owed) room,
 )
 
--- bytes of which only the last may end a frame
+-- bytes of which only the last may complete a frame
 prefix_of_word : {E : Type 0} (content : E → EventContent) (before bytes chunk : List ℕ) (used : ℕ) (event : Option E)
     → take used chunk ≡ take used bytes
     → IfSome event (λ e. IsWord (content e) (before ++ take used chunk)) → IfNone event
@@ -150,7 +150,7 @@ abbrev HasTakenAny : BoardView → List ℕ → ℕ → BoardView → Type 0
 HasTakenAny before bytes moved now =
     ((moved ≡ 0) × (now ≡ before)) ⊎ ((0 < moved) × HasTaken before (take moved bytes) now)
 
--- how far a delivery to the board has come
+-- the progress of a delivery to the board
 pub record IsTaking (before : BoardView) (line : LineContents) (moved : ℕ) (now : BoardView)
     (left : LineContents) : Type 0 where
   pub within : moved ≤ length line.bytes
@@ -220,7 +220,7 @@ taking_more append board now new line left after moved n taking more within room
           found.2,
         )
 
--- what is left of the line
+-- the rest of the line
 pub left_length : (before now : BoardView) (line left : LineContents) (moved : ℕ) → IsTaking before line moved now left
     → length left.bytes ≡ length line.bytes - moved
 left_length before now line left moved taking =
@@ -257,7 +257,7 @@ taking_ends world count moved before now line left taking some most ended =
 abbrev HasHeardAny : HostView → List ℕ → ℕ → HostView → Type 0
 HasHeardAny before bytes moved now = ((moved ≡ 0) × (now ≡ before)) ⊎ (now ≡ host_after before (take moved bytes))
 
--- how far a delivery to the host has come
+-- the progress of a delivery to the host
 pub record IsHearing (before : HostView) (line : LineContents) (moved : ℕ) (now : HostView)
     (left : LineContents) : Type 0 where
   pub heard : HasHeardAny before line.bytes moved now

@@ -1,4 +1,4 @@
--- Lists in two parts, what holds of each element, and prefixes of one list.
+-- Lists in two parts, facts of each element, and prefixes of one list.
 use Rattle.std.proofs.Common.{◌≡◌, refl, sym, ◌⊎◌, inl, inr, ℕ, zero, suc, List, [], ◌∷◌, ◌++◌, replicate, arith}
 use Rattle.std.specs.Prelude.{Contains}
 use Rattle.std.specs.List.{AllByRecursion}
@@ -39,7 +39,7 @@ all_replicate P (suc count) x is = (is, all_replicate P count x is)
 abbrev pub IsShorter : List ℕ → List ℕ → Type 0
 IsShorter bytes word = (next : ℕ) × (more : List ℕ) × (word ≡ bytes ++ next ∷ more)
 
--- the bytes are the frame and more, which is the beginning of what follows the frame
+-- the bytes are the frame and more, which is the beginning of the bytes after the frame
 abbrev pub Reaches : List ℕ → List ℕ → List ℕ → List ℕ → Type 0
 Reaches bytes after word rest = (more : List ℕ) × (bytes ≡ word ++ more) × (rest ≡ more ++ after)
 

@@ -1,4 +1,4 @@
--- What a message that the board sends reports of its squares and of its clock.
+-- What a message from the board reports of its squares and of its clock.
 use Rattle.std.proofs.Common.{◌≡◌, refl, sym, ap, ◌∙◌, ◌⊎◌, inl, inr, ℕ, List, [], ◌∷◌, ◌++◌, Option, Some, None, Bool}
 use Rattle.std.proofs.Common.{true, false, length}
 use Rattle.std.proofs.lemmas.Bool.{and_parts, eqb-true, false≢true}
@@ -51,7 +51,7 @@ absent : (raw raw' : List ℕ) (status status' : ℕ) → raw ≡ raw' → statu
     (record { raw = raw'; status = status' })
 absent raw raw' status status' e f = rw (e, f)
 
--- clocks that pass the test are the same
+-- clocks that pass the test are equal
 clock_eq-true : (left right : ClockState) → clock_eq left right ≡ true → left ≡ right
 clock_eq-true (ClockState.times left) (ClockState.times right) h =
     let parts = and_parts (time_eq left.first right.first && time_eq left.second right.second)
@@ -85,7 +85,7 @@ handed_or_reported Mode.Update reported clock h = inl refl
 handed_or_reported Mode.UpdateBoard reported clock h = absurd (false≢true h)
 handed_or_reported Mode.UpdateNice reported clock h = owed_or_reported reported clock
 
--- what the board counts as reported after a message is what the host then has
+-- what the board counts as reported after a message is what the host then knows
 pub record ReportedIsHeard (board : BoardState) (message : Content) : Type 0 where
   pub squares : length board.squares ≡ 64 → length board.reported_squares ≡ 64
       → length (reported_squares_after board message) ≡ 64
@@ -150,7 +150,7 @@ reply_reports board _ =
     plain_reports board _
     (record { squares = refl; picture = λ seen. refl; reported_clock = refl; clock = λ seen. refl; times_owed = refl })
 
--- the message of an owed reply is of its kind, and so has the clock's message none
+-- the message of an owed reply is of its kind, and therefore the clock's message has none
 pub clock_message-kind : (clock : ClockState) → answered_kind (clock_message clock) ≡ None
 clock_message-kind (ClockState.times readings) = refl
 clock_message-kind (ClockState.no_clock absence) = refl
@@ -161,7 +161,7 @@ reply_message-kind board Reply.Clock = clock_message-kind board.clock
 reply_message-kind board (Reply.Of Kind.Dump) = refl
 reply_message-kind board _ = refl
 
--- the picture and the clock that the host comes to have, once one more message is under way
+-- the picture and the clock to come of the host, with one more message under way
 seen_after : (reported reported' : List Piece) (message : Content)
     → picture_after (Some reported) message ≡ Some reported'
     → IsUnknownOr (picture_after None message) (Some reported') → (seen : Option (List Piece))

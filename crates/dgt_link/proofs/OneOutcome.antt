@@ -1,4 +1,4 @@
--- An act has one outcome and leaves one world, and a world stands for one state.
+-- An act has one outcome and leads to one world, and a world stands for one state.
 use Rattle.std.proofs.Common.{◌≡◌, refl, sym, ap, ◌∙◌, ◌⊎◌, inl, inr, ℕ, ◌<◌, List, [], ◌∷◌, ◌++◌, length, take}
 use Rattle.std.proofs.Common.{IsTrue, arith}
 use Rattle.std.specs.List.{AllByRecursion, flat_map}
@@ -32,7 +32,7 @@ order a b =
 
 -- ---- one outcome and one world
 
--- what two acts leave is one world if their outcome is one
+-- two acts with the same outcome lead to the same world
 left_once : (Left : WorldView → Type 0) → ((one other : WorldView) → Left one → Left other → one ≡ other)
     → (world one other : WorldView) (answer also : Outcome) → answer ≡ also → IfDone answer (Left one) (one ≡ world)
     → IfDone also (Left other) (other ≡ world) → one ≡ other
@@ -109,7 +109,7 @@ module _ (one_taking : (before after other : BoardView) (bytes : List ℕ) → H
   one_run (act ∷ acts) world one other [] others none f = absurd none
   one_run (act ∷ acts) world one other (answer ∷ answers) [] runs none = absurd none
 
-  -- ---- of a world whose lines and whose board's power may fail
+  -- ---- in a world in which the lines and the board's power may fail
 
   faulty_becomes_once : (act : FaultyContent) (world one other : WorldView) → FaultyBecomes act world one
       → FaultyBecomes act world other → one ≡ other

@@ -1,4 +1,4 @@
--- What each act makes of the hope for a picture: in step, following, and promised to heal.
+-- How each act changes what is promised of a picture: in step, following, and promised to heal.
 use Rattle.std.proofs.Common.{◌≡◌, refl, ℕ, List, [], ◌∷◌, Some, true, false, arith, map, replicate}
 use Rattle.std.specs.List.{AllByRecursion}
 use Rattle.std.specs.Prelude.{IsTrue}
@@ -54,7 +54,7 @@ module _ (behind : ActsBehind) where
       asked_promises behind updates stops PictureIsComing picture_hope CommandContent.Dump refl dump_is_coming
 
   module _ (laws : Grammars) where
-    -- ---- a host that begins anew
+    -- ---- a host that starts over
 
     anew_promised : (in_turn : _) (world : WorldView) → Counted in_turn commands_anew world → IsPromisedWorld world
     anew_promised in_turn world f =
@@ -116,7 +116,7 @@ module _ (behind : ActsBehind) where
         (other_promised behind updates stops PictureIsComing picture_hope) (λ bytes old new fault. cc)
         (λ act old new begins ends sane step. anew_heals act old new begins sane step)
 
-    -- ---- what the host awaits
+    -- ---- the awaited replies
 
     turn_of : (asked : List CommandContent) (world : WorldView) → Counted true asked world → IsInTurnWorld world
     turn_of asked world f =
@@ -215,7 +215,7 @@ module _ (sane : (acts : List FaultyContent) (world after : WorldView) (answers 
       → FaultyStep act world answer after → IsSane after
   sane_after act world after answer is step = sane (act ∷ []) world after (answer ∷ []) is (after, step, refl)
 
-  -- what each of these acts keeps of a sane world is kept by all of them
+  -- a property of a sane world that each of these acts keeps is kept by all of them
   pub sane_keeps : (P : FaultyContent → Type 0) (Q : WorldView → Type 0)
       → ((act : FaultyContent) (world after : WorldView) (answer : Outcome) → P act → IsSane world → Q world
       → FaultyStep act world answer after → Q after)

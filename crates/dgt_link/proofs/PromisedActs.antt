@@ -1,4 +1,4 @@
--- What an act makes of the promise, for whatever states the worlds before and after it stand.
+-- How an act changes the promise, for any states that the worlds before and after it stand for.
 use Rattle.std.proofs.Common.{◌≡◌, ◌≢◌}
 use Rattle.dgt_command.specs.Content.{CommandContent}
 use Rattle.dgt_link.specs.Act.{ActContent}
@@ -11,7 +11,7 @@ use Rattle.dgt_link.specs.View.{WorldView}
 use Rattle.dgt_link.proofs.Asking.{break_moves, dump_is_coming, host_break_moves, mode-step, step_keeps_coming}
 use Rattle.dgt_link.proofs.Promises.{break_ends}
 
--- an act comes to moves of the machine
+-- an act is moves of the machine
 abbrev pub StepsAreMoves : Type 0
 StepsAreMoves =
     (act : ActContent) (world after : WorldView) (answer : Outcome) (x : MachineState) → StandsFor world x

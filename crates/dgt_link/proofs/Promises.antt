@@ -1,4 +1,4 @@
--- The two halves of the promise, and what each move does to them.
+-- The two halves of the promise, and how each move changes them.
 use Rattle.std.proofs.Common.{IsTrue, cond, false, true, Bool, ◌≡◌, ◌≢◌, refl, sym, ap, ◌∙◌, ◌⊎◌, inl, inr}
 use Rattle.std.proofs.Common.{List, [], ◌∷◌, ◌++◌, Option, Some, None, ◌&&◌, arith}
 use Rattle.std.proofs.lemmas.List.Elements.{filter_map-append, Contains-append_left, Contains-append_right}
@@ -40,7 +40,7 @@ effect-mode : (board : BoardState) (event : EventContent)
 effect-mode board (EventContent.Read command) = refl
 effect-mode board _ = refl
 
--- ---- a picture that is known, or coming, stays so
+-- ---- a picture that is known, or to come, stays so
 
 pub picture_after_known : (seen : Option (List Piece)) (message : Content) → IsSome seen
     → IsSome (picture_after seen message)
@@ -49,7 +49,7 @@ picture_after_known (Some squares) (Content.dump pieces) known = refl
 picture_after_known (Some squares) (Content.field square piece) known = refl
 picture_after_known (Some squares) _ known = refl
 
--- a picture that comes, by its three ways: under way, owed, asked for
+-- a picture to come, in its three ways: under way, owed, requested
 abbrev Comes : Option (List Piece) → List Reply → List EventContent → Type 0
 Comes seen owed down =
     IsSome seen ⊎ (Contains owed (Reply.Of Kind.Dump) ⊎ Contains down (EventContent.Read CommandContent.Dump))
@@ -222,9 +222,9 @@ move-mode x Move.Hear = hear-mode x x.up
 move-mode x Move.Break = refl
 move-mode x (Move.HostBreak noise is_noise) = anew-mode x noise is_noise
 
--- ---- what was asked for, and what it promises
+-- ---- the requests, and what they promise
 
--- what was asked for is what is coming, after the mode that was coming before
+-- what was requested is to come, after the mode that was to come before
 pub record IsComing (commands : List CommandContent) (x : MachineState) : Type 0 where
   pub picture : Contains commands CommandContent.Dump → PictureIsComing x
   pub before : Mode
@@ -263,7 +263,7 @@ asked_anew-mode before commands =
     asked-mode (commands ++ CommandContent.UpdateBoard ∷ []) CommandContent.Dump before Mode.UpdateBoard
     (asked-mode commands CommandContent.UpdateBoard before (last_mode before (filter_map command_mode commands)) refl)
 
--- a move that asks for nothing, and is no break
+-- a move that requests nothing, and isn't a break
 still_comes : (commands : List CommandContent) (x : MachineState) (move : Move) → move ≢ Move.Break
     → mode_after (coming_mode x) (requests move) ≡ coming_mode x → IsComing commands x
     → IsComing commands (after_move x move)
@@ -299,7 +299,7 @@ move_comes commands x (Move.HostBreak noise is_noise) coming =
       mode = anew-mode x noise is_noise ∙ asked_anew-mode coming.before commands;
     }
 
--- a mode asked for holds whatever mode was before
+-- a requested mode holds whatever mode was before
 asked_from_any : (before : Mode) (modes : List Mode) → IsTrue (updates (last_mode Mode.Idle modes))
     → IsTrue (updates (last_mode before modes))
 asked_from_any before [] h = absurd (false≢true h)
@@ -318,7 +318,7 @@ pub anew_is_promised : (x : MachineState) (noise : List EventContent) (is_noise 
 anew_is_promised x noise is_noise =
     record { coming = anew_is_coming x noise is_noise; mode = rw (anew-mode x noise is_noise) refl }
 
--- ---- the picture that the host comes to have
+-- ---- the picture to come of the host
 
 dump_seen : (x : MachineState) (owed rest : List Reply) → owed ≡ Reply.Of Kind.Dump ∷ rest
     → coming_picture (after_reply x owed) ≡ Some (after_reply x owed).board.reported_squares
@@ -367,7 +367,7 @@ picture_stays_known x Move.Hear other also known = hear_known x x.up refl known
 picture_stays_known x Move.Break other also known = absurd (other refl)
 picture_stays_known x (Move.HostBreak noise is_noise) other also known = absurd (also tt)
 
--- ---- what a board makes of it
+-- ---- the effect of a board
 
 effects-mode : (board : BoardState) (events : List EventContent)
     → (effects board events).mode ≡ last_mode board.mode (filter_map event_mode events)

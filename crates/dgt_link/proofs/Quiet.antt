@@ -1,4 +1,4 @@
--- What a sound state says if nothing is under way and nothing is to be sent.
+-- A sound state with nothing under way and nothing to be sent.
 use Rattle.std.proofs.Common.{◌≡◌, refl, sym, ap, ◌∙◌, ◌⊎◌, inl, inr, ℕ, zero, suc, ◌<◌, List, [], ◌∷◌, ◌++◌, Option}
 use Rattle.std.proofs.Common.{Some, Bool, true, false, cond, length, get_or, arith}
 use Rattle.std.proofs.lemmas.Bool.{cond-true, false≢true, eqb-true, not-false}
@@ -125,7 +125,7 @@ known : (picture reported : Option (List Piece)) → IsSome picture → IsUnknow
 known picture reported some (inl none) = absurd (false≢true (ap is_some (sym none) ∙ some))
 known picture reported some (inr same) = same
 
--- at quiet a picture that was coming has come
+-- when everything is quiet, a picture to come is known
 pub picture_has_come : (x : MachineState) → IsSound x → IsQuiet x → PictureIsComing x → IsSome x.picture
 picture_has_come x sound quiet (inl seen) = rw quiet.up at seen
 picture_has_come x sound quiet (inr (inl owed)) =
@@ -142,7 +142,7 @@ promised_picture x sound promised quiet =
     known x.picture (Some x.board.squares) (picture_has_come x sound quiet promised.coming)
     (quiet_picture x sound quiet (rw (quiet_mode x quiet) at promised.mode))
 
--- the clock, in an exact state whose mode follows it
+-- the clock, in an exact state with a mode that follows it
 pub reported_clock : (owed : Bool) (reported clock : Option ClockState) → owed ≡ false
     → IsTrue owed ⊎ (reported ≡ clock)
     → reported ≡ clock

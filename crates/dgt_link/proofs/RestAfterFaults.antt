@@ -1,4 +1,4 @@
--- How a world comes to rest that was at fault, and that it is quiet then where it was promised to heal.
+-- How a world at fault comes to rest, and that it is then quiet if it was promised to heal.
 use Rattle.std.proofs.Common.{◌≡◌, refl, sym, ap, ◌∙◌, ◌⊎◌, inl, inr, ℕ, List, [], ◌∷◌, ◌++◌, Option, Some, None, append_assoc}
 use Rattle.std.proofs.Common.{append-nil}
 use Rattle.std.proofs.lemmas.Bool.{false≢true}
@@ -43,7 +43,7 @@ promised_at_quiet once world is quiet =
 -- ---- at rest
 
 module _ (reads : Reads) where
-  -- nothing is left unfinished of messages, whatever came before them
+  -- no message is unfinished, whatever was received before
   nothing_unfinished_behind : (garbage : List ℕ) (message : Content) (messages : List Content)
       → AllByRecursion IsMessage (message ∷ messages)
       → unfinished_message (garbage ++ flat_map encoding (message ∷ messages)) ≡ []
@@ -57,7 +57,7 @@ module _ (reads : Reads) where
         in_a_row = refl;
       })
 
-  -- what a host has unread has no whole message
+  -- the unread bytes of a host contain no whole message
   none_unread : (unread garbage : List ℕ) (messages : List Content) → AllByRecursion IsMessage messages
       → unread ≡ garbage ++ flat_map encoding messages → unfinished_message unread ≡ unread → messages ≡ []
   none_unread unread garbage [] are e held = refl

@@ -1,4 +1,4 @@
--- What a board sends next is one of the moves of the machine.
+-- What a board sends next is sent by one of the moves of the machine.
 use Rattle.std.specs.Prelude.{slice_get}
 use Rattle.std.proofs.Common.{◌≡◌, refl, sym, ap, ◌∙◌, ◌⊎◌, inl, inr, ℕ, List, [], ◌∷◌, ◌++◌, Some, Bool, true, false}
 use Rattle.std.proofs.Common.{◌&&◌, cond, map, drop}

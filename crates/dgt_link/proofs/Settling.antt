@@ -39,7 +39,7 @@ use Rattle.dgt_link.proofs.WorldsByState.{world_picture_reported}
 use Rattle.dgt_link.proofs.ActRuns.{run-push, run_keeps}
 use Rattle.dgt_link.proofs.Taking.{HasSameGame, effects_same_game}
 
--- ---- each event has a byte of its own
+-- ---- each event has its own byte
 
 module _ (short : WordsAreShort) (within : NoWordBeginsAPart) where
   few_events : (events : List EventContent) (bytes rest : List ℕ) → Divides bytes events rest
@@ -50,7 +50,7 @@ module _ (short : WordsAreShort) (within : NoWordBeginsAPart) where
       let more = few_events events after rest divides in
       rw (e, length-append word after) (omega (arith, some, more))
 
-  -- bytes after a part of a frame make at most as many events as they are
+  -- bytes after a part of a frame complete at most as many events as there are bytes
   pub few_taken : (partial bytes rest : List ℕ) (events : List EventContent) → IsPartial partial
       → Divides (partial ++ bytes) events rest → length events ≤ length bytes
   few_taken partial bytes rest [] is divides = omega arith
@@ -102,7 +102,7 @@ settling_mode before (ActContent.ToHost count) Outcome.Done is = refl
 settling_mode before _ Outcome.Done none = absurd none
 settling_mode before act _ is = refl
 
--- what holds of the three acts that settle
+-- facts of the three acts that settle
 pub by_settling : (P : ActContent → Type 0) → P ActContent.BoardSend → ((count : ℕ) → P (ActContent.ToBoard count))
     → ((count : ℕ) → P (ActContent.ToHost count)) → (act : ActContent) → IsSettling act → P act
 by_settling P send board host ActContent.BoardSend is = send
@@ -110,11 +110,11 @@ by_settling P send board host (ActContent.ToBoard count) is = board count
 by_settling P send board host (ActContent.ToHost count) is = host count
 by_settling P send board host _ none = absurd none
 
--- what settles is no break
+-- an act that settles isn't a break
 pub settling_no_break : (act : ActContent) → IsSettling act → act ≢ ActContent.Break
 settling_no_break = by_settling (λ act. act ≢ ActContent.Break) (λ e. cc) (λ count e. cc) (λ count e. cc)
 
--- acts that settle hold no host break
+-- acts that settle include no host break
 pub settling_no_host_break : (acts : List ActContent) → AllByRecursion IsSettling acts
     → ¬ (Contains acts ActContent.HostBreak)
 settling_no_host_break [] all found = nothing_contained ActContent.HostBreak found
@@ -125,7 +125,7 @@ settling_no_host_break (act ∷ acts) all found =
     go rest (inl e) = subst IsSettling e all.0
     go rest (inr later) = rest later
 
--- the world after stands for a state with the same mode to come, whose picture still comes
+-- the world after stands for a state with the same mode to come, and its picture is still to come
 pub record KeepsPromise (x : MachineState) (after : WorldView) : Type 0 where
   pub state : MachineState
   pub stands : StandsFor after state
@@ -185,7 +185,7 @@ take_leaves world after count delivers =
     rw (length-drop delivers.moved world.down.bytes) (omega (arith, delivers.within.1))
 
 module _ (short : WordsAreShort) (within : NoWordBeginsAPart) (rises : BacklogRises) where
-  -- each byte of it raises what the board has to send by one at most
+  -- each byte of it raises what the board has to send by at most one
   take_raises : (world after : WorldView) (count : ℕ) → IsPartial world.board.partial
       → (delivers : Delivers count world after)
       → backlog delivers.board.state ≤ backlog world.board.state + delivers.moved
@@ -247,7 +247,7 @@ pub nothing_partial : EachDividesOnce → (events : List EventContent) (partial 
 nothing_partial law events partial is divides =
     sym (law.1 (partial ++ []) events [] [] partial divides (append-nil partial, is)).1
 
--- what is left is done
+-- the remaining work is done
 done_at : (act : ActContent) (world after : WorldView) (answer : Outcome) → answer ≡ Outcome.Done
     → Step act world answer after → Step act world Outcome.Done after
 done_at act world after answer e step = rw e at step
@@ -281,7 +281,7 @@ some_or_none : (result : Bool) (message : Option Content) → (IsTrue result ↔
 some_or_none result None reports e = refl
 some_or_none result (Some message) reports e = absurd (false≢true (sym e ∙ reports.1 refl))
 
--- what a world has of the state that it stands for
+-- facts of a world from the state that it stands for
 reported_all : (world : WorldView) → IsWorld world → length world.board.state.reported_squares ≡ 64
 reported_all world is = rw is.stands.board is.stands.sound.reported_squares
 
@@ -341,14 +341,14 @@ not_owing result board reports e = some_or_none result (next_message board) repo
 
 -- ---- the loop
 
--- what is next is a delivery or a sending
+-- the next act is a delivery or a sending
 next_settles : (world : WorldView) (act : ActContent) → IsNext world act → IsSettling act
 next_settles world ActContent.BoardSend is = tt
 next_settles world (ActContent.ToBoard count) is = tt
 next_settles world (ActContent.ToHost count) is = tt
 next_settles world _ none = absurd none
 
--- one act more, which is the next
+-- one more act, which is the next
 in_order_more : (acts : List ActContent) (act : ActContent) (old now new : WorldView) → AreInOrder acts old now
     → IsNext now act → Step act now Outcome.Done new → AreInOrder (acts ++ act ∷ []) old new
 in_order_more [] act old now new same next step = (

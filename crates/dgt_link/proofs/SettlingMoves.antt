@@ -30,7 +30,7 @@ sending_settles (Move.Report square) is = tt
 sending_settles Move.ReportClock is = tt
 sending_settles _ none = absurd none
 
--- ---- a move nearer
+-- ---- a move closer
 
 -- a move after which fewer are left
 abbrev NearerBy : MachineState → Move → Type 0
@@ -55,7 +55,7 @@ module _ (falls : BacklogFalls) (rises : BacklogRises) where
       let more = rises x.board (event ∷ []) in
       (tt, rw e (omega (arith, more)))
 
-  -- a state is quiet, or a move leads nearer
+  -- a state is quiet, or a move leads closer
   nearer : (x : MachineState) → IsSound x → IsQuiet x ⊎ ((move : Move) × NearerBy x move)
   nearer x sound = up x.up refl
     where

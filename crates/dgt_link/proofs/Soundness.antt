@@ -29,7 +29,7 @@ use Rattle.dgt_link.proofs.Taking.{Leaves, effect-kinds, effect_followed, effect
 abbrev owing : MachineState → List Reply → MachineState
 owing x owed = record x { board = record x.board { owed = owed } }
 
--- ---- a message is sent, whose kind was the first owed
+-- ---- sending a message of the first owed kind
 
 module _ (x : MachineState) (owed : List Reply) (message : Content)
     (reports : ReportedIsHeard (record x.board { owed = owed }) message)
@@ -82,7 +82,7 @@ report_clock_first : (x : MachineState)
     (filter_map kind_of_reply x.board.owed)
 report_clock_first x = rw (clock_message-kind x.board.clock)
 
--- what is asked for, or taken, keeps the kinds that come
+-- requesting or taking a reply keeps the kinds to come
 pub ask-kinds : (x : MachineState) (command : CommandContent)
     → coming_kinds (after_move x (Move.Ask command)) ≡ coming_kinds x ++ option_to_list (requested_kind command)
 ask-kinds x command =
@@ -127,7 +127,7 @@ kinds_after_first : (kind : Option Kind) (up rest : List Kind)
 kinds_after_first None up rest = refl
 kinds_after_first (Some kind) up rest = refl
 
--- the kinds that come, if a message is the first under way
+-- the kinds to come, if a message is the first under way
 hear-kinds : (x : MachineState) (message : Content) (rest : List Content) → x.up ≡ message ∷ rest
     → coming_kinds x ≡ cons_option (answered_kind message) (coming_kinds (after_hear x (message ∷ rest)))
 hear-kinds x message rest e = rw e (kinds_after_first (answered_kind message) (filter_map answered_kind rest) _)
@@ -178,7 +178,7 @@ pub noise-kinds : (noise : List EventContent) → IsNoiseList noise → filter_m
 noise-kinds noise is_noise =
     nothing_of_noise kind_of_event (λ message. refl) (λ leds. refl) (refl, refl, refl) (λ byte. refl) noise is_noise
 
--- of what a host asks for that begins anew, a dump alone has a kind
+-- of the requests of a host that starts over, only a dump has a kind
 host_break-kinds : (x : MachineState) (noise : List EventContent) (is_noise : IsNoiseList noise)
     → coming_kinds (after_move x (Move.HostBreak noise is_noise))
     ≡ filter_map kind_of_reply x.board.owed ++ Kind.Dump ∷ []
@@ -189,7 +189,7 @@ host_break-kinds x noise is_noise =
 
 -- ---- every move
 
--- other commands are under way, and what is awaited is among the kinds that come with them
+-- other commands are under way, and the awaited kinds are among the kinds to come with them
 pub asked_sound : (x : MachineState) (down : List EventContent) (awaited : List Kind) → IsSound x
     → IsSubsequence awaited (coming_kinds (record x { down = down }))
     → IsSound (record x { down = down; awaited = awaited })
@@ -232,7 +232,7 @@ move_sound x (Move.HostBreak noise is_noise) sound =
     (rw (host_break-kinds x noise is_noise)
     (subsequence_at_end (Kind.Dump ∷ []) (filter_map kind_of_reply x.board.owed)))
 
--- both ends are as new, but for the squares, the clock and the identity
+-- both sides are as new, except for the squares, the clock and the identity
 pub break_exact : (x : MachineState) → IsSound x → IsExact (after_move x Move.Break)
 break_exact x sound = new_exact x.board.squares x.board.clock x.board.identity sound.squares
 

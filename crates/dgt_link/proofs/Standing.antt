@@ -1,4 +1,4 @@
--- An act leads a world that stands for a state to one that stands for a state which the machine reaches by it.
+-- An act leads a world that stands for a state to one for a state that the machine reaches by it.
 use Rattle.std.proofs.Common.{◌≡◌, ◌≢◌, refl, sym, ap, ◌∙◌, ℕ, ◌≤◌, List, [], ◌∷◌, ◌++◌, length, take, drop, replicate}
 use Rattle.std.proofs.Common.{option_to_list, append_assoc}
 use Rattle.std.proofs.lemmas.List.{append-nil, take-append-drop}
@@ -78,7 +78,7 @@ hears (message ∷ messages) left x host e of =
       awaited = refl;
     })
 
--- a prefix of a line, and what is left of it
+-- a prefix of a line, and the rest of it
 pub prefix_of : (held bytes : List ℕ) (count : ℕ) → held ++ bytes ≡ (held ++ take count bytes) ++ drop count bytes
 prefix_of held bytes count =
     ap (λ (line : List ℕ). held ++ line) (sym (take-append-drop count bytes)) ∙ sym
@@ -94,7 +94,7 @@ pub record IsTakenAs (world : WorldView) (moved : ℕ) (view : BoardView) (x : M
   pub down : Divides (view.partial ++ drop moved world.down.bytes) left []
   pub partial : IsPartial view.partial
 
--- ---- a world just made
+-- ---- a new world
 
 pub new_stands : IsPartial [] → (position : List Piece) (clock : ClockState) (identity : IdentityContent) (up down : ℕ)
     → length position ≡ 64 → StandsFor (new_world position clock identity up down) (new_state position clock identity)
@@ -316,7 +316,7 @@ step_rooms act world _ after step = same_rooms world after step.leaves
 -- ---- what is kept
 
 module _ (moves : StepsAreMoves) where
-  -- what an act leaves of a world is one
+  -- an act leads to a world
   pub step_is_world : (act : ActContent) (world after : WorldView) (answer : Outcome) → IsWorld world
       → Step act world answer after → IsWorld after
   step_is_world act world after answer is step =

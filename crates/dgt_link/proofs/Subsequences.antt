@@ -1,4 +1,4 @@
--- Subsequences, and the kinds of a list to which something is added.
+-- Subsequences, and the kinds of a list with an added element.
 use Rattle.std.proofs.Common.{◌≡◌, refl, sym, ap, ◌∙◌, inl, inr, List, [], ◌∷◌, ◌++◌, Option, Some, None, true, false}
 use Rattle.std.proofs.Common.{append_assoc}
 use Rattle.std.proofs.lemmas.List.{append-nil}

@@ -1,4 +1,4 @@
--- What a command that the board takes makes of the kinds owed and of the clock that is followed.
+-- How a command that the board takes changes the kinds owed and whether the clock is followed.
 use Rattle.std.proofs.Common.{◌≡◌, refl, ap, ◌∙◌, ◌⊎◌, ℕ, List, [], ◌∷◌, ◌++◌, Option, Some, None, append_assoc}
 use Rattle.std.proofs.lemmas.List.{append-nil}
 use Rattle.std.proofs.lemmas.List.Elements.{filter_map-append}
@@ -56,7 +56,7 @@ pub effect_followed : (board : BoardState) (event : EventContent) → IsFollowed
 effect_followed board (EventContent.Read command) before = command_followed board command before
 effect_followed board _ before = before
 
--- a command leaves squares and clock, and what was reported of them
+-- a command doesn't change squares and clock, or what was reported of them
 pub record Leaves (before after : BoardState) : Type 0 where
   pub squares : after.squares ≡ before.squares
   pub clock : after.clock ≡ before.clock
@@ -85,7 +85,7 @@ effects_same_game board (event ∷ events) =
 
 -- ---- noise
 
--- what nothing is read of in a clock message, in an LED frame and in a fault, nothing is read of in noise
+-- anything that doesn't read clock messages, LED frames and faults doesn't read noise
 pub nothing_of_noise : {X : Type 0} (read : EventContent → Option X)
     → ((message : ClockContent) → read (EventContent.Read (CommandContent.ClockMessage message)) ≡ None)
     → ((leds : List ℕ) → read (EventContent.Read (CommandContent.Leds leds)) ≡ None)

@@ -1,4 +1,4 @@
--- What is so of a world by the state that it stands for.
+-- Facts of a world by the state that it stands for.
 use Rattle.std.specs.Prelude.{slice_get}
 use Rattle.std.proofs.Common.{◌≡◌, refl, ◌∙◌, List, [], ◌∷◌, ◌++◌, Some, None, All, IsTrue}
 use Rattle.dgt_values.specs.declared.kinds.Kind.{Kind}
@@ -22,7 +22,7 @@ pub world_fold : (world : WorldView) (x : MachineState) → StandsFor world x
     → IsUnknownOr (picture_after_all world.host.picture x.up) (Some world.board.state.reported_squares)
 world_fold world x stands = rw (stands.picture, stands.board) stands.sound.picture
 
--- the answers come in the order of what is awaited
+-- the replies arrive in the order of the awaited kinds
 pub world_first_answer : (world : WorldView) (x : MachineState) (before later : List Content) (message : Content)
     (kind : Kind)
     → StandsFor world x → IsExact x → x.up ≡ before ++ message ∷ later → All (λ said. answered_kind said ≡ None) before

@@ -1,4 +1,4 @@
--- What is done to a world, without where it lies in memory.
+-- The acts in a world, without the addresses of their bytes.
 use Rattle.std.specs.Prelude.{ℕ}
 use Rattle.dgt_values.specs.declared.pieces.Piece.{Piece}
 use Rattle.dgt_values.specs.Board.{square_number}

@@ -12,7 +12,7 @@ use Rattle.dgt_link.specs.Promise.{IsPromisedBy, coming_mode}
 use Rattle.dgt_link.specs.Sound.{coming_clock}
 use Rattle.dgt_link.specs.View.{WorldView}
 
--- The clock to come is known, or a reading is owed or asked for, or the board has reported none
+-- The clock to come is known, or a reading is owed or requested, or the board has reported none
 -- since it was made or lost the line or its power. In the last case a mode that follows the clock
 -- owes one.
 abbrev pub ClockIsComing : MachineState → Type 0
@@ -23,11 +23,11 @@ ClockIsComing x =
 abbrev pub IsClockPromised : MachineState → Type 0
 IsClockPromised = IsPromisedBy ClockIsComing follows_clock
 
--- the world stands, after some garbage, for a state whose mode to come follows the clock
+-- the world stands, after some garbage, for a state with a mode to come that follows the clock
 abbrev pub IsClockFollowing : WorldView → Type 0
 IsClockFollowing = StandsWith (λ x. IsTrue (follows_clock (coming_mode x)))
 
--- the world stands, after some garbage, for a state whose clock is promised
+-- the world stands, after some garbage, for a state with a promised clock
 abbrev pub IsClockPromisedWorld : WorldView → Type 0
 IsClockPromisedWorld = StandsWith IsClockPromised
 
@@ -40,6 +40,6 @@ stops_clock (FaultyContent.Plain ActContent.HostBreak) = true
 stops_clock FaultyContent.Restart = true
 stops_clock _ = false
 
--- no act is a fault, and after each the board goes on reporting its clock's changes
+-- no act is a fault, and after each the board keeps reporting its clock's changes
 abbrev pub AreClockCalm : List FaultyContent → Type 0
 AreClockCalm = AllByRecursion (λ act. (is_fault act ≡ false) × (stops_clock act ≡ false))

@@ -1,4 +1,5 @@
--- A world whose lines and whose board's power may fail: its acts, their outcomes, what they leave.
+-- A world in which the lines and the board's power may fail: its acts, their outcomes and their
+-- effects.
 use Rattle.std.specs.Prelude.{◌≡◌, ℕ, List, length, Some, Bool, false, true, if◌then◌else◌, nat_lt}
 use Rattle.std.specs.List.{AllByRecursion}
 use Rattle.dgt_values.specs.declared.kinds.Kind.{Kind}
@@ -18,13 +19,13 @@ use Rattle.dgt_link.specs.View.{LineContents, WorldView, line_holding, overflows
 pub data FaultyContent : Type 0 where
   -- an act of a world without faults
   Plain : (act : ActContent) → FaultyContent
-  -- the bytes under way to the host are replaced by these
+  -- these bytes replace those under way to the host
   GarbleUp : (bytes : List ℕ) → FaultyContent
-  -- the bytes under way to the board are replaced by these
+  -- these bytes replace those under way to the board
   GarbleDown : (bytes : List ℕ) → FaultyContent
   -- the board loses its power and gets it back; the lines keep their bytes
   BoardLost : FaultyContent
-  -- the host begins anew: it gives up what it awaits and appends its restart bytes to the down line
+  -- the host starts over: it gives up what it awaits and appends its restart bytes to the down line
   Restart : FaultyContent
   -- the host gives up what it awaits; nothing else changes
   GiveUp : FaultyContent
@@ -60,7 +61,7 @@ faulty_outcome FaultyContent.GiveUp world = Outcome.Done
 faulty_outcome FaultyContent.Restart world =
     if overflows world.down restart_bytes then Outcome.NoRoom else Outcome.Done
 
--- what an act leaves if it is done
+-- the effect of an act that is done
 abbrev pub FaultyBecomes : FaultyContent → WorldView → WorldView → Type 0
 FaultyBecomes (FaultyContent.Plain act) world after = Becomes act world after
 FaultyBecomes (FaultyContent.GarbleUp bytes) world after =
@@ -87,7 +88,7 @@ pub record FaultyStep (act : FaultyContent) (world : WorldView) (answer : Outcom
 abbrev pub FaultyRuns : List FaultyContent → WorldView → List Outcome → WorldView → Type 0
 FaultyRuns = RunsBy FaultyStep
 
--- what holds of the outcomes, if these acts lead from one world to the other
+-- facts of the outcomes, if these acts lead from one world to the other
 abbrev pub IfRan : List FaultyContent → WorldView → WorldView → (List Outcome → Type 0) → Type 0
 IfRan acts world after Holds =
     (outcomes : List Outcome) → FaultyRuns acts world outcomes after → Holds outcomes
@@ -117,17 +118,17 @@ stops (FaultyContent.Plain (ActContent.Host CommandContent.Reset)) = true
 stops (FaultyContent.Plain ActContent.Break) = true
 stops _ = false
 
--- no act is a fault, and after each the board goes on reporting its changes
+-- no act is a fault, and after each the board keeps reporting its changes
 abbrev pub AreCalm : List FaultyContent → Type 0
 AreCalm = AllByRecursion (λ act. (is_fault act ≡ false) × (stops act ≡ false))
 
--- the host begins anew
+-- the host starts over
 abbrev pub begins_anew : FaultyContent → Bool
 begins_anew FaultyContent.Restart = true
 begins_anew (FaultyContent.Plain ActContent.HostBreak) = true
 begins_anew _ = false
 
--- both sides lose the line, or the host alone: nothing is left on the lines
+-- both sides lose the line, or only the host: nothing is left on the lines
 abbrev pub is_break : ActContent → Bool
 is_break ActContent.Break = true
 is_break ActContent.HostBreak = true

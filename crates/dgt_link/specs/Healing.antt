@@ -1,4 +1,4 @@
--- When a host whose line or whose board's power failed can count on its picture again.
+-- When a host can rely on its picture again after faults of the lines or of the board's power.
 use Rattle.std.specs.Prelude.{◌≡◌, ◌⊎◌, ℕ, ◌≤◌, List, [], ◌∷◌, ◌++◌, None, Bool}
 use Rattle.std.specs.Prelude.{false, true, ◌||◌, IsTrue, Contains, filter, filter_map, is_some}
 use Rattle.std.specs.List.{AllByRecursion, flat_map}
@@ -20,17 +20,17 @@ use Rattle.dgt_link.specs.Sound.{IsSound, IsSubsequence, IsUnknownOr, coming_kin
 use Rattle.dgt_link.specs.Stands.{AreMovesOfStep}
 use Rattle.dgt_link.specs.View.{WorldView}
 
--- ---- what counts of the acts that were done
+-- ---- which earlier acts count
 
 pub record Counted : Type 0 where
   pub in_step : Bool  -- the board reads the commands as the host sent them
-  pub in_turn : Bool  -- each reply that the host awaits is still to come
+  pub in_turn : Bool  -- each awaited reply is yet to be heard
   pub asked : List CommandContent  -- the commands that count, in their order
 
 abbrev pub nothing_counted : Bool → Counted
 nothing_counted in_step = record { in_step = in_step; in_turn = false; asked = [] }
 
--- what counts after the host began anew
+-- what counts after the host started over
 abbrev pub counted_anew : Counted
 counted_anew = record { in_step = true; in_turn = true; asked = commands_anew }
 
@@ -39,7 +39,7 @@ sets_mode command = is_some (command_mode command)
 
 -- What counts after an act. If the bytes under way to the host are replaced, replies may be lost,
 -- and only the commands that set a mode still count. If those under way to the board are replaced,
--- or the board loses its power, nothing counts until the host begins anew. A host that gives up
+-- or the board loses its power, nothing counts until the host starts over. A host that gives up
 -- what it awaits awaits nothing.
 abbrev pub counted_after : Counted → FaultyContent → Outcome → Counted
 counted_after c (FaultyContent.Plain ActContent.HostBreak) answer = counted_anew
@@ -69,27 +69,27 @@ counted_by in_step acts answers = counted_after_all (nothing_counted in_step) ac
 abbrev pub IsInStepBy : List FaultyContent → List Outcome → Type 0
 IsInStepBy acts answers = IsTrue (counted_by false acts answers).in_step
 
--- The board reads what was sent, a dump counts, and the last command that counts and sets a mode
--- asks for updates.
+-- The board reads what was sent, a dump request counts, and the last command that counts and sets a
+-- mode asks for updates.
 pub record IsHealing (c : Counted) : Type 0 where
   pub in_step : IsTrue c.in_step
   pub asked : IsAsked c.asked
 
--- The board reads what was sent, a reading of the clock counts, and the last command that counts
+-- The board reads what was sent, a request of the clock counts, and the last command that counts
 -- and sets a mode asks for the clock's changes.
 pub record IsClockHealing (c : Counted) : Type 0 where
   pub in_step : IsTrue c.in_step
   pub asked : Contains c.asked CommandContent.Clock
   pub mode : IsTrue (follows_clock (last_mode Mode.Idle (filter_map command_mode c.asked)))
 
--- The board reads what was sent, and each reply that the host awaits is still to come.
+-- The board reads what was sent, and each awaited reply is yet to be heard.
 pub record IsInTurn (c : Counted) : Type 0 where
   pub in_step : IsTrue c.in_step
   pub in_turn : IsTrue c.in_turn
 
 -- ---- worlds
 
--- the board is sound, and what it has of a command is a proper prefix of some frame
+-- the board is sound, and its part of a command is a proper prefix of some frame
 pub record IsSane (world : WorldView) : Type 0 where
   pub board : IsSound (state_of_board world.board.state)
   pub partial : IsPartial world.board.partial
@@ -101,7 +101,7 @@ pub record IsFaultyWorld (world : WorldView) : Type 0 where
   pub up_room : MIN_UP ≤ world.up.capacity
   pub down_room : MIN_DOWN ≤ world.down.capacity
 
--- what holds after any acts and faults of a sane world
+-- facts of a sane world after any acts and faults
 abbrev pub AfterFaults : (List FaultyContent → WorldView → WorldView → List Outcome → Type 0)
     → Type 0
 AfterFaults Holds =
@@ -110,7 +110,7 @@ AfterFaults Holds =
 
 -- The world stands for the state after some garbage: the bytes under way to the host are garbage
 -- and then the state's messages. The host may know anything while the state knows nothing. What the
--- state knows, by messages after the garbage, the host knows too.
+-- state knows, from messages after the garbage, the host knows too.
 pub record StandsBehind (garbage : List ℕ) (world : WorldView) (x : MachineState) : Type 0 where
   pub sound : IsSound x
   pub board : world.board.state ≡ x.board
@@ -122,7 +122,7 @@ pub record StandsBehind (garbage : List ℕ) (world : WorldView) (x : MachineSta
   pub down : Divides (world.board.partial ++ world.down.bytes) x.down []
   pub partial : IsPartial world.board.partial
 
--- there are such garbage and such a state, of which this holds
+-- there are such garbage and such a state with this property
 pub record StandsWith (Holds : MachineState → Type 0) (world : WorldView) : Type 0 where
   pub garbage : List ℕ
   pub state : MachineState
@@ -133,23 +133,23 @@ pub record StandsWith (Holds : MachineState → Type 0) (world : WorldView) : Ty
 abbrev pub IsInStep : WorldView → Type 0
 IsInStep = StandsWith (λ x. Unit {0})
 
--- what the host awaits is among the kinds to come, in their order
+-- the awaited kinds are among the kinds to come, in their order
 abbrev pub AwaitsWhatComes : WorldView → MachineState → Type 0
 AwaitsWhatComes world x = IsSubsequence world.host.awaited (coming_kinds x)
 
--- each reply that the host awaits is still to come
+-- each awaited reply is yet to be heard
 abbrev pub IsInTurnWorld : WorldView → Type 0
 IsInTurnWorld world = StandsWith (AwaitsWhatComes world) world
 
 -- The world after an act stands, after some garbage, for a state to which the act's moves lead from
--- this one. What the host awaits stays among what comes.
+-- this one. The awaited replies stay among those to come.
 abbrev pub StandsBehindAfter : ActContent → Outcome → WorldView → MachineState → WorldView → Type 0
 StandsBehindAfter act answer world x after =
     (garbage : List ℕ) × (moves : List Move) × AreMovesOfStep act answer moves
     × StandsBehind garbage after (after_moves x moves)
     × (AwaitsWhatComes world x → AwaitsWhatComes after (after_moves x moves))
 
--- there is such a state, whose mode to come asks for updates
+-- there is such a state, with a mode to come that asks for updates
 abbrev pub IsFollowing : WorldView → Type 0
 IsFollowing = StandsWith (λ x. IsTrue (updates (coming_mode x)))
 
@@ -158,7 +158,7 @@ abbrev pub IsPromisedWorld : WorldView → Type 0
 IsPromisedWorld = StandsWith IsPromised
 
 -- Both lines are empty, and the board has nothing to send. The host may have unread bytes, and the
--- board a part of a command.
+-- board part of a command.
 abbrev pub IsRestedWorld : WorldView → Type 0
 IsRestedWorld world =
     (world.up.bytes ≡ []) × (world.down.bytes ≡ []) × (next_message world.board.state ≡ None)

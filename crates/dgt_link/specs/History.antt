@@ -1,4 +1,4 @@
--- What a host shows of a square, and what stood there.
+-- The pieces that a host shows on a square, and the pieces that were there.
 use Rattle.std.specs.Prelude.{◌≡◌, ◌⊎◌, ℕ, List, [], ◌∷◌, ◌++◌, Option, option_map, option_to_list, map}
 use Rattle.std.specs.List.{flat_map}
 use Rattle.dgt_values.specs.declared.pieces.Piece.{Piece}
@@ -9,23 +9,23 @@ use Rattle.dgt_link.specs.Machine.{MachineState, Move, after_move}
 use Rattle.dgt_link.specs.Step.{Step}
 use Rattle.dgt_link.specs.View.{WorldView}
 
--- Each of the first list is one of the second, in its order. One may come several times in a row.
+-- Each element of the first list is one of the second, in order. One may be repeated several times.
 abbrev pub IsInOrderOf : {X : Type 0} → List X → List X → Type 0
 IsInOrderOf [] ys = Unit {0}
 IsInOrderOf (x ∷ xs) [] = ⊥
 IsInOrderOf (x ∷ xs) (y ∷ ys) = ((x ≡ y) × IsInOrderOf xs (y ∷ ys)) ⊎ IsInOrderOf (x ∷ xs) ys
 
--- the piece that a picture has on a square, if it is known
+-- the piece of a picture on a square, if it is known
 abbrev pub shown : ℕ → Option (List Piece) → List Piece
 shown square picture = option_to_list (option_map (λ pieces. piece_on pieces square) picture)
 
--- what the host shows of a square, at first and after each of these moves
+-- the pieces that the host shows on a square, at first and after each of these moves
 abbrev pub shown_on : ℕ → MachineState → List Move → List Piece
 shown_on square x [] = shown square x.picture
 shown_on square x (move ∷ moves) =
     shown square x.picture ++ shown_on square (after_move x move) moves
 
--- what stands on that square of the board, at first and after each of these moves
+-- the pieces on that square of the board, at first and after each of these moves
 abbrev pub stood_on : ℕ → MachineState → List Move → List Piece
 stood_on square x [] = piece_on x.board.squares square ∷ []
 stood_on square x (move ∷ moves) =
@@ -42,10 +42,10 @@ RunsThrough (act ∷ acts) world (answer ∷ answers) worlds =
     × RunsThrough acts between answers later × (worlds ≡ world ∷ later)
 RunsThrough _ world _ worlds = ⊥
 
--- what the hosts of these worlds show of a square, where they know a picture
+-- the pieces that the hosts of these worlds show on a square, when they know a picture
 abbrev pub shown_in : ℕ → List WorldView → List Piece
 shown_in square worlds = flat_map (λ world. shown square world.host.picture) worlds
 
--- what stands on that square of their boards
+-- the pieces on that square of their boards
 abbrev pub stood_in : ℕ → List WorldView → List Piece
 stood_in square worlds = map (λ world. piece_on world.board.state.squares square) worlds

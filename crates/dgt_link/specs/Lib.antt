@@ -13,6 +13,6 @@ pub mod Healing
 pub mod Clocks
 pub mod History
 pub mod Reported
--- for bodies alone
+-- only for bodies
 pub mod Work
 pub mod Readers

@@ -1,5 +1,5 @@
--- A board, a host, the messages and commands under way between them, and what may happen to them.
--- Bytes and buffers don't come into it.
+-- A board, a host, the messages and commands under way between them, and what may happen to them,
+-- without bytes and buffers.
 use Rattle.std.specs.Prelude.{ℕ, List, [], ◌∷◌, ◌++◌, Option, None, ◌&&◌, if◌then◌else◌}
 use Rattle.std.specs.Prelude.{map, option_to_list}
 use Rattle.dgt_values.specs.declared.pieces.Piece.{Piece}
@@ -16,16 +16,16 @@ use Rattle.dgt_host.specs.Host.{awaited_after}
 
 pub record MachineState : Type 0 where
   pub board : BoardState
-  pub up : List Content  -- sent by the board and not heard yet, the oldest first
-  pub down : List EventContent  -- sent to the board and not taken yet, the oldest first
+  pub up : List Content  -- sent by the board and not yet heard, the oldest first
+  pub down : List EventContent  -- sent to the board and not yet taken, the oldest first
   pub picture : Option (List Piece)
   pub host_clock : Option ClockState
   pub awaited : List Kind
 
 pub data Move : Type 0 where
-  -- a piece is put on a square of the board, or taken from it
+  -- a piece is put on a square of the board, or removed from it
   Change : (square : ℕ) (piece : Piece) → Move
-  -- the board's clock is handed in
+  -- the board reads its clock
   HandClock : (clock : ClockState) → Move
   -- the host sends a command
   Ask : (command : CommandContent) → Move
@@ -39,10 +39,10 @@ pub data Move : Type 0 where
   ReportClock : Move
   -- the host hears the oldest message under way
   Hear : Move
-  -- both ends lose the line, and all that is under way on it
+  -- both sides lose the line, and everything under way on it
   Break : Move
-  -- The host alone loses the line and what is under way on it, and begins anew. What the board
-  -- finds on the line up to where it is asked anew is noise.
+  -- Only the host loses the line and everything under way on it, and starts over. What the board
+  -- finds on the line before the new requests is noise.
   HostBreak : (noise : List EventContent) → IsNoiseList noise → Move
 
 abbrev pub IsHostBreak : Move → Type 0
@@ -56,7 +56,7 @@ IsSending (Move.Report square) = Unit {0}
 IsSending Move.ReportClock = Unit {0}
 IsSending _ = ⊥
 
--- a board, a host just made, and nothing under way
+-- a board, a new host, and nothing under way
 abbrev pub state_of_board : BoardState → MachineState
 state_of_board board =
     record {
@@ -68,15 +68,15 @@ state_of_board board =
       awaited = [];
     }
 
--- a board and a host just made
+-- a new board and a new host
 abbrev pub new_state : List Piece → ClockState → IdentityContent → MachineState
 new_state position clock identity = state_of_board (new_board position clock identity)
 
--- what a host asks for that begins anew: the updates, and the whole board
+-- the requests of a host that starts over: the updates, and the whole board
 abbrev pub commands_anew : List CommandContent
 commands_anew = CommandContent.UpdateBoard ∷ CommandContent.Dump ∷ []
 
--- ---- what a move makes of a state: one that can't happen changes nothing
+-- ---- the effect of a move: one that can't happen changes nothing
 
 -- the board sends a message
 abbrev pub after_reported : MachineState → Content → MachineState

@@ -18,16 +18,16 @@ abbrev pub last_mode : Mode → List Mode → Mode
 last_mode before [] = before
 last_mode before (mode ∷ modes) = last_mode mode modes
 
--- ---- what is asked of the board
+-- ---- what is requested of the board
 
--- by a move: its commands in order, and `None` if it ends what was asked before
+-- by a move: its commands in order, and `None` if it ends earlier requests
 abbrev pub requests : Move → List (Option CommandContent)
 requests (Move.Ask command) = Some command ∷ []
 requests Move.Break = None ∷ []
 requests (Move.HostBreak noise is_noise) = map Some commands_anew
 requests _ = []
 
--- by an act with its outcome: what isn't done asks nothing
+-- by an act with its outcome: an act that isn't done requests nothing
 abbrev pub act_requests : Outcome → ActContent → List (Option CommandContent)
 act_requests Outcome.Done (ActContent.Host command) = Some command ∷ []
 act_requests Outcome.Done ActContent.Break = None ∷ []
@@ -46,13 +46,13 @@ commands_after before [] = before
 commands_after before (None ∷ later) = commands_after [] later
 commands_after before (Some command ∷ later) = commands_after (before ++ command ∷ []) later
 
--- a dump is among the commands, and the last of them that sets a mode is there and asks for updates
+-- a dump is among the commands, and the last of them that sets a mode exists and asks for updates
 pub record IsAsked (commands : List CommandContent) : Type 0 where
   pub dump : Contains commands CommandContent.Dump
   pub mode : IsTrue (updates (last_mode Mode.Idle (filter_map command_mode commands)))
 
--- Among the acts that are done after the last break a dump is asked for, and the last of them that
--- asks for a mode is there and asks for updates.
+-- Among the acts that are done after the last break, a dump is requested, and the last of them that
+-- sets a mode exists and asks for updates.
 abbrev pub IsAskedBy : List ActContent → List Outcome → Type 0
 IsAskedBy acts outcomes = IsAsked (commands_after [] (run_requests acts outcomes))
 
@@ -65,7 +65,7 @@ mode_after before (Some command ∷ later) =
 
 -- ---- of states
 
--- the mode that what is read of a command sets, if it sets one
+-- the mode that an event sets, if it sets one
 abbrev pub event_mode : EventContent → Option Mode
 event_mode (EventContent.Read command) = command_mode command
 event_mode _ = None
@@ -74,7 +74,7 @@ event_mode _ = None
 abbrev pub coming_mode : MachineState → Mode
 coming_mode x = last_mode x.board.mode (filter_map event_mode x.down)
 
--- the picture to come is known, or a dump is owed or asked for
+-- the picture to come is known, or a dump is owed or requested
 abbrev pub PictureIsComing : MachineState → Type 0
 PictureIsComing x =
     IsSome (coming_picture x) ⊎ (Contains x.board.owed (Reply.Of Kind.Dump)
@@ -89,7 +89,7 @@ pub record IsPromisedBy (Comes : MachineState → Type 0) (asks : Mode → Bool)
 abbrev pub IsPromised : MachineState → Type 0
 IsPromised = IsPromisedBy PictureIsComing updates
 
--- noise comes to the board, and then what a host asks for that begins anew
+-- the board receives noise, and then the requests of a host that starts over
 pub record IsRestarted (x : MachineState) : Type 0 where
   pub noise : List EventContent
   pub is_noise : IsNoiseList noise

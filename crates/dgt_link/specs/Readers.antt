@@ -1,4 +1,4 @@
--- What proofs use of the readers of messages and of commands.
+-- What proofs use from the readers of messages and of commands.
 use Rattle.std.specs.Prelude.{◌≡◌, ℕ, List, [], ◌++◌}
 use Rattle.dgt_command.specs.Content.{EventContent}
 use Rattle.dgt_command.specs.Laws.{DivisionsAppend, EachDividesOnce, PrefixesDivideFirst, ZerosSettleTheReader}
@@ -8,7 +8,7 @@ use Rattle.dgt_decode.specs.Grammar.{Placed, shifted}
 use Rattle.dgt_decode.specs.Laws.{BeginsAnew, EventsAppend, UnfinishedAppend, QuietHeld, EncodingIsRead}
 use Rattle.dgt_host.specs.Host.{HostView, host_after_events}
 
--- the laws of the decoder, and that where an event stands doesn't matter to a host
+-- the laws of the decoder, and that the places of events don't affect a host
 pub record Reads : Type 0 where
   pub append : EventsAppend
   pub unfinished_append : UnfinishedAppend

@@ -1,4 +1,4 @@
--- What a picture that a host has between faults and quiet was, on the board, and when.
+-- How a host's picture between faults and quiet relates to the board, and when.
 use Rattle.std.specs.Prelude.{◌≡◌, ℕ, List, [], ◌∷◌, ◌++◌, ◌&&◌, if◌then◌else◌, Option, Some, None}
 use Rattle.dgt_values.specs.declared.pieces.Piece.{Piece}
 use Rattle.dgt_message.specs.Content.{Content, clock_message}
@@ -32,7 +32,7 @@ sent_by_all x [] = []
 sent_by_all x (move ∷ moves) = sent_by x move ++ sent_by_all (after_move x move) moves
 
 -- A picture is unknown, or what the board had reported after the earlier of these moves. By the
--- later ones it has sent just these messages.
+-- later ones it has sent exactly these messages.
 pub record ReportedBefore (x : MachineState) (moves : List Move) (seen : Option (List Piece))
     (left : List Content) : Type 0 where
   pub earlier : List Move
@@ -42,14 +42,15 @@ pub record ReportedBefore (x : MachineState) (moves : List Move) (seen : Option 
   pub picture : IsUnknownOr seen (Some (after_moves x earlier).board.reported_squares)
 
 -- After these moves the picture is unknown, or what the board had reported by the moment when it
--- sent the last message that was heard. Since then it has sent just the messages still under way.
+-- sent the last message that was heard. Since then it has sent exactly the messages still under
+-- way.
 abbrev pub WasReported : MachineState → List Move → Type 0
 WasReported x moves = ReportedBefore x moves (after_moves x moves).picture (after_moves x moves).up
 
--- The first world stands, after all bytes under way to the host as garbage, for a state that knows
+-- The first world stands, with all bytes under way to the host as garbage, for a state that knows
 -- no picture and has no message under way. After some garbage, the world after these acts stands
--- for a state to which their moves lead from that one. What that state knows was reported, and what
--- it shows of a square stood there, in this order.
+-- for a state to which their moves lead from that one. The picture of that state was reported, and
+-- the pieces that it shows on a square were there, in this order.
 pub record IsReportedBy (acts : List ActContent) (answers : List Outcome) (world after : WorldView)
     : Type 0 where
   pub start : MachineState

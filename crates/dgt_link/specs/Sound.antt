@@ -1,4 +1,4 @@
--- What holds between a board and its host whatever has happened.
+-- The relation between a board and its host after any moves.
 use Rattle.std.specs.Prelude.{◌≡◌, ◌⊎◌, List, [], ◌∷◌, ◌++◌, Option, Some, None, IsTrue, length}
 use Rattle.std.specs.Prelude.{filter_map}
 use Rattle.dgt_values.specs.declared.pieces.Piece.{Piece}
@@ -11,14 +11,14 @@ use Rattle.dgt_board.specs.State.{follows_clock}
 use Rattle.dgt_message.specs.Picture.{clock_after_all, picture_after_all}
 use Rattle.dgt_link.specs.Machine.{MachineState}
 
--- ---- what comes to the host
+-- ---- what the host is yet to hear
 
 -- the kind of the message that a reply becomes
 abbrev pub kind_of_reply : Reply → Option Kind
 kind_of_reply (Reply.Of kind) = Some kind
 kind_of_reply _ = None
 
--- the kind of the reply that a command under way asks for
+-- the kind of the reply that a command under way requests
 abbrev pub kind_of_event : EventContent → Option Kind
 kind_of_event (EventContent.Read command) = requested_kind command
 kind_of_event _ = None
@@ -30,7 +30,7 @@ coming_picture x = picture_after_all x.picture x.up
 abbrev pub coming_clock : MachineState → Option ClockState
 coming_clock x = clock_after_all x.host_clock x.up
 
--- the kinds of the messages under way, then of the replies owed, then of those asked for
+-- the kinds of the messages under way, then of the replies owed, then of those requested
 abbrev pub coming_kinds : MachineState → List Kind
 coming_kinds x =
     filter_map answered_kind x.up
@@ -51,17 +51,17 @@ pub record IsSound (x : MachineState) : Type 0 where
   -- both positions have 64 squares
   pub squares : length x.board.squares ≡ 64
   pub reported_squares : length x.board.reported_squares ≡ 64
-  -- the picture to come is unknown, or the squares as the board has reported them
+  -- the picture to come is unknown, or the squares that the board has reported
   pub picture : IsUnknownOr (coming_picture x) (Some x.board.reported_squares)
   -- if the mode follows the clock, it is reported or owed
   pub followed : IsTrue (follows_clock x.board.mode) →
       IsTrue x.board.times_owed ⊎ (x.board.reported_clock ≡ Some x.board.clock)
-  -- the host's clock to come is unknown, or the clock as the board has reported it
+  -- the host's clock to come is unknown, or the clock that the board has reported
   pub clock : IsUnknownOr (coming_clock x) x.board.reported_clock
-  -- what is awaited is among the kinds to come, in their order
+  -- the awaited kinds are among the kinds to come, in their order
   pub awaited : IsSubsequence x.awaited (coming_kinds x)
 
--- a sound state in which nothing comes but what the host knows of
+-- a sound state in which nothing is to come that the host doesn't know of
 pub record IsExact (x : MachineState) : Type 0 where
   pub sound : IsSound x
   pub clock : coming_clock x ≡ x.board.reported_clock

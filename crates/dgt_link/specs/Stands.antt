@@ -1,4 +1,4 @@
--- The states of the machine for which a world stands, and the moves that acts come to.
+-- The states of the machine for which a world stands, and the moves of acts.
 use Rattle.std.specs.Prelude.{◌≡◌, ℕ, ◌≤◌, List, [], ◌∷◌, ◌++◌, replicate}
 use Rattle.std.specs.List.{AllByRecursion, flat_map}
 use Rattle.dgt_message.specs.Content.{Content, IsMessage}
@@ -13,14 +13,14 @@ use Rattle.dgt_link.specs.Sound.{IsExact, IsSound}
 use Rattle.dgt_link.specs.Step.{IfDone}
 use Rattle.dgt_link.specs.View.{WorldView}
 
--- these are messages, and the bytes are what is written of them in a row
+-- these are messages, and the bytes are their encodings in a row
 pub record AreEncoded (said : List Content) (bytes : List ℕ) : Type 0 where
   pub are_messages : AllByRecursion IsMessage said
   pub in_a_row : bytes ≡ flat_map encoding said
 
--- The bytes of the lines, and those that the ends hold of an unfinished message and an unfinished
--- command, are the messages and the commands under way. All else is the same, and the state is
--- sound.
+-- The bytes of the lines, and those that the board and the host hold of an unfinished command and
+-- message, are the messages and the commands under way. Everything else is the same, and the state
+-- is sound.
 pub record StandsFor (world : WorldView) (x : MachineState) : Type 0 where
   pub sound : IsSound x
   pub board : world.board.state ≡ x.board
@@ -29,7 +29,7 @@ pub record StandsFor (world : WorldView) (x : MachineState) : Type 0 where
   pub awaited : world.host.awaited ≡ x.awaited
   pub up : AreEncoded x.up (world.host.unread ++ world.up.bytes)
   pub down : Divides (world.board.partial ++ world.down.bytes) x.down []
-  -- what the board holds is a part of some command
+  -- the board holds a part of some command
   pub partial : IsPartial world.board.partial
 
 -- the world stands for an exact state
@@ -48,7 +48,7 @@ pub record IsWorld (world : WorldView) : Type 0 where
 
 -- ---- the moves of acts
 
--- an act that is done is its own move, or for a delivery takes alone or hears alone
+-- an act that is done is its own move, or for a delivery only takes or only hears
 abbrev pub AreMovesOfAct : ActContent → List Move → Type 0
 AreMovesOfAct (ActContent.Change square piece) moves = moves ≡ Move.Change square piece ∷ []
 AreMovesOfAct (ActContent.ClockRead clock) moves = moves ≡ Move.HandClock clock ∷ []
@@ -61,7 +61,7 @@ AreMovesOfAct ActContent.HostBreak moves =
     (noise : List EventContent) × (is_noise : IsNoiseList noise)
     × (moves ≡ Move.HostBreak noise is_noise ∷ [])
 
--- what isn't done is no move
+-- an act that isn't done is not a move
 abbrev pub AreMovesOfStep : ActContent → Outcome → List Move → Type 0
 AreMovesOfStep act outcome moves = IfDone outcome (AreMovesOfAct act moves) (moves ≡ [])
 

@@ -1,4 +1,4 @@
--- An act on a world: what comes of it, and what it leaves.
+-- An act in a world: its outcome, and its effect.
 use Rattle.std.specs.Prelude.{◌≡◌, ◌⊎◌, ℕ, ◌+◌, ◌<◌, ◌≤◌, ◌==◌, List, [], ◌∷◌, length, take}
 use Rattle.std.specs.Prelude.{Option, Some, None, Bool, false, ◌||◌, if◌then◌else◌, IsTrue, nat_le}
 use Rattle.dgt_values.specs.declared.kinds.Kind.{Kind}
@@ -15,13 +15,13 @@ use Rattle.dgt_link.specs.declared.acts.Outcome.{Outcome}
 use Rattle.dgt_link.specs.Act.{ActContent}
 use Rattle.dgt_link.specs.View.{LineContents, WorldView, line_holding, overflows, with_bytes, without_first}
 
--- ---- what comes of an act
+-- ---- the outcome of an act
 
 -- the board owes as many replies as it can
 abbrev pub is_full : BoardState → Bool
 is_full board = nat_le MAX_OWED (length board.owed)
 
--- no byte is asked for, or the line has none
+-- no byte is requested, or the line has none
 abbrev pub moves_nothing : ℕ → LineContents → Bool
 moves_nothing count line = (count == 0) || (length line.bytes == 0)
 
@@ -45,16 +45,16 @@ outcome (ActContent.ToHost count) world =
     if moves_nothing count world.up then Outcome.Nothing else Outcome.Done
 outcome _ world = Outcome.Done
 
--- ---- what an act leaves
+-- ---- the effect of an act
 
--- fewer than this number of these bytes leave the board with room for a reply
+-- after fewer than this many of these bytes the board has room for a reply
 abbrev pub StaysUnfinished : BoardView → List ℕ → ℕ → Type 0
 StaysUnfinished board bytes moved =
     (fewer : ℕ) → 0 < fewer → fewer < moved
     → (between : BoardView) × HasTaken board (take fewer bytes) between
     × (is_full between.state ≡ false)
 
--- the board takes the line's bytes one by one, until this number is taken, none is left or it is
+-- the board takes the line's bytes one by one, until this many are taken, none is left or it is
 -- full
 pub record Delivers (count : ℕ) (world after : WorldView) : Type 0 where
   pub moved : ℕ
@@ -70,7 +70,7 @@ pub record Delivers (count : ℕ) (world after : WorldView) : Type 0 where
 abbrev pub with_state : WorldView → BoardState → WorldView
 with_state world state = record world { board = record world.board { state = state } }
 
--- what an act leaves, if it is done
+-- the effect of an act that is done
 abbrev pub Becomes : ActContent → WorldView → WorldView → Type 0
 Becomes (ActContent.Change square piece) world after =
     after ≡ with_state world (after_change world.board.state square piece)
@@ -94,7 +94,7 @@ Becomes (ActContent.ToHost count) world after =
       host = host_after world.host (take count world.up.bytes);
       up = without_first world.up count;
     }
--- both ends lose the line
+-- both sides lose the line
 Becomes ActContent.Break world after =
     after ≡ record {
       board = view_after_line_lost world.board;
@@ -102,7 +102,7 @@ Becomes ActContent.Break world after =
       up = line_holding [] world.up.capacity;
       down = line_holding [] world.down.capacity;
     }
--- the host alone loses it, and asks anew
+-- only the host loses it, and starts over
 Becomes ActContent.HostBreak world after =
     after ≡ record world {
       host = host_awaiting new_host (Some Kind.Dump);
@@ -110,18 +110,18 @@ Becomes ActContent.HostBreak world after =
       down = line_holding restart_bytes world.down.capacity;
     }
 
--- the first of these if an act is done, and else the second
+-- the first of these if an act is done, and otherwise the second
 abbrev pub IfDone : Outcome → Type 0 → Type 0 → Type 0
 IfDone Outcome.Done done kept = done
 IfDone _ done kept = kept
 
--- An act on a world, its outcome, and the world after it. What isn't done changes nothing.
+-- An act in a world, its outcome, and the world after it. An act that isn't done changes nothing.
 pub record Step (act : ActContent) (world : WorldView) (answer : Outcome) (after : WorldView)
     : Type 0 where
   pub answers : answer ≡ outcome act world
   pub leaves : IfDone answer (Becomes act world after) (after ≡ world)
 
--- acts in order, each with its outcome, if this says what one of them does
+-- acts in order, each with its outcome, if this relation describes a single act
 abbrev pub RunsBy : {A : Type 0} → (A → WorldView → Outcome → WorldView → Type 0) → List A
     → WorldView → List Outcome → WorldView → Type 0
 RunsBy Does [] world [] after = after ≡ world

@@ -7,7 +7,7 @@ use Rattle.dgt_board.specs.Sending.{next_message}
 use Rattle.dgt_board.specs.View.{BoardView, new_view}
 use Rattle.dgt_host.specs.Host.{HostView, new_host}
 
--- the bytes in a line, the oldest first, and how many it takes at most
+-- the bytes in a line, the oldest first, and the line's capacity
 pub record LineContents : Type 0 where
   pub bytes : List ℕ
   pub capacity : ℕ
@@ -15,11 +15,11 @@ pub record LineContents : Type 0 where
 abbrev pub line_holding : List ℕ → ℕ → LineContents
 line_holding bytes capacity = record { bytes = bytes; capacity = capacity }
 
--- the line with these bytes at its end
+-- the line with these bytes appended
 abbrev pub with_bytes : LineContents → List ℕ → LineContents
 with_bytes line bytes = line_holding (line.bytes ++ bytes) line.capacity
 
--- the line without this number of its oldest bytes
+-- the line without this many of its oldest bytes
 abbrev pub without_first : LineContents → ℕ → LineContents
 without_first line count = line_holding (drop count line.bytes) line.capacity
 
@@ -36,7 +36,7 @@ pub record WorldView : Type 0 where
 abbrev pub world_of : BoardView → HostView → LineContents → LineContents → WorldView
 world_of board host up down = record { board = board; host = host; up = up; down = down }
 
--- a board and a host just made, and two empty lines of these capacities
+-- a new board, a new host, and two empty lines of these capacities
 abbrev pub new_world : List Piece → ClockState → IdentityContent → ℕ → ℕ → WorldView
 new_world position clock identity up down =
     record {

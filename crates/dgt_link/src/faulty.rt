@@ -1,4 +1,4 @@
-//! A world whose lines and whose board's power may fail.
+//! A world in which the lines and the board's power may fail.
 
 ghost use Rattle.std.specs.Prelude.{◌≡◌, ◌≢◌, ◌↔◌, ◌<◌, ◌≤◌, ◌+◌, ◌*◌, ◌^◌, ℕ, List, [], ◌∷◌, Some, IsTrue};
 ghost use Rattle.std.specs.Prelude.{◌++◌, IsSome, None, map, length, false, true};
@@ -30,29 +30,29 @@ use dgt_board::Board;
 use dgt_host::{Host, MAX_AWAITED, RESTART_LENGTH};
 use std::marker::Model;
 
-/// What happens to a world whose lines and whose board's power may fail.
+/// An act or a fault in a world in which the lines and the board's power may fail.
 #[derive(Clone, Copy, Debug, PartialEq, Eq)]
 pub enum FaultyAct<'a> {
     /// An act of a [`crate::World`].
     Plain(Act<'a>),
-    /// The bytes under way to the host are replaced by these: some were lost, repeated, altered,
-    /// inserted or moved.
+    /// These bytes replace those under way to the host: some were lost, repeated, altered, inserted
+    /// or moved.
     GarbleUp(&'a [u8]),
-    /// The bytes under way to the board are replaced by these.
+    /// These bytes replace those under way to the board.
     GarbleDown(&'a [u8]),
-    /// The board loses its power and gets it back: what `line_lost` of a board says. The lines keep
-    /// their bytes.
+    /// The board loses its power and gets it back: `line_lost` of the board. The lines keep their
+    /// bytes.
     BoardLost,
-    /// The host begins anew: it gives up the replies that it awaits, keeps its picture, and appends
+    /// The host starts over: it gives up the replies that it awaits, keeps its picture, and appends
     /// the 257 bytes of its `restart` to the down line. Both lines keep their bytes.
     Restart,
     /// The host gives up the replies that it awaits, which may be lost. Nothing else changes.
     GiveUp,
 }
 
-/// A board, a host and two lines of bytes, of which the lines and the board's power may fail.
+/// A board, a host and two lines of bytes. The lines and the board's power may fail.
 ///
-/// It is made by [`crate::World::at_fault`] and takes no memory. Contracts see it as a
+/// [`crate::World::at_fault`] creates it without allocating memory. Contracts see it as a
 /// [`crate::World`].
 #[derive(Drop)]
 pub struct FaultyWorld {
@@ -108,8 +108,8 @@ impl FaultyWorld {
     /// the down line has room for fewer than 257 more bytes. `BoardLost` and `GiveUp` are always
     /// `Done`.
     ///
-    /// A dump request is `TooMany` if 16 replies are awaited. After a `GiveUp` it is not, however
-    /// many replies were lost.
+    /// A dump request is `TooMany` if 16 replies are awaited. Right after a `GiveUp` none are,
+    /// however many replies were lost.
     pub fn step(&mut self, act: FaultyAct<'_>) -> Outcome
         ensures exact { FaultyStep (faulty_content act.entry) self.old result self.new }
         ensures unchanged { result ≢ Outcome.Done → self.new ≡ self.old }
@@ -121,7 +121,7 @@ impl FaultyWorld {
         ensures dump_done { faulty_content act.entry ≡ sends CommandContent.Dump →
             length self.old.host.awaited < MAX_AWAITED →
             length self.old.down.bytes < self.old.down.capacity → result ≡ Outcome.Done }
-        // the picture: what promises that it heals, and what keeps that promise
+        // the picture: what promises that it heals, and what keeps the promise
         ensures anew { begins_anew (faulty_content act.entry) ≡ true → result ≡ Outcome.Done →
             IsPromisedWorld self.new }
         ensures in_step { loses_step (faulty_content act.entry) ≡ false → IsInStep self.old →
@@ -171,16 +171,17 @@ impl FaultyWorld {
 
     /// Does all acts in order and returns how many were `Done`.
     ///
-    /// From any state of the board, the host and both lines: if the first act is a `Restart` that
-    /// has room, the host's picture is the board's position once the world is quiet. The other acts
-    /// have no fault, no reset and no `Break` among them.
+    /// From any state of the board, the host and both lines, let the first act be a `Restart` with
+    /// enough room. If the others include no fault, no reset and no `Break`, the host's picture is
+    /// the board's position once the world is quiet.
     ///
-    /// Whatever was done before and whatever failed: the host's picture is the board's position
-    /// once the world is quiet, on two conditions. The host began anew after the last fault, and
-    /// the last command since then that sets a mode asks for updates. If the world was in step
-    /// before and only the up line failed, a dump that was requested after the last of these faults
-    /// is enough. The host's clock is the board's if a reading was requested in place of the dump
-    /// and the mode follows the clock.
+    /// Whatever happened and failed before: the host's picture is the board's position once the
+    /// world is quiet, on two conditions. The host started over after the last fault, and the last
+    /// command since then that sets a mode asks for updates.
+    ///
+    /// If the world was in step before and only the up line failed, a dump request after the last
+    /// of these faults is enough. The host's clock is the board's if a reading was requested
+    /// instead of the dump and the mode follows the clock.
     pub fn run(&mut self, acts: &[FaultyAct<'_>]) -> usize
         ensures exact { (outcomes : List Answer) × (result ≡ done_count outcomes)
             × FaultyRuns (map faulty_content acts.now) self.old outcomes self.new }
@@ -228,7 +229,7 @@ impl FaultyWorld {
             IsQuietWorld self.new → self.new.host.clock ≡ Some self.new.board.state.clock) }
         ensures clock_kept { AreClockCalm (map faulty_content acts.now) →
             IsClockPromisedWorld self.old → IsClockPromisedWorld self.new }
-        // between faults and quiet: the board sends a dump first, and no break comes
+        // between faults and quiet: the board sends a dump first, and no break happens
         ensures reported { (later : List ActContent) (outcomes : List Answer) →
             map faulty_content acts.now ≡ map FaultyContent.Plain (ActContent.BoardSend ∷ later) →
             FaultyRuns (map faulty_content acts.now) self.old (Outcome.Done ∷ outcomes) self.new →
@@ -236,7 +237,8 @@ impl FaultyWorld {
             next_message self.old.board.state ≡ Some (Content.dump self.old.board.state.squares) →
             self.new.host.unread ≡ [] → self.new.up.bytes ≡ [] →
             self.new.host.picture ≡ Some self.new.board.state.reported_squares }
-        // from a moment on when nothing is under way, each square shows what stood there, in order
+        // from some moment on when nothing is under way, each square shows the board's pieces in
+        // order
         ensures in_order { (later : List ActContent) (outcomes : List Answer)
             (earlier : List WorldView) (first : WorldView) (others : List WorldView) (square : ℕ) →
             map faulty_content acts.now ≡ map FaultyContent.Plain (ActContent.BoardSend ∷ later) →
@@ -269,7 +271,7 @@ impl FaultyWorld {
         done
     }
 
-    // The board sends, if it can: with an empty line it can send anything.
+    // The board sends, if it can: an empty line has room for any message.
     fn send(&mut self) -> Outcome
         ensures exact { Step ActContent.BoardSend self.old result self.new }
         ensures room { self.old.up.bytes ≡ [] → result ≢ Outcome.NoRoom }
@@ -285,7 +287,7 @@ impl FaultyWorld {
         self.board.owes()
     }
 
-    // The host hears all that is in the up line.
+    // The host hears all bytes of the up line.
     fn hear_all(&mut self) -> Outcome
         ensures { Step (ActContent.ToHost (length self.old.up.bytes)) self.old result self.new }
     {
@@ -293,7 +295,7 @@ impl FaultyWorld {
         self.act(FaultyAct::Plain(Act::ToHost(waiting)))
     }
 
-    // The board takes what is in the down line, until it owes 8 replies.
+    // The board takes the bytes of the down line, until it owes 8 replies.
     fn take_all(&mut self) -> Outcome
         ensures { Step (ActContent.ToBoard (length self.old.down.bytes)) self.old result self.new }
     {
@@ -301,7 +303,7 @@ impl FaultyWorld {
         self.act(FaultyAct::Plain(Act::ToBoard(coming)))
     }
 
-    // Does one delivery or sending if one can be done. If none can, the world rests.
+    // Does one delivery or sending, if one is possible. If none is, the world rests.
     fn settle_once(&mut self) -> bool
         ensures moved { IsTrue result → (act : ActContent) × IsNext self.old act
             × Step act self.old Outcome.Done self.new × (work_left self.new < work_left self.old) }
@@ -325,18 +327,19 @@ impl FaultyWorld {
         }
     }
 
-    // The work that is left is counted by a `u128`.
+    // A `u128` can count the remaining work.
     fn work(&self)
         ensures fits { work_left self.now < 2 ^ 67 }
         ensures few { backlog self.now.board.state ≤ 73 }
     {
         dgt_board::laws::bounded_backlog();
-        // how many bytes a line has, and how many replies are owed, is bounded where it is read
+        // the length of a line, and the number of owed replies, are known to be bounded once they
+        // are read
         let _coming = self.down.len();
         let _owed = self.board.owed_len();
     }
 
-    // What its board reports of itself and of its clock is short.
+    // The board's reports of itself and of its clock are short.
     pub(crate) fn reports_are_short(&self)
         ensures identity { IsShortIdentity self.now.board.state.identity }
         ensures clock { IsShortClock self.now.board.state.clock }
@@ -344,21 +347,21 @@ impl FaultyWorld {
         self.board.reports_are_short();
     }
 
-    // What the host has unread is an unfinished message.
+    // The host's unread bytes are an unfinished message.
     pub(crate) fn holds_unfinished(&self)
         ensures { unfinished_message self.now.host.unread ≡ self.now.host.unread }
     {
         self.host.unread();
     }
 
-    /// Delivers what is under way and lets the board send what it has to send, until both lines are
-    /// empty and the board has nothing to send. Returns how many acts that took, which are in the
-    /// order of [`crate::World::settle`].
+    /// Delivers all bytes under way and lets the board send, until both lines are empty and the
+    /// board has nothing to send. Returns how many acts that took. Their order is that of
+    /// [`crate::World::settle`].
     ///
-    /// A world that is promised to heal is quiet then, and the host's picture is the board's
-    /// position. In any other the host may still have unread bytes, and the board a part of a
+    /// A world that is promised to heal is then quiet, and the host's picture is the board's
+    /// position. In any other world the host may still have unread bytes, and the board part of a
     /// command. If the clock is promised, the host's clock is the board's. If each awaited reply
-    /// was still to come, none is awaited any more.
+    /// was yet to be heard, none is awaited any more.
     pub fn settle(&mut self) -> u128
         ensures rested { IsRestedWorld self.new }
         ensures run { SettlesIn result self.old self.new }
@@ -393,7 +396,7 @@ impl FaultyWorld {
     fn is_faulty(&self)
         ensures { IsFaultyWorld self.now }
     {
-        // what holds of each world is known where a field of it is read
+        // the facts of each world are known once one of its fields is read
         self.up.is_empty();
     }
 
@@ -402,7 +405,7 @@ impl FaultyWorld {
     ///
     /// A quiet world is in step, whatever failed. If it is promised to heal, the host's picture is
     /// the board's position, and if its clock is promised, the host's clock is the board's. If each
-    /// awaited reply was still to come, none is awaited.
+    /// awaited reply was yet to be heard, none is awaited.
     pub fn quiet(&self) -> bool
         ensures quiet { IsTrue result ↔ IsQuietWorld self.now }
         ensures in_step { IsTrue result → IsInStep self.now }
@@ -439,9 +442,9 @@ impl FaultyWorld {
 
     /// The host.
     ///
-    /// While garbage is under way its picture may be the garbage's. Once it has heard a dump after
-    /// the garbage, its picture is what the board had reported when it sent the last message that
-    /// was heard. The messages still under way make it what the board has reported by now.
+    /// While garbage is under way, its picture may be wrong. Once it has heard a dump after the
+    /// garbage, its picture is what the board had reported when it sent the last message that was
+    /// heard. The messages still under way update it to what the board has reported by now.
     pub fn host(&self) -> &Host
         ensures host { result.now ≡ self.now.host }
         ensures reported { (garbage : List ℕ) (x : MachineState) → StandsBehind garbage self.now x →

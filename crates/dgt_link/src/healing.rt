@@ -1,5 +1,5 @@
-//! How the picture and the clock of a host heal after faults of the lines and of the board's power.
-//! Nothing here runs: each function stands for the facts that its contract states.
+//! How the picture and the clock of a host become right again after faults of the lines and of the
+//! board's power. Each function does nothing at run time: its contract states the facts.
 
 ghost use Rattle.std.specs.Prelude.{◌≡◌, ◌≢◌, ◌⊎◌, ◌↔◌, ◌≤◌, ◌+◌, ℕ, List, [], ◌∷◌, ◌++◌, length, Some, None};
 ghost use Rattle.std.specs.Prelude.{Contains, IsSome, IsTrue, false, true};
@@ -30,8 +30,9 @@ ghost use Rattle.dgt_link.specs.Healing.{AfterFaults, IsClockHealing, IsFaultyWo
 use crate::laws;
 use dgt_host::RESTART_LENGTH;
 
-/// An act that is no break keeps this: the world stands, after some garbage, for a state. The act's
-/// moves lead to the new state. Hearing garbage is no move.
+/// Consider any act but a break in a world that stands, after some garbage, for a state. The world
+/// after the act stands, after some garbage, for the state to which the act's moves lead. Hearing
+/// garbage is not a move.
 pub fn acts_behind_garbage()
     ensures { (act : ActContent) (garbage : List ℕ) (world : WorldView) (answer : Outcome)
         (after : WorldView) (x : MachineState) → is_break act ≡ false
@@ -65,9 +66,9 @@ pub fn faults_keep()
 }
 
 /// After any list of acts and faults a sane world is sane. Its host's picture is the board's
-/// position once the world is quiet, on two conditions. The host began anew after the last fault,
-/// or only the up line failed and a dump was requested after that. And the last command since then
-/// that sets a mode asks for updates. The same holds of the clock, of a reading that was requested.
+/// position once the world is quiet, on two conditions. The host started over after the last fault,
+/// or only the up line failed and a dump was requested after that. The last command since then that
+/// sets a mode asks for updates. The same is true of the clock if a reading was requested.
 pub fn faults_heal()
     ensures sane { AfterFaults (λ acts world after answers. IsSane after) }
     ensures in_step { AfterFaults (λ acts world after answers.
@@ -93,8 +94,8 @@ pub fn faults_heal()
     laws::grammars();
 }
 
-/// A promised world stays promised while it settles, and is quiet once it rests. Its picture is the
-/// board's position then.
+/// A promised world stays promised while it settles, and is quiet once it rests. Then its picture
+/// is the board's position.
 pub fn promised_worlds_heal()
     ensures kept { (count : ℕ) (world after : WorldView) → SettlesIn count world after
         → IsPromisedWorld world → IsPromisedWorld after }
@@ -107,9 +108,10 @@ pub fn promised_worlds_heal()
     laws::grammars();
 }
 
-/// What one act does to the grades of hope. Beginning anew promises that the picture heals. A fault
-/// of the up line leaves a world in step and following, and a dump that is requested then promises
-/// that it heals. Only a fault, a break that both sides see, and a reset end these grades.
+/// The effect of one act on what is promised. Starting over promises that the picture heals. A
+/// fault of the up line leaves a world in step and following, and a dump that is then requested
+/// promises that it heals. Only a fault, a break that both sides notice, and a reset end these
+/// promises.
 pub fn steps_heal()
     ensures anew { (act : FaultyContent) (world after : WorldView) → begins_anew act ≡ true
         → IsSane world → FaultyStep act world Outcome.Done after → IsPromisedWorld after }
@@ -133,12 +135,12 @@ pub fn steps_heal()
     laws::grammars();
 }
 
-/// The theorem without counting. Whatever was done and whatever failed before: once the host has
-/// begun anew, its picture is the board's position whenever the world is quiet. That holds as long
-/// as nothing fails again, no reset is sent and no break comes that both sides see. If only the up
-/// line failed and the board's mode to come asks for updates, a dump is enough.
+/// The theorem without counting. Whatever happened and failed before: once the host has started
+/// over, its picture is the board's position whenever the world is quiet. That holds as long as
+/// there is no fault, no reset and no break that both sides notice. If only the up line failed and
+/// the board's mode to come asks for updates, a dump is enough.
 ///
-/// The state before may be any in which the board is sound: how it came about doesn't matter.
+/// The state before may be any in which the board is sound: its history doesn't matter.
 pub fn calm_heals()
     ensures any_state { (later : List FaultyContent) (world after : WorldView)
         (answers : List Outcome) → IsSane world →
@@ -164,11 +166,11 @@ pub fn calm_heals()
     steps_heal();
 }
 
-/// What one act does to the host's clock, whatever failed before. Take a world in step whose mode
-/// to come follows the clock. A reading that is requested promises the clock. So does the mode
+/// The effect of one act on the host's clock, whatever failed before, in a world in step with a
+/// mode to come that follows the clock. A requested reading promises the clock. So does the mode
 /// itself if the board has reported no reading since it was made or lost the line or its power.
-/// Only a fault, a break, a restart, a reset and a mode that doesn't follow the clock end that. At
-/// quiet the host's clock is the board's.
+/// Only a fault, a break, a restart, a reset and a mode that doesn't follow the clock end that.
+/// When the world is quiet, the host's clock is the board's.
 pub fn clocks_heal()
     ensures asked { (command : CommandContent) (mode : Mode) (world after : WorldView) →
         command_mode command ≡ Some mode → IsTrue (follows_clock mode) → IsInStep world
@@ -201,9 +203,9 @@ pub fn clocks_heal()
     laws::grammars();
 }
 
-/// What the host awaits. Each awaited reply is still to come in a world without faults, in any
-/// world once the host has begun anew, and in one in step once it has given up. Only a fault ends
-/// that. At rest nothing is awaited then.
+/// When each awaited reply is yet to be heard: in a world without faults, in any world once the
+/// host has started over, and in a world in step once it has given up. Only a fault ends that. At
+/// rest nothing is then awaited.
 pub fn awaited_replies_come()
     ensures world { (world : WorldView) → IsWorld world → IsInTurnWorld world }
     ensures anew { (act : FaultyContent) (world after : WorldView) → begins_anew act ≡ true
@@ -227,10 +229,10 @@ pub fn awaited_replies_come()
 }
 
 /// Between the faults and quiet. Any world in step stands, after some garbage, for a state that
-/// begins with no picture. Once that state knows a picture, by a dump that the board has sent since
-/// then, no garbage counts any more. Then the host's picture is what the board had reported when it
-/// sent the last message that was heard. The messages under way make it what the board has reported
-/// by now.
+/// begins without a picture. Once that state knows a picture, from a dump that the board has sent
+/// since then, the garbage has no effect any more. Then the host's picture is what the board had
+/// reported when it sent the last message that was heard. The messages under way update it to what
+/// the board has reported by now.
 pub fn pictures_were_reported()
     ensures moves { (x : MachineState) (moves : List Move) → IsSound x → x.up ≡ []
         → AllByRecursion (λ move. (move ≢ Move.Break) × (¬ (IsHostBreak move))) moves
@@ -245,8 +247,8 @@ pub fn pictures_were_reported()
     acts_behind_garbage();
 }
 
-/// What it says that a picture was reported: of the first and the last state, of what each square
-/// shows, and of a state after no move. What a move sends is what it puts under way.
+/// The meaning of a reported picture: of the first and the last state, of what each square shows,
+/// and of a state after no move. A move that sends something puts it under way.
 pub fn what_was_reported()
     ensures begins { (acts : List ActContent) (answers : List Outcome) (world after : WorldView)
         (report : IsReportedBy acts answers world after)
@@ -275,9 +277,10 @@ pub fn what_was_reported()
         → (after_move x move).up ≡ x.up ++ sent_by x move }
 {}
 
-/// After faults, in a world in step, let the board send a dump, and let no break come after it.
-/// Whenever nothing is under way to the host then, its picture is what the board has reported. From
-/// the first such moment on, what it shows of a square stood there, in this order.
+/// After faults, in a world in step, let the board send a dump, and let no break follow. Whenever
+/// nothing is under way to the host, its picture is then what the board has reported. From the
+/// first such moment on, the pieces that it shows on a square were there on the board, in this
+/// order.
 pub fn dumps_are_shown()
     ensures picture { (acts : List ActContent) (world after : WorldView)
         (answers : List Outcome) → AllByRecursion (λ act. is_break act ≡ false) acts
@@ -299,12 +302,13 @@ pub fn dumps_are_shown()
     laws::grammars();
 }
 
-/// What is counted is what the words say. An act with which the host begins anew counts if it is
-/// done, whatever was done and whatever failed before. It still counts after any acts of which none
-/// is a fault, a reset or a break that both sides see.
+/// Facts about the terms of the laws. An act by which the host starts over counts if it is done,
+/// whatever happened and failed before. It still counts after any acts without a fault, a reset or
+/// a break that both sides notice.
 ///
-/// What the host awaits is in turn from then on until a fault, and the board is in step until a
-/// fault of the down line or of its power. So both are from a break that both sides see.
+/// From then on the host's awaited replies are in turn until a fault, and the board is in step
+/// until a fault of the down line or of its power. After a break that both sides notice, both are
+/// true.
 pub fn beginnings_count()
     ensures picture { (acts later : List FaultyContent) (act : FaultyContent)
         (answers others : List Outcome) → length answers ≡ length acts → begins_anew act ≡ true
@@ -330,8 +334,8 @@ pub fn beginnings_count()
 {}
 
 /// In a world in step the bytes under way to the host may be replaced. A mode command from before
-/// that counts, and so does a dump or a reading that is requested afterwards. What a host awaits is
-/// in turn again once it has given up, until the next fault.
+/// that counts, and so does a dump or a reading that is requested afterwards. The awaited replies
+/// are in turn again once the host has given up, until the next fault.
 pub fn requests_count()
     ensures awaited { (later : List FaultyContent) (answer : Outcome) (others : List Outcome)
         → AreFaultless later
@@ -350,7 +354,7 @@ pub fn requests_count()
         (Outcome.Done ∷ answer ∷ Outcome.Done ∷ others)) }
 {}
 
-/// The kinds of acts by the acts that are of them.
+/// Which acts are of which kind.
 pub fn kinds_of_acts()
     ensures fault { (act : FaultyContent) → (is_fault act ≡ true)
         ↔ (((bytes : List ℕ) × (act ≡ FaultyContent.GarbleUp bytes))

@@ -1,5 +1,5 @@
-//! What holds of the machine of a board and its host, and of the worlds that stand for its states.
-//! Nothing here runs: each function stands for the facts that its contract states.
+//! Laws of the machine of a board and its host, and of the worlds that stand for its states. Each
+//! function does nothing at run time: its contract states the facts.
 
 ghost use Rattle.std.specs.Prelude.{◌≡◌, ◌≢◌, ◌⊎◌, ◌≤◌, ◌<◌, ℕ, List, [], ◌∷◌, ◌++◌, All, Contains};
 ghost use Rattle.std.specs.Prelude.{Some, None, flat_map, length, map, replicate, IsTrue, IsSome};
@@ -39,7 +39,7 @@ ghost use Rattle.dgt_link.specs.View.{IsQuietWorld, WorldView};
 use crate::{Act, FaultyAct, MIN_DOWN, MIN_UP, Outcome as ActOutcome, WorldFault};
 use dgt_command::Command;
 
-// What proofs use of the readers of messages and of commands.
+// What proofs use from the readers of messages and of commands.
 pub(crate) fn grammars()
     ensures { Grammars }
 {
@@ -62,8 +62,8 @@ pub fn limits()
     ensures down { MIN_DOWN ≡ 257 }
 {}
 
-/// Two values are equal, as `==` compares them, exactly if they are the same. Of lent bytes the
-/// bytes count, and not where they lie.
+/// Two values are equal by `==` exactly if they are the same. For borrowed bytes, the bytes count
+/// and not their address.
 pub fn equal_is_same()
     ensures outcome { EqualIsSame ⟦<ActOutcome as PartialEq>⟧.eq }
     ensures world_fault { EqualIsSame ⟦<WorldFault as PartialEq>⟧.eq }
@@ -83,7 +83,7 @@ pub fn clone_is_same()
     ensures faulty_act { CloneIsSame ⟦<FaultyAct<'static> as Clone>⟧ }
 {}
 
-/// A board and a host just made are sound, and exact.
+/// A new board and host are sound, and exact.
 pub fn new_is_sound()
     ensures sound { (position : List Piece) (clock : ClockState) (identity : IdentityContent) →
         length position ≡ 64 → IsSound (new_state position clock identity) }
@@ -91,8 +91,8 @@ pub fn new_is_sound()
         length position ≡ 64 → IsExact (new_state position clock identity) }
 {}
 
-/// Each move keeps a sound state sound, and each but a host break an exact one exact. A break makes
-/// a sound one exact.
+/// Each move keeps a sound state sound, and each but a host break keeps an exact one exact. A break
+/// makes a sound state exact.
 pub fn moves_keep()
     ensures sound { (x : MachineState) (move : Move) → IsSound x → IsSound (after_move x move) }
     ensures exact { (x : MachineState) (move : Move) → ¬ (IsHostBreak move) →
@@ -100,8 +100,8 @@ pub fn moves_keep()
     ensures exact_again { (x : MachineState) → IsSound x → IsExact (after_move x Move.Break) }
 {}
 
-/// A dump that is sent makes the picture to come the squares as the board has reported them, and
-/// only a break or a host break makes it unknown.
+/// Sending a dump makes the picture to come the squares that the board has reported, and only a
+/// break or a host break makes it unknown.
 pub fn dump_is_reported()
     ensures reported { (x : MachineState) (later : List Reply) →
         x.board.owed ≡ Reply.Of Kind.Dump ∷ later → coming_picture (after_move x Move.Reply)
@@ -110,7 +110,7 @@ pub fn dump_is_reported()
         IsSome (coming_picture x) → IsSome (coming_picture (after_move x move)) }
 {}
 
-/// In an exact state the next message to be heard that has a kind has the one that is awaited
+/// In an exact state, the next message to be heard that has a kind has the kind that is awaited
 /// first, and is not unasked.
 pub fn answers_in_order()
     ensures first { (x : MachineState) (before later : List Content) (message : Content)
@@ -122,9 +122,9 @@ pub fn answers_in_order()
         → ¬ (IsUnasked x.awaited (Some (Event.Message message))) }
 {}
 
-/// What a move makes of the promise: a dump that is asked for begins its first half, which only a
-/// break ends. Its second half is that of the last command that sets a mode, if a break counts
-/// as a reset. A host break begins both.
+/// The effect of a move on the promise. Requesting a dump establishes its first half, which only a
+/// break ends. The second half depends on the last command that sets a mode, and a break counts as
+/// a reset. A host break establishes both.
 pub fn promise_is_kept()
     ensures begun { (x : MachineState) →
         PictureIsComing (after_move x (Move.Ask CommandContent.Dump)) }
@@ -137,9 +137,9 @@ pub fn promise_is_kept()
         coming_mode (after_move x move) ≡ mode_after (coming_mode x) (requests move) }
 {}
 
-/// If a sound state is quiet, nothing is awaited, and a picture that is known is the board's
-/// squares if the mode asks for updates. If the mode follows the clock, a clock that the host knows
-/// is the board's, and in an exact state it knows it. Of a promised one the picture is known.
+/// If a sound state is quiet, nothing is awaited, and a known picture is the board's squares if the
+/// mode asks for updates. If the mode follows the clock, a clock that the host knows is the
+/// board's, and in an exact state it knows it. In a promised state the picture is known.
 pub fn at_quiet()
     ensures awaited { (x : MachineState) → IsSound x → IsQuiet x → x.awaited ≡ [] }
     ensures picture { (x : MachineState) → IsSound x → IsQuiet x → IsTrue (updates x.board.mode)
@@ -152,9 +152,9 @@ pub fn at_quiet()
         → x.picture ≡ Some x.board.squares }
 {}
 
-/// After any moves: sound stays sound, and exact without a host break exact. If the commands among
-/// them, after the last break, ask for the picture, it is promised, and is the board's squares once
-/// all is quiet.
+/// After any moves, a sound state is sound, and without a host break an exact one is exact. If the
+/// commands among them, after the last break, request the picture, it is promised, and is the
+/// board's squares once everything is quiet.
 pub fn picture_after_moves()
     ensures sound { (x : MachineState) (moves : List Move) →
         IsSound x → IsSound (after_moves x moves) }
@@ -168,9 +168,9 @@ pub fn picture_after_moves()
         → (after_moves x moves).picture ≡ Some (after_moves x moves).board.squares }
 {}
 
-/// Noise leaves the mode of a board as it was, and what a host asks for that begins anew makes it
-/// `UpdateBoard`, and adds a dump to what is owed. On bytes: 255 zeros leave the reader of commands
-/// between two commands, whatever part of one it had, and the mode as it was.
+/// Noise doesn't change a board's mode. The requests of a host that starts over set it to
+/// `UpdateBoard`, and add a dump to what is owed. On bytes: 255 zeros complete any command that the
+/// board's decoder has begun, and leave the mode unchanged.
 pub fn restart_is_taken()
     ensures noise { (board : BoardState) (noise : List EventContent) → IsNoiseList noise →
         (effects board noise).mode ≡ board.mode }
@@ -193,7 +193,7 @@ pub fn next_is_sent()
         ≡ record x { board = after_sending x.board message; up = x.up ++ message ∷ [] }) }
 {}
 
-/// A world stands for one state at most: the bytes alone say which messages and which commands are
+/// A world stands for one state at most: the bytes determine which messages and which commands are
 /// under way.
 pub fn worlds_stand_for_one_state()
     ensures { (world : WorldView) (x y : MachineState) →
@@ -204,8 +204,8 @@ pub fn worlds_stand_for_one_state()
     dgt_command::laws::one_division();
 }
 
-/// An act has one outcome and leaves one world, and so have acts in a row, and acts and faults of a
-/// world whose lines and whose board's power may fail.
+/// An act has one outcome and leads to one world. The same is true of a list of acts, and of acts
+/// and faults in a world in which the lines and the board's power may fail.
 pub fn acts_have_one_outcome()
     ensures one { (act : ActContent) (world after other : WorldView) (answer also : Outcome) →
         Step act world answer after → Step act world also other
@@ -221,9 +221,9 @@ pub fn acts_have_one_outcome()
     dgt_board::laws::one_taking();
 }
 
-/// What an act leaves of a world that stands for a state stands for one to which the machine comes
-/// by the act's own move, or for a delivery by takes or hears alone. A run of acts is so a run of
-/// the machine.
+/// Let an act happen in a world that stands for a state. The world after it stands for a state that
+/// the machine reaches by the act's own move, or for a delivery by takes or hears only. A run of
+/// acts is therefore a run of the machine.
 pub fn acts_are_moves()
     ensures one { (act : ActContent) (world after : WorldView) (answer : Outcome)
         (x : MachineState) → StandsFor world x → Step act world answer after
@@ -235,8 +235,8 @@ pub fn acts_are_moves()
     grammars();
 }
 
-/// An act leaves a world for which there is a sound state, and but for a host break of one that
-/// stands for an exact state one that does. A break leaves one that does of any world.
+/// After any act, the world stands for a sound state. After any but a host break, it stands for an
+/// exact state if it did before, and after a break it always does.
 pub fn acts_keep()
     ensures sound { (act : ActContent) (world after : WorldView) (answer : Outcome) →
         IsWorld world → Step act world answer after → IsWorld after }
@@ -252,9 +252,9 @@ pub fn acts_keep()
     acts_are_moves();
 }
 
-/// What an act makes of the promise: a dump that is asked for begins its first half, which only a
-/// break ends. Its second half is that of the last mode asked for, if a break counts as a reset.
-/// A host break begins both: noise comes to the board, and then what the host asks for.
+/// The effect of an act on the promise. Requesting a dump establishes its first half, which only a
+/// break ends. The second half depends on the last mode requested, and a break counts as a reset. A
+/// host break establishes both: the board receives noise, and then the host's requests.
 pub fn promise_by_acts()
     ensures begun { (world after : WorldView) (x y : MachineState) →
         StandsFor world x → Step (ActContent.Host CommandContent.Dump) world Outcome.Done after
@@ -277,11 +277,11 @@ pub fn promise_by_acts()
     worlds_stand_for_one_state();
 }
 
-/// In each world the picture, once all messages under way are heard, is unknown or the squares as
-/// the board has reported them. A message of which the host has heard a part is one of them.
+/// In each world, once all messages under way are heard, the picture is unknown or the squares that
+/// the board has reported. A message that the host has heard in part is one of them.
 ///
-/// In a world that stands for an exact state the next message to be heard that has a kind has the
-/// one that is awaited first, and is not unasked.
+/// In a world that stands for an exact state, the next message to be heard that has a kind has the
+/// kind that is awaited first, and is not unasked.
 pub fn worlds_are_reported()
     ensures fold { (world : WorldView) (x : MachineState) → StandsFor world x →
         IsUnknownOr (picture_after_all world.host.picture x.up)
@@ -296,9 +296,9 @@ pub fn worlds_are_reported()
         → ¬ (IsUnasked world.host.awaited (Some (Event.Message message))) }
 {}
 
-/// In a quiet world nothing is awaited, and a picture that is known is the board's squares if the
-/// mode asks for updates. If it follows the clock, a clock that the host knows is the board's, and
-/// it knows it if the world stands for an exact state. If it stands for a promised state the
+/// In a quiet world nothing is awaited, and a known picture is the board's squares if the mode asks
+/// for updates. If the mode follows the clock, a clock that the host knows is the board's, and the
+/// host knows it if the world stands for an exact state. If it stands for a promised state, the
 /// picture is known.
 pub fn at_quiet_world()
     ensures awaited { (world : WorldView) (x : MachineState) →
@@ -319,10 +319,10 @@ pub fn at_quiet_world()
     dgt_command::laws::one_division();
 }
 
-/// Take acts that ask for a dump after the last break, and of which the last that asks for a mode
-/// asks for updates. Then the world after them stands for a promised state. Once it is quiet the
-/// host's picture is the board's squares. A promised state stays so by any acts without a reset and
-/// a break that both sides see.
+/// Suppose some acts request a dump after the last break, and the last of them that sets a mode
+/// asks for updates. Then the world after them stands for a promised state. Once it is quiet, the
+/// host's picture is the board's squares. A promised state stays promised after any acts without a
+/// reset and a break that both sides notice.
 pub fn picture_after_acts()
     ensures promised { (acts : List ActContent) (world after : WorldView)
         (answers : List Outcome) (x : MachineState) →
@@ -341,9 +341,9 @@ pub fn picture_after_acts()
     at_quiet_world();
 }
 
-/// What `IsAskedBy` and `AskForPicture` ask for, act by act. Whatever was done before, a command
+/// What `IsAskedBy` and `AskForPicture` require, act by act. Whatever happened before, a command
 /// that asks for updates and a dump request are enough, in either order, if both are done. They
-/// still count after any acts of which none is a reset or a break that both sides see.
+/// still count after any acts without a reset or a break that both sides notice.
 pub fn asking_counts()
     ensures mode_first { (acts later : List ActContent) (mode : CommandContent)
         (answers others : List Outcome) → length answers ≡ length acts → Contains
@@ -363,11 +363,12 @@ pub fn asking_counts()
         → AskForPicture (acts ++ Act.Host mode ∷ Act.Host Command.Dump ∷ later) }
 {}
 
-/// Two bounds in numbers. The up line takes 67 bytes and has 5, the board has 2 messages to send,
-/// and the down line has 3 bytes: 5, 68 times 2 and 69 times 3 make 348 steps. Of the machine one
-/// message and 3 commands are under way, and 2 messages are to be sent: 1, twice 2 and 3 times 3.
+/// Two bounds in numbers. The up line has room for 67 bytes and contains 5, the board has 2
+/// messages to send, and the down line contains 3 bytes. That is 5, 68 times 2 and 69 times 3: 348
+/// steps. In the machine, one message and 3 commands are under way, and 2 messages are to be sent:
+/// 1, twice 2 and 3 times 3.
 ///
-/// A sending and a byte each way are a round.
+/// A round is one sending and one byte in each direction.
 pub fn bounds_in_numbers()
     ensures steps { (world : WorldView) → world.up.capacity ≡ 67 → length world.up.bytes ≡ 5
         → backlog world.board.state ≡ 2 → length world.down.bytes ≡ 3 → steps_left world ≡ 348 }
@@ -378,8 +379,8 @@ pub fn bounds_in_numbers()
     ensures done { done_count (Outcome.Done ∷ Outcome.Nothing ∷ Outcome.Done ∷ []) ≡ 2 }
 {}
 
-/// What is enough for a quiet world, a quiet state and a world at rest, and that moves that settle
-/// a state make it quiet.
+/// Sufficient conditions for a quiet world, a quiet state and a world at rest. Moves that settle a
+/// state make it quiet.
 pub fn what_is_quiet()
     ensures world { (world : WorldView) → world.up.bytes ≡ [] → world.down.bytes ≡ []
         → world.host.unread ≡ [] → world.board.partial ≡ []
@@ -392,9 +393,9 @@ pub fn what_is_quiet()
         SettlesBy moves x → IsQuiet (after_moves x moves) }
 {}
 
-/// What is shown in order, by a pawn that was put on an empty square and taken again: it may be
-/// seen twice, and not before what stood there before it. A known picture shows one piece of each
-/// square, and one stands there.
+/// Examples of what is shown in order: a pawn that was put on an empty square and removed again may
+/// be seen twice, and not before what was there before it. A known picture shows one piece on each
+/// square.
 pub fn what_is_in_order()
     ensures seen { IsInOrderOf (Piece.WhitePawn ∷ Piece.WhitePawn ∷ Piece.Empty ∷ [])
         (Piece.Empty ∷ Piece.WhitePawn ∷ Piece.Empty ∷ []) }
@@ -407,13 +408,13 @@ pub fn what_is_in_order()
         → stood_in square (world ∷ []) ≡ piece_on world.board.state.squares square ∷ [] }
 {}
 
-/// From each sound state some takes of the board, sendings of the board and hears of the host lead
+/// From each sound state, some takes of the board, sendings of the board and hears of the host lead
 /// to a quiet one. There is at most one for each message under way, and three for each command and
-/// fault under way. There are two for each reply, square and clock that the board has still to
-/// report in some mode.
+/// fault under way. There are two for each reply, square and clock that the board has yet to report
+/// in some mode.
 ///
-/// Such moves keep the squares, the clock and the mode to come, and the picture of a promised
-/// state, once all is quiet, is its squares.
+/// Such moves keep the squares, the clock and the mode to come. The picture of a promised state is
+/// its squares once everything is quiet.
 pub fn quiet_is_reached()
     ensures reached { (x : MachineState) → IsSound x → (moves : List Move) × SettlesBy moves x }
     ensures squares { (x : MachineState) (moves : List Move) → AllByRecursion IsSettlingMove moves
@@ -429,8 +430,8 @@ pub fn quiet_is_reached()
     dgt_board::laws::bounded_backlog();
 }
 
-/// In whatever order and chunks a world is delivered and its board sends, both come to an end: only
-/// a limited number of the acts can be done.
+/// In whatever order and chunks the bytes are delivered and the board sends, both end: only a
+/// limited number of these acts can be done.
 pub fn settling_ends()
     ensures { (acts : List ActContent) (world after : WorldView) (answers : List Outcome) →
         IsWorld world → AllByRecursion IsSettling acts → Runs acts world answers after
@@ -442,9 +443,9 @@ pub fn settling_ends()
     dgt_command::laws::parts_of_words();
 }
 
-/// A world may be delivered and its board may send in whatever order and chunks. If each side moves
-/// again and again, both lines are empty and the board has nothing to send after a limited number
-/// of rounds.
+/// The bytes may be delivered and the board may send in whatever order and chunks. If each side
+/// moves again and again, both lines are empty and the board has nothing to send after a limited
+/// number of rounds.
 pub fn fair_rounds_rest()
     ensures { (rounds : ℕ) (acts : List ActContent) (world after : WorldView)
         (answers : List Outcome) → IsWorld world → IsShortIdentity world.board.state.identity
@@ -458,16 +459,16 @@ pub fn fair_rounds_rest()
     dgt_command::laws::parts_of_words();
 }
 
-/// What a host shows of a square stood there, in this order: nothing is shown that never stood
-/// there, and nothing comes back that was followed by something else. Breaks change nothing of it.
+/// The pieces that a host shows on a square were there, in this order: it shows nothing that was
+/// never there, and never returns to an earlier piece. Breaks don't change that.
 pub fn squares_are_shown_in_order()
     ensures { (x : MachineState) (moves : List Move) (square : ℕ) → x.picture ≡ None → x.up ≡ []
         → IsInOrderOf (shown_on square x moves) (stood_on square x moves) }
 {}
 
-/// What a host shows of a square at first and after each act stood there, in this order, whatever
-/// the acts are. The first world's host knows no picture, and nothing is under way to it, as in a
-/// new world and after a break.
+/// The pieces that a host shows on a square, at first and after each act, were there, in this
+/// order, whatever the acts are. The first world's host knows no picture, and nothing is under way
+/// to it, as in a new world and after a break.
 pub fn worlds_show_in_order()
     ensures { (acts : List ActContent) (world : WorldView) (answers : List Outcome)
         (worlds : List WorldView) (square : ℕ) → IsWorld world → world.host.picture ≡ None

@@ -1,4 +1,4 @@
-//! A DGT board, its host and the two lines of bytes between them, and what holds of the picture
+//! A DGT board, its host and the two lines of bytes between them, with theorems about the picture
 //! that the host keeps.
 //!
 //! A [`World`] owns the board, the host and both lines. [`World::step`] does one [`Act`] and
@@ -7,13 +7,13 @@
 //! - a piece is put on a square, or the clock is read;
 //! - the host or the board sends;
 //! - bytes of a line are delivered, cut anywhere;
-//! - the line breaks, and both sides see it, or only the host, which then begins anew.
+//! - the line breaks, and both sides notice, or only the host, which then starts over.
 //!
-//! [`World::run`] does many acts. Its theorem: the host's picture is the board's position, whatever
-//! was done before, once the world is [`World::quiet`]. It asks for two things. A dump was
-//! requested since the last break that both sides saw, and the last command that sets a mode asks
-//! for updates. A host that begins anew asks for both. [`World::settle`] delivers, and lets the
-//! board send, until the world is quiet, which it always becomes.
+//! [`World::run`] does many acts. Its theorem: once the world is [`World::quiet`], the host's
+//! picture is the board's position, whatever happened before, on two conditions. A dump was
+//! requested since the last break that both sides noticed, and the last command that sets a mode
+//! asks for updates. A host that starts over requests both. [`World::settle`] delivers bytes, and
+//! lets the board send, until the world is quiet. It always becomes quiet.
 //!
 //! ```rust
 //! use dgt_command::Command;
@@ -28,17 +28,16 @@
 //! }
 //! ```
 //!
-//! The lines of a `World` lose bytes only by breaks. [`World::at_fault`] makes it a
+//! The lines of a `World` lose bytes only by breaks. [`World::at_fault`] turns it into a
 //! [`FaultyWorld`]. There any bytes under way may be replaced by any others, and the board may lose
-//! its power. The picture heals: once the host has begun anew after the last fault, the same holds
-//! as in a `World`, whatever failed before. [`healing`] has the theorem.
+//! its power. The picture heals: once the host has started over after the last fault, the same
+//! theorem holds, whatever failed before. See [`healing`].
 //!
-//! Messages and commands are those of the DGT Electronic Board Protocol Description. What an act or
-//! a fault is, is this project's own choice. Only [`World::new`] takes memory.
+//! Messages and commands are those of the DGT Electronic Board Protocol Description. The acts and
+//! the faults are this project's own choice. Only [`World::new`] allocates memory.
 //!
-//! [`laws`] says what holds of the machine that a world stands for, in which whole messages and
-//! commands are under way, and how bytes relate to it. docs/ARCHITECTURE.md has the way through the
-//! proof.
+//! [`laws`] states the facts about the machine, in which whole messages and commands are under way,
+//! and about its relation to bytes. docs/ARCHITECTURE.md outlines the proof.
 #![tactic(auto)]
 
 mod acts;

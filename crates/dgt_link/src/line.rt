@@ -1,4 +1,4 @@
-//! Lines of bytes, all of whose memory is taken where they are made.
+//! Lines of bytes. They allocate memory only when they are made.
 
 ghost use Rattle.std.specs.Prelude.{◌≡◌, ◌+◌, ◌<◌, ◌≤◌, ◌==◌, [], length, take, IfOk};
 ghost use Rattle.dgt_link.specs.View.{line_holding, with_bytes, without_first};
@@ -7,7 +7,7 @@ use circular_buffer::HeapCircularBuffer;
 use std::alloc::{AllocError, Global};
 use std::marker::Model;
 
-/// A line of bytes, the oldest first. It never has more bytes than its capacity.
+/// A line of bytes, the oldest first. Its length never exceeds its capacity.
 #[derive(Drop)]
 pub struct Line {
     ring: HeapCircularBuffer<u8>,
@@ -22,7 +22,7 @@ impl Model for Line {
 }
 
 impl Line {
-    // An empty line of this capacity. No other call takes memory.
+    // An empty line of this capacity. No other call allocates memory.
     fn new(alloc: Global, capacity: usize) -> Result<Self, AllocError>
         ensures { IfOk result (λ line. line ≡ line_holding [] capacity) }
     {
@@ -39,28 +39,28 @@ impl Line {
         self.ring.len()
     }
 
-    /// Whether the line has no byte.
+    /// Whether the line contains no bytes.
     pub fn is_empty(&self) -> bool
         ensures { result ≡ (length self.now.bytes == 0) }
     {
         self.ring.is_empty()
     }
 
-    /// How many bytes the line takes at most.
+    /// The most bytes that the line can hold.
     pub fn capacity(&self) -> usize
         ensures { result ≡ self.now.capacity }
     {
         self.ring.capacity()
     }
 
-    /// How many more bytes the line takes.
+    /// How many more bytes the line can hold.
     pub fn room(&self) -> usize
         ensures { result + length self.now.bytes ≡ self.now.capacity }
     {
         self.ring.capacity() - self.ring.len()
     }
 
-    /// Puts bytes at the end.
+    /// Appends bytes.
     pub fn push(&mut self, bytes: &[u8])
         requires { length self.old.bytes + length bytes.now ≤ self.old.capacity }
         ensures { self.new ≡ with_bytes self.old bytes.now }
@@ -68,7 +68,7 @@ impl Line {
         self.ring.fill_from_slice(bytes);
     }
 
-    /// The oldest bytes: as many as stand in memory in a row, and at least one if there is one.
+    /// The oldest bytes: as many as are contiguous in memory, and at least one if there is one.
     pub fn front(&self) -> &[u8]
         ensures front { result.now ≡ take (length result.now) self.now.bytes }
         ensures within { length result.now ≤ length self.now.bytes }
@@ -78,14 +78,14 @@ impl Line {
         if first.is_empty() { second } else { first }
     }
 
-    /// Takes all bytes out.
+    /// Removes all bytes.
     pub fn clear(&mut self)
         ensures { self.new ≡ line_holding [] self.old.capacity }
     {
         self.ring.clear();
     }
 
-    /// Takes the oldest bytes out, `count` of them.
+    /// Removes the oldest `count` bytes.
     pub fn drop_first(&mut self, count: usize)
         requires { count ≤ length self.old.bytes }
         ensures { self.new ≡ without_first self.old count }
@@ -94,19 +94,19 @@ impl Line {
     }
 }
 
-/// Memory that can be taken once, for two lines.
+/// Memory that can be used once, for two lines.
 #[derive(Drop)]
 pub struct LineMemory {
     alloc: Global,
 }
 
 impl LineMemory {
-    /// Memory of this allocator, none of which is taken yet.
+    /// Memory of this allocator, still unused.
     pub fn new(alloc: Global) -> Self {
         LineMemory { alloc }
     }
 
-    /// Takes it, for two empty lines of these capacities.
+    /// Uses it for two empty lines of these capacities.
     pub fn lines(self, first: usize, second: usize) -> Result<(Line, Line), AllocError>
         ensures { IfOk result (λ lines.
             (lines.0 ≡ line_holding [] first) × (lines.1 ≡ line_holding [] second)) }

@@ -1,5 +1,5 @@
 //! The acts on a board, a host and the lines between them. Each function makes the exact step of
-//! its act, in whatever world the board, the host or the line stands.
+//! its act, whatever world it is in.
 
 ghost use Rattle.std.specs.Prelude.{◌≡◌, ◌+◌, ◌<◌, ◌≤◌, [], Some, length, take};
 ghost use Rattle.dgt_values.specs.declared.kinds.Kind.{Kind};
@@ -36,7 +36,7 @@ pub fn ask(host: &mut Host, line: &mut Line, command: &Command<'_>) -> Outcome
     }
 }
 
-/// Both lines lose their bytes, and the host alone sees it: it is as new, and begins anew.
+/// Both lines lose their bytes, and only the host notices: it is as new, and starts over.
 pub fn restart(host: &mut Host, from_board: &mut Line, down: &mut Line)
     requires { RESTART_LENGTH ≤ down.old.capacity }
     ensures host { host.new ≡ host_awaiting new_host (Some Kind.Dump) }
@@ -49,7 +49,7 @@ pub fn restart(host: &mut Host, from_board: &mut Line, down: &mut Line)
     begin_anew(host, down);
 }
 
-/// The host gives up what it awaits and begins anew: its restart bytes follow those in the line, if
+/// The host gives up what it awaits and starts over: its restart bytes follow those in the line, if
 /// there is room.
 pub fn restart_behind(host: &mut Host, line: &mut Line) -> Outcome
     ensures { (world : WorldView) → FaultyStep FaultyContent.Restart
@@ -131,7 +131,7 @@ pub fn act_on(
     }
 }
 
-/// The board sends its next message into the line.
+/// The board writes its next message into the line.
 pub fn send_next(board: &mut Board, line: &mut Line) -> Outcome
     ensures sends { (world : WorldView) → Step ActContent.BoardSend
         (record world { board = board.old; up = line.old }) result

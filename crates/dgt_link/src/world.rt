@@ -46,7 +46,7 @@ pub const MIN_UP: usize = MAX_SENT;
 /// The least capacity of the line from the host to the board: one longest command.
 pub const MIN_DOWN: usize = MAX_WORD;
 
-/// Why a world was not made.
+/// Why a world could not be made.
 #[derive(Clone, Copy, Debug, PartialEq, Eq, Error)]
 pub enum WorldFault {
     /// The up line would have fewer than 67 bytes, or the down line fewer than 257.
@@ -57,18 +57,18 @@ pub enum WorldFault {
     OutOfMemory,
 }
 
-// Why no world was made of memory for its lines.
+// Why no world was made with the memory for its lines.
 #[derive(Drop)]
 enum NoWorld {
-    // a line would be too small; none of this memory was taken
+    // a line would be too small; none of this memory was used
     LineTooSmall(LineMemory),
     OutOfMemory,
 }
 
-/// A board, a host and the two lines between them. No call but [`World::new`] takes memory.
+/// A board, a host and the two lines between them. Only [`World::new`] allocates memory.
 ///
-/// Contracts see both ends, and for each line its bytes and its capacity. There is always a sound
-/// state of the machine for which the world stands, and only one.
+/// Contracts see the board and the host, and for each line its bytes and its capacity. The world
+/// always stands for exactly one sound state of the machine.
 #[derive(Drop)]
 pub struct World {
     // its acts are the plain ones of a world at fault
@@ -89,8 +89,8 @@ impl Model for World {
 impl World {
     /// A new board, a new host and two empty lines of these capacities, in bytes.
     ///
-    /// First `LineTooSmall` if `up` is below `MIN_UP` or `down` below `MIN_DOWN`. Then
-    /// `OutOfMemory` if the memory of a line was refused; none is kept then.
+    /// Returns `LineTooSmall` if `up` is below `MIN_UP` or `down` below `MIN_DOWN`, and otherwise
+    /// `OutOfMemory` if the memory of a line was refused. Then no memory is kept.
     pub fn new(
         alloc: Global,
         position: Position,
@@ -115,8 +115,8 @@ impl World {
         }
     }
 
-    // A new world whose lines have this memory, if it isn't refused. It comes back, with none
-    // taken, if a line would be too small.
+    // A new world with this memory for its lines, if that isn't refused. If a line would be too
+    // small, the memory is returned unused.
     fn with_memory(
         memory: LineMemory,
         position: Position,
@@ -149,7 +149,7 @@ impl World {
         }
     }
 
-    /// Returns the same world as one whose lines and whose board's power may fail.
+    /// Returns the same world as one in which the lines and the board's power may fail.
     pub fn at_fault(self) -> FaultyWorld
         ensures same { result ≡ self }
         ensures in_step { IsInStep result }
@@ -167,7 +167,7 @@ impl World {
         self.inner.step(FaultyAct::Plain(act))
     }
 
-    /// Does one act, and returns what came of it. An act that isn't `Done` changes nothing.
+    /// Does one act, and returns its outcome. An act that isn't `Done` changes nothing.
     ///
     /// Its outcomes other than `Done`, in the order in which they are tested:
     ///
@@ -180,8 +180,8 @@ impl World {
     ///   board owes 8 replies.
     /// - `ToHost` is `Nothing` if the count is 0 or the up line is empty.
     ///
-    /// After a `HostBreak` the down line holds 257 bytes and the board is as it was. What it takes
-    /// of them is noise, and then `UpdateBoard` and `Dump`.
+    /// After a `HostBreak` the down line holds 257 bytes and the board is as it was. From these
+    /// bytes it reads noise, and then `UpdateBoard` and `Dump`.
     pub fn step(&mut self, act: Act<'_>) -> Outcome
         ensures exact { Step (act_content act.entry) self.old result self.new }
         ensures unchanged { result ≢ Outcome.Done → self.new ≡ self.old }
@@ -204,7 +204,7 @@ impl World {
         ensures mode { (x y : MachineState) → StandsFor self.old x → StandsFor self.new y →
             coming_mode y
             ≡ mode_after (coming_mode x) (act_requests result (act_content act.entry)) }
-        // the clock: what promises it, and what keeps that promise
+        // the clock: what promises it, and what keeps the promise
         ensures clock_asked { (command : CommandContent) (mode : Mode) →
             act_content act.entry ≡ ActContent.Host command → command_mode command ≡ Some mode →
             IsTrue (follows_clock mode) → result ≡ Outcome.Done → IsClockFollowing self.new }
@@ -228,9 +228,9 @@ impl World {
 
     /// Does all acts in order, and returns how many were `Done`.
     ///
-    /// The host's picture is the board's position once the world is quiet, on two conditions. Those
-    /// acts that were done after the last `Break` ask for a dump, and the last of them that asks
-    /// for a mode asks for updates. A `HostBreak` asks for both.
+    /// The host's picture is the board's position once the world is quiet, on two conditions. The
+    /// acts done after the last `Break` request a dump, and the last of them that sets a mode asks
+    /// for updates. A `HostBreak` requests both.
     ///
     /// The world is quiet after enough rounds of deliveries and sendings, in whatever order and
     /// chunks. In a round the board sends, takes some bytes, and the host hears some.
@@ -259,7 +259,8 @@ impl World {
         // in whatever order and chunks, if each side moves again and again
         ensures fair { (rounds : ℕ) → HasRounds rounds (map act_content acts.now) →
             steps_left self.old < rounds → IsQuietWorld self.new }
-        // what the host shows of a square at first and after each act stood there, in this order
+        // the pieces that the host shows on a square, at first and after each act, were there in
+        // this order
         ensures in_order { (outcomes : List Outcome) (worlds : List WorldView) (square : ℕ) →
             RunsThrough (map act_content acts.now) self.old outcomes worlds →
             self.old.host.picture ≡ None → self.old.host.unread ≡ [] → self.old.up.bytes ≡ [] →
@@ -291,24 +292,23 @@ impl World {
         done
     }
 
-    /// Delivers what is under way and lets the board send what it has to report, until the world is
-    /// quiet. Returns how many acts that took. A quiet world takes none.
+    /// Delivers all bytes under way and lets the board send what it has to report, until the world
+    /// is quiet. Returns how many acts that took. A quiet world takes none.
     ///
-    /// The acts are `ToHost`, `BoardSend` and `ToBoard` alone, and each is `Done`. While the up
-    /// line has bytes the host hears all of them. With none in it the board sends a message if it
-    /// has any, and with none to send it takes all that is in the down line, until it owes 8
-    /// replies.
+    /// The acts are only `ToHost`, `BoardSend` and `ToBoard`, and each is `Done`. While the up line
+    /// contains bytes, the host hears all of them. If it is empty, the board sends a message if it
+    /// has one. If it has none, it takes all bytes of the down line, until it owes 8 replies.
     ///
-    /// The acts are at most three for each byte in the down line, and one. To these come at most
-    /// two for each reply that the board owes, each square that differs from what it has reported,
-    /// and a clock that it owes. No square, no clock of the board and no command is new. So the
-    /// mode is that of the last mode command under way. If a dump was asked for and this mode asks
-    /// for updates, the host's picture is the board's position.
+    /// There are at most three acts for each byte in the down line, and one more. In addition there
+    /// are at most two for each owed reply, each square that differs from what was reported, and an
+    /// owed clock. No act changes a square or the board's clock, or sends a command. The mode is
+    /// therefore that of the last mode command under way. If a dump was requested and this mode
+    /// asks for updates, the host's picture is the board's position.
     ///
-    /// All of that holds after a `Break` and after a `HostBreak` too, whatever was under way then.
-    /// After a `Break` no picture is known until a dump is asked for again. After a `HostBreak` the
-    /// 257 bytes in the down line are noise, and then `UpdateBoard` and `Dump`: so the picture is
-    /// the board's position again, but the host's clock may be unknown.
+    /// All of that also holds after a `Break` and after a `HostBreak`, whatever was under way then.
+    /// After a `Break` no picture is known until a dump is requested again. After a `HostBreak` the
+    /// 257 bytes in the down line are noise, and then `UpdateBoard` and `Dump`: the picture is the
+    /// board's position again, but the host's clock may be unknown.
     pub fn settle(&mut self) -> u128
         ensures quiet { IsQuietWorld self.new }
         ensures run { SettlesIn result self.old self.new }
@@ -343,11 +343,11 @@ impl World {
         done
     }
 
-    /// Does all acts in order, delivers all that is under way ([`World::settle`]), and returns how
+    /// Does all acts in order, delivers all bytes under way ([`World::settle`]), and returns how
     /// many of the acts were `Done`.
     ///
-    /// If all were done, and they ask for a dump and for updates, the host's picture is what was on
-    /// the board before, with the changes made.
+    /// If all were done, and they request a dump and updates, the host's picture is the board's
+    /// position from before, with the changes made.
     pub fn play(&mut self, acts: &[Act<'_>]) -> usize
         ensures exact { (outcomes : List Outcome) × (between : WorldView) × (steps : ℕ)
             × (result ≡ done_count outcomes)
@@ -366,25 +366,25 @@ impl World {
     fn stands(&self)
         ensures { (x : MachineState) × StandsFor self.now x }
     {
-        // what holds of each world is known where its field is read
+        // the facts of each world are known once its field is read
         self.inner.up_len();
     }
 
-    // What holds of each world.
+    // The facts of each world.
     fn is_world(&self)
         ensures { IsWorld self.now }
     {
-        // it is known where its field is read
+        // they are known once its field is read
         self.inner.up_len();
     }
 
     /// Whether both lines are empty, the host has nothing unread, the board has no unfinished
     /// command and owes nothing.
     ///
-    /// If it is, the host awaits nothing, and its picture is unknown or the board's position if the
-    /// board's mode asks for updates. If a dump was asked for as well, by an act that was done
-    /// after the last `Break`, the picture is known. In a mode that follows the clock, the host's
-    /// clock is unknown or the board's. If a reading was asked for as well it is known.
+    /// If so, the host awaits nothing, and its picture is unknown or the board's position if the
+    /// board's mode asks for updates. If an act done after the last `Break` also requested a dump,
+    /// the picture is known. In a mode that follows the clock, the host's clock is unknown or the
+    /// board's, and if a reading was also requested it is known.
     pub fn quiet(&self) -> bool
         ensures quiet { IsTrue result ↔ IsQuietWorld self.now }
         ensures reported { IsTrue result → IsTrue (updates self.now.board.state.mode) →
@@ -414,8 +414,8 @@ impl World {
         self.inner.board()
     }
 
-    /// The host. Its picture, once it has heard all messages under way, is unknown or the squares
-    /// as the board has reported them. A message that it has heard a part of is one of them.
+    /// The host. Once it has heard all messages under way, its picture is unknown or the squares
+    /// that the board has reported. A message that it has heard in part is one of them.
     pub fn host(&self) -> &Host
         ensures host { result.now ≡ self.now.host }
         ensures fold { (x : MachineState) → StandsFor self.now x →
