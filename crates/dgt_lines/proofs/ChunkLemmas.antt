@@ -1,4 +1,4 @@
--- What is gathered of a chunk, call after call, until it is written.
+-- The bytes of a chunk that are gathered, call after call, until they are written.
 use Rattle.std.proofs.Common.{◌≡◌, ℕ, ◌+◌, ◌-◌, ◌≤◌, List, [], ◌∷◌, ◌++◌, Bool, false, Result, Ok, Err, IsErrAnd, OnOk, refl, ◌∙◌, ap, sym, subst, arith, length, take, drop, append_assoc, append-nil, length-append}
 use Rattle.std.proofs.lemmas.List.{length-take-le, take-append-drop, take_rest}
 use Rattle.std.proofs.Math.Seq.{take-add}

@@ -125,7 +125,7 @@ all_shown (x ∷ xs) before clock h =
 
 -- ---- the last line of the clock
 
--- a text that is the last one is no news
+-- a text that equals the last one is not reported
 last_text : (place : ℕ) (text last : List ℕ) (same : Bool) → bytes_eq last text ≡ same
     → last_or (Some last) (clocks_shown (if same then [] else ShowsClock place text ∷ [])) ≡ Some text
 last_text place text last true e = ap Some ((bytes_eq-Decides last text).0 e)

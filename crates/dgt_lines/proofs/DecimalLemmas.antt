@@ -1,10 +1,14 @@
 -- Decimal digits, from the last one to the first.
-use Rattle.std.proofs.Common.{◌≡◌, ℕ, zero, suc, ◌+◌, ◌-◌, ◌*◌, ◌/◌, ◌%◌, ◌^◌, ◌<◌, ◌≤◌, List, [], ◌∷◌, ◌++◌, refl, sym, ◌∙◌, ap, length, arith, replicate, append_assoc, length-append, ◌⊎◌, inl, inr}
+use Rattle.std.proofs.Common.{◌≡◌, ℕ, zero, suc, ◌+◌, ◌-◌, ◌*◌, ◌/◌, ◌%◌, ◌^◌, ◌<◌, ◌≤◌, Bool, true, ◌&&◌, T, eqb, eqb→eq, eq-zero-or-pos, get_or, List, [], ◌∷◌, ◌++◌, refl, sym, ◌∙◌, ap, length, arith, replicate, append_assoc, length-append, ◌⊎◌, inl, inr, w64}
+use lib.Ieee.Fits.{and_l, and_r}
 use Rattle.std.proofs.Math.Nat.{div-div-eq-div-mul, pow-suc}
 use Rattle.std.proofs.lemmas.List.{replicate_more}
 use Rattle.std.proofs.lemmas.Bool.{cases_lt}
 use Rattle.std.proofs.lemmas.Fmt.{decimal_digit, decimal_step}
+use Rattle.std.proofs.lemmas.Nat.{le_bytes_8}
+use Rattle.std.specs.Int.{to_le_bytes}
 use Rattle.std.specs.Prelude.{decimal}
+use Rattle.dgt_lines.specs.declared.lines.TheConstants.{PAIRS}
 use Rattle.dgt_lines.specs.Lines.{padded_decimal}
 
 -- the digits of a number, of which 0 has none, with leading zeros to at least this many
@@ -111,6 +115,53 @@ padded_pairs n small = padded_eight n small ∙ rw (a, b, c, d, e, f, g, h) refl
 
     h : n % 10 ≡ n % 10000 % 100 % 10
     h = omega arith
+
+-- two digits as one number, the tens in its low byte
+abbrev pub pair : ℕ → ℕ
+pair n = 48 + n / 10 + 256 * (48 + n % 10)
+
+abbrev are_pairs : ℕ → Bool
+are_pairs zero = true
+are_pairs (suc n) = eqb (get_or PAIRS n 0) (pair n) && are_pairs n
+
+pair_below : (k n : ℕ) → T (are_pairs k) → n < k → get_or PAIRS n 0 ≡ pair n
+pair_below zero n t h = absurd (omega arith)
+pair_below (suc k) n t h = elim (eq-zero-or-pos (k - n)) [
+  | inl z ↦ let e : n ≡ k = omega arith in rw e (eqb→eq _ _ (and_l _ (are_pairs k) t))
+  | inr g ↦ pair_below k n (and_r _ (are_pairs k) t) (omega arith)
+]
+
+-- the table of pairs
+pub pair_at : (n : ℕ) → n < 100 → get_or PAIRS n 0 ≡ pair n
+pair_at n h = pair_below 100 n tt h
+
+-- the bytes of a word of four pairs
+joined : (a b c d e f g h word : ℕ) → a < 256 → b < 256 → c < 256 → d < 256 → e < 256 → f < 256 → g < 256 → h < 256
+    → word ≡ (a + 256 * b + 65536 * (c + 256 * d)) + 4294967296 * (e + 256 * f + 65536 * (g + 256 * h))
+    → to_le_bytes w64 word ≡ a ∷ b ∷ c ∷ d ∷ e ∷ f ∷ g ∷ h ∷ []
+joined a b c d e f g h word a' b' c' d' e' f' g' h' is =
+    le_bytes_8 (a ∷ b ∷ c ∷ d ∷ e ∷ f ∷ g ∷ h ∷ []) word refl small (omega (arith, is))
+  where
+    small : (i : ℕ) → get_or (a ∷ b ∷ c ∷ d ∷ e ∷ f ∷ g ∷ h ∷ []) i 0 < 256
+    small zero = a'
+    small (suc zero) = b'
+    small (suc (suc zero)) = c'
+    small (suc (suc (suc zero))) = d'
+    small (suc (suc (suc (suc zero)))) = e'
+    small (suc (suc (suc (suc (suc zero))))) = f'
+    small (suc (suc (suc (suc (suc (suc zero)))))) = g'
+    small (suc (suc (suc (suc (suc (suc (suc zero))))))) = h'
+    small (suc (suc (suc (suc (suc (suc (suc (suc i)))))))) = omega arith
+
+-- eight digits, from four pairs in a word
+pub padded_word : (n word : ℕ) → n < 100000000
+    → word ≡ (pair (n / 10000 / 100) + 65536 * pair (n / 10000 % 100))
+    + 4294967296 * (pair (n % 10000 / 100) + 65536 * pair (n % 10000 % 100))
+    → to_le_bytes w64 word ≡ padded_decimal 8 n
+padded_word n word small is =
+    joined _ _ _ _ _ _ _ _ word (omega arith) (omega arith) (omega arith) (omega arith) (omega arith) (omega arith)
+    (omega arith) (omega arith) is
+    ∙ sym (padded_pairs n small)
 
 -- the same if there is a digit
 pub tenth_below : (n k : ℕ) → n < 10 ^ k → 0 < k → n / 10 < 10 ^ (k - 1)

@@ -1,11 +1,13 @@
 -- The events of bytes that come after others, and what an engine keeps of them.
-use Rattle.std.proofs.Common.{◌≡◌, ℕ, ◌+◌, ◌-◌, List, [], ◌∷◌, ◌++◌, Option, Some, None, sym, ◌∙◌, ap, length, arith, map, take, refl}
+use Rattle.std.proofs.Common.{◌≡◌, ℕ, ◌+◌, ◌-◌, ◌≤◌, List, [], ◌∷◌, ◌++◌, Option, Some, None, IfSome, MatchOption, sym, ◌∙◌, ap, length, arith, map, take, refl}
 use Rattle.std.proofs.lemmas.Grind.{flat_map-append}
-use Rattle.std.proofs.lemmas.List.{take_all}
+use Rattle.std.proofs.lemmas.List.{length-take-le, take-take, take_all}
 use Rattle.std.specs.List.{flat_map}
-use Rattle.dgt_decode.specs.Grammar.{Event, at_place, events, shifted, unfinished_message}
-use Rattle.dgt_decode.specs.Feeding.{FirstEvent, at_place_if_any, chunk_events}
+use Rattle.dgt_decode.specs.Grammar.{Event, at_place, events, message_event, shifted, unfinished_message}
+use Rattle.dgt_decode.specs.Feeding.{FirstEvent, IsWholeMessage, at_place_if_any, chunk_events}
 use Rattle.dgt_decode.specs.Laws.{UnfinishedAppend, ChunksAdd}
+use Rattle.dgt_decode.proofs.Beginnings.{frames-whole}
+use Rattle.dgt_decode.proofs.Wholes.{whole_unfinished}
 use Rattle.dgt_lines.specs.Lines.{events_after, lines, lines_after, placed_line}
 
 -- the lines of bytes, and of a chunk after them
@@ -45,3 +47,26 @@ module _ (kept bytes chunk : List ℕ) (n : ℕ) (same : unfinished_message kept
       ≡ unfinished_message (unfinished_message kept ++ take n chunk)
       → unfinished_message kept' ≡ unfinished_message (bytes ++ take n chunk)
   held_then still kept' e = e ∙ ap (λ held. unfinished_message (held ++ take n chunk)) same ∙ sym (still bytes _)
+
+-- ---- a whole message at the front of bytes, if the framer holds nothing
+
+module _ (kept rest : List ℕ) (n : ℕ) (none : unfinished_message kept ≡ []) (within : n ≤ length rest)
+    (whole : IsWholeMessage (take n rest)) where
+  -- it is the first event
+  pub first_whole : FirstEvent (unfinished_message kept) rest n (Some (message_event (take n rest)))
+  first_whole =
+      let found = rw (length-take-le n rest within) at (frames-whole kept rest n none within whole).frames.first in (
+        within,
+        rw (take-take n n rest (omega arith)) at found.1,
+        λ k h. rw (take-take k n rest (omega arith)) at (found.2 k h),
+      )
+
+  -- nothing is unfinished after it
+  pub held_whole : unfinished_message kept ≡ unfinished_message (unfinished_message kept ++ take n rest)
+  held_whole =
+      none ∙ sym (whole_unfinished (take n rest) whole) ∙ (frames-whole kept rest n none within whole).frames.held
+
+pub some_of : {A : Type 0} (P : Type 0) (Q R : A → Type 0) (o : Option A) → ((a : A) → Q a → R a)
+    → MatchOption o P Q → IfSome o R
+some_of P Q R None f m = tt
+some_of P Q R (Some a) f m = f a m

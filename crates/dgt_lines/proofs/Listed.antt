@@ -1,4 +1,4 @@
--- The lines of what a host sends, of all bytes that were read.
+-- The lines of a host's commands, for all bytes that were read.
 use Rattle.std.proofs.Common.{◌≡◌, ◌≤◌, ◌+◌, ◌-◌, ℕ, List, [], ◌++◌, Result, length, refl, ap, arith, length-append, take}
 use Rattle.std.proofs.lemmas.List.{length-take-le}
 use Rattle.dgt_command.specs.Content.{EventContent}

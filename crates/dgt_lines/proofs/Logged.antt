@@ -1,4 +1,4 @@
--- The lines of what a board has stored, of all bytes that were read.
+-- The lines of stored events, for all bytes that were read.
 use Rattle.std.proofs.Common.{◌≡◌, ◌+◌, ◌-◌, List, ℕ, [], ◌∷◌, ◌++◌, Some, Option, Result, refl, sym, ◌∙◌, ap, subst, append_assoc, append-nil, length, take}
 use Rattle.dgt_stored.specs.Stored.{Says, StoredContent}
 use Rattle.dgt_decode.specs.Feeding.{FirstEvent, at_place_if_any}

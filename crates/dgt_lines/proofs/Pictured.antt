@@ -1,5 +1,4 @@
--- The lines that show the board, with doubts or without them, and with the clock or without it, of all bytes that were
--- read.
+-- The lines of `picture`, with and without doubts and the clock, for all bytes that were read.
 use Rattle.std.proofs.Common.{◌≡◌, ◌+◌, List, ℕ, [], ◌++◌, Option, Some, Result, refl, sym, ◌∙◌, ap, subst, append-nil, length, take}
 use Rattle.std.specs.List.{flat_map}
 use Rattle.dgt_decode.specs.Feeding.{FirstEvent, at_place_if_any}

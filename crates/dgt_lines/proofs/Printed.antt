@@ -1,4 +1,4 @@
--- What holds between two reads of an engine that prints.
+-- The state between two reads of an engine that prints.
 use Rattle.std.proofs.Common.{◌≡◌, ◌+◌, ℕ, List, [], ◌++◌, Result, Ok, Err, IsErrAnd, OnOk, length, refl, sym, ◌∙◌, subst, arith, append-nil, length-append}
 use Rattle.std.specs.Io.KnownBytes.{Consumes}
 use Rattle.std.proofs.KnownBytes.{Consumes-trans}
@@ -88,7 +88,7 @@ pub on_ok : {A E P Q : Type 0} (r : Result A E) → (P → Q) → OnOk r P → O
 on_ok (Ok x) f h = f h
 on_ok (Err e) f h = h
 
--- what stands in the sink is the text, whatever it is said by
+-- the sink contains the text, for each way to state it
 pub stands_by : {A : Type 0} (r : Result A RunFault) (text text' last last' out : List ℕ) → text ≡ text'
     → last ≡ last' → IsInSink r text (text ++ last) out → IsInSink r text' (text' ++ last') out
 stands_by r text text' last last' out e f h =

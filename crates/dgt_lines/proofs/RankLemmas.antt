@@ -14,7 +14,7 @@ use Rattle.dgt_values.proofs.Placing.{one_more_empty, one_more_piece}
 
 -- ---- one rank, a piece after another
 
--- the letters of pieces, with a digit in place of the first one
+-- the letters of pieces, with a digit instead of the first one
 abbrev pub letters_with : List ℕ
 letters_with = codes "1PRNBKQprnbkqXYZ"
 
@@ -197,7 +197,7 @@ ranks_text-set (suc n) (suc q) r pieces piece h k =
     ∙ ap (λ l. rank_text (take 8 pieces) ∷ slice_set (ranks_text n (drop 8 pieces)) q (rank_text (take 8 l)))
     (sym behind))
 
--- the rank of the square is formed anew
+-- the rank of the square is formed again
 pub rank_set : (square q : ℕ) (piece : Piece) (pieces pieces' : List Piece) (ranks : List (List ℕ)) (text : List ℕ)
     → square < 64 → q ≡ square / 8 → pieces' ≡ slice_set pieces square piece
     → ranks ≡ ranks_text 8 pieces → text ≡ rank_text (take 8 (drop (8 * q) pieces'))

@@ -24,7 +24,7 @@ each_character_is_shown character segments (inl digit) =
 each_character_is_shown character segments (inr (inl space)) = grind (arith, nat_tests)
 each_character_is_shown character segments (inr (inr hyphen)) = grind (arith, nat_tests)
 
--- segments show what stands for them, or a question mark stands for them
+-- segments show the character that is printed for them, or a question mark is printed for them
 shown_or_other : (segments : ℕ) → IsShownBy (shown_character segments) segments ⊎ (shown_character segments ≡ 63)
 shown_or_other segments = grind (arith, nat_tests)
 

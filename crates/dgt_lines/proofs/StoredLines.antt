@@ -1,4 +1,4 @@
--- The lines of what a body says, one after another.
+-- The lines of the stored events of a body, one after another.
 use Rattle.std.proofs.Common.{◌≡◌, ◌+◌, ◌-◌, ◌<◌, ◌≤◌, ℕ, List, [], ◌∷◌, ◌++◌, Result, Ok, Err, IsErrAnd, refl, sym, ◌∙◌, ap, subst, arith, length, take, drop, append_assoc, append-nil, length-drop}
 use Rattle.std.proofs.lemmas.List.{drop-drop, take_rest}
 use Rattle.std.proofs.Math.Seq.{drop-append_seam}
@@ -48,7 +48,7 @@ module _ {S : Type 0} {W : Sink S} where
 -- ---- the lines of a body
 
 module _ {S : Type 0} (W : Sink S) where
-  -- of the lines of these things some were gathered, and the others are left
+  -- some of the lines of these events were gathered, and the rest are left
   pub record PutSome (held held' : List ℕ) (old new : S) (before at : ℕ) (body : List ℕ)
       (things : List StoredContent) : Type 0 where
     pub said : List ℕ

@@ -11,7 +11,7 @@ has_bit status bit = not (bit_and status (2 ^ bit) == 0)
 abbrev pub running_text : ℕ → List ℕ
 running_text status = if has_bit status 0 then codes "running" else codes "stopped"
 
--- whose turn it is, by what is said of black and of white
+-- whose turn it is, by the bits for black and for white
 abbrev pub turn_text : (black white : Bool) → List ℕ
 turn_text true false = codes "black"
 turn_text false true = codes "white"
@@ -21,7 +21,7 @@ turn_text _ _ = codes "-"
 abbrev pub low_text : ℕ → List ℕ
 low_text status = if has_bit status 2 then codes " low" else []
 
--- two words in a row, if it is so
+-- two words in a row, if the condition is true
 abbrev pub text_if : Bool → (first second : List ℕ) → List ℕ
 text_if is first second = if is then first ++ second else []
 
@@ -39,7 +39,7 @@ shown_times t =
     ∷ turn_text (has_bit t.status 3) (has_bit t.status 4) ∷ [])
     ++ low_text t.status
 
--- the first time is taken for that of the left side
+-- the first time is that of the left side
 unfoldable pub clock_text : ClockState → List ℕ
 clock_text (ClockState.times t) =
     shown_times t

@@ -1,4 +1,4 @@
--- The lines that say how a board and a host are at the end.
+-- The closing lines of a board and a host.
 use Rattle.std.specs.Prelude.{ℕ, List, [], ◌∷◌, ◌++◌, Bool, true, false, Option, Some, None, codes}
 use Rattle.dgt_values.specs.declared.pieces.Piece.{Piece}
 use Rattle.dgt_values.specs.Placement.{placement_text}
@@ -15,7 +15,7 @@ abbrev pub picture_text : Option (List Piece) → List ℕ
 picture_text None = codes "unknown"
 picture_text (Some pieces) = placement_text pieces
 
--- what the message of a clock says, if the clock is known
+-- the text of the message of a clock, if the clock is known
 abbrev pub clock_text : Option ClockState → List ℕ
 clock_text None = codes "unknown"
 clock_text (Some clock) = message_text (clock_message clock)
@@ -24,7 +24,7 @@ abbrev pub quiet_text : Bool → List ℕ
 quiet_text true = codes "yes"
 quiet_text false = codes "no"
 
--- the board's position, the host's picture and clock, and whether all is quiet
+-- the board's position, the host's picture and clock, and whether the world is quiet
 unfoldable pub closing_text : List Piece → Option (List Piece) → Option ClockState → Bool → List ℕ
 closing_text squares picture clock quiet =
     named_line (codes "board") (placement_text squares)

@@ -1,4 +1,4 @@
--- The words that say what a host sends.
+-- The words of a host's commands.
 use Rattle.std.specs.Prelude.{ℕ, ◌+◌, ◌==◌, ◌&&◌, not, nat_le, Bool, List, [], ◌∷◌, length, take, map, Option, Some, None, slice_index as nth, if◌then◌else◌, codes, decimal}
 use Rattle.std.specs.List.{list_all}
 use Prim.Native.Char.{code as ascii}
@@ -10,8 +10,8 @@ use Rattle.dgt_lines.specs.Lines.{byte_text, bytes_text, words_text}
 
 -- ---- Characters
 
--- the digit that these segments show, if the digits from this one on have the segments of the
--- list; or else another character
+-- the digit with these segments, if the list has the segments of this digit and the ones after it;
+-- otherwise the other character
 abbrev pub shown_digit : ℕ → ℕ → List ℕ → ℕ → ℕ
 shown_digit other digit [] segments = other
 shown_digit other digit (first ∷ more) segments =
@@ -31,14 +31,14 @@ shown_character segments = shown_digit other (ascii "0") digit_segments segments
 abbrev pub is_shown : ℕ → Bool
 is_shown character = not (character == ascii "?")
 
--- the space and the characters of ASCII that leave a mark
+-- the printable characters of ASCII, with the space
 abbrev pub is_printable : ℕ → Bool
 is_printable byte = nat_le (ascii " ") byte && nat_le byte (ascii "~")
 
--- ---- What is said
+-- ---- Texts
 
--- The six characters of a display, from left to right, that has no dots and no beep; or else the
--- eight bytes as they are sent.
+-- The six characters of a display without dots and beep, from left to right, or else the eight
+-- bytes in the order in which they are sent.
 abbrev pub display_word : List ℕ → List ℕ
 display_word payload =
     if list_all is_shown (six payload) && nth payload 6 == 0 && nth payload 7 == 0 then six payload
@@ -50,7 +50,7 @@ display_word payload =
         (nth payload 2 ∷ nth payload 1 ∷ nth payload 0 ∷ nth payload 5 ∷ nth payload 4
         ∷ nth payload 3 ∷ [])
 
--- The eight characters of a text that are printable and have no beep, or else the nine bytes.
+-- The eight characters of a text without a beep, if they are printable, or else the nine bytes.
 abbrev pub text_word : List ℕ → List ℕ
 text_word payload =
     if list_all is_printable (take 8 payload) && nth payload 8 == 0 then take 8 payload
@@ -60,7 +60,7 @@ text_word payload =
 abbrev pub raw_words : ℕ → List ℕ → List (List ℕ)
 raw_words id payload = codes "clockmessage" ∷ byte_text id ∷ bytes_text payload ∷ []
 
--- one with a case of its own
+-- a clock message of a known kind
 abbrev pub known_words : KnownId → List ℕ → List (List ℕ)
 known_words KnownId.Display payload = codes "display" ∷ display_word payload ∷ []
 known_words KnownId.Icons payload = codes "icons" ∷ bytes_text payload ∷ []

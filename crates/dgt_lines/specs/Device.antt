@@ -1,4 +1,4 @@
--- What a device shows of itself.
+-- The contents and the marks of a device.
 use Rattle.std.specs.Prelude.{◌≡◌, ℕ, Bool, false, true}
 use Rattle.dgt_lines.specs.declared.std_device.Device.{Device}
 
@@ -26,7 +26,7 @@ device_flushed device = device.flushed
 abbrev pub device_late : {T : Type 0} → Device T → Bool
 device_late device = device.late
 
--- as new, over this reader or writer: nothing was refused, read or written
+-- a new device over this reader or writer: nothing was refused, read or written
 pub record IsNewDevice {T : Type 0} (device : Device T) (inner : T) : Type 0 where
   pub over : device_inner device ≡ inner
   pub not_failed : device_failed device ≡ false

@@ -19,7 +19,7 @@ pub mod Picturing
 pub mod Commanding
 pub mod Logging
 pub mod Closing
--- for bodies alone
+-- only for bodies
 pub mod Wording
 pub mod ClockMessages
 pub mod Printing

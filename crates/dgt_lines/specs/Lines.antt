@@ -1,4 +1,4 @@
--- The lines that say what a board sends. A line is an offset, a space, a text and a line feed.
+-- The lines of a board's messages. A line is an offset, a space, a text and a line feed.
 use Rattle.std.specs.Prelude.{ℕ, ◌-◌, Option, Some, List, [], ◌∷◌, ◌++◌, length, replicate, map, codes, decimal, slice_index}
 use Rattle.std.specs.List.{join_with_byte, flat_map}
 use Rattle.hex.specs.Hex.{encode_lower}
@@ -33,7 +33,7 @@ bytes_text (byte ∷ bytes) = encode_lower (byte ∷ bytes)
 abbrev pub words_text : List (List ℕ) → List ℕ
 words_text words = join_with_byte 32 words
 
--- ---- What is said
+-- ---- Texts
 
 -- hours, minutes and seconds
 unfoldable pub shown_time : Time → List ℕ
@@ -45,7 +45,7 @@ shown_time t =
 unfoldable pub reading_text : Time → List ℕ
 reading_text t = shown_time t ++ codes " " ++ decimal t.flags
 
--- what a body is that is carried as it is
+-- the name of a message whose body is carried, or `other` and its code
 abbrev pub carried_words : Option KnownCode → ℕ → List (List ℕ)
 carried_words (Some KnownCode.Serial) code = codes "serial" ∷ []
 carried_words (Some KnownCode.Trademark) code = codes "trademark" ∷ []
@@ -111,15 +111,15 @@ placed_line x = event_line x.place x.event
 abbrev pub lines : List ℕ → List ℕ
 lines bytes = flat_map placed_line (events bytes)
 
--- the events of a chunk that comes after this many bytes, of which these are an unfinished message
+-- the events of a chunk after this number of bytes; the list is the unfinished message before it
 abbrev pub events_after : List ℕ → ℕ → List ℕ → List Placed
 events_after held offset chunk = shifted offset (chunk_events held chunk)
 
--- the lines of a chunk that comes after this many bytes, of which these are unfinished
+-- the lines of such a chunk
 abbrev pub lines_after : List ℕ → ℕ → List ℕ → List ℕ
 lines_after held offset chunk = flat_map placed_line (events_after held offset chunk)
 
--- the last line, if these bytes of a message are left unfinished at the end of this many bytes
+-- the last line, if these bytes of a message are unfinished at the end, after this number of bytes
 abbrev pub unfinished_line : ℕ → List ℕ → List ℕ
 unfinished_line offset [] = []
 unfinished_line offset (byte ∷ bytes) = line offset (unfinished_text (length (byte ∷ bytes)))

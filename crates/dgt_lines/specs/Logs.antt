@@ -1,5 +1,5 @@
--- The lines of what a board has stored. A line is an offset, a space, a text and a line feed: one
--- for each thing that a message with the code 0f has.
+-- The lines of a board's stored events, from messages with the code 0f. A line is an offset, a
+-- space, a text and a line feed.
 use Rattle.std.specs.Prelude.{◌≡◌, ℕ, ◌+◌, ◌-◌, ◌==◌, if◌then◌else◌, List, [], ◌∷◌, ◌++◌, codes, length}
 use Rattle.dgt_values.specs.Board.{piece_letter, square_name}
 use Rattle.dgt_message.specs.Content.Content.{carried}
@@ -21,7 +21,7 @@ mark_text Mark.Tag = codes "tag"
 mark_text Mark.Watchdog = codes "watchdog"
 mark_text Mark.Erased = codes "erased"
 
--- a plus follows a piece whose carried bit is set
+-- a plus follows a piece if its carried bit is set
 unfoldable pub stored_text : StoredContent → List ℕ
 stored_text (StoredContent.piece square stands bit) =
     words_text (codes "piece" ∷ square_name square ∷ (piece_letter stands ∷ []) ∷ [])
@@ -30,19 +30,19 @@ stored_text (StoredContent.time shown) = words_text (codes "time" ∷ reading_te
 stored_text (StoredContent.mark marks) = mark_text marks
 stored_text (StoredContent.unknown byte) = words_text (codes "unknown" ∷ byte_text byte ∷ [])
 
--- a line for each of some things in a row, which come after this number of bytes
+-- a line for each stored event; this number of bytes precedes them
 abbrev pub stored_lines : ℕ → List StoredContent → List ℕ
 stored_lines before [] = []
 stored_lines before (stored ∷ more) =
     line (before + length (stored_bytes stored)) (stored_text stored)
     ++ stored_lines (before + length (stored_bytes stored)) more
 
--- the body of a message with the code 0f; another event has none
+-- the body of a message with the code 0f; none for other events
 abbrev pub log_body : Event → List ℕ
 log_body (Message (carried code body)) = if code == 0x0f then body else []
 log_body _ = []
 
--- events have this text: the lines of what the body of each says
+-- events have this text: the lines of the stored events in the body of each
 abbrev pub HasLog : List Placed → List ℕ → Type 0
 HasLog [] text = text ≡ []
 HasLog (x ∷ more) text =

@@ -1,5 +1,5 @@
--- The lines that say what a board sends, with names: after the text of an event come a colon, a
--- space and what other programs read in the bytes that the message carries.
+-- The lines of a board's messages with names: the text of an event, a colon, a space and the
+-- meaning of the bytes that the message carries, as known from other programs.
 use Rattle.std.specs.Prelude.{◌≡◌, ℕ, if◌then◌else◌, Option, Some, None, List, [], ◌∷◌, ◌++◌, codes, decimal, get_or, length, Result}
 use Rattle.dgt_message.specs.declared.known.KnownCode.{KnownCode}
 use Rattle.dgt_message.specs.Clock.{Times}
@@ -18,7 +18,7 @@ use Rattle.dgt_lines.specs.CommandWords.{known_words}
 use Rattle.dgt_lines.specs.Lines.{event_text, line, padded_decimal, unfinished_line}
 use Rattle.dgt_lines.specs.Monitoring.{IsInSink}
 
--- ---- What is said
+-- ---- Texts
 
 abbrev pub button_word : Button → List ℕ
 button_word Button.Back = codes "back"
@@ -27,7 +27,7 @@ button_word Button.Run = codes "run"
 button_word Button.Minus = codes "minus"
 button_word Button.Ok = codes "ok"
 
--- the word by which `dgt ask` knows a clock message
+-- the word of `dgt ask` for a clock message
 abbrev pub id_word : KnownId → List ℕ
 id_word id = get_or (known_words id []) 0 []
 
@@ -39,7 +39,7 @@ signal_text (Signal.Pressed button) = button_word button ++ codes " pressed"
 signal_text Signal.Off = codes "switched off"
 signal_text Signal.Ready = codes "ready"
 
--- D1 says that the lever is down on the left
+-- if D1 is set, the lever is down on the left
 abbrev pub lever_text : ℕ → List ℕ
 lever_text status =
     if has_bit status 1 then codes "lever left down" else codes "lever right down"
@@ -62,7 +62,7 @@ abbrev pub left_text : (hours minutes : Option ℕ) → List ℕ
 left_text (Some hours) (Some minutes) = span_text hours minutes ++ codes " left, "
 left_text _ _ = []
 
--- what is unknown is left out
+-- unknown parts are omitted
 unfoldable pub battery_text : BatteryState → List ℕ
 battery_text state =
     percent_text state.percent ++ left_text state.hours_left state.minutes_left
@@ -74,12 +74,12 @@ battery_text state =
 
 -- ---- Names
 
--- the name is the text of what is said; there is none if nothing is
+-- the name is the text of the value for which `IsSaid` holds; there is none if it holds for none
 abbrev pub IsTextOf : {A : Type 0} → (A → Type 0) → (A → List ℕ) → Option (List ℕ) → Type 0
 IsTextOf {A} IsSaid text (Some name) = (said : A) × IsSaid said × (name ≡ text said)
 IsTextOf {A} IsSaid text None = (said : A) → ¬ (IsSaid said)
 
--- the bytes themselves, if they are a text
+-- the bytes, if they are a text
 abbrev pub IsOwnText : List ℕ → Option (List ℕ) → Type 0
 IsOwnText bytes (Some name) = IsText bytes × (name ≡ bytes)
 IsOwnText bytes None = ¬ (IsText bytes)
@@ -122,8 +122,8 @@ AreNamedLines (x ∷ more) text =
 abbrev pub acknowledged : List ℕ → Event
 acknowledged bytes = Message (ack (record { ack = bytes; status = 7 }))
 
--- what stands in the sink for the bytes that were read, if `monitor_names` gave this answer: their
--- lines, and a last one for a message that is unfinished at the end
+-- what the sink contains if `monitor_names` read these bytes and returned this result: their lines,
+-- and a last line for an unfinished message at the end
 pub record AreMonitored {A : Type 0} (r : Result A RunFault) (bytes out : List ℕ) : Type 0 where
   pub text : List ℕ
   pub are : AreNamedLines (events bytes) text

@@ -1,4 +1,4 @@
--- What an engine prints of the bytes that it reads.
+-- What the engines print for the bytes that they read.
 use Rattle.std.specs.Prelude.{◌≡◌, ℕ, false, List, [], ◌++◌, length, take, Option, Result, IfOk, OnErr, OnOk}
 use Rattle.dgt_decode.specs.Grammar.{Event, at_place, events, unfinished_message}
 use Rattle.dgt_lines.specs.declared.doubts.PictureState.{PictureState}
@@ -13,8 +13,8 @@ use Rattle.dgt_lines.specs.CommandLines.{Prints}
 use Rattle.dgt_lines.specs.Monitoring.{IsInSink}
 use Rattle.dgt_lines.specs.NamedLines.{AreNamedLines, IsNamed, name_text, named_line}
 
--- what stands in the sink, if the bytes that were read have these lines, and a last one for what
--- is unfinished at their end
+-- what the sink contains if the bytes that were read have these lines, and a last line for an
+-- unfinished rest at their end
 pub record IsPrinted {A : Type 0} (HasLines : List ℕ → List ℕ → List ℕ → Type 0)
     (r : Result A RunFault) (bytes out : List ℕ) : Type 0 where
   pub text : List ℕ
@@ -22,7 +22,7 @@ pub record IsPrinted {A : Type 0} (HasLines : List ℕ → List ℕ → List ℕ
   pub has : HasLines bytes text last
   pub stands : IsInSink r text (text ++ last) out
 
--- a call that gathers this text and flushes nothing; if the sink refuses, nothing is held then
+-- a call that gathers this text without a flush; if the sink refuses, nothing is held then
 pub record Puts {S A : Type 0} (W : Sink S) (held : List ℕ × List ℕ) (old new : S)
     (r : Result A RunFault) (text : List ℕ) : Type 0 where
   pub output : Gathers W held old new r text
@@ -30,8 +30,8 @@ pub record Puts {S A : Type 0} (W : Sink S) (held : List ℕ × List ℕ) (old n
   pub no_flush : W.flushed old ≡ false → W.flushed new ≡ false
   pub waits : OnOk r (Waits (held.0 ++ text) (W.flushed old) → Waits held.1 (W.flushed new))
 
--- A call that gathers the lines of some bytes after this text, and flushes nothing; `bytes` are all
--- up to their end. If the sink refuses, these bytes were read and no more.
+-- A call that gathers the lines of some bytes after this text, without a flush. `bytes` are all
+-- bytes up to their end. If the sink refuses, these bytes were read and no more.
 pub record GathersMore {S A : Type 0} (W : Sink S) (held : List ℕ × List ℕ) (old new : S)
     (r : Result A RunFault) (HasPrinted : List ℕ → List ℕ → Type 0) (bytes text : List ℕ) :
     Type 0 where
@@ -40,14 +40,14 @@ pub record GathersMore {S A : Type 0} (W : Sink S) (held : List ℕ × List ℕ)
   pub has : HasPrinted bytes (text ++ more)
   pub waits : OnOk r (Waits (held.0 ++ more) (W.flushed old) → Waits held.1 (W.flushed new))
 
--- the same of a prefix of `rest` after these bytes: the call answers how long it is
+-- the same for a prefix of `rest` after these bytes: the call returns its length
 abbrev pub GathersPrefix : {S : Type 0} → Sink S → List ℕ × List ℕ → S → S → Result ℕ RunFault
     → (List ℕ → List ℕ → Type 0) → List ℕ → List ℕ → List ℕ → Type 0
 GathersPrefix W held old new r HasPrinted bytes rest text =
     (used : ℕ) × IfOk r (λ n. n ≡ used)
     × GathersMore W held old new r HasPrinted (bytes ++ take used rest) text
 
--- a call that writes the lines of a chunk after this text; `bytes` are all up to the chunk's end
+-- a call that writes the lines of a chunk after this text; `bytes` are all bytes up to its end
 pub record PrintsMore {S A : Type 0} (W : Sink S) (old new : S) (r : Result A RunFault)
     (HasLines : List ℕ → List ℕ → List ℕ → Type 0) (HasPrinted : List ℕ → List ℕ → Type 0)
     (bytes text : List ℕ) : Type 0 where
@@ -64,21 +64,21 @@ abbrev pub HasEventLines : List ℕ → List ℕ → List ℕ → Type 0
 HasEventLines bytes text last =
     (text ≡ lines bytes) × (last ≡ unfinished_line (length bytes) (unfinished_message bytes))
 
--- the text is the lines of the bytes, and a framer that keeps `kept` holds what is unfinished
+-- the text is the lines of the bytes, and a framer that keeps `kept` holds the unfinished rest
 pub record HasPrintedEvents (kept bytes text : List ℕ) : Type 0 where
   pub said : text ≡ lines bytes
   pub held : unfinished_message kept ≡ unfinished_message bytes
 
 -- ---- The lines of events with names
 
--- a call that gathers a text of which this holds
+-- a call that gathers a text with this property
 pub record GathersOne {S A : Type 0} (W : Sink S) (held : List ℕ × List ℕ) (old new : S)
     (r : Result A RunFault) (IsText : List ℕ → Type 0) : Type 0 where
   pub text : List ℕ
   pub is : IsText text
   pub gathers : Gathers W held old new r text
 
--- the name of an event, with a colon and a space before it; none if it has none
+-- a colon, a space and the name of an event, if it has one
 abbrev pub IsNameText : Event → List ℕ → Type 0
 IsNameText event text = (name : Option (List ℕ)) × IsNamed event name × (text ≡ name_text name)
 
@@ -93,12 +93,12 @@ HasNamedLines bytes text last =
     AreNamedLines (events bytes) text
     × (last ≡ unfinished_line (length bytes) (unfinished_message bytes))
 
--- the text is the lines of the bytes, and a framer that keeps `kept` holds what is unfinished
+-- the text is the lines of the bytes, and a framer that keeps `kept` holds the unfinished rest
 pub record HasPrintedNames (kept bytes text : List ℕ) : Type 0 where
   pub said : AreNamedLines (events bytes) text
   pub held : unfinished_message kept ≡ unfinished_message bytes
 
--- ---- The lines that show the board, from this state on
+-- ---- The lines of positions, from this state on
 
 abbrev pub HasReportLines : PictureState → List ℕ → List ℕ → List ℕ → Type 0
 HasReportLines first bytes text last = (text ≡ text_from first bytes) × (last ≡ [])
@@ -110,18 +110,18 @@ pub record HasPrintedReports (first : PictureState) (kept : List ℕ) (state : P
   pub after : state ≡ state_from first bytes
   pub held : unfinished_message kept ≡ unfinished_message bytes
 
--- ---- The lines of what a host sends
+-- ---- The lines of commands
 
 abbrev pub HasCommandLines : List ℕ → List ℕ → List ℕ → Type 0
 HasCommandLines bytes text last =
     (rest : List ℕ) × Prints 0 bytes rest text × (last ≡ unfinished_line (length bytes) rest)
 
--- ---- The lines of what a board has stored
+-- ---- The lines of stored events
 
 abbrev pub HasLogLines : List ℕ → List ℕ → List ℕ → Type 0
 HasLogLines bytes text last = HasLog (events bytes) text × (last ≡ [])
 
--- the text is the lines of the bytes, and a framer that keeps `kept` holds what is unfinished
+-- the text is the lines of the bytes, and a framer that keeps `kept` holds the unfinished rest
 pub record HasPrintedLog (kept bytes text : List ℕ) : Type 0 where
   pub has : HasLog (events bytes) text
   pub held : unfinished_message kept ≡ unfinished_message bytes

@@ -1,8 +1,7 @@
--- The lines that show the board, those that say that it may be wrong, and those of its clock. A
--- fault of the line may have swallowed a message: the first one since a dump puts the picture in
--- doubt, up to the next dump. A clock message that is refused for a digit, an unreadable one, is no
--- fault: it has come whole, and clocks send it while they are set. The clock has a line if its text
--- is another one than before.
+-- The lines of positions, of doubts and of the clock. A fault may mean that a message was lost. The
+-- first fault after a dump puts the picture in doubt, until the next dump. A clock message that is
+-- refused for a digit, an unreadable one, doesn't count as a fault: it is whole, and clocks send it
+-- while they are being set. The clock has a line if its text differs from the last one.
 use Rattle.std.specs.Prelude.{◌≡◌, ◌≢◌, ⊤, Bool, true, false, ℕ, List, [], ◌∷◌, ◌++◌, fold, map, bytes_eq, codes, if◌then◌else◌, Option, Some, None, option_map}
 use Rattle.std.specs.List.{AllByRecursion, flat_map, last_or}
 use Rattle.dgt_values.specs.declared.pieces.Piece.{Piece}
@@ -25,7 +24,8 @@ use Rattle.dgt_lines.specs.Pictures.{PlacedPicture, known_at, made_by, picture_a
 
 -- ---- The state
 
--- nothing is known; whether faults raise doubts, and whether the clock is shown
+-- the first state, in which nothing is known; whether faults raise doubts, and whether the clock is
+-- shown
 abbrev pub new_state : Bool → Bool → PictureState
 new_state doubts clock = record {
   picture = None;
@@ -42,7 +42,7 @@ abbrev pub doubt_after : Doubt → Content → Doubt
 doubt_after doubt (dump _) = doubt_cleared doubt
 doubt_after doubt _ = doubt
 
--- a fault raises a doubt about a picture that is known
+-- a fault raises a doubt about a known picture
 abbrev pub doubt_after_fault : Option (List Piece) → Doubt → Doubt
 doubt_after_fault (Some _) Clear = Raised
 doubt_after_fault _ doubt = doubt
@@ -82,10 +82,10 @@ state_after_event before _ = state_after_fault before
 abbrev pub state_after_events : PictureState → List Placed → PictureState
 state_after_events before placed = fold (λ state x. state_after_event state x.event) before placed
 
--- ---- What is reported
+-- ---- Reports
 
--- a line shows the pieces of the board, says that they are in doubt from a place on, or shows the
--- text of the clock at a place
+-- a report of the pieces of the board, of a doubt from a place on, or of the text of the clock at a
+-- place
 pub data Report : Type 0 where
   Shows : PlacedPicture → Report
   Doubts : ℕ → Report
@@ -99,7 +99,7 @@ doubt_raised place _ _ = []
 abbrev pub fault_reports : ℕ → PictureState → List Report
 fault_reports place before = doubt_raised place before.picture before.doubt
 
--- a text of the clock is reported if it is shown, and is not the last one
+-- a text of the clock is reported if the clock is shown, and the text differs from the last one
 abbrev pub clock_reports : ℕ → List ℕ → ShownClock → List Report
 clock_reports place text Hidden = []
 clock_reports place text Unknown = ShowsClock place text ∷ []
@@ -120,19 +120,19 @@ message_reports place (no_clock absence) before =
 message_reports place said before =
     map Shows (picture_set place (Message said) (picture_after before.picture said))
 
--- the line of a message that has this one, with the state after it
+-- the report of this kind for a message at this place, with the state after it
 abbrev pub news_at : ℕ → News → PictureState → List Report
 news_at place Nothing after = []
 news_at place Picture after = map Shows (known_at place after.picture)
 news_at place Clock after = clock_known_at place after.clock
 
--- what is reported of an event at this place, with the state before it
+-- the report of an event at this place, with the state before it
 abbrev pub reports_at : ℕ → Event → PictureState → List Report
 reports_at place (Message said) before = message_reports place said before
 reports_at place (Refused code (BadReading at)) before = []
 reports_at place _ before = fault_reports place before
 
--- what is reported of events, one after another, with the state before them
+-- the reports of events, one after another, with the state before them
 abbrev pub reports : PictureState → List Placed → List Report
 reports before placed = made_by state_after_event reports_at before placed
 
@@ -146,19 +146,19 @@ report_line (ShowsClock place text) = line place text
 abbrev pub report_lines : PictureState → List Placed → List ℕ
 report_lines before placed = flat_map report_line (reports before placed)
 
--- the lines of bytes, with this state before them
+-- the lines of bytes, from this state on
 abbrev pub text_from : PictureState → List ℕ → List ℕ
 text_from before bytes = report_lines before (events bytes)
 
--- the state after bytes, with this state before them
+-- the state after bytes, from this state on
 abbrev pub state_from : PictureState → List ℕ → PictureState
 state_from before bytes = state_after_events before (events bytes)
 
--- the lines of bytes, with nothing known before
+-- the lines of bytes, from the first state on
 abbrev pub report_text : Bool → Bool → List ℕ → List ℕ
 report_text doubts clock bytes = text_from (new_state doubts clock) bytes
 
--- ---- What holds of them
+-- ---- Facts about them
 
 -- the pictures among the reports
 abbrev pub pictures_shown : List Report → List PlacedPicture
@@ -166,25 +166,25 @@ pictures_shown [] = []
 pictures_shown (Shows x ∷ more) = x ∷ pictures_shown more
 pictures_shown (_ ∷ more) = pictures_shown more
 
--- without the other lines they are the pictures that the bytes set
+-- these are the pictures that the bytes set
 abbrev pub DoubtsLeavePictures : Type 0
 DoubtsLeavePictures =
     (doubts clock : Bool) (bytes : List ℕ)
     → pictures_shown (reports (new_state doubts clock) (events bytes))
     ≡ pictures None (events bytes)
 
--- with doubts or without, the picture after events is the same
+-- the picture after events is the same with and without doubts
 abbrev pub DoubtsKeepThePicture : Type 0
 DoubtsKeepThePicture =
     (before : PictureState) (placed : List Placed) → (state_after_events before placed).picture
     ≡ picture_after_events before.picture placed
 
--- if faults raise no doubt and the clock is not shown, the lines are those of the pictures alone
+-- if faults raise no doubt and the clock is not shown, the lines are those of the pictures
 abbrev pub IgnoredFaultsAreSilent : Type 0
 IgnoredFaultsAreSilent =
     (bytes : List ℕ) → report_text false false bytes ≡ pictures_text bytes
 
--- an event that is no message, nor an unreadable one of the clock
+-- an event other than a message or an unreadable message of the clock
 abbrev pub IsFault : Event → Type 0
 IsFault (Message _) = ⊥
 IsFault (Refused _ (BadReading _)) = ⊥
@@ -193,7 +193,7 @@ IsFault _ = ⊤
 abbrev pub IsNoFault : Placed → Type 0
 IsNoFault x = IsFault x.event → ⊥
 
--- a dump came, and no fault since
+-- a dump arrived, and no fault since
 pub record IsSure (placed : List Placed) : Type 0 where
   pub early : List Placed
   pub place : ℕ
@@ -202,12 +202,12 @@ pub record IsSure (placed : List Placed) : Type 0 where
   pub whole : placed ≡ early ++ at_place place (Message (dump pieces)) ∷ late
   pub no_fault : AllByRecursion IsNoFault late
 
--- what is reported of events, if nothing was known before and faults raise doubts
+-- the reports of events from the first state on, if faults raise doubts
 abbrev pub doubting : List Placed → List Report
 doubting placed = reports (new_state true false) placed
 
--- A fault is reported if it is the first one since a dump, and no other is. A message is reported
--- if it sets the picture. An unreadable clock message isn't.
+-- A fault is reported exactly if it is the first since a dump, and a message if it sets the
+-- picture. An unreadable clock message is not reported.
 pub record FirstFaultsAreReported : Type 0 where
   pub nothing : doubting [] ≡ []
   pub first : (earlier : List Placed) (x : Placed) → IsFault x.event → IsSure earlier
@@ -221,9 +221,9 @@ pub record FirstFaultsAreReported : Type 0 where
       → doubting (earlier ++ at_place place (Refused code (BadReading at)) ∷ [])
       ≡ doubting earlier
 
--- ---- What holds of the clock
+-- ---- Facts about the clock
 
--- the reports but those of the clock
+-- all reports but those of the clock
 abbrev pub without_clock : List Report → List Report
 without_clock [] = []
 without_clock (ShowsClock _ _ ∷ more) = without_clock more
@@ -235,13 +235,13 @@ clocks_shown [] = []
 clocks_shown (ShowsClock _ text ∷ more) = text ∷ clocks_shown more
 clocks_shown (_ ∷ more) = clocks_shown more
 
--- without the lines of the clock, they are those if the clock is not shown
+-- these are the same as if the clock is not shown
 abbrev pub ClockLeavesReports : Type 0
 ClockLeavesReports =
     (doubts : Bool) (placed : List Placed) → without_clock (reports (new_state doubts true) placed)
     ≡ reports (new_state doubts false) placed
 
--- if the clock is not shown, it has no line
+-- if the clock is not shown, it has no reports
 abbrev pub HiddenClockIsSilent : Type 0
 HiddenClockIsSilent =
     (doubts : Bool) (placed : List Placed)
@@ -255,28 +255,28 @@ clock_after_event clock _ = clock
 abbrev pub clock_after_events : Option ClockState → List Placed → Option ClockState
 clock_after_events clock placed = fold (λ before x. clock_after_event before x.event) clock placed
 
--- the text of the clock that these events report, if one is known then and none was before
+-- the text of the clock after these events, if it is known, from an unknown clock on
 abbrev pub last_clock_text : List Placed → Option (List ℕ)
 last_clock_text placed = option_map clock_text (clock_after_events None placed)
 
--- The last line of the clock has the text of the clock after all messages that were read. If that
--- is unknown there is no such line.
+-- The last line of the clock has the text of the clock after all messages that were read. There is
+-- none if that clock is unknown.
 abbrev pub LastLineIsClock : Type 0
 LastLineIsClock =
     (doubts : Bool) (bytes : List ℕ)
     → last_or None (clocks_shown (reports (new_state doubts true) (events bytes)))
     ≡ last_clock_text (events bytes)
 
--- what is reported of events, if nothing was known before and the clock is shown
+-- the reports of events from the first state on, if the clock is shown
 abbrev pub clocking : Bool → List Placed → List Report
 clocking doubts placed = reports (new_state doubts true) placed
 
--- the message says this of the clock
+-- the message reports this clock
 abbrev pub SaysClock : Placed → ClockState → Type 0
 SaysClock x clock = x.event ≡ Message (clock_message clock)
 
--- A message of the clock is reported if its text is another one than that of the clock before, or
--- there was none, and no other is. What is no message of the clock has no line of it.
+-- A message of the clock is reported exactly if its text differs from the last one, or is the
+-- first. Other messages have no reports of the clock.
 pub record OtherClocksAreReported : Type 0 where
   pub other : (doubts : Bool) (earlier : List Placed) (x : Placed) (clock : ClockState)
       → SaysClock x clock → last_clock_text earlier ≢ Some (clock_text clock)

@@ -1,12 +1,12 @@
--- Runs and devices in literal numbers, for laws.
+-- Runs and devices with literal numbers, for laws.
 use Rattle.std.specs.Prelude.{◌≡◌, true, false, Result}
 use Rattle.dgt_lines.specs.declared.faults.RunFault.{RunFault}
 use Rattle.dgt_lines.specs.declared.streams.Source.{Ghosts as Source}
 use Rattle.dgt_lines.specs.declared.streams.Sink.{Ghosts as Sink}
 use Rattle.dgt_lines.specs.Turns.{RunsInTurns, change}
 
--- A run of at most three turns ended with this answer. Before it the source was read seven times,
--- nothing was refused, no read gave the end, no call came late, and nothing waited for a flush.
+-- A run of at most three turns returned this result. Before it the source was read seven times, no
+-- call was refused, no read gave the end, no call was late, and no bytes waited for a flush.
 pub record RunsThreeTurns {S T : Type 0} (R : Source S) (W : Sink T) (a b : S) (c d : T)
     (r : Result (Unit {0}) RunFault) : Type 0 where
   pub reads : R.reads a ≡ 7

@@ -1,4 +1,4 @@
-//! The text of a board's clock, and whether it is news.
+//! The text of a board's clock, and whether it has changed.
 
 ghost use Rattle.std.specs.Prelude.{◌≡◌, ◌+◌, ◌*◌, ◌≤◌, ℕ, [], ◌++◌, codes, length, if◌then◌else◌};
 ghost use Rattle.dgt_message.specs.Content.{clock_seen, status_code, time_seen, times_seen};
@@ -14,19 +14,19 @@ use dgt_names::Flags;
 /// Room for the text of a clock.
 pub(crate) const CLOCK_ROOM: usize = 112;
 
-/// What was shown of a board's clock last, if its clock is shown.
+/// The last text of a board's clock, if the clock is shown.
 #[derive(Drop)]
 pub enum ShownClock {
     /// The clock is not shown.
     Hidden,
-    /// No message of the clock came.
+    /// No message of the clock has arrived.
     Unknown,
     /// The text of the last one.
     Known(Outgoing<CLOCK_ROOM>),
 }
 
 impl ShownClock {
-    // Takes what a message says of the clock. The result is whether a line shows it then.
+    // Takes the text of a clock message, and returns whether it is shown.
     pub(crate) fn hear(&mut self, clock: Clock) -> bool
         ensures state { self.new ≡ shown_after (clock_text (clock_seen clock)) self.old }
         ensures reports { (place : ℕ) → clock_reports place (clock_text (clock_seen clock)) self.old
@@ -163,7 +163,7 @@ pub(crate) fn push_flags<const ROOM: usize>(
     push_if(text, flags.fallen, side, fallen);
 }
 
-/// Adds two words in a row, if it is so.
+/// Adds two words in a row, if the condition is true.
 pub(crate) fn push_if<const ROOM: usize>(
     text: &mut Outgoing<ROOM>,
     is: bool,

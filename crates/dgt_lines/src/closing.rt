@@ -1,4 +1,4 @@
-//! What is written of a board and a host at the end.
+//! The closing lines of a board and a host.
 
 ghost use Rattle.std.specs.Prelude.{◌≡◌, ◌+◌, ◌≤◌, ◌++◌, codes, false, length, option_map};
 ghost use Rattle.dgt_values.specs.Board.{pieces_of};
@@ -64,9 +64,9 @@ fn push_quiet(text: &mut Outgoing<CLOSING_ROOM>, quiet: bool)
     text.push(if quiet { b"quiet yes\n" } else { b"quiet no\n" });
 }
 
-/// Writes four closing lines, without a flush: a board's position, a host's picture and clock, each
-/// `unknown` if there is none, and whether all is quiet. Returns `WriteFailed` if the writer
-/// refuses.
+/// Writes four closing lines, without a flush: a board's position, a host's picture and clock, and
+/// whether the world is quiet. A picture or clock that is not known is `unknown`. Returns
+/// `WriteFailed` if the writer refuses.
 pub fn write_closing<W: Sink>(
     board: &Position,
     picture: Option<&Position>,

@@ -1,4 +1,4 @@
-//! The lines of what a host sends, chunk after chunk.
+//! The lines of a host's commands, chunk after chunk.
 
 ghost use Rattle.std.specs.Prelude.{length, refl};
 ghost use Rattle.dgt_command.specs.Framing.{rest_of};
@@ -15,10 +15,10 @@ use crate::printers::Printer;
 use crate::streams::Sink;
 use dgt_command::WordFramer;
 
-/// Room for some 1,500 lines of commands that carry nothing.
+/// Room for about 1,500 lines of commands without operands.
 pub const COMMANDS_ROOM: usize = 32768;
 
-// The lines of what a host sends.
+// The lines of a host's commands.
 impl Printer<COMMANDS_ROOM> for WordFramer {
     ghost has_lines = { λ first. HasCommandLines };
 

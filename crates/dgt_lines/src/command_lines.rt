@@ -1,4 +1,4 @@
-//! The lines of what a host sends.
+//! The line of a command.
 
 ghost use Rattle.std.specs.Prelude.{◌≡◌, ◌+◌, ◌≤◌, ◌++◌, false, length, OnOk};
 ghost use Rattle.dgt_command.specs.Content.{command_event_content};
@@ -14,7 +14,7 @@ use dgt_command::CommandEvent;
 /// Room for the line of a command.
 pub(crate) const COMMAND_ROOM: usize = 600;
 
-/// Adds the line of an event that the last of this number of bytes makes.
+/// Adds the line of an event. The offset is the number of bytes up to and including its last one.
 pub(crate) fn push_line<const ROOM: usize>(
     text: &mut Outgoing<ROOM>,
     offset: u64,
@@ -31,12 +31,12 @@ pub(crate) fn push_line<const ROOM: usize>(
 
 /// Writes the line of an event, without a flush.
 ///
-/// A line is the offset in decimal, with leading zeros to at least eight digits, a space, the words
-/// for what came, and a line feed, as in `00000006 beep 3`. The offset is the number of bytes up to
-/// and including the one that made the event. The format is this project's own choice.
+/// The line `00000006 beep 3`, for example, consists of the offset, a space, the words of the
+/// command and a line feed. The offset counts the bytes up to and including the last one of the
+/// event. It is decimal, with leading zeros to at least eight digits.
 ///
-/// `WriteFailed` comes if the writer refuses. It then took a prefix of the line, and gets nothing
-/// more.
+/// Returns `WriteFailed` if the writer refuses. The writer then took a prefix of the line, and gets
+/// nothing more.
 pub fn write_command<W: Sink>(
     writer: &mut W,
     offset: u64,

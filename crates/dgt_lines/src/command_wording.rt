@@ -1,4 +1,4 @@
-//! The words for what a host sends.
+//! The words for commands.
 
 ghost use Rattle.std.specs.Prelude.{◌≡◌, ◌+◌, ◌*◌, ◌≤◌, ◌++◌, length, map, slice_index as nth};
 ghost use Rattle.std.specs.List.{list_all};
@@ -194,7 +194,7 @@ fn push_set_and_run<const ROOM: usize>(
     text.push_hex(&[a, b, c, d, e, f, control]);
 }
 
-// A clock message that has no case of its own.
+// A clock message other than the known ones.
 fn push_raw<const ROOM: usize>(text: &mut Outgoing<ROOM>, raw: RawClock<'_>)
     requires { length text.old + TEXT_ROOM ≤ ROOM }
     ensures text { text.new ≡ text.old

@@ -9,7 +9,7 @@ use crate::clocks::ShownClock;
 use crate::pictures::Picture;
 use dgt_message::{Clock, Message};
 
-/// Whether a picture is in doubt. A fault of the line may have swallowed a message that sets it.
+/// Whether a picture is in doubt, because a message that sets it may have been lost.
 #[derive(Clone, Copy)]
 pub enum Doubt {
     /// Faults raise no doubt.
@@ -37,38 +37,41 @@ impl Doubt {
 pub struct Shown {
     /// A line if the picture may be wrong: the offset, a space, the word `doubt` and a line feed.
     ///
-    /// It comes for the first fault since a dump: an event that is no message, which may be all
-    /// that is left of one. The next dump ends the doubt. Before the first dump there is no such
-    /// line. A clock message that is refused for a digit is no fault: it has come whole, and clocks
-    /// send it while they are set.
+    /// It is printed for the first fault after each dump. A fault is an event other than a message,
+    /// and may be all that is left of one. The next dump ends the doubt. A clock message that is
+    /// refused for a digit doesn't count as a fault: it is whole, and clocks send it while they are
+    /// being set.
     pub doubts: bool,
 
     /// A line for the board's clock when it changes.
     ///
-    /// The line is the offset, a space, and the word `clock`. Then come the two times as `1:30:00`,
-    /// the left one first, `running` or `stopped`, and whose turn it is: `white`, `black`, or `-`
-    /// if the clock names neither or both. The word `low` follows if the clock's battery is low,
-    /// and a word for each flag that is set: `leftblocked`, `leftpermove`, `leftfallen`,
-    /// `rightblocked`, `rightpermove` and `rightfallen`. What these mean is known from other
-    /// programs only. The line is `clock none` if no clock is connected. A message of the clock has
-    /// a line if this text is another one than that of the message of the clock before, or if there
-    /// was none before.
+    /// The line consists of the offset and these words, with a space before each:
+    ///
+    /// - `clock`, the left and the right time, such as `1:30:00`, and `running` or `stopped`.
+    /// - Whose turn it is: `white`, `black`, or `-` if the clock reports neither or both.
+    /// - `low` if the clock's battery is low.
+    /// - A word for each flag that is set: `leftblocked`, `leftpermove`, `leftfallen`,
+    ///   `rightblocked`, `rightpermove` and `rightfallen`. Their meaning is known only from other
+    ///   programs.
+    ///
+    /// The words are `clock none` if no clock is connected. A clock message prints a line if its
+    /// words differ from those of the last clock message, or if it is the first one.
     pub clock: bool,
 }
 
-/// Which line a message has.
+/// Which line is printed for a message.
 #[derive(Clone, Copy)]
 pub(crate) enum News {
     /// None.
     Nothing,
-    /// One of the picture, if it is known.
+    /// A line of the picture, if that is known.
     Picture,
-    /// One of the clock.
+    /// A line of the clock.
     Clock,
 }
 
-/// The picture of a board, which is unknown before the first dump, whether it is in doubt, and what
-/// was shown of the clock.
+/// The picture of a board, whether it is in doubt, and the last text of the clock. The picture is
+/// unknown before the first dump.
 #[derive(Drop)]
 pub struct PictureState {
     pub picture: Option<Picture>,
@@ -96,7 +99,7 @@ impl PictureState {
         }
     }
 
-    /// Makes of the state what a message does. The result is which line the message has.
+    /// Updates the state by a message, and returns which line is printed for it.
     pub(crate) fn hear(&mut self, message: &Message<'_>) -> News
         ensures state { self.new ≡ state_after_message self.old (content message.now) }
         ensures reports { (place : ℕ) → message_reports place (content message.now) self.old
@@ -120,7 +123,7 @@ impl PictureState {
         }
     }
 
-    // What a message says of the clock.
+    // The clock that a message reports.
     fn hear_clock(&mut self, clock: Clock) -> News
         ensures state { self.new ≡ record self.old {
           clock = shown_after (clock_text (clock_seen clock)) self.old.clock;
@@ -136,8 +139,7 @@ impl PictureState {
         }
     }
 
-    /// Raises a doubt about a picture that is known, as a fault does. The result is whether it was
-    /// raised now.
+    /// Raises a doubt about a known picture, after a fault. Returns whether the doubt is new.
     #[inline(always)]
     pub(crate) fn raise(&mut self) -> bool
         ensures state { self.new ≡ state_after_fault self.old }

@@ -1,4 +1,4 @@
-//! The engines that print what they read.
+//! The engines that print what they read as lines of text.
 
 ghost use Rattle.dgt_lines.specs.Commanding.{IsListed};
 ghost use Rattle.dgt_lines.specs.Logging.{IsLogged};
@@ -22,14 +22,14 @@ use dgt_decode::Framer;
 
 /// Writes a line for each event of the bytes that the reader gives, in at most `limit` reads.
 ///
-/// The lines are those of [`write_event`](crate::write_event). What came in a read has its lines
-/// written and flushed before the next read. If a message is unfinished at the end of the bytes, a
-/// last line says how many of its bytes came.
+/// The lines are those of [`write_event`](crate::write_event). The lines of one read are written
+/// and flushed before the next read. If a message is unfinished at the end of the bytes, a last
+/// line counts its bytes.
 ///
-/// - `ReadFailed` comes if the reader refuses, and `TooManyTurns` if `limit` reads succeeded
-///   and none gave the end. All lines of what was read are written then.
-/// - `WriteFailed` comes if the writer refuses. It took a prefix of the lines, and gets nothing
-///   more.
+/// - Returns `ReadFailed` if the reader refuses, and `TooManyTurns` if `limit` reads succeeded and
+///   none gave the end. All lines of the bytes that were read are written then.
+/// - Returns `WriteFailed` if the writer refuses. The writer took a prefix of the lines, and gets
+///   nothing more.
 pub fn monitor<R: Source, W: Sink>(
     reader: &mut R,
     writer: &mut W,
@@ -48,11 +48,12 @@ pub fn monitor<R: Source, W: Sink>(
     print_input(&mut Framer::new(), &mut outgoing, reader, writer, limit)
 }
 
-/// Writes the lines of [`monitor`], with names: after the text of an event come `: ` and what other
-/// programs read in the bytes that it carries, as in `00000010 ack 10 88 06 31 00: back pressed`.
-/// No clock and no board was tried. An event without a name has the line of [`monitor`].
+/// Writes the lines of [`monitor`], with names, such as
+/// `00000010 ack 10 88 06 31 00: back pressed`.
 ///
-/// Its errors are those of [`monitor`].
+/// After the text of an event follow `: ` and the meaning of its bytes, if it is known. The
+/// meanings are known from other programs, and were not tested with a clock or a board. The errors
+/// are those of [`monitor`].
 pub fn monitor_names<R: Source, W: Sink>(
     reader: &mut R,
     writer: &mut W,
@@ -77,11 +78,9 @@ pub fn monitor_names<R: Source, W: Sink>(
 /// Writes a line for each command and each fault of the bytes that the reader gives, in at most
 /// `limit` reads.
 ///
-/// The lines are those of [`write_command`](crate::write_command). What came in a read has its
-/// lines written and flushed before the next read. If a command is unfinished at the end of the
-/// bytes, a last line says how many of its bytes came.
-///
-/// Its errors are those of [`monitor`].
+/// The lines are those of [`write_command`](crate::write_command). The lines of one read are
+/// written and flushed before the next read. If a command is unfinished at the end of the bytes, a
+/// last line counts its bytes. The errors are those of [`monitor`].
 pub fn commands<R: Source, W: Sink>(
     reader: &mut R,
     writer: &mut W,
@@ -101,16 +100,13 @@ pub fn commands<R: Source, W: Sink>(
     print_input(&mut WordFramer::new(), &mut outgoing, reader, writer, limit)
 }
 
-/// Writes a line with the placement of the board for each message that sets its picture, of the
-/// bytes that the reader gives, in at most `limit` reads. [`Shown`] says which other lines it
-/// writes.
+/// Writes a line with the board's placement for each message that sets the picture, in at most
+/// `limit` reads. [`Shown`] selects further lines.
 ///
-/// A dump always sets the picture, and a field message does if it is known. A line is the offset
-/// as in [`write_event`](crate::write_event), a space, the placement and a line feed. What came in
-/// a read has its lines written and flushed before the next read. An unfinished message at the end
-/// has none.
-///
-/// Its errors are those of [`monitor`].
+/// A dump always sets the picture, and a field message does if the picture is known. A line is the
+/// offset as in [`write_event`](crate::write_event), a space, the placement and a line feed. The
+/// lines of one read are written and flushed before the next read. An unfinished message at the end
+/// prints nothing. The errors are those of [`monitor`].
 pub fn picture<R: Source, W: Sink>(
     shown: Shown,
     reader: &mut R,
@@ -134,15 +130,14 @@ pub fn picture<R: Source, W: Sink>(
     print_input(&mut pictures, &mut outgoing, reader, writer, limit)
 }
 
-/// Writes a line for each thing that a board has stored and sends in a message with the code `0f`,
-/// of the bytes that the reader gives, in at most `limit` reads.
+/// Writes a line for each event that a board stored and sends in a message with the code `0f`, in
+/// at most `limit` reads.
 ///
-/// `dgt_stored` reads the body of such a message. A line is the offset as in
-/// [`write_event`](crate::write_event), of the last byte of the thing, a space, its text and a line
-/// feed, as in `00000005 piece e2 .`. The lines of a message come when it is whole. What came in a
-/// read has its lines written and flushed before the next read. No other event has a line.
-///
-/// Its errors are those of [`monitor`].
+/// `dgt_stored` reads the body of such a message. The line `00000005 piece e2 .`, for example,
+/// consists of the offset as in [`write_event`](crate::write_event), of the last byte of the stored
+/// event, a space, its text and a line feed. The lines of a message are written when it is whole.
+/// The lines of one read are flushed before the next read. Other messages and faults print nothing.
+/// The errors are those of [`monitor`].
 pub fn log<R: Source, W: Sink>(reader: &mut R, writer: &mut W, limit: u32) -> Result<(), RunFault>
     // what was read, and what was written of it
     ensures output { Ran R.Source W.Sink

@@ -6,17 +6,17 @@ ghost use Rattle.dgt_lines.specs.FaultText.{run_fault_text};
 use std::error::Error;
 use std::fmt;
 
-/// Why an engine stopped before the end of its input, or could not write. Its text is a few words,
-/// a bad line as `line 3: bad at 5`.
+/// Why an engine stopped before the end of its input, or could not write. Its text is short, such
+/// as `line 3: bad at 5`.
 #[derive(Clone, Copy, Debug, PartialEq, Eq)]
 pub enum RunFault {
     /// The source refused a read.
     ReadFailed,
     /// The sink refused a write or a flush.
     WriteFailed,
-    /// The engine made as many reads as it may, and none of them gave the end.
+    /// The engine reached its limit of reads, and none of them gave the end.
     TooManyTurns,
-    /// Line `line` of a script, counted from 1, is none; offset `at` says where.
+    /// Line `line` of a script, counted from 1, is wrong from its byte offset `at` on.
     BadLine { line: u64, at: usize },
 }
 

@@ -17,11 +17,12 @@ const WORDS_ROOM: usize = 128;
 
 /// Writes the text of an event to the beginning of a slice, and returns its length.
 ///
-/// The text is that of [`write_event`](crate::write_event) without the offset and the line feed, as
-/// `field e4 P`. A message that carries no bytes, and a fault, takes at most 99.
+/// The text is that of [`write_event`](crate::write_event) without the offset and the line feed,
+/// such as `field e4 P`. The text of a message that carries no bytes, and of a fault, takes at most
+/// 99 bytes.
 ///
-/// `NoRoom` comes if the slice is too short for the whole text. It gives the length that the text
-/// needs, and the slice stays as it is.
+/// Returns `NoRoom` with the length of the text if the slice is too short for it. The slice is then
+/// unchanged.
 pub fn format_event(event: &Event<'_>, out: &mut [u8]) -> Result<usize, NoRoom>
     ensures text { WritesPrefix (event_text (event_content event.now)) out.old out.new result }
     ensures limit { MatchResult result (λ len. len ≤ WORDS_ROOM + 2 * MAX_BODY)
@@ -37,7 +38,7 @@ pub fn format_event(event: &Event<'_>, out: &mut [u8]) -> Result<usize, NoRoom>
     }
 }
 
-// Adds a hyphen if no byte is carried, so that the digits of those that are end the text.
+// Adds a hyphen if no bytes are carried.
 fn push_if_none(words: &mut Outgoing<WORDS_ROOM>, carried: &[u8])
     requires { length words.old < WORDS_ROOM }
     ensures text { words.new ++ encode_lower carried.now ≡ words.old ++ bytes_text carried.now }

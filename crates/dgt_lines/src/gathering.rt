@@ -1,4 +1,4 @@
-//! How bytes are written: they are gathered, and go out in one write.
+//! Gathers bytes, to write them at once.
 
 ghost use Rattle.std.specs.Prelude.{◌≡◌, ◌≢◌, ◌+◌, ◌*◌, ◌<◌, ◌≤◌, [], ◌∷◌, ◌++◌, false, length, take, OnOk, OnErr, IsTrue};
 ghost use Rattle.hex.specs.Hex.{encode_lower};
@@ -39,13 +39,12 @@ pub fn flush<W: Sink>(writer: &mut W) -> Result<(), RunFault>
     }
 }
 
-/// Room for all of a line but the bytes that a message carries.
+/// Room for a line, except the bytes that a message carries.
 pub(crate) const LINE_ROOM: usize = 134;
 
-/// Bytes on their way to a sink, at most `ROOM` of them. Contracts see those that were not written
-/// yet.
+/// Up to `ROOM` bytes that wait to be written to a sink. Contracts see these bytes.
 ///
-/// An array of its own, since [`push_prefix`](Outgoing::push_prefix) writes after what is kept.
+/// The store is an array, since [`push_prefix`](Outgoing::push_prefix) writes past the kept bytes.
 #[derive(Drop)]
 pub struct Outgoing<const ROOM: usize> {
     bytes: [u8; ROOM],
@@ -63,7 +62,7 @@ impl<const ROOM: usize> Model for Outgoing<ROOM> {
 }
 
 impl<const ROOM: usize> Outgoing<ROOM> {
-    /// Nothing to write yet.
+    /// No bytes.
     pub(crate) fn new() -> Self
         ensures { result ≡ [] }
     {
@@ -73,7 +72,7 @@ impl<const ROOM: usize> Outgoing<ROOM> {
         }
     }
 
-    /// How many bytes were gathered and not written.
+    /// The number of gathered bytes that were not written yet.
     pub(crate) fn len(&self) -> usize
         ensures len { result ≡ length self.now }
         ensures limit { result ≤ ROOM }
@@ -81,7 +80,7 @@ impl<const ROOM: usize> Outgoing<ROOM> {
         self.len
     }
 
-    /// The bytes that were gathered and not written.
+    /// The gathered bytes that were not written yet.
     pub(crate) fn bytes(&self) -> &[u8]
         ensures bytes { result.now ≡ self.now }
         ensures limit { length result.now ≤ ROOM }
@@ -89,14 +88,14 @@ impl<const ROOM: usize> Outgoing<ROOM> {
         &self.bytes[..self.len]
     }
 
-    // How many more bytes there is room for.
+    // The number of bytes that still fit.
     fn room(&self) -> usize
         ensures { result + length self.now ≡ ROOM }
     {
         ROOM - self.len
     }
 
-    /// Writes all that was gathered. After a refused write the rest of it is dropped.
+    /// Writes all gathered bytes. After a refused write the rest of them is dropped.
     pub(crate) fn write_out<W: Sink>(&mut self, writer: &mut W) -> Result<(), RunFault>
         ensures output { Writes W.Sink writer.old writer.new result self.old }
         ensures empty { self.new ≡ [] }
@@ -109,7 +108,7 @@ impl<const ROOM: usize> Outgoing<ROOM> {
         answer
     }
 
-    /// Writes what was gathered, unless there is room for this many bytes after it. After a refused
+    /// Writes the gathered bytes, unless this number of bytes fits after them. After a refused
     /// write nothing is gathered.
     pub(crate) fn make_room<W: Sink>(
         &mut self,
@@ -129,8 +128,8 @@ impl<const ROOM: usize> Outgoing<ROOM> {
         Ok(())
     }
 
-    /// Adds these bytes. If there is no room for them, what was gathered is written first. After a
-    /// refused write nothing is gathered.
+    /// Adds these bytes. If they don't fit, the gathered bytes are written first. After a refused
+    /// write nothing is gathered.
     pub(crate) fn add<W: Sink>(&mut self, writer: &mut W, bytes: &[u8]) -> Result<(), RunFault>
         ensures output { Gathers W.Sink (self.old, self.new) writer.old writer.new
             result bytes.now }
@@ -148,7 +147,7 @@ impl<const ROOM: usize> Outgoing<ROOM> {
         Ok(())
     }
 
-    /// Adds these bytes, for which there is room.
+    /// Adds these bytes, which fit.
     pub(crate) fn push(&mut self, bytes: &[u8])
         requires { length self.old + length bytes.now ≤ ROOM }
         ensures bytes { self.new ≡ self.old ++ bytes.now }
@@ -160,8 +159,8 @@ impl<const ROOM: usize> Outgoing<ROOM> {
         self.len = end;
     }
 
-    /// Adds the first `len` of sixteen bytes. All of them are copied, and passed by value, which is
-    /// faster than fewer.
+    /// Adds the first `len` of sixteen bytes. Passing and copying all of them by value is faster
+    /// than copying fewer.
     pub(crate) fn push_prefix(&mut self, bytes: [u8; 16], len: usize)
         requires room { length self.old + 16 ≤ ROOM }
         requires within { len ≤ 16 }
@@ -186,6 +185,7 @@ impl<const ROOM: usize> Outgoing<ROOM> {
     }
 
     /// Adds a number in decimal, with leading zeros to at least `width` digits.
+    #[inline(never)]
     pub(crate) fn push_decimal(&mut self, number: u64, width: usize)
         requires room { length self.old + 20 ≤ ROOM }
         requires some { 0 < width }
@@ -193,6 +193,9 @@ impl<const ROOM: usize> Outgoing<ROOM> {
         ensures bytes { self.new ≡ self.old ++ padded_decimal width number }
         ensures len { length self.new ≤ length self.old + 20 }
     {
+        if number < 10 && width == 1 {
+            return self.push(&[b'0' + number as u8]);
+        }
         let mut digits = [0; 20];
         let mut at = digits.len();
         let mut rest = number;

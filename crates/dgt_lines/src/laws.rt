@@ -1,5 +1,5 @@
-//! What holds of lines, writes and runs as such. Nothing here runs: each function stands for the
-//! facts that its contract states.
+//! Facts about lines, writes and runs. Nothing here runs: the contract of each function states a
+//! fact.
 
 ghost use Rattle.std.specs.Prelude.{◌≡◌, ◌≤◌, ◌⊎◌, [], ◌∷◌, ◌++◌, ℕ, Bool, List, Ok, Err, Option, Result, Some, None, codes, map, false, length, true};
 ghost use Rattle.std.specs.Io.KnownBytes.{IsAtEnd};
@@ -41,7 +41,7 @@ use crate::{COMMANDS_ROOM, LINES_ROOM, LOG_ROOM, MAX_CHUNK, PICTURES_ROOM};
 use dgt_decode::laws;
 use std::io::{Read, Write};
 
-/// The most bytes that an engine reads at once, and the room that it takes for their lines.
+/// The most bytes that an engine reads at once, and the size of its buffer for their lines.
 pub fn limits()
     ensures chunk { MAX_CHUNK ≡ 4096 }
     ensures lines { LINES_ROOM ≡ 32768 }
@@ -50,13 +50,13 @@ pub fn limits()
     ensures log { LOG_ROOM ≡ 32768 }
 {}
 
-/// Two values are equal, as `==` answers, exactly if they are the same.
+/// `==` is true exactly if both values are the same.
 pub fn equal_is_same()
     ensures run_fault { EqualIsSame ⟦<RunFault as PartialEq>⟧.eq }
     ensures failed { EqualIsSame ⟦<Failed as PartialEq>⟧.eq }
 {}
 
-/// A clone is the value itself, and cloning never fails.
+/// A clone equals the original, and cloning never fails.
 pub fn clone_is_same()
     ensures run_fault { CloneIsSame ⟦<RunFault as Clone>⟧ }
     ensures failed { CloneIsSame ⟦<Failed as Clone>⟧ }
@@ -64,13 +64,13 @@ pub fn clone_is_same()
     ensures shown { CloneIsSame ⟦<Shown as Clone>⟧ }
 {}
 
-/// What calls write or gather one after another, the sink takes in a row, up to the first refusal.
+/// The sink takes the bytes of several calls in their order, up to the first refusal.
 pub fn writes_in_a_row<W: Sink>()
     ensures { InARow W.Sink }
 {}
 
-/// A read gives the end if it succeeds with no byte, though there was room for one. A write took
-/// some if it succeeded with a byte.
+/// A read gives the end if it succeeds with no bytes into a buffer that isn't empty. A write took
+/// bytes if it succeeded with at least one.
 pub fn ends_and_bytes()
     ensures end { GivesEnd {E = Failed} (Ok 0) 1 }
     ensures no_room { ¬ (GivesEnd {E = Failed} (Ok 0) 0) }
@@ -80,8 +80,8 @@ pub fn ends_and_bytes()
     ensures refused { (fault : Failed) → ¬ (GivesEnd (Err fault) 1) × ¬ (TookSome (Err fault)) }
 {}
 
-/// What a call leaves that writes 65 to a sink that has 64. If it returns `Ok`, the sink has both,
-/// and has not failed. If not, the sink refused. No call came late.
+/// The sink after a call that writes 65 to a sink with 64. If the call returns `Ok`, the sink has
+/// both, and has not failed. Otherwise the sink refused. No call came after a refusal.
 pub fn what_writes_leave<W: Sink>()
     ensures written { (a b : W) → Writes {A = Unit {0}} W.Sink a b (Ok tt) (65 ∷ [])
         → W.written a ≡ Some (64 ∷ []) → W.written b ≡ Some (64 ∷ 65 ∷ []) }
@@ -98,15 +98,15 @@ pub fn what_writes_leave<W: Sink>()
         → W.failed a ≡ false → W.late a ≡ false → W.late b ≡ false }
 {}
 
-/// A sink that has 64 and refuses while a call writes 65 to it has 64 or both then.
+/// If a sink with 64 refuses while a call writes 65 to it, it then has 64 or both.
 pub fn what_refusals_leave<W: Sink>()
     ensures { (a b : W) (fault : RunFault) →
         Writes {A = Unit {0}} W.Sink a b (Err fault) (65 ∷ []) → W.written a ≡ Some (64 ∷ [])
         → (W.written b ≡ Some (64 ∷ [])) ⊎ (W.written b ≡ Some (64 ∷ 65 ∷ [])) }
 {}
 
-/// A new device has the bytes of what it is over. It was not read, nothing waits for a flush, and
-/// no other mark is set.
+/// A new device has the bytes of the reader or writer in it. It was not read, no bytes wait for a
+/// flush, and no other mark is set.
 pub fn new_devices<T: Read + Write>()
     ensures left { (device : Device T) (inner : T) → IsNewDevice device inner
         → ⟦<Device<T> as Source>⟧.left device ≡ T.remaining inner }
@@ -126,8 +126,8 @@ pub fn new_devices<T: Read + Write>()
         × (⟦<Device<T> as Sink>⟧.late device ≡ false) }
 {}
 
-/// The marks after a run of at most three turns, by its answer. Before it the source was read seven
-/// times, nothing waited for a flush, and no other mark was set.
+/// The marks after a run of at most three turns, by its result. Before the run the source was read
+/// seven times, no bytes waited for a flush, and no other mark was set.
 pub fn marks_after_three_turns<R: Source, W: Sink>()
     ensures all_read { (a b : R) (c d : W) →
         RunsThreeTurns R.Source W.Sink a b c d (Ok tt) → IsAtEnd (R.left b) }
@@ -155,8 +155,8 @@ pub fn marks_after_three_turns<R: Source, W: Sink>()
         RunsThreeTurns R.Source W.Sink a b c d (Err RunFault.ReadFailed) → W.flushed d ≡ true }
 {}
 
-/// A run that reads 1 and 2 of 1, 2 and 3 leaves 3. One that writes 65 to a sink that has 64 leaves
-/// both there. One that had too many turns read a byte in each.
+/// A run that reads 1 and 2 of 1, 2 and 3 leaves 3. A run that writes 65 to a sink with 64 leaves
+/// both there. A run that had too many turns read a byte in each of them.
 pub fn what_runs_read_and_write<R: Source, W: Sink>()
     ensures read { (a b : R) (c d : W) → Ran R.Source W.Sink (change a b) (change c d)
         (λ bytes out. bytes ≡ 1 ∷ 2 ∷ []) → R.left a ≡ Some (1 ∷ 2 ∷ 3 ∷ [])
@@ -170,7 +170,7 @@ pub fn what_runs_read_and_write<R: Source, W: Sink>()
         (λ bytes out. out ≡ 65 ∷ []) bytes out → out ≡ 65 ∷ [] }
 {}
 
-/// What a sink has of the bytes that `monitor` read, by its answer.
+/// What `monitor` wrote for the bytes that it read, by its result.
 pub fn what_monitor_leaves()
     ensures whole { (bytes out : List ℕ) → IsMonitored {A = Unit {0}} (Ok tt) bytes out
         → out ≡ monitor_text bytes }
@@ -185,7 +185,7 @@ pub fn what_monitor_leaves()
         ¬ (IsMonitored {A = Unit {0}} (Err (RunFault.BadLine line at)) bytes out) }
 {}
 
-/// What a sink has of the bytes that an engine read that shows the board, if it returned `Ok`.
+/// What `picture` wrote for the bytes that it read, if it returned `Ok`.
 pub fn what_pictures_leave()
     ensures picture { (bytes out : List ℕ) →
         IsPictured {A = Unit {0}} false false (Ok tt) bytes out → out ≡ pictures_text bytes }
@@ -196,8 +196,8 @@ pub fn what_pictures_leave()
     doubts_leave_pictures();
 }
 
-/// What a sink has of the bytes that `commands` read is the one text that they have, by its answer
-/// with a last line for what is unfinished or without.
+/// What `commands` wrote is the only text of the bytes that it read. Its result decides whether the
+/// text includes the last line for an unfinished command.
 pub fn what_commands_leaves()
     ensures { (r : Result (Unit {0}) RunFault) (bytes out rest text : List ℕ) →
         IsListed r bytes out → Prints 0 bytes rest text
@@ -206,7 +206,7 @@ pub fn what_commands_leaves()
     one_text();
 }
 
-/// Events have one text of what a board has stored, and no second.
+/// Events have exactly one text of what a board stored.
 pub fn one_log()
     ensures each { (placed : List Placed) → (text : List ℕ) × HasLog placed text }
     ensures once { (placed : List Placed) (text other : List ℕ) →
@@ -215,8 +215,7 @@ pub fn one_log()
     dgt_stored::laws::bodies_are_read();
 }
 
-/// What a sink has of the bytes that `log` read is the one text that their events have, by its
-/// answer.
+/// What `log` wrote is the only text of the events that it read, by its result.
 pub fn what_log_leaves()
     ensures { (r : Result (Unit {0}) RunFault) (bytes out text : List ℕ) →
         IsLogged r bytes out → HasLog (events bytes) text → IsInSink r text text out }
@@ -224,8 +223,8 @@ pub fn what_log_leaves()
     dgt_stored::laws::bodies_are_read();
 }
 
-/// What a sink has of the bytes that `monitor_names` read is the one text that their events have,
-/// by its answer with a last line for what is unfinished or without.
+/// What `monitor_names` wrote is the only text of the events that it read. Its result decides
+/// whether the text includes the last line for an unfinished message.
 pub fn what_monitor_names_leaves()
     ensures { (r : Result (Unit {0}) RunFault) (bytes out text : List ℕ) →
         AreMonitored r bytes out → AreNamedLines (events bytes) text →
@@ -234,8 +233,8 @@ pub fn what_monitor_names_leaves()
     one_name();
 }
 
-/// An event has one name or none, and events have one text. One without a name has the line that it
-/// has without names.
+/// An event has at most one name, and events have one text. The line of an event without a name is
+/// that of `monitor`.
 pub fn one_name()
     ensures name { (event : Event) (one other : Option (List ℕ)) →
         IsNamed event one → IsNamed event other → one ≡ other }
@@ -248,7 +247,7 @@ pub fn one_name()
     dgt_names::laws::one_is_meant();
 }
 
-/// The names of what clocks signal.
+/// The names of the signals of clocks.
 #[tactic(auto, unfolding(crate::specs::NamedLines::signal_text))]
 pub fn signals_by_example()
     ensures said { (ack : List ℕ) (signal : Signal) → IsSignal ack signal →
@@ -269,7 +268,7 @@ pub fn signals_by_example()
         ∷ codes "setandrun done" ∷ codes "beep done" ∷ codes "text done" ∷ [] }
 {}
 
-/// A line with a name, by example. Lines stand in the order of their events.
+/// A line with a name, by example. Lines are in the order of their events.
 pub fn named_lines_by_example()
     ensures two { (x y : Placed) (one other : Option (List ℕ)) → IsNamed x.event one →
         IsNamed y.event other →
@@ -298,7 +297,7 @@ pub fn clocks_by_example()
         clock_text (ClockState.no_clock absence) ≡ codes "clock none" }
 {}
 
-/// The names of batteries, by example. What is unknown is left out.
+/// The names of batteries, by example. Unknown parts are omitted.
 #[tactic(auto, unfolding(crate::specs::NamedLines::battery_text))]
 pub fn batteries_by_example()
     ensures said { (body : List ℕ) (state : BatteryState) → IsBattery body state →
@@ -348,7 +347,7 @@ pub fn texts_by_example()
     ensures fault { (have : ℕ) → IsNamed (Cut have) None }
 {}
 
-/// The lines of bytes in a row are those of the first ones, and then those of the chunk after them.
+/// The lines of two chunks in a row are those of the first, and then those of the second.
 pub fn lines_append()
     ensures { (bytes chunk : List ℕ) → lines (bytes ++ chunk)
         ≡ lines bytes ++ lines_after (unfinished_message bytes) (length bytes) chunk }
@@ -356,7 +355,7 @@ pub fn lines_append()
     laws::chunks_in_a_row();
 }
 
-/// Bytes that come after others have one text of commands and one rest of a command, and no second.
+/// Bytes after others have exactly one text of commands, and one rest of a command.
 pub fn one_text()
     ensures printed { EachIsPrinted }
     ensures once { EachIsPrintedOnce }
@@ -364,21 +363,21 @@ pub fn one_text()
     dgt_command::laws::words_of_bytes();
 }
 
-/// The text of commands in a row is that of the first bytes, and then that of the rest of these and
-/// what follows.
+/// The text of commands in two chunks is that of the first, and then that of the rest of the first
+/// with the second.
 pub fn texts_append()
     ensures { TextsAppend }
 {}
 
-/// The lines of commands show each character by the segments that `dgt_values::segment` gives it. A
-/// question mark stands for segments that show none.
+/// The lines of commands print the character of each of the segments of `dgt_values::segment`, and
+/// a question mark for other segments.
 pub fn segments_are_read_back()
     ensures characters { EachCharacterIsShown }
     ensures others { OthersAreQuestionMarks }
 {}
 
-/// The lines that show the board, of bytes in a row, are those of the first ones, and then those of
-/// the chunk after them, and so it is with the picture.
+/// The lines of `picture` for two chunks are those of the first, and then those of the second. The
+/// same holds for the picture.
 pub fn pictures_append()
     ensures lines { (bytes chunk : List ℕ) → pictures_text (bytes ++ chunk)
         ≡ pictures_text bytes ++ picture_lines (picture_reported bytes)
@@ -390,14 +389,14 @@ pub fn pictures_append()
     laws::chunks_in_a_row();
 }
 
-/// The last line that shows the board has the placement of the picture after all messages. If
-/// that is unknown there is no line.
+/// The last placement that is printed is that of the picture after all messages. If the picture is
+/// unknown, none is printed.
 pub fn last_line_is_picture()
     ensures { LastLineIsPicture }
 {}
 
-/// The reports of bytes in a row are those of the first ones, and then those of the chunk after
-/// them, and so it is with the state.
+/// The reports of two chunks are those of the first, and then those of the second. The same holds
+/// for the state.
 pub fn reports_append()
     ensures lines { (before : PictureState) (bytes chunk : List ℕ) →
         text_from before (bytes ++ chunk)
@@ -411,34 +410,34 @@ pub fn reports_append()
     laws::chunks_in_a_row();
 }
 
-/// The lines that show the board are the same, whether doubts are reported or not, and so is the
-/// picture. If faults raise no doubt, there are no other lines.
+/// The lines with placements, and the picture, are the same with and without doubts. If faults
+/// raise no doubt, there are no other lines.
 pub fn doubts_leave_pictures()
     ensures shown { DoubtsLeavePictures }
     ensures picture { DoubtsKeepThePicture }
     ensures ignored { IgnoredFaultsAreSilent }
 {}
 
-/// A fault is reported if it is the first one since a dump, and no other fault is. A clock message
-/// that is refused for a digit is no fault.
+/// A fault is reported exactly if it is the first since a dump. A clock message that is refused for
+/// a digit doesn't count as a fault.
 pub fn first_faults_are_reported()
     ensures { FirstFaultsAreReported }
 {}
 
-/// Without the lines of the clock, the others are the same, whether it is shown or not. If it is
-/// not, it has no line.
+/// All lines but those of the clock are the same with and without the clock. If it is not shown, it
+/// has no lines.
 pub fn clock_leaves_reports()
     ensures others { ClockLeavesReports }
     ensures silent { HiddenClockIsSilent }
 {}
 
-/// The last line of the clock has the text of the clock after all messages. If that is unknown
-/// there is no such line.
+/// The last line of the clock has the text of the clock after all messages. If the clock is
+/// unknown, it has no lines.
 pub fn last_line_is_clock()
     ensures { LastLineIsClock }
 {}
 
-/// A message of the clock is reported if its text is another one than before, and no other is.
+/// A clock message is reported exactly if its text differs from the last one.
 pub fn other_clocks_are_reported()
     ensures { OtherClocksAreReported }
 {}

@@ -1,15 +1,17 @@
-//! Sources and sinks of bytes, and the lines of text of what a DGT board and its host send.
+//! Prints the messages of a DGT board and the commands of its host as lines of text.
 //!
 //! | To | Use |
 //! |---|---|
-//! | read and write a slice, or any reader or writer of std | [`Bytes`], [`Device`] |
-//! | write bytes, and pass them on | [`put`], [`flush`] |
-//! | write the line of an event, as `00000005 field e4 P` | [`write_event`] |
-//! | write its text to a slice, as `field e4 P` | [`format_event`] |
-//! | write the line of a command, as `00000001 dump` | [`write_command`] |
-//! | write how a board and a host are at the end | [`write_closing`] |
-//! | write the lines of all that a source gives | [`monitor`], [`commands`], [`picture`], [`log`] |
-//! | write these with names, as `ack 10 88 06 31 00: back pressed` | [`monitor_names`] |
+//! | read a slice, or any reader of std | [`Bytes`], [`Device`] |
+//! | write to any writer of std | [`Device`] |
+//! | write bytes, and flush them | [`put`], [`flush`] |
+//! | write the line `00000005 field e4 P` of an event | [`write_event`] |
+//! | write its text `field e4 P` to a slice | [`format_event`] |
+//! | write the line `00000001 dump` of a command | [`write_command`] |
+//! | print all messages of a board, without or with names | [`monitor`], [`monitor_names`] |
+//! | print all commands of a host | [`commands`] |
+//! | print a board's positions, or its stored events | [`picture`], [`log`] |
+//! | write the last positions of a board and a host | [`write_closing`] |
 //!
 //! ```rust
 //! use dgt_decode::Event;
@@ -22,7 +24,7 @@
 //! }
 //! ```
 //!
-//! The words for a command are those of `dgt ask`:
+//! Commands are printed in the words of `dgt ask`:
 //!
 //! ```rust
 //! use dgt_command::CommandDecoder;
@@ -40,12 +42,12 @@
 //! }
 //! ```
 //!
-//! A [`Source`] gives bytes and a [`Sink`] takes them. Contracts name the bytes that a source gave
-//! and a sink took, if these state them, also if a call was refused. [`RunFault`] is why a run over
-//! them stops.
+//! A [`Source`] gives bytes and a [`Sink`] takes them. Contracts state which bytes were read and
+//! written, even after a refused call, if the source and the sink state their bytes. [`RunFault`]
+//! says why a run stopped.
 //!
-//! The format of lines is this project's own choice. No call takes memory. [`laws`] has the facts
-//! about lines, writes and runs as such.
+//! The format of lines is this project's own. No call allocates memory. [`laws`] contains facts
+//! about lines, writes and runs.
 #![tactic(auto)]
 
 mod chunks;

@@ -1,4 +1,4 @@
-//! The lines of what a board has stored, chunk after chunk.
+//! The lines of a board's stored events, chunk after chunk.
 
 ghost use Rattle.std.specs.Prelude.{◌≡◌, ◌-◌, ◌^◌, ◌<◌, [], List, length, refl};
 ghost use Rattle.dgt_message.specs.Content.{content};
@@ -17,13 +17,13 @@ use crate::streams::Sink;
 use dgt_decode::{Event, Found, Framer, laws};
 use dgt_message::Message;
 
-/// Room for some 1,000 lines of what is stored.
+/// Room for about 1,000 lines of stored events.
 pub const LOG_ROOM: usize = 32768;
 
-// The code of a message of what is stored.
+// The code of a message of stored events.
 const LOG_CODE: u8 = 0x0f;
 
-// The body of what was found, if it is such a message.
+// The body, if the framer found such a message.
 fn body_found<'a>(framer: &'a Framer, found: Found) -> &'a [u8]
     requires { found ≡ Found.Message → IsWholeMessage framer.now }
     ensures { result.now ≡ log_body (event_found_in framer.now found) }
@@ -46,7 +46,7 @@ fn body_of<'a>(message: &Message<'a>) -> &'a [u8]
     body.bytes()
 }
 
-// What was found has its lines, if it is such a message.
+// Adds the lines of such a message, if the framer found one.
 fn put_found<W: Sink>(
     outgoing: &mut Outgoing<LOG_ROOM>,
     writer: &mut W,
@@ -66,13 +66,13 @@ fn put_found<W: Sink>(
     put_body(outgoing, writer, before, body)
 }
 
-/// The unfinished message of a board whose log is shown.
+/// The unfinished message, while the stored events are printed.
 #[derive(Drop)]
 pub(crate) struct Log {
     pub(crate) framer: Framer,
 }
 
-// The lines of what a board has stored.
+// The lines of stored events.
 impl Printer<LOG_ROOM> for Log {
     ghost has_lines = { λ first. HasLogLines };
 

@@ -1,4 +1,4 @@
-//! The lines of what a board has stored.
+//! The lines of stored events.
 
 ghost use Rattle.std.specs.Prelude.{◌≡◌, ◌+◌, ◌^◌, ◌<◌, ◌≤◌, ℕ, List, ◌++◌, length, IfOk};
 ghost use Rattle.dgt_stored.specs.Stored.{IsFirst, Says, StoredContent, stored_bytes, stored_content};
@@ -69,7 +69,7 @@ fn mark_word(mark: Mark) -> &'static [u8]
     }
 }
 
-// The line of a thing whose last byte is this one.
+// The line of a stored event, with the offset of its last byte.
 fn put_line<W: Sink, const ROOM: usize>(
     outgoing: &mut Outgoing<ROOM>,
     writer: &mut W,
@@ -87,8 +87,8 @@ fn put_line<W: Sink, const ROOM: usize>(
     Ok(())
 }
 
-// Gathers the line of what bytes say first that come after this number of others. Returns how many
-// bytes that is.
+// Gathers the line of the first stored event in these bytes, which follow this number of bytes.
+// Returns the number of its bytes.
 fn put_first<W: Sink, const ROOM: usize>(
     outgoing: &mut Outgoing<ROOM>,
     writer: &mut W,
@@ -110,7 +110,7 @@ fn put_first<W: Sink, const ROOM: usize>(
     Ok(used)
 }
 
-/// Gathers the lines of what a body says that comes after this number of bytes.
+/// Gathers the lines of the stored events in a body that follows this number of bytes.
 pub(crate) fn put_body<W: Sink, const ROOM: usize>(
     outgoing: &mut Outgoing<ROOM>,
     writer: &mut W,

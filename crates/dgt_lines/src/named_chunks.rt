@@ -1,4 +1,4 @@
-//! The lines of what a board sends, with names, chunk after chunk.
+//! The lines of a board's messages with names, chunk after chunk.
 
 ghost use Rattle.std.specs.Prelude.{◌≡◌, ◌≢◌, [], length, refl, false, OnErr, OnOk};
 ghost use Rattle.dgt_decode.specs.Grammar.{unfinished_message};
@@ -16,7 +16,7 @@ use crate::printers::Printer;
 use crate::streams::Sink;
 use dgt_decode::{Event, Found, Framer, laws};
 
-/// The unfinished message, and those before it have lines with names.
+/// The unfinished message, while lines with names are printed.
 #[derive(Drop)]
 pub(crate) struct Named {
     pub(crate) framer: Framer,
@@ -76,7 +76,8 @@ fn put_found<W: Sink>(
     put_named(outgoing, writer, offset, &event)
 }
 
-// Gathers the line of an event that the last of this number of bytes makes, with its name.
+// Gathers the line of an event with its name. The offset is the number of bytes up to and
+// including its last one.
 fn put_named<W: Sink>(
     outgoing: &mut Outgoing<LINES_ROOM>,
     writer: &mut W,

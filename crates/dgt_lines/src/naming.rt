@@ -1,4 +1,4 @@
-//! The names of what a board's messages carry.
+//! The names of the bytes that a board's messages carry.
 
 ghost use Rattle.std.specs.Prelude.{◌≡◌, ◌≢◌, ◌+◌, ◌*◌, ◌≤◌, ◌<◌, ℕ, List, [], ◌++◌, ◌∷◌, Option, Some, None, codes, decimal, false, length, OnErr, OnOk};
 ghost use Rattle.dgt_message.specs.Content.{content, status_code, time_seen, times_seen};
@@ -20,7 +20,7 @@ use dgt_decode::Event;
 use dgt_message::{Message, Reading, Status, Times, serial_bytes};
 use dgt_names::{BatteryState, Button, Signal, is_text};
 
-// Room for a name that is no text of the board's own.
+// Room for a name, other than a text that the board sent.
 const NAME_ROOM: usize = 256;
 
 /// Gathers a colon, a space and the name of an event, if it has one.
@@ -61,7 +61,7 @@ fn put_message_name<W: Sink, const ROOM: usize>(
     }
 }
 
-// A colon, a space and this name, if it is one.
+// A colon, a space and the name, if there is one.
 fn put_if_any<W: Sink, const ROOM: usize>(
     outgoing: &mut Outgoing<ROOM>,
     writer: &mut W,

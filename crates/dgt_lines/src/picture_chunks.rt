@@ -1,14 +1,17 @@
-//! The lines that show the board and its clock, chunk after chunk.
+//! The lines of a board's positions and its clock, chunk after chunk.
 
 ghost use Rattle.std.specs.Prelude.{◌≡◌, ◌+◌, ◌≤◌, [], ◌++◌, false, codes, length, map, refl, OnOk, OnErr};
 ghost use Rattle.std.specs.List.{flat_map};
-ghost use Rattle.dgt_decode.specs.Grammar.{message_event};
+ghost use Rattle.dgt_values.specs.Board.{square_number};
+ghost use Rattle.dgt_message.specs.Content.Content.{field};
+ghost use Rattle.dgt_decode.specs.Grammar.{Message, message_event};
 ghost use Rattle.dgt_decode.specs.Feeding.{IsWholeMessage, event_found_in};
 ghost use Rattle.dgt_lines.specs.Lines.{line};
 ghost use Rattle.dgt_lines.specs.Pictures.{known_at};
 ghost use Rattle.dgt_lines.specs.Printing.{HasPrintedReports, HasReportLines, Puts};
 ghost use Rattle.dgt_lines.specs.Reports.{Shows, clock_known_at, fault_reports, report_line, reports_at, state_after_event, state_after_fault};
 
+use crate::chunks::{FIELD, next_field};
 use crate::clocks::{CLOCK_ROOM, ShownClock};
 use crate::doubts::{News, PictureState};
 use crate::faults::RunFault;
@@ -18,14 +21,15 @@ use crate::lines::push_offset;
 use crate::pictures::Picture;
 use crate::printers::Printer;
 use crate::streams::Sink;
-use dgt_decode::{Event, Found, Framer, field_update, laws};
+use dgt_decode::{Event, Found, Framer, laws};
 use dgt_message::BodyFault;
+use dgt_values::{Piece, Square};
 
 /// Room for the lines of placements of 4,096 bytes of field updates: 820 lines of at most 81 bytes,
 /// if the offset has eight digits.
 pub const PICTURES_ROOM: usize = 66560;
 
-// The line of a picture that is known. Inlined, since a call costs as much as a tenth of the line.
+// The line of a known picture. Inlined, since a call costs a tenth of the time of the line.
 #[inline(always)]
 fn put_known<W: Sink>(
     outgoing: &mut Outgoing<PICTURES_ROOM>,
@@ -45,7 +49,7 @@ fn put_known<W: Sink>(
     Ok(())
 }
 
-// A fault may raise a doubt, and its line follows.
+// The line of a doubt, if this fault raises one.
 #[inline(always)]
 fn hear_fault<W: Sink>(
     state: &mut PictureState,
@@ -79,7 +83,7 @@ fn put_doubt<W: Sink>(
     Ok(())
 }
 
-// The last text of a clock that is known. Not inlined, since it is rare.
+// The last text of a known clock. Not inlined, since it is rare.
 #[inline(never)]
 fn put_clock<W: Sink>(
     outgoing: &mut Outgoing<PICTURES_ROOM>,
@@ -107,9 +111,9 @@ fn push_clock_line(outgoing: &mut Outgoing<PICTURES_ROOM>, text: &Outgoing<CLOCK
     outgoing.push(b"\n");
 }
 
-// A whole message sets the picture or shows the clock, and its line follows; one that is refused is
-// a fault, unless it is an unreadable one of the clock. Not inlined, since room for an event would
-// be cleared for each field too.
+// The line of a whole message that sets the picture or reports the clock. A refused message is a
+// fault, unless it is an unreadable one of the clock. Not inlined, since the memory of an event
+// would then be cleared for each field too.
 #[inline(never)]
 fn hear_event<W: Sink>(
     state: &mut PictureState,
@@ -140,7 +144,29 @@ fn hear_event<W: Sink>(
     }
 }
 
-// What was found sets the picture or puts it in doubt, and its line follows.
+// The line of a field update. It sets a square if the picture is known.
+#[inline(always)]
+fn hear_field<W: Sink>(
+    state: &mut PictureState,
+    outgoing: &mut Outgoing<PICTURES_ROOM>,
+    writer: &mut W,
+    offset: u64,
+    square: Square,
+    piece: Piece,
+) -> Result<(), RunFault>
+    ensures state { state.new
+        ≡ state_after_event state.old (Message (field (square_number square) piece)) }
+    ensures puts { Puts W.Sink (outgoing.old, outgoing.new) writer.old writer.new result
+        (flat_map report_line
+        (reports_at offset (Message (field (square_number square) piece)) state.old)) }
+{
+    if let Some(known) = &mut state.picture {
+        known.set(square, piece);
+    }
+    put_known(outgoing, writer, offset, &state.picture)
+}
+
+// The line of what the framer found, if it sets the picture or puts it in doubt.
 fn hear_found<W: Sink>(
     state: &mut PictureState,
     outgoing: &mut Outgoing<PICTURES_ROOM>,
@@ -156,30 +182,24 @@ fn hear_found<W: Sink>(
         (flat_map report_line
         (reports_at offset (event_found_in framer.now found.now) state.old)) }
 {
-    if !matches!(found, Found::Message) {
-        return hear_fault(state, outgoing, writer, offset);
+    match found {
+        Found::Message => hear_event(state, outgoing, writer, offset, framer),
+        _ => hear_fault(state, outgoing, writer, offset),
     }
-    let Some((square, piece)) = field_update(framer.bytes()) else {
-        return hear_event(state, outgoing, writer, offset, framer);
-    };
-    if let Some(known) = &mut state.picture {
-        known.set(square, piece);
-    }
-    put_known(outgoing, writer, offset, &state.picture)
 }
 
-/// What is known of a board and its clock after the messages before, and the unfinished one.
+/// What is known of a board and its clock, and the unfinished message.
 #[derive(Drop)]
 pub(crate) struct Pictures {
     pub(crate) framer: Framer,
     pub(crate) state: PictureState,
 }
 
-// The lines that show the board: one with its placement for each message that sets its picture.
+// The lines of the board: one with its placement for each message that sets the picture.
 //
-// A fault that raises a doubt has a line with the word `doubt`. The first fault since a dump does,
-// unless faults raise no doubt. The next dump ends it. A message of the clock has a line with its
-// text if the clock is shown and the text is another one than before, or the first.
+// The first fault after each dump raises a doubt, which is a line with the word `doubt`, unless
+// faults raise no doubt. The next dump ends it. A clock message has a line if the clock is shown
+// and its text differs from the last one, or is the first.
 impl Printer<PICTURES_ROOM> for Pictures {
     ghost has_lines = { λ first. HasReportLines first.state };
 
@@ -198,6 +218,11 @@ impl Printer<PICTURES_ROOM> for Pictures {
         laws::chunks_in_a_row();
         laws::unfinished_append();
         let (framer, state) = (&mut self.framer, &mut self.state);
+        if let Some((square, piece)) = next_field(framer, rest) {
+            let end = offset + FIELD as u64;
+            hear_field(state, outgoing, writer, end, square, piece)?;
+            return Ok(FIELD);
+        }
         let advanced = framer.advance(rest);
         if let Some(found) = &advanced.found {
             let end = offset + advanced.used as u64;

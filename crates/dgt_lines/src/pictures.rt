@@ -50,7 +50,7 @@ impl RankText {
         for piece in rank {
             let empty = is_empty(*piece);
             let text = square_text(*piece);
-            // an empty square after another one is counted by the digit that stands there
+            // an empty square after another one is counted by the digit of that one
             let counts = empty & was_empty;
             last = if counts { last + 1 } else { text };
             len += usize::from(!counts);
@@ -62,7 +62,7 @@ impl RankText {
     }
 }
 
-// The text of a square by itself, by its piece's code.
+// The text of a single square, by its piece's code.
 const SQUARE_TEXTS: [u8; 16] = *b"1PRNBKQprnbkqXYZ";
 
 fn square_text(piece: Piece) -> u8
@@ -78,8 +78,8 @@ fn is_empty(piece: Piece) -> bool
     piece == Piece::Empty
 }
 
-/// The pieces of a board, and the texts of its ranks: so a field message has one of them formed
-/// anew. Contracts see the pieces.
+/// The pieces of a board, and the texts of its ranks. So only one rank is formed again after a
+/// field message. Contracts see the pieces.
 #[derive(Drop)]
 pub struct Picture {
     position: Position,

@@ -1,5 +1,4 @@
-//! What the engines that print have in common: the loop over the bytes of a chunk, and the one over
-//! chunks.
+//! The loops of the engines that print, over the bytes of a chunk and over chunks.
 
 ghost use Rattle.std.specs.Prelude.{◌≡◌, ◌+◌, ◌^◌, ◌<◌, ◌≤◌, ◌++◌, [], ℕ, List, false, length, IsTrue, IfOk, OnErr, OnOk};
 ghost use Rattle.dgt_command.specs.Encoding.{AreBytes};
@@ -15,8 +14,8 @@ use crate::streams::{Sink, Source};
 /// The most bytes that an engine reads at once.
 pub const MAX_CHUNK: usize = 4096;
 
-/// Prints the lines of bytes that come in chunks, each of which is read after what is unfinished of
-/// those before. The lines of a chunk are gathered, with room for `ROOM` bytes of them.
+/// Prints the lines of bytes that come in chunks. Each chunk is read after the unfinished rest of
+/// those before. The lines of a chunk are gathered in a buffer of `ROOM` bytes.
 pub(crate) trait Printer<const ROOM: usize> {
     // bytes have these lines from the first state on, and a last one for what is unfinished at
     // their end
@@ -25,9 +24,9 @@ pub(crate) trait Printer<const ROOM: usize> {
     // from the first state on, these lines were printed of bytes, and led to the second state
     ghost has_printed: { Self → Self → List ℕ → List ℕ → Type 0 };
 
-    /// Uses bytes of the rest of a chunk, which comes after `offset` bytes: those up to and
-    /// including the first that ends an event, or all of them. Gathers the lines of the event, and
-    /// returns how many bytes were used. After a refused write nothing is gathered.
+    /// Uses bytes of the rest of a chunk, after `offset` bytes: those up to and including the end
+    /// of the first event, or all of them. Gathers the lines of the event, and returns the number
+    /// of bytes that were used. After a refused write nothing is gathered.
     fn gather<W: Sink>(
         &mut self,
         outgoing: &mut Outgoing<ROOM>,
@@ -45,8 +44,7 @@ pub(crate) trait Printer<const ROOM: usize> {
         ensures dropped { OnErr result (outgoing.new ≡ []) }
         ensures no_flush { W.flushed writer.old ≡ false → W.flushed writer.new ≡ false };
 
-    /// Writes and flushes a last line after `offset` bytes, if something is unfinished that has
-    /// one.
+    /// Writes and flushes a last line after `offset` bytes, if an unfinished rest prints one.
     fn print_end<W: Sink>(&self, offset: u64, writer: &mut W) -> Result<(), RunFault>
         ensures output { (first : Self) (bytes text : List ℕ) →
             has_printed first self.now bytes text → offset ≡ length bytes →
@@ -55,8 +53,8 @@ pub(crate) trait Printer<const ROOM: usize> {
         ensures flushed { OnOk result
             (IsTrue (W.flushed writer.old) → IsTrue (W.flushed writer.new)) };
 
-    /// Whatever bytes come after those that were printed, all of them have lines, of which the
-    /// printed ones are the first. Nothing here runs.
+    /// For all bytes after those that were printed, the lines of all begin with the printed lines.
+    /// Nothing here runs.
     fn lines_go_on()
         ensures { (first state : Self) (bytes text more : List ℕ) →
             has_printed first state bytes text → AreBytes more →
@@ -68,8 +66,7 @@ pub(crate) trait Printer<const ROOM: usize> {
         has_printed first state bytes text → (last : List ℕ) × has_lines first bytes text last };
 }
 
-// Writes the lines of a chunk that comes after `offset` bytes, in one write if there is room for
-// them. Nothing is flushed.
+// Writes the lines of a chunk after `offset` bytes, in one write if they fit. Nothing is flushed.
 fn print_chunk<const ROOM: usize, P: Printer<ROOM>, W: Sink>(
     printer: &mut P,
     outgoing: &mut Outgoing<ROOM>,
@@ -94,8 +91,8 @@ fn print_chunk<const ROOM: usize, P: Printer<ROOM>, W: Sink>(
     outgoing.write_out(writer)
 }
 
-/// Prints the lines of the bytes that the reader gives, in at most `limit` reads. Those of a read
-/// are written and flushed before the next.
+/// Prints the lines of the bytes that the reader gives, in at most `limit` reads. The lines of one
+/// read are written and flushed before the next read.
 pub(crate) fn print_input<const ROOM: usize, P: Printer<ROOM>, R: Source, W: Sink>(
     printer: &mut P,
     outgoing: &mut Outgoing<ROOM>,

@@ -6,7 +6,7 @@ ghost use Rattle.std.specs.Io.KnownBytes.{Keeps, ReadConsumes, WriteAppends};
 use crate::streams::{Failed, Sink, Source};
 use std::io::{ErrorKind, Read, Write};
 
-// How often a call is made, at most, if each time it is interrupted.
+// How often a call that is interrupted each time is made, at most.
 const MAX_TRIES: u32 = 1 << 20;
 
 // A read, made again if it is interrupted.
@@ -57,14 +57,12 @@ fn flush_retrying<T: Write>(writer: &mut T) -> Result<(), Failed>
 /// A source or a sink over any reader or writer of the standard library.
 ///
 /// It keeps its marks and its count, and states the bytes that the reader or the writer states. It
-/// refuses a call if the reader or the writer fails, and if a writer takes none of the bytes that
-/// it is given.
+/// refuses a call if the reader or the writer fails, or if the writer takes none of the given
+/// bytes.
 ///
-/// A read, write or flush that returns `ErrorKind::Interrupted`, as when a signal came while it
-/// waited, is no failure. It moved no byte, and is made again, as the standard library's own loops
-/// do (`read_to_end`, `write_all`). So a run continues over signals, and counts one read. A call
-/// that is interrupted 2^20 times in a row is refused, so that it returns over every reader and
-/// writer.
+/// A call that returns `ErrorKind::Interrupted`, for example after a signal, moved no bytes and is
+/// made again, as `read_to_end` and `write_all` do. So a run continues after signals, and counts
+/// one read. A call that is interrupted 2^20 times in a row is refused, so that it always returns.
 #[derive(Drop)]
 pub struct Device<T> {
     inner: T,

@@ -1,4 +1,4 @@
-//! Where an engine's bytes come from and go to.
+//! The sources and sinks of the engines.
 
 ghost use Rattle.std.specs.Prelude.{◌≡◌, ◌+◌, ◌-◌, ◌^◌, ◌<◌, ◌≤◌, ℕ, Bool, false, List, length, min, Option, IsTrue, IfOk, OnOk, OnErr};
 ghost use Rattle.std.specs.Io.KnownBytes.{Keeps, ReadConsumes, WriteAppends};
@@ -14,8 +14,8 @@ pub struct Failed;
 /// Gives bytes.
 ///
 /// Contracts see the bytes that are left, if a source states them, and four marks. These are
-/// whether a call was refused, whether a read gave the end, how many reads there were, and whether
-/// one came after a refusal or the end.
+/// whether a call was refused, whether a read gave the end, the number of reads, and whether a read
+/// was made after a refusal or the end.
 pub trait Source {
     // the bytes that are left, if the source states them
     ghost left: { Self → Option (List ℕ) };
@@ -32,9 +32,9 @@ pub trait Source {
     // a read came after one that was refused or gave the end
     ghost late: { Self → Bool };
 
-    /// Moves the next bytes to the beginning of `buffer`, and returns how many: none only at the
-    /// end, or if `buffer` is empty. What the rest of `buffer` holds then is open, and so is all of
-    /// it after a refusal, which moves no byte.
+    /// Moves the next bytes to the beginning of `buffer`, and returns how many: 0 only at the end,
+    /// or if `buffer` is empty. The rest of `buffer` may then hold any bytes. A refusal moves no
+    /// bytes, and `buffer` may then hold any bytes.
     fn read_some(&mut self, buffer: &mut [u8]) -> Result<usize, Failed>
         ensures bound { IfOk result (λ n. n ≤ length buffer.new) }
         ensures bytes { ReadConsumes (left self.old) (left self.new) result buffer.new }
@@ -51,9 +51,9 @@ pub trait Source {
 
 /// Takes bytes.
 ///
-/// Contracts see the bytes that were written, if a sink states them, and three marks. These are
-/// whether a call was refused, whether all that was written was flushed, and whether a call came
-/// after a refusal.
+/// Contracts see the bytes that were written, if a sink states them, and three marks: whether a
+/// call was refused, whether all written bytes were flushed, and whether a call was made after a
+/// refusal.
 pub trait Sink {
     // the bytes that were written, if the sink states them
     ghost written: { Self → Option (List ℕ) };
@@ -80,7 +80,7 @@ pub trait Sink {
         ensures in_time { failed self.old ≡ false → late self.new ≡ late self.old }
         ensures after_refusal { IsTrue (failed self.old) → IsTrue (late self.new) };
 
-    /// Passes on all that was written.
+    /// Passes on all written bytes.
     fn flush_all(&mut self) -> Result<(), Failed>
         ensures bytes { Keeps (written self.old) (written self.new) }
         ensures refused { OnErr result (IsTrue (failed self.new)) }

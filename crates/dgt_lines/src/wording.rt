@@ -1,4 +1,4 @@
-//! The words for what a board sends.
+//! The texts of a board's messages.
 
 ghost use Rattle.std.specs.Prelude.{◌≡◌, ◌≢◌, ◌+◌, ◌<◌, ◌≤◌, ℕ, List, [], ◌++◌, ◌∷◌, codes, length, decimal, map};
 ghost use Rattle.dgt_values.specs.Bytes.{number};
@@ -17,7 +17,7 @@ use dgt_decode::{Event, Found};
 use dgt_message::{BodyFault, Clock, ClockAck, Message, NoClock, Reading, Times, serial_bytes};
 use dgt_values::{Body, Piece, Position, SevenBit, Square};
 
-/// Adds the text of an event up to the bytes that it carries, and answers these.
+/// Adds the text of an event up to the bytes that it carries, and returns these.
 #[tactic(auto, unfolding(crate::specs::Lines::event_text))]
 pub(crate) fn push_event<'a, const ROOM: usize>(
     text: &mut Outgoing<ROOM>,
@@ -37,7 +37,7 @@ pub(crate) fn push_event<'a, const ROOM: usize>(
     None
 }
 
-/// Adds the text of what was found, if it is no message.
+/// Adds the text of what was found, unless it is a message.
 #[tactic(auto, unfolding(crate::specs::Lines::event_text))]
 pub(crate) fn push_fault<const ROOM: usize>(text: &mut Outgoing<ROOM>, fault: Found)
     requires room { length text.old + 100 ≤ ROOM }
@@ -64,7 +64,7 @@ fn push_cut<const ROOM: usize>(text: &mut Outgoing<ROOM>, have: usize)
     text.push_decimal(have as u64, 1);
 }
 
-// The text of a byte that belongs to no message.
+// The text of a byte outside all messages.
 #[tactic(auto, unfolding(crate::specs::Lines::event_text))]
 fn push_stray<const ROOM: usize>(text: &mut Outgoing<ROOM>, byte: u8)
     requires { length text.old + 100 ≤ ROOM }
@@ -147,7 +147,7 @@ fn push_other<const ROOM: usize>(text: &mut Outgoing<ROOM>, code: SevenBit)
     text.push(b" ");
 }
 
-/// Adds the text of what stands on a square.
+/// Adds the text of a square and its piece.
 #[tactic(auto, unfolding(crate::specs::Lines::message_text))]
 pub(crate) fn push_field<const ROOM: usize>(text: &mut Outgoing<ROOM>, square: Square, piece: Piece)
     requires { length text.old + 100 ≤ ROOM }
@@ -159,7 +159,7 @@ pub(crate) fn push_field<const ROOM: usize>(text: &mut Outgoing<ROOM>, square: S
     text.push(&[file, rank, b' ', piece.letter() as u8]);
 }
 
-/// Adds the text of what the host knows of a clock.
+/// Adds the text of a host's clock.
 pub(crate) fn push_clock<const ROOM: usize>(text: &mut Outgoing<ROOM>, clock: Clock)
     requires { length text.old + 100 ≤ ROOM }
     ensures text { text.new ≡ text.old ++ message_text (clock_message (clock_seen clock)) }
@@ -258,7 +258,7 @@ fn push_refusal<const ROOM: usize>(text: &mut Outgoing<ROOM>, code: SevenBit, fa
     push_body_fault(text, fault);
 }
 
-// A space, and what is wrong with a body.
+// A space, and the fault of a body.
 fn push_body_fault<const ROOM: usize>(text: &mut Outgoing<ROOM>, fault: BodyFault)
     requires { length text.old + 32 ≤ ROOM }
     ensures text { text.new ≡ text.old ++ 32 ∷ fault_text fault }

@@ -1,4 +1,4 @@
--- What a board's answer determines.
+-- The facts that a board's answer determines.
 use Rattle.std.proofs.Common.{◌≡◌, ℕ, List, [], ◌∷◌, ◌++◌, Ok, Err, refl, sym, ◌∙◌, ap, subst, length, arith, append_assoc}
 use Rattle.dgt_message.specs.Encoding.{encoding}
 use Rattle.dgt_lines.specs.declared.faults.RunFault.TheVariants.{ReadFailed, WriteFailed, TooManyTurns, BadLine}

@@ -76,7 +76,7 @@ pub converses-sent : (old mid new : BoardState) (steps : List Exchange) (message
 converses-sent old mid new steps message p next is = converses-append old steps (sent message ∷ []) mid new p
     (next, sym is)
 
--- messages alone hear nothing
+-- messages hear nothing
 pub hears_nothing : (old new : BoardView) (steps : List Exchange) → Converses old.state steps new.state
     → events_heard steps ≡ [] → new.partial ≡ old.partial → IsPartial new.partial
     → Hears old [] steps new

@@ -146,7 +146,7 @@ module _ (rules : Rules) where
     out_is = refl;
   }
 
-  -- one line, whose outcome may be torn
+  -- one line, with an outcome that may be torn
   torn_one : (w l : WorldView) (line prefix text : List ℕ) → Plays rules w (line ∷ []) text l → IsPrefix prefix text
       → PlaysTorn rules w (line ∷ []) prefix l
   torn_one w l line prefix text p f = record {
@@ -290,7 +290,7 @@ module _ (rules : Rules) where
           ),
         )
 
-    -- a line that asks for no act
+    -- a line that is not an act
     pub line_refused : {A : Type 0} (at_end : Bool) (r : Result A RunFault) (w : WorldView) (a b : S) (number at : ℕ)
         (line bytes : List ℕ) → (r ≡ Err (BadLine number at)) ⊎ (r ≡ Err WriteFailed)
         → Appends (W.written a) (W.written b) [] → rules.is_bad line at → BeginsWith at_end bytes (line ∷ [])

@@ -97,7 +97,7 @@ module _ (rules : Rules) {S T : Type 0} (R : Source S) (W : Sink T) where
       (subst (λ f. Took W d d' (Stops rules at_end (part n (q.rest ++ []) m m) f)) (sym s.0)
       ([], stopped_none W d d' s.1, ([], begins_none at_end (q.rest ++ []), torn_none rules m)))
 
-  -- the closing lines of a quiet world whose host's picture is the board's position
+  -- the closing lines of a quiet world, if the host's picture is the board's position
   pub simulated_pictures : {A : Type 0} (at_end : Bool) (limit : ℕ) (r : Result A RunFault) (a b : S) (c d : T)
       (w l : WorldView) (P : List ℕ → Type 0) → ClosingLinesAgree
       → ((out : List ℕ) → (IsQuietWorld l → l.host.picture ≡ Some l.board.state.squares → EndsAlike l out) → P out)

@@ -1,4 +1,4 @@
--- What a refused write leaves of a script is a prefix of its text.
+-- After a refused write a prefix of the text of a script was written.
 use Rattle.std.proofs.Common.{◌≡◌, ℕ, inl, inr, List, [], ◌∷◌, ◌++◌, refl, sym, ◌∙◌, ap, subst, length, arith, append_assoc, true≢false}
 use Rattle.dgt_link.specs.declared.acts.Outcome.{Outcome}
 use Rattle.dgt_link.specs.View.{WorldView}

@@ -1,4 +1,4 @@
--- The lines that say how a world is at the end.
+-- The closing lines of a world.
 use Rattle.std.specs.Prelude.{◌≡◌, ℕ, List, ◌++◌, Bool, Some, codes}
 use Rattle.dgt_values.specs.Placement.{placement_text}
 use Rattle.dgt_lines.specs.Closing.{closing_text}
@@ -9,8 +9,7 @@ abbrev pub closing_lines : WorldView → Bool → List ℕ
 closing_lines world quiet =
     closing_text world.board.state.squares world.host.picture world.host.clock quiet
 
--- If the host's picture is the board's position, the lines of board and host, which come first,
--- have one and the same placement.
+-- If the host's picture is the board's position, the first two lines have the same placement.
 abbrev pub ClosingLinesAgree : Type 0
 ClosingLinesAgree =
     (world : WorldView) (quiet : Bool) → world.host.picture ≡ Some world.board.state.squares

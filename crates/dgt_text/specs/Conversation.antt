@@ -1,4 +1,4 @@
--- What a board reports and hears, step by step.
+-- The messages that a board sends and the events that it hears, step by step.
 use Rattle.std.specs.Prelude.{◌≡◌, ℕ, List, [], ◌∷◌, ◌++◌, Some, None}
 use Rattle.dgt_message.specs.Content.{Content}
 use Rattle.dgt_message.specs.Encoding.{encoding}
@@ -14,8 +14,8 @@ pub data Exchange : Type 0 where
   sent : (message : Content) → Exchange
   heard : (event : EventContent) → Exchange
 
--- Steps that lead from one board to another. A message that is sent is the next one, and an event
--- is heard only if nothing is left to send.
+-- Steps that lead from one board to another. A message that is sent is the next one in order. An
+-- event is heard only if no message is left to send.
 abbrev pub Converses : BoardState → List Exchange → BoardState → Type 0
 Converses before [] after = before ≡ after
 Converses before (sent message ∷ steps) after =
@@ -29,7 +29,7 @@ events_heard [] = []
 events_heard (sent message ∷ steps) = events_heard steps
 events_heard (heard event ∷ steps) = event ∷ events_heard steps
 
--- the encodings reported, in a row
+-- the encodings of the messages, in a row
 abbrev pub bytes_sent : List Exchange → List ℕ
 bytes_sent [] = []
 bytes_sent (sent message ∷ steps) = encoding message ++ bytes_sent steps
@@ -41,7 +41,7 @@ pub record Hears (before : BoardView) (bytes : List ℕ) (steps : List Exchange)
   pub conversation : Converses before.state steps after.state
   pub heard : Divides (before.partial ++ bytes) (events_heard steps) after.partial
 
--- it hears them, and has reported all that there is to report
+-- it hears them, and has sent all messages that it has to send
 pub record Answers (before : BoardView) (bytes : List ℕ) (steps : List Exchange)
     (after : BoardView) : Type 0 where
   pub hears : Hears before bytes steps after
@@ -57,13 +57,13 @@ pub record HearsPrefix (before : BoardView) (bytes : List ℕ) (steps : List Exc
 
 -- ---- one conversation
 
--- each board answers each list of bytes
+-- each board has an answer to each list of bytes
 abbrev pub EachIsAnswered : Type 0
 EachIsAnswered =
     (before : BoardView) (bytes : List ℕ) → IsBoard before → AreBytes bytes
     → (steps : List Exchange) × (after : BoardView) × Answers before bytes steps after
 
--- in one way only
+-- and only one
 abbrev pub EachIsAnsweredOnce : Type 0
 EachIsAnsweredOnce =
     (before after other : BoardView) (bytes : List ℕ) (steps others : List Exchange)

@@ -1,4 +1,5 @@
--- How runs end: what the contracts of the engines determine, and what a refused write leaves.
+-- How runs end: what the contracts of the engines determine, and what is written before a refused
+-- write.
 use Rattle.std.specs.Prelude.{◌≡◌, ◌≢◌, ℕ, Bool, false, List, [], ◌∷◌, ◌++◌, Result, Ok, Err, codes}
 use Rattle.dgt_message.specs.Content.{Content}
 use Rattle.dgt_message.specs.Encoding.{encoding}
@@ -23,7 +24,7 @@ OneAnswer =
     → r ≢ Err WriteFailed → IsServed r before after bytes out → IsServed r before other bytes more
     → (after ≡ other) × (out ≡ more)
 
--- if one was refused, what was written is a prefix of the whole answer
+-- if a write was refused, what was written is a prefix of the whole answer
 abbrev pub BrokenAnswersBegin : Type 0
 BrokenAnswersBegin =
     (before after last : BoardView) (bytes out whole : List ℕ)
@@ -46,7 +47,7 @@ OneEnd rules =
     → IsSimulated rules at_end r world last bytes out
     → IsSimulated rules at_end r world other bytes more → (out ≡ more) × (last ≡ other)
 
--- one line is the first that is bad, and it goes wrong at one offset
+-- one line is the first bad one, and it is wrong at one offset
 abbrev pub OneBadLine : Rules → Type 0
 OneBadLine rules =
     (at_end : Bool) (world last other : WorldView) (bytes out more : List ℕ)

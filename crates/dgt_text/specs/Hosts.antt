@@ -1,4 +1,4 @@
--- The picture and the clock that lines show are those of a host that hears the same bytes.
+-- The picture and the clock that are printed are those of a host that hears the same bytes.
 use Rattle.std.specs.Prelude.{◌≡◌, Bool, true, ℕ, List, None, option_map}
 use Rattle.std.specs.List.{last_or}
 use Rattle.dgt_decode.specs.Grammar.{events}
@@ -10,8 +10,8 @@ use Rattle.dgt_lines.specs.Reports.{clocks_shown, new_state, reports}
 abbrev pub PictureIsTheHosts : Type 0
 PictureIsTheHosts = (bytes : List ℕ) → (host_after new_host bytes).picture ≡ picture_reported bytes
 
--- The last line of the clock has the text of the host's clock. If the host does not know its clock,
--- there is no such line.
+-- The last line of the clock has the text of the host's clock. If that is unknown, there is no such
+-- line.
 abbrev pub LastClockIsTheHosts : Type 0
 LastClockIsTheHosts =
     (doubts : Bool) (bytes : List ℕ)

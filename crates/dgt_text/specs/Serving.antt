@@ -1,4 +1,4 @@
--- What `serve` leaves in its sink, and how it leaves its board.
+-- What `serve` writes, and the board that it leaves.
 use Rattle.std.specs.Prelude.{◌≡◌, ℕ, ◌≤◌, true, false, List, ◌++◌, length, Result, Ok, Err, MatchResult}
 use Rattle.std.specs.Io.KnownBytes.{Appends}
 use Rattle.dgt_board.specs.View.{BoardView}
@@ -30,8 +30,8 @@ pub record IsBrokenOff (before after : BoardView) (bytes out : List ℕ) : Type 
   pub hears : HearsPrefix before bytes steps after
   pub sent : IsAlmostSent steps out
 
--- the board before and after, the bytes that were read and those that were written, if `serve` gave
--- this answer
+-- the board before and after, and the bytes that were read and written, if `serve` returned this
+-- result
 abbrev pub IsServed : {A : Type 0} → Result A RunFault → BoardView → BoardView → List ℕ → List ℕ
     → Type 0
 IsServed (Ok _) before after bytes out = IsAnswered before after bytes out

@@ -25,7 +25,7 @@ use Rattle.dgt_script.specs.ScriptLines.{HasNoFeed, IsCut, KeepsLine, ended}
 
 -- ---- lines
 
--- the lines of a script that ends here: the rest, which has no line feed, is one if it isn't empty
+-- the lines of a script that ends here: the rest without a line feed is a line if it isn't empty
 abbrev pub all_lines : List (List ℕ) → List ℕ → List (List ℕ)
 all_lines lines [] = lines
 all_lines lines (byte ∷ rest) = lines ++ (byte ∷ rest) ∷ []
@@ -40,16 +40,16 @@ BeginsWith at_end bytes lines =
 
 -- ---- the rules of a script
 
--- what the lines of a script do
+-- the effects of the lines of a script
 pub record Rules : Type 1 where
-  -- this line asks for an act, which has this outcome in the first world and leaves the second
+  -- the act of this line has this outcome in the first world and leaves the second
   pub does : List ℕ → WorldView → Outcome → WorldView → Type 0
-  -- this line asks for no act, and goes wrong at this offset
+  -- this line is wrong at this offset
   pub is_bad : List ℕ → ℕ → Type 0
-  -- a line of more than 519 bytes goes wrong at 519
+  -- a line of more than 519 bytes is wrong at 519
   pub long_is_bad : (line : List ℕ) → 519 < length line → is_bad line 519
 
--- the rules of scripts whose lines ask for acts, which take these steps
+-- the rules of scripts with lines for these acts, which take these steps
 abbrev pub rules_of : {V A : Type 0} → Vocabulary V A
     → (A → WorldView → Outcome → WorldView → Type 0) → Rules
 rules_of {A = A} vocabulary steps = record {
@@ -69,8 +69,8 @@ faulty_rules = rules_of faulty_words FaultyStep
 
 -- ---- playing
 
--- the lines ask for acts; these, in order from this world, have this text of outcomes, and leave
--- the last world
+-- the acts of the lines, in order from this world, have this text of outcomes, and leave the last
+-- world
 abbrev pub Plays : Rules → WorldView → List (List ℕ) → List ℕ → WorldView → Type 0
 Plays rules world [] text last = (text ≡ []) × (world ≡ last)
 Plays rules world (line ∷ lines) text last =
@@ -123,8 +123,8 @@ PlaysWhole rules p out =
     (lines : List (List ℕ)) × (rest : List ℕ) × IsCut p.bytes lines rest
     × Plays rules p.world lines out p.last
 
--- what stands in the sink for this part, and which world is left, if the answer is this and
--- `at_end` says whether the source has given the end
+-- what the sink contains for this part, and the world that is left, if the result is this and
+-- `at_end` is true exactly if the source has given the end
 abbrev pub IsSimulatedFrom : {A : Type 0} → Rules → Bool → Part → Result A RunFault → List ℕ
     → Type 0
 -- all lines were played, and the closing lines are those of the world that is left
@@ -156,19 +156,19 @@ ShowsTwice placement text =
     (rest : List ℕ)
     × (text ≡ codes "board " ++ placement ++ codes "\nhost " ++ placement ++ codes "\n" ++ rest)
 
--- the text ends with the closing lines of this world, which is quiet; those of board and host have
--- one placement
+-- the text ends with the closing lines of this quiet world; those of board and host have the same
+-- placement
 abbrev pub EndsAlike : WorldView → List ℕ → Type 0
 EndsAlike world out =
     (text : List ℕ) × (out ≡ text ++ closing_lines world true)
     × ShowsTwice (placement_text world.board.state.squares) (closing_lines world true)
 
--- if updates and a dump were asked for and all is quiet, the text ends so
+-- if updates and a dump were requested and the world is quiet, the text ends like this
 abbrev pub ShowsPicture : WorldView → List ℕ → Type 0
 ShowsPicture world out =
     (x : MachineState) → StandsFor world x → IsPromised x → IsQuietWorld world → EndsAlike world out
 
--- if the host is promised its picture, whatever failed before, and all is quiet, the text ends so
+-- if the host is promised its picture and the world is quiet, the text ends like this
 abbrev pub ShowsHealed : WorldView → List ℕ → Type 0
 ShowsHealed world out = IsPromisedWorld world → IsQuietWorld world → EndsAlike world out
 
@@ -181,8 +181,8 @@ IsOfLine (BadLine _ _) = ⊤
 IsOfLine ReadFailed = ⊥
 IsOfLine TooManyTurns = ⊥
 
--- The answer of a call that a line or the sink may stop, and the marks that it leaves. Nothing is
--- asked of the sink after a refusal. All is flushed if a line is refused.
+-- The result of a call that a line or the sink may stop, and the marks that it leaves. The sink is
+-- not called after a refusal. All bytes are flushed if a line is refused.
 pub record StopsAtLines {S A : Type 0} (W : Sink S) (sink : Change S) (r : Result A RunFault)
     : Type 0 where
   pub of_line : IfErr r IsOfLine
@@ -196,7 +196,7 @@ NoFlush W sink r =
     let waits = W.flushed sink.old ≡ false → W.flushed sink.new ≡ false in
     MatchResult r (λ _. waits) (λ fault. fault ≡ WriteFailed → waits)
 
--- between two moments the sink took bytes of which P holds
+-- between two moments the sink took bytes, and P holds for them
 abbrev pub Took : {S : Type 0} → Sink S → S → S → (List ℕ → Type 0) → Type 0
 Took W old new P = (out : List ℕ) × Appends (W.written old) (W.written new) out × P out
 

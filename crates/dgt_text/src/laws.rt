@@ -1,5 +1,5 @@
-//! What holds of lines, scripts and conversations as such. Nothing here runs: each function stands
-//! for the facts that its contract states.
+//! Facts about lines, scripts and conversations. Nothing here runs: the contract of each function
+//! states a fact.
 
 ghost use Rattle.std.specs.Prelude.{◌≡◌, ℕ, List};
 ghost use Rattle.dgt_link.specs.Healing.{IsPromisedWorld};
@@ -21,8 +21,8 @@ pub use dgt_lines::laws::{
 };
 pub use dgt_script::laws::lines_have_one_meaning;
 
-/// One conversation: a board and the bytes that it hears have one, and only one. Whatever the board
-/// sends and hears while it hears a prefix of the bytes is a prefix of it.
+/// A board and the bytes that it hears have exactly one conversation. What the board sends and
+/// hears during a prefix of the bytes is a prefix of that conversation.
 pub fn one_conversation()
     ensures answered { EachIsAnswered }
     ensures once { EachIsAnsweredOnce }
@@ -34,8 +34,8 @@ pub fn one_conversation()
     dgt_board::laws::bounded_sending();
 }
 
-/// What `serve` wrote, and the board that it left, are determined by what it read, if no write was
-/// refused. If one was, a prefix of the answer was written, and only the last message was cut off.
+/// The bytes that `serve` read determine what it wrote and the board that it left, if no write was
+/// refused. After a refused write, a prefix was written, and only the last message is cut off.
 pub fn one_answer()
     ensures once { OneAnswer }
     ensures begins { BrokenAnswersBegin }
@@ -45,7 +45,7 @@ pub fn one_answer()
 }
 
 /// A script divides into lines in one way. Its lines, played in a world, have one text of outcomes
-/// and leave one world, and so have those of a script with faults.
+/// and leave one world. The same holds for a script with faults.
 pub fn scripts_have_one_play()
     ensures cut { (bytes : List ℕ) (lines others : List (List ℕ)) (rest other : List ℕ) →
         IsCut bytes lines rest → IsCut bytes others other → (lines ≡ others) × (rest ≡ other) }
@@ -60,9 +60,8 @@ pub fn scripts_have_one_play()
     dgt_link::laws::acts_have_one_outcome();
 }
 
-/// What `simulate` wrote, and the world that it left, are determined by what it read, if no write
-/// was refused. If a line was bad, so are its number and its offset. The same holds of
-/// `simulate_faults`.
+/// The bytes that `simulate` read determine what it wrote, the world that it left, and the number
+/// and the offset of a bad line, if no write was refused. The same holds for `simulate_faults`.
 pub fn scripts_have_one_end()
     ensures plain { OneEnd plain_rules }
     ensures faulty { OneEnd faulty_rules }
@@ -73,8 +72,8 @@ pub fn scripts_have_one_end()
     dgt_link::laws::acts_have_one_outcome();
 }
 
-/// After a refused write a prefix of the script's text was written. Before the end of the source
-/// it is one of the outcomes of whole lines. Only the last outcome is torn.
+/// After a refused write, a prefix of the script's text was written. Before the end of the source
+/// it is a prefix of the outcomes of whole lines. Only the last outcome is cut off.
 pub fn torn_texts_begin()
     ensures plain { TornTextsBegin plain_rules }
     ensures faulty { TornTextsBegin faulty_rules }
@@ -87,14 +86,14 @@ pub fn torn_texts_begin()
     dgt_link::laws::acts_have_one_outcome();
 }
 
-/// If the host's picture is the board's position, the closing lines of board and host, which come
-/// first, have one and the same placement.
+/// If the host's picture is the board's position, the first two closing lines have the same
+/// placement.
 pub fn closing_lines_agree()
     ensures { ClosingLinesAgree }
 {}
 
-/// What the clauses of pictures promise: the text ends with lines of board and host that have one
-/// placement, if the world is promised its picture and quiet.
+/// The promise about pictures: if the world is quiet and promised its picture, the lines of board
+/// and host at the end of the text have the same placement.
 pub fn pictures_are_shown()
     ensures asked { (world : WorldView) (x : MachineState) (out : List ℕ) →
         ShowsPicture world out → StandsFor world x → IsPromised x → IsQuietWorld world
@@ -104,14 +103,14 @@ pub fn pictures_are_shown()
         → HasBoth (placement_text world.board.state.squares) out }
 {}
 
-/// The picture that lines show is that of a host that hears the same bytes, also if this is
-/// unknown.
+/// The picture that is printed is that of a host that hears the same bytes. If that is unknown,
+/// none is printed.
 pub fn picture_is_the_hosts()
     ensures { PictureIsTheHosts }
 {}
 
-/// The last line of the clock has the text of the clock of a host that hears the same bytes, and
-/// there is none if the host does not know it.
+/// The last line of the clock has the text of the clock of a host that hears the same bytes. If
+/// that is unknown, there is no such line.
 pub fn last_clock_is_the_hosts()
     ensures { LastClockIsTheHosts }
 {

@@ -1,30 +1,34 @@
-//! The engines: each reads the bytes of a source, and writes what it makes of them to a sink.
+//! The engines of the program `dgt`: each reads bytes from a source and writes to a sink.
 //!
-//! [`monitor`] reads what a board sends and writes a line for each event, as soon as its bytes
-//! came, and [`commands`] does the same for what a host sends. [`picture`] reads what a board sends
-//! too, and writes a line with the pieces of the board for each message that sets them. If
-//! [`Shown`] says so, it also writes when these may be wrong, and what the clock shows. [`log`]
-//! writes a line for each thing that a board has stored. [`serve`] reads commands and writes what a
-//! board answers. [`simulate`] plays a script in a world of a
-//! board, a host and the lines between them, and writes what came of each act. [`simulate_faults`]
-//! does the same in a world whose lines and whose board's power may fail.
+//! | Engine | Reads | Writes |
+//! |---|---|---|
+//! | [`monitor`], [`monitor_names`] | a board's messages | a line for each event |
+//! | [`picture`] | a board's messages | the placement after each change, and doubts and the clock |
+//! | [`log`] | a board's messages | a line for each event that the board stored |
+//! | [`commands`] | a host's commands | a line for each command |
+//! | [`serve`] | a host's commands | a simulated board's replies |
+//! | [`simulate`] | a script | the outcome of each act in a simulated world |
+//! | [`simulate_faults`] | a script with faults | the same, in a world with faults |
+//!
+//! A simulated world is a board, a host and a line each way between them. With faults the lines may
+//! change bytes, and the board may lose power. [`Shown`] selects what [`picture`] writes.
 //!
 //! ```rust
 //! use dgt_text::{Bytes, Device, RunFault, monitor};
 //! use std::io::Write;
 //!
-//! /// Prints a line for each message of these bytes, as `dgt show` does.
+//! /// Prints a line for each message of these bytes, like `dgt show`.
 //! pub fn show<W: Write + Drop>(bytes: &[u8], output: W) -> Result<(), RunFault> {
 //!     monitor(&mut Bytes::new(bytes), &mut Device::new(output), u32::MAX)
 //! }
 //! ```
 //!
-//! A [`Source`] and a [`Sink`] are for example [`Bytes`] and [`Device`]. These, the lines of events
-//! and the engines that print are those of [`dgt_lines`]; the lines of scripts are those of
-//! [`dgt_script`]. Contracts say what is written of what was read, also if a call was refused. No
-//! call takes memory.
+//! [`Bytes`] is a [`Source`] over a slice, and [`Device`] a source or a [`Sink`] over a reader or a
+//! writer of std. These, and the engines that print, are re-exported from [`dgt_lines`]; the lines
+//! of scripts are from [`dgt_script`]. Contracts state what is written for the bytes that were
+//! read, even after a refused call. No call allocates memory.
 //!
-//! [`laws`] says what holds of conversations, scripts and pictures.
+//! [`laws`] contains facts about conversations, scripts and pictures.
 #![tactic(auto)]
 
 pub mod laws;

@@ -1,4 +1,4 @@
-//! The engine that answers for a board.
+//! The engine that simulates a board.
 
 ghost use Rattle.std.specs.Prelude.{◌≡◌, [], false, IsTrue, OnOk};
 ghost use Rattle.dgt_lines.specs.Turns.{change, InTurns, Ran, RunsInTurns};
@@ -9,8 +9,8 @@ use dgt_command::laws;
 use dgt_lines::laws::writes_in_a_row;
 use dgt_lines::{MAX_CHUNK, RunFault, Sink, Source, flush, put};
 
-// The board sends until it owes nothing. Each message is written before the next is asked for, so
-// the board is at most one message ahead of the sink.
+// The board sends until it owes nothing. Each message is written before the next is formed, so the
+// board is at most one message ahead of the sink.
 fn send_all<W: Sink>(board: &mut Board, writer: &mut W) -> Result<(), RunFault>
     ensures served { Serves W.Sink (change board.old board.new) (change writer.old writer.new)
         result [] }
@@ -24,8 +24,8 @@ fn send_all<W: Sink>(board: &mut Board, writer: &mut W) -> Result<(), RunFault>
     Ok(())
 }
 
-// The board sends until it owes nothing, and again after each command or fault of `chunk`. Nothing
-// is flushed.
+// The board sends until it owes nothing, and again after each command or fault of `chunk`, without
+// a flush.
 fn answer_chunk<W: Sink>(board: &mut Board, chunk: &[u8], writer: &mut W) -> Result<(), RunFault>
     ensures served { Serves W.Sink (change board.old board.new) (change writer.old writer.new)
         result chunk.now }
@@ -46,7 +46,7 @@ fn answer_chunk<W: Sink>(board: &mut Board, chunk: &[u8], writer: &mut W) -> Res
     Ok(())
 }
 
-// Answers a chunk, and then flushes the sink.
+// Replies to a chunk, and then flushes the sink.
 fn answer<W: Sink>(board: &mut Board, chunk: &[u8], writer: &mut W) -> Result<(), RunFault>
     ensures served { Serves W.Sink (change board.old board.new) (change writer.old writer.new)
         result chunk.now }
@@ -57,26 +57,26 @@ fn answer<W: Sink>(board: &mut Board, chunk: &[u8], writer: &mut W) -> Result<()
     flush(writer)
 }
 
-/// Answers for a board, whose commands are the bytes that the reader gives, in at most `limit`
+/// Hands the board the commands that the reader gives, and writes its replies, in at most `limit`
 /// reads.
 ///
 /// Before the first read, and after each command and each fault of a command, the board sends until
-/// it owes nothing, and each message is written before the next is formed. What a read brought is
-/// answered and flushed before the next read. An unfinished command at the end has no answer, and
+/// it owes nothing. Each message is written before the next is formed. The replies to the bytes of
+/// one read are flushed before the next read. An unfinished command at the end gets no reply, and
 /// stays in the board.
 ///
-/// - `ReadFailed` comes if the reader refuses, and `TooManyTurns` if `limit` reads succeeded and
-///   none reported the end. All answers to what was read are written then.
-/// - `WriteFailed` comes if the writer refuses. All that the board sent is written then, but for
-///   its last message, of which the writer may have a prefix. It gets nothing more. The board has
-///   taken a prefix of what was read.
+/// - Returns `ReadFailed` if the reader refuses, and `TooManyTurns` if `limit` reads succeeded and
+///   none gave the end. All replies to the bytes that were read are written then.
+/// - Returns `WriteFailed` if the writer refuses. All that the board sent is written then, except
+///   for its last message, of which the writer may have a prefix. The writer gets nothing more. The
+///   board has taken a prefix of the bytes that were read.
 pub fn serve<R: Source, W: Sink>(
     board: &mut Board,
     reader: &mut R,
     writer: &mut W,
     limit: u32,
 ) -> Result<(), RunFault>
-    // what was read, what was written of it, and how the board answers
+    // what was read, what was written for it, and the board after it
     ensures output { Ran R.Source W.Sink
         (change reader.old reader.new) (change writer.old writer.new)
         (InTurns limit result (IsServed result board.old board.new)) }

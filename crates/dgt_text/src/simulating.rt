@@ -1,4 +1,4 @@
-//! The engine that plays a script.
+//! The engine that runs a script.
 
 ghost use Rattle.std.specs.Prelude.{◌≡◌, ◌≢◌, ◌+◌, ◌^◌, ◌<◌, ◌≤◌, ◌↔◌, ◌⊎◌, ◌∷◌, ◌++◌, [], ℕ, Bool, List, length, MatchResult, IsTrue, OnOk};
 ghost use Rattle.std.specs.Io.KnownBytes.{Appends};
@@ -28,7 +28,7 @@ fn refuse<W: Sink>(writer: &mut W, line: u64, at: usize) -> Result<(), RunFault>
     Err(RunFault::BadLine { line, at })
 }
 
-// Does what a line asks for, and writes the line of its outcome.
+// Does the act of a line, and writes the line of its outcome.
 fn play_line<S: Stage, W: Sink>(
     world: &mut S,
     line: &LineBuffer,
@@ -98,7 +98,7 @@ fn close<S: Stage, W: Sink>(world: &S, writer: &mut W) -> Result<(), RunFault>
     flush(writer)
 }
 
-// Plays a last line, if it isn't empty, and writes the closing lines.
+// Plays a last line without a line feed, if it isn't empty, and writes the closing lines.
 fn play_end<S: Stage, W: Sink>(
     world: &mut S,
     line: &LineBuffer,
@@ -151,33 +151,33 @@ fn play<S: Stage, R: Source, W: Sink>(
 
 /// Runs the script that the reader gives in the world, in at most `limit` reads.
 ///
-/// Each line asks for an act. Its outcome is written as a line, before the next act is done:
-/// `done`, `nothing`, `noroom`, `busy` or `toomany`. The outcomes of the lines that end in a read
-/// are flushed before the next read. A last line without a line feed counts if it isn't empty. At
-/// the end of the script come four closing lines: the board's position, the host's picture, the
-/// host's clock and whether the world is quiet.
+/// Each line is an act. Its outcome is written as a line before the next act is done: `done`,
+/// `nothing`, `noroom`, `busy` or `toomany`. The outcomes of the lines that end in one read are
+/// flushed before the next read. A last line without a line feed counts if it isn't empty. At the
+/// end of the script four closing lines follow: the board's position, the host's picture, the
+/// host's clock, and whether the world is quiet.
 ///
-/// - `BadLine` comes at the first line that asks for no act. Its number counts from 1. The lines
+/// - Returns `BadLine` at the first line that is not an act. Lines are counted from 1. The lines
 ///   before it are done, their outcomes are written and flushed, and no closing line is written.
-/// - `ReadFailed` comes if the reader refuses, and `TooManyTurns` if `limit` reads succeed and none
-///   reports the end. All whole lines of what was read are done then, and no closing line is
+/// - Returns `ReadFailed` if the reader refuses, and `TooManyTurns` if `limit` reads succeed and
+///   none gives the end. All whole lines that were read are done then, and no closing line is
 ///   written.
-/// - `WriteFailed` comes if the writer refuses. It gets nothing more, and no further act is done.
-///   The end of the last outcome or of the closing lines may be missing.
+/// - Returns `WriteFailed` if the writer refuses. The writer gets nothing more, and no further act
+///   is done. The end of the last outcome or of the closing lines may be missing.
 pub fn simulate<R: Source, W: Sink>(
     world: &mut World,
     reader: &mut R,
     writer: &mut W,
     limit: u32,
 ) -> Result<(), RunFault>
-    // what was read, what was written of it, and which world is left
+    // what was read, what was written for it, and the world after it
     ensures output { Ran R.Source W.Sink
         (change reader.old reader.new) (change writer.old writer.new)
         (InTurns limit result
         (IsSimulated plain_rules (R.ended reader.new) result world.old world.new)) }
 
-    // if updates and a dump were asked for, and the world that is left is quiet, the lines of board
-    // and host have one placement
+    // if updates and a dump were requested, and the world at the end is quiet, the lines of board
+    // and host have the same placement
     ensures picture { Ran R.Source W.Sink
         (change reader.old reader.new) (change writer.old writer.new)
         (InTurns limit result (λ _ out. OnOk result (ShowsPicture world.new out))) }
@@ -191,28 +191,29 @@ pub fn simulate<R: Source, W: Sink>(
     play(world, reader, writer, limit)
 }
 
-/// Runs a script in a world whose lines and whose board's power may fail, in at most `limit` reads.
+/// Runs a script in a world with faults, in at most `limit` reads: the lines may change bytes, and
+/// the board may lose power.
 ///
-/// A line asks for an act of [`simulate`], for a fault or for a restart, as
+/// A line is an act of [`simulate`], a fault or a restart, as
 /// [`read_faulty_act`](crate::read_faulty_act) reads it. Outcomes, closing lines and errors are
 /// those of [`simulate`].
 ///
-/// If the world that is left is quiet and promised to heal, the closing lines of board and host
-/// have one placement. [`FaultyWorld::run`] says after which acts a world is promised to heal.
+/// If the world at the end is quiet and promised to heal, the closing lines of board and host have
+/// the same placement. [`FaultyWorld::run`] describes after which acts a world is promised to heal.
 pub fn simulate_faults<R: Source, W: Sink>(
     world: &mut FaultyWorld,
     reader: &mut R,
     writer: &mut W,
     limit: u32,
 ) -> Result<(), RunFault>
-    // what was read, what was written of it, and which world is left
+    // what was read, what was written for it, and the world after it
     ensures output { Ran R.Source W.Sink
         (change reader.old reader.new) (change writer.old writer.new)
         (InTurns limit result
         (IsSimulated faulty_rules (R.ended reader.new) result world.old world.new)) }
 
-    // if the world that is left is promised to heal and quiet, the lines of board and host have one
-    // placement
+    // if the world at the end is promised to heal and quiet, the lines of board and host have the
+    // same placement
     ensures picture { Ran R.Source W.Sink
         (change reader.old reader.new) (change writer.old writer.new)
         (InTurns limit result (λ _ out. OnOk result (ShowsHealed world.new out))) }

@@ -17,11 +17,10 @@ pub(crate) trait Stage {
     // the world, as contracts see it
     ghost seen: { Self → WorldView };
 
-    // what the lines of its scripts do
+    // the rules of its scripts
     ghost rules: { Rules };
 
-    /// Does what a line asks for, and returns its outcome. A line that asks for nothing changes
-    /// nothing.
+    /// Does the act of a line, and returns its outcome. A line that is not an act changes nothing.
     fn play(&mut self, line: &[u8]) -> Result<Outcome, LineFault>
         ensures does { IfOk result (λ outcome.
             rules.does line.now (seen self.old) outcome (seen self.new)) }

@@ -1,9 +1,19 @@
-use Rattle.std.proofs.Common.{rules, ◌≡◌, ◌+◌, ◌-◌, ◌/◌, ◌%◌, ◌<◌, ◌∷◌, ◌++◌, ◌∙◌, ◌⊎◌, inl, inr, ap, arith, append_assoc, drop, length, sym, take}
+use Rattle.std.proofs.Common.{rules, ◌≡◌, ◌+◌, ◌-◌, ◌/◌, ◌%◌, ◌<◌, [], ◌∷◌, ◌++◌, ◌∙◌, ◌⊎◌, inl, inr, ap, arith, append_assoc, drop, length, refl, sym, take}
+use Rattle.std.proofs.lemmas.Fmt.{decimal_digit}
 use Rattle.std.proofs.lemmas.List.{drop-set, take_rest}
 use Rattle.dgt_lines.specs.Lines.{padded_decimal}
 use Rattle.dgt_lines.proofs.DecimalLemmas.{prefix, prefix-all, prefix-last, none_below, tenth_below}
+use Rattle.dgt_lines.proofs.TextLemmas.{padded_one}
 use Rattle.dgt_lines.proofs.gathering.Outgoing.push_decimal.Goals as goal
 use Rattle.dgt_lines.proofs.gathering.Outgoing.push_decimal.Goals.{then-rest-gt0, else-rest-gt0+then-at-width}
+
+pub returns-then-width-eq1-clause-bytes : goal.returns-then-width-eq1-clause-bytes
+returns-then-width-eq1-clause-bytes g c =
+    let number = c.args.number in
+    let digit : padded_decimal 1 number ≡ (48 + number) ∷ [] =
+    padded_one number (omega (arith, c.if-number-lt10.true))
+    ∙ decimal_digit number (omega (arith, c.if-number-lt10.true)) in
+    rw (c.push.ensures.bytes, c.if-width-eq1.true, digit) refl
 
 pub loop-rest-preserved : goal.loop-rest-preserved
 loop-rest-preserved g c =
@@ -47,4 +57,4 @@ returns-clause-bytes g c =
     in
     let whole : take (20 - at) (drop at digits) ≡ drop at digits =
     ap (λ n. take (n - at) (drop at digits)) (sym c.loop-rest.invariant.room) ∙ take_rest digits at in
-    c.push.ensures.bytes ∙ ap (λ l. c.args.self.now ++ l) (whole ∙ sym written)
+    c.push-2.ensures.bytes ∙ ap (λ l. c.args.self.now ++ l) (whole ∙ sym written)
