@@ -1,25 +1,25 @@
-//! The program `dgt`: shows what a DGT electronic chess board says, and stands in for one.
+//! The program `dgt`, which reads and simulates DGT electronic chess boards.
 //!
 //! `dgt show 8e00052401` prints `00000005 field e4 P`: the five bytes are a message of the DGT
-//! Electronic Board Protocol, by which a white pawn stands on e4. `dgt monitor` does the same with
-//! the bytes of standard input, as they come, and `dgt commands` with those of a host. `dgt board`
-//! answers the commands of standard input as a board does, and `dgt simulate` plays a script with a
-//! board, a host, and the lines between them.
+//! Electronic Board Protocol that a white pawn now stands on e4. `dgt --help` lists the commands.
 //!
-//! `main` fetches the words and the streams, and `run_words` of `dgt_program` does the rest.
-//! This crate re-exports `run_words`, and `dgt_program` as `program`.
+//! `main` fetches the words and the streams. [`run_words`] has `dgt_arguments` read the words, and
+//! `dgt_program`, which this crate re-exports as `program`, do their task.
 #![tactic(auto)]
+
+ghost use Rattle.std.specs.Prelude.{◌≤◌};
 
 mod terminals;
 #[cfg(test)]
 mod tests;
 
 use crate::terminals::note_terminals;
-use dgt_arguments::refuse_arguments;
+use dgt_arguments::{read, refuse_arguments};
 pub use dgt_program as program;
-use dgt_program::Fault;
-pub use dgt_program::run_words;
+use dgt_program::{Fault, run_to_status};
+use std::alloc::Global;
 use std::env;
+use std::io::{Read, Write};
 use std::process::ExitCode;
 
 fn main(rt: HostRuntime) -> ExitCode {
@@ -36,4 +36,17 @@ fn main(rt: HostRuntime) -> ExitCode {
         Err(fault) => fault.report(&mut rt.stderr()),
     };
     ExitCode::from(status)
+}
+
+/// Does what the words of a command line ask for, and returns the exit status.
+pub fn run_words<I: Read + Drop, O: Write + Drop, E: Write + Drop>(
+    alloc: Global,
+    words: Vec<String>,
+    input: I,
+    output: O,
+    errors: E,
+) -> u8
+    ensures { result ≤ 3 }
+{
+    run_to_status(alloc, read(alloc, words.as_slice()), input, output, errors)
 }

@@ -1,11 +1,11 @@
-//! The line for somebody at a terminal.
+//! The note for the user at a terminal.
 use dgt_arguments::read;
 use std::fs::Files;
 use std::io::{IsTerminal, Write};
 use std::os::unix::fs::MetadataExt;
 
-/// Says on standard error if its terminal is read or gets bytes. A fault of the words is left to
-/// `run_words`.
+/// Prints a note on standard error if bytes are read from its terminal or written to it.
+/// `run_words` reports faults of the words.
 pub fn note_terminals(rt: &HostRuntime, words: &[String]) {
     let reads = rt.stdin().is_terminal() && is_standard_error(rt, "/dev/stdin");
     let writes = rt.stdout().is_terminal() && is_standard_error(rt, "/dev/stdout");
@@ -19,8 +19,8 @@ pub fn note_terminals(rt: &HostRuntime, words: &[String]) {
     }
 }
 
-// Whether this stream and standard error are one device. A serial port is a terminal to the system
-// too, and nobody sits at it.
+// Whether this stream and standard error are the same device. To the system a serial port is a
+// terminal too, but has no user.
 fn is_standard_error(rt: &HostRuntime, path: &str) -> bool {
     match (rt.metadata(path), rt.metadata("/dev/stderr")) {
         (Ok(stream), Ok(errors)) => stream.rdev() == errors.rdev(),

@@ -1,5 +1,5 @@
-//! Whole runs of the program, over words and streams in memory: those that fail, and the helps.
-//! `checks/rows` compares all else that it prints about its words and its input.
+//! Whole runs of the program over words and streams in memory: those that fail, and the helps.
+//! `checks/rows` compares all other output.
 mod helps;
 
 use crate::run_words;
@@ -26,7 +26,7 @@ struct Ran {
     errors: Vec<u8>,
 }
 
-// The words of a line, which stand between single spaces.
+// The words of a line, separated by single spaces.
 fn words(alloc: Global, line: &str) -> Result<Vec<String>, AllocError> {
     line.split(' ')
         .map(|word| word.to_string(alloc))
@@ -158,7 +158,7 @@ fn stops_at_a_refused_write(rt: HostRuntime) -> Result<(), Fail> {
             "nothing\nnothing\n",
         ),
         ("dgt simulate", b"sned\n", ROOM, false, ""),
-        ("dgt --help", b"", 5, true, "Shows"),
+        ("dgt --help", b"", 5, true, "Reads"),
         ("dgt show --help", b"", 0, false, ""),
     ];
     for (line, input, room, flushes, output) in rows {

@@ -1,127 +1,41 @@
-//! The words of the command line, read by `clap`.
+//! Reads the words of the command line with `clap`.
 use crate::help::{
     ASK_NOTES, BOARD_NOTES, COMMANDS_NOTES, LOG_NOTES, MONITOR_NOTES, PICTURE_NOTES, PROGRAM_NOTES,
     SHOW_NOTES, SIMULATE_NOTES,
 };
 use clap::error::ErrorKind;
 use clap::{Arg, ArgAction, ArgMatches, Command, value_parser};
-use dgt_ask::{BadAsk, WORDS, asked_bytes};
+use dgt_ask::{BadArguments, BadAsk, Task, WORDS, asked_bytes};
 use dgt_board::MAX_SENT;
 use dgt_command::MAX_WORD;
-use std::alloc::{AllocError, AllocFailed, Global};
+use std::alloc::{AllocError, Global};
 use std::io;
 use strsim::jaro;
-use thiserror::Error;
-
-/// What the command line asks for.
-#[derive(Drop)]
-pub enum Task<'a> {
-    /// Print this text: help, or the version.
-    Help {
-        text: String,
-    },
-    /// Show what the bytes of this hexadecimal word make known, with `names` those of what messages
-    /// carry too.
-    Show {
-        word: &'a str,
-        names: bool,
-    },
-    /// Show what the bytes of the input make known, with `names` those of what messages carry too.
-    Monitor {
-        names: bool,
-    },
-    /// Show the pieces of the board for each message of the input that sets them. With `doubt` the
-    /// first fault since a message of all squares is shown too, and with `clock` each change of the
-    /// clock.
-    Picture {
-        doubt: bool,
-        clock: bool,
-    },
-    /// Show what a board has stored, by the messages of it in the input.
-    Log,
-    /// Show what the bytes of the input ask a board for.
-    Commands,
-    /// Write these bytes of commands.
-    Ask {
-        bytes: Vec<u8>,
-    },
-    /// Answer the commands of the input as a board with this placement.
-    Board {
-        placement: &'a str,
-    },
-    /// Do the acts of the input in a world whose board has this placement, and whose lines have
-    /// these capacities in bytes. With `faults` the lines and the board's power may fail.
-    Simulate {
-        placement: &'a str,
-        up: u16,
-        down: u16,
-        faults: bool,
-    },
-}
-
-impl Task<'_> {
-    /// A line for somebody at a terminal, if the task reads a board's or a host's bytes from there
-    /// (`reads` says that standard input is it), or writes bytes there (`writes`: standard output).
-    pub fn note(&self, reads: bool, writes: bool) -> Option<&'static str> {
-        match self {
-            Task::Monitor { .. } | Task::Picture { .. } | Task::Log | Task::Commands if reads => {
-                Some("dgt: waiting for bytes from this terminal; Ctrl-D ends them")
-            }
-            Task::Ask { .. } | Task::Board { .. } if writes => {
-                Some("dgt: writing bytes to this terminal, which are no text")
-            }
-            _ => None,
-        }
-    }
-}
-
-/// Why the words are no command line.
-#[derive(Debug, Drop, Error)]
-pub enum BadArguments {
-    /// They ask for nothing that the program does. The text says what is wrong, in whole lines.
-    #[error("{text}")]
-    Refused { text: String },
-    /// An allocation was refused.
-    #[error("out of memory")]
-    OutOfMemory,
-}
-
-impl From<AllocError> for BadArguments {
-    fn from(_error: AllocError) -> Self {
-        BadArguments::OutOfMemory
-    }
-}
-
-impl From<AllocFailed<String>> for BadArguments {
-    fn from(_error: AllocFailed<String>) -> Self {
-        BadArguments::OutOfMemory
-    }
-}
 
 // What each command does.
-const SHOW: &str = "Shows the messages in the bytes of a hexadecimal word";
+const SHOW: &str = "Prints the messages in bytes given as hexadecimal digits";
 
-const MONITOR: &str = "Shows the messages in the bytes of standard input, as they come";
+const MONITOR: &str = "Prints the messages in a board's bytes, as they arrive";
 
-const PICTURE: &str = "Shows the pieces of the board after each change on standard input";
+const PICTURE: &str = "Prints the position after each change, from a board's bytes";
 
-const LOG: &str = "Shows what a board has stored, by its messages on standard input";
+const LOG: &str = "Prints what a board stored while no program was reading it";
 
-const ASK: &str = "Writes the bytes of commands to a board";
+const ASK: &str = "Writes the bytes of named commands, to send to a board";
 
-const COMMANDS: &str = "Shows the commands in the bytes of standard input, as they come";
+const COMMANDS: &str = "Prints the commands in a host's bytes, as they arrive";
 
-const BOARD: &str = "Answers the commands on standard input, as a board does";
+const BOARD: &str = "Simulates a board that replies to the commands it reads";
 
-const SIMULATE: &str = "Plays a script with a board, a host, and the lines between them";
+const SIMULATE: &str = "Runs a script with a simulated board, host and serial line";
 
 /// What `--version` prints, after the name.
 const VERSION: &str = "1.0.0";
 
-/// The placement in which a game begins.
+/// The starting position.
 const START: &str = "rnbqkbnr/pppppppp/8/8/8/8/PPPPPPPP/RNBQKBNR";
 
-/// The bytes that a line holds if the command line doesn't say.
+/// The default capacity of a line in bytes.
 const LINE_BYTES: &str = "1024";
 
 fn position<'a>(alloc: Global) -> Arg<'a> {
@@ -130,10 +44,10 @@ fn position<'a>(alloc: Global) -> Arg<'a> {
         .value_name("P")
         .default_value(START)
         .hide_default_value(true)
-        .help("The pieces, as in a FEN [default: as a game begins]")
+        .help("The position, as in a FEN [default: the start of a game]")
 }
 
-// How many bytes a line holds, at least this number.
+// The capacity of a line in bytes, from `least` on.
 fn line_bytes<'a>(alloc: Global, name: &'a str, least: i64, help: &'a str) -> Arg<'a> {
     Arg::new(alloc, name)
         .long(name)
@@ -160,17 +74,18 @@ fn names<'a>(alloc: Global) -> Arg<'a> {
     flag(
         alloc,
         "names",
-        "Names buttons, flags, charges and texts, too",
+        "Also names clock buttons, flags, charges and texts",
     )
 }
 
 fn show<'a>(alloc: Global) -> Result<Command<'a>, AllocError> {
-    let word = Arg::new(alloc, "hex").value_name("HEX").required(true).help(
-        "The bytes that a board sends, two hexadecimal digits each",
-    );
-    subcommand(alloc, "show", SHOW, SHOW_NOTES)
-        .arg(names(alloc))?
-        .arg(word)
+    let show = subcommand(alloc, "show", SHOW, SHOW_NOTES).arg(names(alloc))?;
+    show.arg(
+        Arg::new(alloc, "hex")
+            .value_name("HEX")
+            .required(true)
+            .help("The bytes that a board sent, two hexadecimal digits each"),
+    )
 }
 
 fn monitor<'a>(alloc: Global) -> Result<Command<'a>, AllocError> {
@@ -179,8 +94,12 @@ fn monitor<'a>(alloc: Global) -> Result<Command<'a>, AllocError> {
 
 fn picture<'a>(alloc: Global) -> Result<Command<'a>, AllocError> {
     subcommand(alloc, "picture", PICTURE, PICTURE_NOTES)
-        .arg(flag(alloc, "doubt", "Reports when the pieces may be wrong, too"))?
-        .arg(flag(alloc, "clock", "Shows the clock after each change, too"))
+        .arg(flag(
+            alloc,
+            "doubt",
+            "Also reports when the position may be wrong",
+        ))?
+        .arg(flag(alloc, "clock", "Also prints the clock after each change"))
 }
 
 fn ask<'a>(alloc: Global) -> Result<Command<'a>, AllocError> {
@@ -189,7 +108,7 @@ fn ask<'a>(alloc: Global) -> Result<Command<'a>, AllocError> {
         .num_args(1..)
         .required(true)
         .allow_hyphen_values(true)
-        .help("The commands by name, in order");
+        .help("The commands by name, in order, with their operands");
     subcommand(alloc, "ask", ASK, ASK_NOTES).arg(words)
 }
 
@@ -204,42 +123,55 @@ fn simulate<'a>(alloc: Global) -> Result<Command<'a>, AllocError> {
             alloc,
             "up",
             MAX_SENT as i64,
-            "Room for bytes to the host, 67 to 65535",
+            "Capacity to the host, 67 to 65535 bytes",
         ))?
         .arg(line_bytes(
             alloc,
             "down",
             MAX_WORD as i64,
-            "Room for bytes to the board, 257 to 65535",
+            "Capacity to the board, 257 to 65535 bytes",
         ))?
         .arg(flag(
             alloc,
             "faults",
-            "Takes garbleup, garbledown, boardlost, restart, giveup",
+            "Allows garbleup, garbledown, boardlost, restart, giveup",
         ))
 }
 
+// Adds a subcommand, unless an allocation was refused for either.
+fn with<'a>(
+    program: Result<Command<'a>, AllocError>,
+    command: Result<Command<'a>, AllocError>,
+) -> Result<Command<'a>, AllocError> {
+    program?.subcommand(command?)
+}
+
+// Without `?`: one for each subcommand made the proof of this function take 66 seconds.
 fn command<'a>(alloc: Global) -> Result<Command<'a>, AllocError> {
-    Command::new(alloc, "dgt")
+    let program = Command::new(alloc, "dgt")
         .version(VERSION)
-        .about("Shows what a DGT electronic chess board says, and stands in for one")
+        .about("Reads and simulates DGT electronic chess boards")
         .after_help(PROGRAM_NOTES)
-        .subcommand_required(true)
-        .subcommand(show(alloc)?)?
-        .subcommand(monitor(alloc)?)?
-        .subcommand(picture(alloc)?)?
-        .subcommand(subcommand(alloc, "log", LOG, LOG_NOTES))?
-        .subcommand(ask(alloc)?)?
-        .subcommand(subcommand(alloc, "commands", COMMANDS, COMMANDS_NOTES))?
-        .subcommand(board(alloc)?)?
-        .subcommand(simulate(alloc)?)
+        .subcommand_required(true);
+    let program = with(Ok(program), show(alloc));
+    let program = with(program, monitor(alloc));
+    let program = with(program, picture(alloc));
+    let program = with(program, Ok(subcommand(alloc, "log", LOG, LOG_NOTES)));
+    let program = with(program, ask(alloc));
+    let program = with(
+        program,
+        Ok(subcommand(alloc, "commands", COMMANDS, COMMANDS_NOTES)),
+    );
+    let program = with(program, board(alloc));
+    with(program, simulate(alloc))
 }
 
 /// The task of the words, of which the first is the program's name.
 ///
-/// `Refused` comes if they are no command line, and `OutOfMemory` if an allocation is refused.
+/// `Refused` is returned if they are not a valid command line, and `OutOfMemory` if an allocation
+/// is refused.
 ///
-/// It is not inlined: what `clap` needs of the stack is free again before the task begins.
+/// It is not inlined, so that the stack of `clap` is free again before the task begins.
 #[inline(never)]
 pub fn read<'a>(alloc: Global, words: &'a [String]) -> Result<Task<'a>, BadArguments> {
     match command(alloc)?.try_get_matches_from(words) {
@@ -263,8 +195,8 @@ fn help_text(alloc: Global, error: &clap::Error) -> Result<Option<String>, BadAr
     }
 }
 
-// Why there is no task if clap refuses the words. The text quotes them with what is no letter or
-// sign escaped, since a terminal obeys that.
+// The error if clap refuses the words. Its text quotes them with control characters escaped, since
+// a terminal would obey these.
 fn unmatched(alloc: Global, words: &[String]) -> Result<BadArguments, BadArguments> {
     let words: Vec<String> = words
         .iter()
@@ -289,8 +221,8 @@ fn unmatched(alloc: Global, words: &[String]) -> Result<BadArguments, BadArgumen
     Ok(BadArguments::Refused { text })
 }
 
-// The command that reads standard input, and the file that it is given in place of that, if clap's
-// text says so.
+// The command that reads standard input, and the file name that it was given instead, if that is
+// the error in clap's text.
 fn extra_file<'w>(words: &'w [String], text: &str) -> Option<(&'w str, &'w str)> {
     let (file, _) = text
         .strip_prefix("error: unexpected argument '")?
@@ -304,7 +236,7 @@ fn extra_file<'w>(words: &'w [String], text: &str) -> Option<(&'w str, &'w str)>
     Some((command, file.as_str()))
 }
 
-// Each subcommand has its task here, and each option its value. What hasn't is refused.
+// The task of a subcommand with its options.
 fn requested<'a>(
     alloc: Global,
     matches: &ArgMatches<'a>,
@@ -354,10 +286,10 @@ fn asked<'a>(alloc: Global, words: &[&str]) -> Result<Task<'a>, BadArguments> {
         Err(BadAsk::Missing(detail)) => detail.form().to_string(alloc)?,
         Err(BadAsk::Unfit { detail, given }) => {
             let (form, given) = (detail.form(), given.escape_debug());
-            format!(in alloc; "{form},\n  not by '{given}'")?
+            format!(in alloc; "{form},\n  not '{given}'")?
         }
         Err(BadAsk::Known { id, word }) => {
-            format!(in alloc; "id {id} with these bytes has its own word: {word}")?
+            format!(in alloc; "for id {id} with this number of bytes, use the word '{word}'")?
         }
         Err(BadAsk::OutOfMemory) => return Err(BadArguments::OutOfMemory),
     };
@@ -365,10 +297,10 @@ fn asked<'a>(alloc: Global, words: &[&str]) -> Result<Task<'a>, BadArguments> {
     Err(refused(alloc, &ask.error(ErrorKind::InvalidValue, text.as_str())?)?)
 }
 
-// That this is no word of `ask`, with all words, and the one that it is most like.
+// The error for an unknown word of `ask`: it lists all words, and suggests the most similar one.
 fn unknown_word(alloc: Global, word: &str) -> Result<String, AllocError> {
     let given = word.escape_debug();
-    let mut text = format!(in alloc; "'{given}' is none of the words")?;
+    let mut text = format!(in alloc; "'{given}' is not a command. The commands are:")?;
     for line in WORDS.split('\n') {
         write!(text, "\n  {line}")?;
     }
@@ -378,7 +310,7 @@ fn unknown_word(alloc: Global, word: &str) -> Result<String, AllocError> {
     Ok(text)
 }
 
-// The word that is most like this one, if one is. This is how clap finds a similar command.
+// The most similar word, if one is similar, found as clap finds a similar subcommand.
 fn similar_word(alloc: Global, word: &str) -> Result<Option<&'static str>, AllocError> {
     let (mut most, mut similar) = (0.7, None);
     for known in WORDS.split(',') {
@@ -401,7 +333,7 @@ fn help_of_ask<'a>(alloc: Global) -> Result<Task<'a>, BadArguments> {
     Err(without_task(alloc)?)
 }
 
-/// Why there is no task if the system gave no words as text.
+/// The error if the system's arguments can't be read as text.
 pub fn refuse_arguments(alloc: Global, error: &io::Error) -> BadArguments {
     if error.kind() == io::ErrorKind::OutOfMemory {
         return BadArguments::OutOfMemory;
@@ -410,7 +342,7 @@ pub fn refuse_arguments(alloc: Global, error: &io::Error) -> BadArguments {
     refusal(alloc, kind, "an argument is not UTF-8 text").unwrap_or(BadArguments::OutOfMemory)
 }
 
-// Why there is no task if a subcommand has none.
+// The error if a subcommand has no task here.
 fn without_task(alloc: Global) -> Result<BadArguments, BadArguments> {
     refusal(
         alloc,
@@ -419,12 +351,12 @@ fn without_task(alloc: Global) -> Result<BadArguments, BadArguments> {
     )
 }
 
-// Why there is no task, in a text of this program.
+// An error with a text of this program.
 fn refusal(alloc: Global, kind: ErrorKind, text: &str) -> Result<BadArguments, BadArguments> {
     refused(alloc, &command(alloc)?.error(kind, text)?)
 }
 
-// Why there is no task, in the text of clap.
+// An error with the text of clap.
 fn refused(alloc: Global, error: &clap::Error) -> Result<BadArguments, BadArguments> {
     Ok(BadArguments::Refused {
         text: error.to_string(alloc)?,

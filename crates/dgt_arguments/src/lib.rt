@@ -1,23 +1,18 @@
-//! The command line of the program `dgt`, read by `clap`.
+//! Reads the command line of the program `dgt` with `clap`.
 //!
-//! [`read`] reads the words, and returns the [`Task`] that they ask for, or why they ask for none.
-//! [`help`] has the texts of the help.
+//! [`read`] reads the words, and returns their [`Task`], or the text of the error. [`help`]
+//! contains the texts of the helps. The program runs the task with:
 //!
 //! ```rust
-//! use dgt_arguments::{BadArguments, Task, read};
-//! use std::alloc::Global;
-//!
-//! /// Whether these words, of which the first is the program's name, ask for help.
-//! pub fn asks_for_help(alloc: Global, words: &[String]) -> Result<bool, BadArguments> {
-//!     Ok(matches!(read(alloc, words)?, Task::Help { .. }))
-//! }
+//!     run_to_status(alloc, read(alloc, words.as_slice()), input, output, errors)
 //! ```
 #![tactic(auto)]
 
-// This is a crate of its own because code that calls clap takes three times as long to prove next
-// to the libraries of the engines.
+// This is a separate crate because code that calls clap takes three times as long to prove together
+// with the libraries of the engines. Only dgt uses it: each crate above it has to read clap, too.
 
 mod command_line;
 pub mod help;
 
-pub use command_line::{BadArguments, Task, read, refuse_arguments};
+pub use command_line::{read, refuse_arguments};
+pub use dgt_ask::{BadArguments, Task};

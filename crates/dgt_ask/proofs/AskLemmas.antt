@@ -1,4 +1,4 @@
--- What the words of commands are.
+-- The words of commands.
 use Rattle.std.proofs.Common.{◌≡◌, ◌≢◌, ◌+◌, ◌*◌, ◌/◌, ◌<◌, ◌≤◌, ℕ, zero, suc, false, List, [], ◌∷◌, ◌++◌, length, get_or, take, map, Bor, add-one, subst, Result, Ok, Err, Some, ap, arith, inl, inr, refl, sym, ◌∙◌, slice_index as nth}
 use Rattle.std.specs.Prelude.{OnErr, IfOk, IsErrAnd, MatchResult, Bool, true, not, codes, decimal, ◌==◌}
 use Rattle.std.specs.List.{list_all}
@@ -120,7 +120,7 @@ displayed word text (Err _) given message same shown is shows = cc
 
 -- ---- where a word is split
 
--- hexadecimal digits are no spaces
+-- a hexadecimal digit is not a space
 pub digits_lack_space : (high low : ℕ) (bytes : List ℕ) → decode_sized (high ∷ low ∷ []) 1 ≡ Ok bytes
     → (i : ℕ) → i < 2 → get_or (high ∷ low ∷ []) i 0 ≢ 32
 digits_lack_space high low bytes decoded i small e =
@@ -159,7 +159,7 @@ not_named word name rest command split named =
     let spaced = rw split at (named_is_unspaced word command named) in
     let unspaced = has_space name rest in cc
 
--- what follows the name of a clock message is one that has no other
+-- the operands of `clockmessage` are a clock message without another word
 pub raw_name : (each : Detail) → detail_text each ≡ codes "clockmessage" → each ≡ detail.ClockMessage
 raw_name detail.Beep name = absurd (omega (arith, ap length name))
 raw_name detail.Display name = absurd (omega (arith, ap length name))
@@ -175,7 +175,7 @@ pub raw_command : (text : List ℕ) (command : CommandContent) → DetailAsks de
 raw_command text (ClockMessage message) asks = (message, refl, asks)
 raw_command text _ asks = absurd asks
 
--- the names that something follows have no space
+-- the names of words with an operand have no space
 unspaced_items : (word : List ℕ) → is_unspaced word ≡ true → (i : ℕ) → i < length word → get_or word i 0 ≢ 32
 unspaced_items [] all i small e = omega (arith, small)
 unspaced_items (byte ∷ word) all zero small e = let spaced = rw e at all in cc
@@ -197,7 +197,7 @@ name_lacks_space each = unspaced_items (detail_text each) (detail_is_unspaced ea
 
 -- ---- words in a row
 
--- a call that is refused what it calls is refused too
+-- a call is refused if a call in it is refused
 pub refused : {A : Type 0} (P : A → Type 0) (r : Result A BadAsk) (fault : BadAsk) → IsErrAnd r (λ e. e ≡ fault)
     → fault ≡ OutOfMemory → MatchResult r P (λ e. e ≡ OutOfMemory)
 refused P (Err e) fault is none = is ∙ none

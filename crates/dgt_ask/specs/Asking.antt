@@ -1,4 +1,4 @@
--- What the calls that read a word do.
+-- The effects of the calls that read a word of `dgt ask`.
 use Rattle.std.specs.Prelude.{◌≡◌, ℕ, List, ◌++◌, codes, Result, MatchResult}
 use Rattle.dgt_command.specs.Content.{CommandContent, command_content}
 use Rattle.dgt_command.specs.Encoding.{command_encoding}
@@ -10,7 +10,7 @@ use Rattle.dgt_ask.specs.declared.asking.BadAsk.{BadAsk}
 use Rattle.dgt_ask.specs.declared.asking.BadAsk.TheVariants.{OutOfMemory}
 use Rattle.dgt_ask.specs.Asks.{IsNamed, detail_text}
 
--- what this word, which stands alone, asks for
+-- the request of this word, which is a command without operands
 abbrev pub IsAskedBy : List ℕ → Asked → Type 0
 IsAskedBy word (asked.Command command) = IsNamed word (command_content command)
 IsAskedBy word asked.Follow = word ≡ codes "follow"
@@ -23,7 +23,7 @@ abbrev pub Adds : {A : Type 0} → Result A BadAsk → List ℕ → List ℕ →
 Adds r old new command =
     MatchResult r (λ _. new ≡ old ++ command_encoding command) (λ fault. fault ≡ OutOfMemory)
 
--- a call appends these bytes, and a name comes next
+-- a call appends these bytes, and expects a name next
 abbrev pub Takes : Result Awaited BadAsk → List ℕ → List ℕ → List ℕ → Type 0
 Takes r old new bytes =
     MatchResult r (λ next. (next ≡ Name) × (new ≡ old ++ bytes)) (λ fault. fault ≡ OutOfMemory)

@@ -1,4 +1,4 @@
--- What a word of `dgt ask` asks for, if a whole command or a name stands in it.
+-- The commands and bytes that the words of `dgt ask` request.
 use Rattle.std.specs.Prelude.{◌≡◌, ◌≢◌, ◌<◌, ◌≤◌, ◌⊎◌, ℕ, false, List, [], ◌∷◌, ◌++◌, length, codes, decimal, Ok, get_or}
 use Rattle.std.specs.Str.{IsAscii}
 use Rattle.hex.specs.Hex.{decode_of, decode_sized}
@@ -11,9 +11,9 @@ use Rattle.dgt_host.specs.Host.{follow_bytes, restart_bytes}
 use Rattle.dgt_ask.specs.declared.details.Detail.{Detail}
 use Rattle.dgt_ask.specs.declared.details.Detail.TheVariants as detail
 
--- ---- words that are a command alone
+-- ---- words without operands
 
--- this one is the command
+-- this word is the name of the command
 abbrev pub IsNamed : List ℕ → CommandContent → Type 0
 IsNamed word Reset = word ≡ codes "reset"
 IsNamed word Clock = word ≡ codes "clock"
@@ -32,7 +32,7 @@ IsNamed word (ClockMessage message) =
     ⊎ ((word ≡ codes "clockversion") × (message ≡ known_clock KnownId.Version []))
 IsNamed word (Leds leds) = ⊥
 
--- ---- words that something follows
+-- ---- words with an operand
 
 abbrev pub detail_text : Detail → List ℕ
 detail_text detail.Beep = codes "beep"
@@ -44,19 +44,19 @@ detail_text detail.ClockMessage = codes "clockmessage"
 detail_text detail.Leds = codes "leds"
 detail_text detail.Stray = codes "stray"
 
--- a text has these bytes: two hexadecimal digits for each, or a hyphen if there is none
+-- a text encodes these bytes: two hexadecimal digits for each, or a hyphen for no bytes
 abbrev pub HasBytes : List ℕ → List ℕ → Type 0
 HasBytes text bytes =
     ((text ≡ codes "-") × (bytes ≡ []))
     ⊎ ((text ≢ codes "-") × (text ≢ []) × (decode_of text ≡ Ok bytes))
 
--- a text has the bytes of a clock message, as many as its id says
+-- a text encodes the payload of a clock message, in the length of its id
 abbrev pub HasPayload : KnownId → ℕ → List ℕ → ClockContent → Type 0
 HasPayload known size text message =
     (payload : List ℕ) × (decode_sized text size ≡ Ok payload)
     × (message ≡ known_clock known payload)
 
--- six characters that the clock shows, or the bytes of a display
+-- six characters that the clock can show, or the bytes of a display
 abbrev pub IsDisplay : List ℕ → ClockContent → Type 0
 IsDisplay text message =
     HasPayload KnownId.Display 8 text message ⊎ ((length text ≡ 6) × Shows text 0 0 message)
@@ -67,7 +67,7 @@ IsText text message =
     HasPayload KnownId.Text 9 text message
     ⊎ ((length text ≡ 8) × IsAscii text × (message ≡ known_clock KnownId.Text (text ++ 0 ∷ [])))
 
--- an id, a space, and the bytes of a clock message that has no other word
+-- an id, a space, and the bytes of a clock message without another word
 abbrev pub IsRaw : List ℕ → ClockContent → Type 0
 IsRaw text message =
     (high : ℕ) × (low : ℕ) × (rest : List ℕ) × (text ≡ high ∷ low ∷ 32 ∷ rest)
@@ -75,7 +75,7 @@ IsRaw text message =
     × (length message.payload ≤ 252)
     × (has_own_case message.id (length message.payload) ≡ false)
 
--- what follows this word asks for the command
+-- with this operand the word requests the command
 abbrev pub DetailAsks : Detail → List ℕ → CommandContent → Type 0
 DetailAsks detail.Beep text (ClockMessage message) =
     (number : ℕ) × (number < 256) × (text ≡ decimal number)
@@ -93,7 +93,7 @@ DetailAsks _ text command = ⊥
 
 -- ---- whole commands
 
--- a word asks for this command: it is its name, or a name, a space and what follows it
+-- a word requests this command: it is its name, or a name, a space and an operand
 abbrev pub Asks : List ℕ → CommandContent → Type 0
 Asks word command =
     IsNamed word command
@@ -102,20 +102,20 @@ Asks word command =
 
 -- ---- bytes
 
--- this word is no command, and asks for these bytes
+-- this word requests these bytes, which are not a command
 abbrev pub IsAlone : List ℕ → List ℕ → Type 0
 IsAlone word bytes =
     ((word ≡ codes "follow") × (bytes ≡ follow_bytes))
     ⊎ ((word ≡ codes "restart") × (bytes ≡ restart_bytes))
     ⊎ ((word ≡ codes "log") × (bytes ≡ 0x49 ∷ []))
 
--- a word asks for these bytes: a command's, or its own
+-- a word requests these bytes, of a command or not
 abbrev pub AsksBytes : List ℕ → List ℕ → Type 0
 AsksBytes word bytes =
     ((command : CommandContent) × Asks word command × (bytes ≡ command_encoding command))
     ⊎ IsAlone word bytes
 
--- each of some words asks for the bytes at its place
+-- each word requests the bytes at the same place of the list
 pub record AskInOrder (words asked : List (List ℕ)) : Type 0 where
   pub all : length asked ≡ length words
   pub each : (i : ℕ) → i < length words → AsksBytes (get_or words i []) (get_or asked i [])

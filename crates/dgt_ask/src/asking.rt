@@ -1,4 +1,4 @@
-//! The words of a command line, and the bytes of their commands.
+//! The words of `dgt ask`, and the bytes of their commands.
 
 ghost use Rattle.std.specs.Prelude.{◌≡◌, ◌≢◌, ◌≤◌, ◌++◌, false, ℕ, List, [], ◌∷◌, codes, length, map, slice_index as nth};
 ghost use Rattle.std.specs.Prelude.{OnOk, IfOk, IfSome, IsOkAnd, IsSomeAnd, MatchOption, MatchResult};
@@ -21,29 +21,28 @@ use dgt_command::{
 use dgt_host::{Host, RESTART_LENGTH};
 use std::alloc::{AllocError, Global};
 
-/// The words and what follows them, with a comma after each but the last, in lines of at most 78
-/// columns.
+/// The words and their operands, separated by commas, in lines of at most 78 columns.
 pub const WORDS: &str = "\
 reset, clock, dump, update, updateboard, updatenice, serial, longserial,
 trademark, battery, version, follow, restart, log, beep N, end, button,
 clockversion, display TEXT, text TEXT, icons HEX, setandrun HEX,
 clockmessage ID HEX, leds HEX, stray HEX";
 
-// Asks a board for what it has stored. It is no command of this library.
+// Requests the stored events of a board. This is not a command of the library.
 const LOG: u8 = 0x49;
 
-/// Why the words ask for no commands.
+/// Why the words were refused.
 #[derive(Drop)]
 pub enum BadAsk<'a> {
-    /// One of them asks for help.
+    /// A word is `--help` or `-h`.
     Help,
-    /// This is none of the words.
+    /// This word is unknown.
     Unknown(&'a str),
-    /// Nothing follows a word that is no command alone.
+    /// The operand of this word is missing.
     Missing(Detail),
-    /// This can't follow the word before it.
+    /// This is not an operand of the word.
     Unfit { detail: Detail, given: &'a str },
-    /// The id of `clockmessage`, with the bytes after it, has a word of its own.
+    /// Another word writes clock messages with this id and this number of bytes.
     Known { id: &'a str, word: &'static str },
     /// An allocation was refused.
     OutOfMemory,
@@ -59,7 +58,7 @@ impl From<AllocError> for BadAsk<'_> {
     }
 }
 
-// What a word asks for.
+// The request of a word.
 enum Asked {
     Command(Command<'static>),
     Follow,
@@ -97,7 +96,7 @@ fn named(word: &str) -> Option<Asked>
     Some(Asked::Command(command))
 }
 
-// What the next word has to be.
+// What the next word must be.
 #[derive(Clone, Copy)]
 enum Awaited<'a> {
     Name,
@@ -106,10 +105,9 @@ enum Awaited<'a> {
     Bytes(&'a str),
 }
 
-/// The bytes of the commands that these words ask for, in order.
+/// The bytes of the commands that these words request, in order.
 ///
-/// A command is the words of a line of `dgt commands`: one word each, or all in one with a space
-/// between two of them.
+/// A command is the text that `dgt commands` prints: as one word, or divided at its spaces.
 pub fn asked_bytes<'a>(alloc: Global, words: &[&'a str]) -> Result<Vec<u8>, BadAsk<'a>>
     ensures { (asked : List (List ℕ)) → AskInOrder (map (λ word. word.now) words.now) asked →
         MatchResult result (λ bytes. bytes.items ≡ concat asked)
@@ -127,7 +125,7 @@ pub fn asked_bytes<'a>(alloc: Global, words: &[&'a str]) -> Result<Vec<u8>, BadA
     }
 }
 
-// Takes a word, appends the bytes of the command that it ends, and returns what comes next.
+// Takes a word, appends the bytes of the command that it ends, and returns what must follow.
 fn take<'a>(
     awaited: Awaited<'a>,
     word: &'a str,
@@ -137,7 +135,7 @@ fn take<'a>(
         Takes result bytes.old.items bytes.new.items asked }
 {
     match awaited {
-        // The one place where such a word says something else.
+        // Only here are `--help` and `-h` a text.
         Awaited::Detail(Detail::Text) => push_detail(Detail::Text, word, bytes)?,
         _ if word == "--help" || word == "-h" => return Err(BadAsk::Help),
         Awaited::Name => return begin(word, bytes),
@@ -148,7 +146,7 @@ fn take<'a>(
     Ok(Awaited::Name)
 }
 
-// Takes the first word of a command, or the whole of it in one.
+// Takes the first word of a command, or a whole command in one word.
 fn begin<'a>(word: &'a str, bytes: &mut Vec<u8>) -> Result<Awaited<'a>, BadAsk<'a>>
     ensures command { (command : CommandContent) → Asks word.now command →
         Takes result bytes.old.items bytes.new.items (command_encoding command) }
@@ -200,7 +198,7 @@ fn push_restart(bytes: &mut Vec<u8>) -> Result<(), AllocError>
     bytes.extend_from_slice(&room[..count])
 }
 
-// Appends the command that a word and its detail ask for.
+// Appends the command of a word and its operand.
 fn push_detail<'a>(detail: Detail, word: &'a str, bytes: &mut Vec<u8>) -> Result<(), BadAsk<'a>>
     ensures { (command : CommandContent) → detail ≢ Detail.ClockMessage →
         DetailAsks detail word.now command → Adds result bytes.old.items bytes.new.items command }
@@ -212,14 +210,14 @@ fn push_detail<'a>(detail: Detail, word: &'a str, bytes: &mut Vec<u8>) -> Result
         Detail::Text => push_fit(eight_letters(word), detail, word, bytes),
         Detail::Icons => push_fit(icons(word, &mut room), detail, word, bytes),
         Detail::SetAndRun => push_fit(set_and_run(word), detail, word, bytes),
-        // Its id and its bytes are two words.
+        // This word has two operands.
         Detail::ClockMessage => push_fit(None, detail, word, bytes),
         Detail::Leds => push_fit(leds(word, &mut room), detail, word, bytes),
         Detail::Stray => push_stray(word, bytes),
     }
 }
 
-// Appends the command, if what follows its word is fit for one.
+// Appends the command, or refuses the operand if there is none.
 fn push_fit<'a>(
     command: Option<Command<'_>>,
     detail: Detail,
@@ -237,7 +235,7 @@ fn push_fit<'a>(
     }
 }
 
-// Appends a clock message whose id and bytes are in one word.
+// Appends a clock message with its id and bytes in one word.
 fn push_id_and_bytes<'a>(word: &'a str, bytes: &mut Vec<u8>) -> Result<(), BadAsk<'a>>
     ensures { (message : ClockContent) → IsRaw word.now message →
         Adds result bytes.old.items bytes.new.items (ClockMessage message) }
@@ -248,7 +246,7 @@ fn push_id_and_bytes<'a>(word: &'a str, bytes: &mut Vec<u8>) -> Result<(), BadAs
     }
 }
 
-// Appends a clock message that has no other word.
+// Appends a clock message without another word.
 fn push_clock_message<'a>(id: &'a str, word: &'a str, bytes: &mut Vec<u8>) -> Result<(), BadAsk<'a>>
     ensures asks { (message : ClockContent) → decode_sized id.now 1 ≡ Ok (message.id ∷ []) →
         HasBytes word.now message.payload → length message.payload ≤ 252 →
@@ -273,7 +271,7 @@ fn push_clock_message<'a>(id: &'a str, word: &'a str, bytes: &mut Vec<u8>) -> Re
     }
 }
 
-// Appends a byte that begins no command.
+// Appends a byte that starts no command.
 fn push_stray<'a>(word: &'a str, bytes: &mut Vec<u8>) -> Result<(), BadAsk<'a>>
     ensures { OnOk result (IsOkAnd (decode_sized word.now 1) (λ stray.
         bytes.new.items ≡ bytes.old.items ++ nth stray 0 ∷ [])) }

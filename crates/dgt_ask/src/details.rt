@@ -1,4 +1,4 @@
-//! What follows a word that is no command alone.
+//! The operands of the words that need one.
 
 ghost use Rattle.std.specs.Prelude.{◌≡◌, ◌≢◌, ◌<◌, ◌≤◌, ◌*◌, ◌++◌, ◌∷◌, ℕ, false, List, [], length, codes, slice_index as nth};
 ghost use Rattle.std.specs.Prelude.{IfOk, IfSome, IfNone, IsErr, IsOkAnd, IsSomeAnd, MatchOption, MatchResult, Ok, Some, None};
@@ -15,7 +15,7 @@ use dgt_command::{
 };
 use hex::{FromHex, decode_to_slice};
 
-/// What a word is that is no command alone: something follows it.
+/// A word that needs an operand.
 #[derive(Clone, Copy)]
 pub enum Detail {
     Beep,
@@ -29,29 +29,28 @@ pub enum Detail {
 }
 
 impl Detail {
-    /// What has to follow the word, in lines of less than 80 columns.
+    /// Which operand the word needs, in lines of less than 80 columns.
     pub fn form(self) -> &'static str {
         match self {
-            Detail::Beep => "beep is followed by a number from 0 to 255",
-            Detail::Display => "display is followed by six digits, spaces or hyphens at most,
-  or by eight bytes, two hexadecimal digits each",
-            Detail::Text => "text is followed by eight ASCII characters at most,
-  or by nine bytes, two hexadecimal digits each",
-            Detail::Icons => "icons is followed by 252 bytes at most, two hexadecimal digits each,
-  or by - for no bytes",
-            Detail::SetAndRun =>
-                "setandrun is followed by seven bytes, two hexadecimal digits each",
-            Detail::ClockMessage => "clockmessage is followed by an id, two hexadecimal digits,
-  and by 252 bytes at most, two hexadecimal digits each, or by - for no bytes",
-            Detail::Leds => "leds is followed by 255 bytes at most, two hexadecimal digits each,
-  or by - for no bytes",
-            Detail::Stray => "stray is followed by a byte that begins no command,
-  two hexadecimal digits",
+            Detail::Beep => "beep needs a number from 0 to 255",
+            Detail::Display => "display needs up to six digits, spaces or hyphens,
+  or eight bytes as 16 hexadecimal digits",
+            Detail::Text => "text needs up to eight ASCII characters,
+  or nine bytes as 18 hexadecimal digits",
+            Detail::Icons => "icons needs up to 252 bytes, two hexadecimal digits each,
+  or - for no bytes",
+            Detail::SetAndRun => "setandrun needs seven bytes as 14 hexadecimal digits",
+            Detail::ClockMessage => "clockmessage needs an id, two hexadecimal digits,
+  and up to 252 bytes, two hexadecimal digits each, or - for no bytes",
+            Detail::Leds => "leds needs up to 255 bytes, two hexadecimal digits each,
+  or - for no bytes",
+            Detail::Stray => "stray needs one byte that starts no command,
+  as two hexadecimal digits",
         }
     }
 }
 
-// The word that something follows, if it is one.
+// The word that needs an operand, if it is one.
 pub(crate) fn detail_of(word: &str) -> Option<Detail>
     ensures { MatchOption result ((each : Detail) → word.now ≢ detail_text each)
         (λ detail. word.now ≡ detail_text detail) }
@@ -77,7 +76,7 @@ fn clock(message: ClockCommand<'_>) -> Option<Command<'_>>
     Some(Command::ClockMessage(message))
 }
 
-// A number as scripts have it: digits, and no zero before others.
+// A decimal number as in scripts, without a sign or leading zeros.
 pub(crate) fn beep(word: &str) -> Option<Command<'static>>
     ensures { (asked : CommandContent) → DetailAsks Detail.Beep word.now asked →
         IsSomeAnd result (λ command. command_content command ≡ asked) }
@@ -92,7 +91,7 @@ pub(crate) fn beep(word: &str) -> Option<Command<'static>>
     clock(ClockCommand::Beep(word.parse().ok()?))
 }
 
-// The bytes of a payload, or characters and spaces in the place of those that are missing.
+// The bytes of a payload, or characters padded with spaces.
 pub(crate) fn six_places(word: &str) -> Option<Command<'static>>
     ensures asks { (asked : CommandContent) → DetailAsks Detail.Display word.now asked →
         IsSomeAnd result (λ command. command_content command ≡ asked) }
@@ -131,7 +130,7 @@ fn display_characters(word: &str) -> Option<Command<'static>>
     clock(display(text, 0, 0).ok()?)
 }
 
-// The bytes of a payload, or characters and spaces in the place of those that are missing.
+// The bytes of a payload, or characters padded with spaces.
 pub(crate) fn eight_letters(word: &str) -> Option<Command<'static>>
     ensures asks { (asked : CommandContent) → DetailAsks Detail.Text word.now asked →
         IsSomeAnd result (λ command. command_content command ≡ asked) }
@@ -168,7 +167,7 @@ fn text_characters(word: &str) -> Option<Command<'static>>
     clock(ClockCommand::Text { letters, beep: 0 })
 }
 
-// The bytes of a word, with spaces in the place of those that are missing.
+// The bytes of a word, padded with spaces.
 fn padded<const N: usize>(word: &str) -> Option<[u8; N]>
     ensures { length word.now ≡ N → result ≡ Some word.now }
 {
@@ -224,7 +223,7 @@ pub(crate) fn leds<'r>(word: &str, room: &'r mut [u8; MAX_LED_BYTES]) -> Option<
     Some(Command::Leds(LedBytes::new(decoded(word, room)?).ok()?))
 }
 
-// The bytes of hexadecimal digits, or none for a hyphen, if there is room for them.
+// The bytes of hexadecimal digits, or no bytes for a hyphen, if they fit.
 fn decoded<'r>(word: &str, room: &'r mut [u8]) -> Option<&'r [u8]>
     ensures bytes { (bytes : List ℕ) → HasBytes word.now bytes → length bytes ≤ length room.old →
         IsSomeAnd result (λ decoded. decoded.now ≡ bytes) }
@@ -239,7 +238,7 @@ fn decoded<'r>(word: &str, room: &'r mut [u8]) -> Option<&'r [u8]>
     if word == "-" {
         return Some(&[]);
     }
-    // A shell's variable that isn't set.
+    // An unset variable of the shell.
     if word.is_empty() {
         return None;
     }
@@ -256,12 +255,12 @@ pub(crate) fn byte(word: &str) -> Option<u8>
     Some(bytes[0])
 }
 
-/// Why an id and a word ask for no clock message that has no other word.
+/// Why `clockmessage` refuses an id and a word.
 #[derive(Clone, Copy)]
 pub(crate) enum BadRaw {
-    /// The word is no bytes.
+    /// The word is not a list of bytes that fits.
     Bytes,
-    /// This is the word for the id and bytes.
+    /// Another word of `ask` writes this id and these bytes.
     Known(&'static str),
 }
 

@@ -1,5 +1,5 @@
-//! What words ask for. Nothing here runs: each function stands for the facts that its contract
-//! states.
+//! The requests of words, by example. Nothing here runs: the contract of each function states a
+//! fact.
 
 ghost use Rattle.std.specs.Prelude.{◌≡◌, ℕ, List, [], ◌∷◌, ◌++◌, Ok, codes, length, replicate};
 ghost use Rattle.std.specs.Str.{IsAscii};
@@ -10,7 +10,7 @@ ghost use Rattle.dgt_command.specs.Display.{Shows};
 ghost use Rattle.dgt_command.specs.Encoding.{command_encoding};
 ghost use Rattle.dgt_ask.specs.Asks.{AskInOrder, Asks, AsksBytes};
 
-/// Each word that is a command alone asks for it.
+/// Each word without an operand requests its command.
 pub fn names_ask()
     ensures modes { Asks (codes "reset") Reset × Asks (codes "update") Update
         × Asks (codes "updateboard") UpdateBoard × Asks (codes "updatenice") UpdateNice }
@@ -23,7 +23,7 @@ pub fn names_ask()
         × Asks (codes "clockversion") (ClockMessage (known_clock KnownId.Version [])) }
 {}
 
-/// What may follow the other words, at its limits.
+/// The operands of the other words, at their limits.
 pub fn details_ask()
     ensures beep { Asks (codes "beep 255") (ClockMessage (known_clock KnownId.Beep (255 ∷ []))) }
     ensures display { (letters : List ℕ) (message : ClockContent) → length letters ≡ 6
@@ -50,7 +50,7 @@ pub fn details_ask()
     ensures no_leds { Asks (codes "leds -") (Leds []) }
 {}
 
-/// A word that asks for a command asks for its bytes, and other words have bytes of their own.
+/// A word that requests a command requests its bytes. Other words request other bytes.
 pub fn bytes_are_asked()
     ensures command { (word : List ℕ) (command : CommandContent) → Asks word command
         → AsksBytes word (command_encoding command) }
@@ -59,7 +59,7 @@ pub fn bytes_are_asked()
     ensures log { AsksBytes (codes "log") (0x49 ∷ []) }
 {}
 
-/// No words ask for no bytes, and a word before others asks for bytes before theirs.
+/// An empty list of words requests no bytes, and a list requests the bytes of its words in order.
 pub fn words_ask_in_order()
     ensures none { AskInOrder [] [] }
     ensures more { (word asked : List ℕ) (words others : List (List ℕ)) → AsksBytes word asked

@@ -1,4 +1,4 @@
--- The text of a command asks for it.
+-- The text of a command requests it.
 use Rattle.std.proofs.Common.{◌≡◌, ◌≢◌, ◌∙◌, ◌+◌, ◌/◌, ◌%◌, ◌<◌, ◌≤◌, ◌⊎◌, ℕ, zero, suc, Bool, true, false, List, [], ◌∷◌, ◌++◌, length, get_or, map, None, ap, arith, inl, inr, refl, subst, sym, slice_index as nth}
 use Rattle.std.specs.Prelude.{codes, decimal, find, nat_le, if◌then◌else◌, ◌==◌, ◌&&◌}
 use Rattle.std.specs.List.{All, list_all}
@@ -179,7 +179,7 @@ text_back payload are sized =
     (list_all is_printable (a ∷ b ∷ c ∷ d ∷ e ∷ f ∷ g ∷ h ∷ []) && i == 0) refl)
     payload sized are
 
--- a clock message with a case of its own
+-- a clock message of a known kind
 known_back : (known : KnownId) (payload : List ℕ) → AreBytes payload → length payload ≤ 252
     → has_size known (length payload) ≡ true
     → Asks (words_text (known_words known payload)) (ClockMessage (known_clock known payload))
@@ -206,7 +206,7 @@ known_back KnownId.Beep (x ∷ y ∷ payload) are few size =
 known_back KnownId.Text payload are few size =
     inr (detail.Text, text_word payload, refl, text_back payload are (eqb-true _ _ size))
 
--- an id is known, or has no case of its own
+-- an id is known, or its clock messages are of no known kind
 abbrev IsOneOf : ℕ → List KnownId → Type 0
 IsOneOf number ids =
     ((known : KnownId) × (number ≡ id_number known)) ⊎ (find (λ id. id_number id == number) ids ≡ None)

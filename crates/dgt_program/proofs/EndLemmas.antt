@@ -12,7 +12,7 @@ use Rattle.dgt_lines.specs.Monitoring.{IsPrefix}
 use Rattle.dgt_lines.specs.Turns.{Change, Ran, sink_mark_after}
 use Rattle.dgt_lines.specs.Writing.{Writes}
 use Rattle.dgt_text.specs.Simulating.{IsSimulated, Rules, ShowsHealed, ShowsPicture, faulty_rules, plain_rules}
-use Rattle.dgt_arguments.specs.declared.command_line.Task.TheVariants.{Help, Show, Monitor, Picture, Log, Commands, Ask, Board, Simulate}
+use Rattle.dgt_ask.specs.declared.tasks.Task.TheVariants.{Help, Show, Monitor, Picture, Log, Commands, Ask, Board, Simulate}
 use Rattle.dgt_program.specs.declared.fault.Fault.{Fault}
 use Rattle.dgt_program.specs.declared.fault.Fault.TheVariants.{Run}
 use Rattle.dgt_program.specs.Ends.{AllIsMonitored, AllIsShown, FaultsComeFirst, IsBeforeRuns, PlacementsAreRefused, PlaysAll, PositionsArePlaced, ShowsAll, ShowsNothing, SmallLinesAreRefused, TextsAreFlushed, WordsAreDecoded, WordsComeFirst, WorldsAreLarge}

@@ -1,4 +1,4 @@
--- What an engine's answer leaves of a task.
+-- The result of an engine, and that of its task.
 use Rattle.std.proofs.Common.{◌≡◌, ℕ, List, Option, Some, None, Result, Ok, Err, false, ap}
 use Rattle.std.specs.Prelude.{IsErrAnd, OnOk}
 use Rattle.std.specs.Io.KnownBytes.{Consumes, IsAtEnd}

@@ -1,4 +1,4 @@
--- How tasks end: what the contracts of tasks say of faults and of runs that end well.
+-- How tasks end: what the contracts of tasks state about faults and about runs that succeed.
 use Rattle.std.specs.Prelude.{◌≡◌, ◌≢◌, ◌<◌, ◌≤◌, ◌⊎◌, ℕ, Bool, List, [], length, Result, Ok, Err, IsErr, IsTrue}
 use Rattle.std.specs.Io.KnownBytes.{Appends}
 use Rattle.hex.specs.Hex.{decode_of}
@@ -14,8 +14,8 @@ use Rattle.dgt_lines.specs.Lines.{monitor_text}
 use Rattle.dgt_lines.specs.Monitoring.{IsMonitored, IsPrefix}
 use Rattle.dgt_lines.specs.Turns.{Change, Ran}
 use Rattle.dgt_text.specs.Simulating.{IsSimulated, Rules}
-use Rattle.dgt_arguments.specs.declared.command_line.Task.{Task}
-use Rattle.dgt_arguments.specs.declared.command_line.Task.TheVariants.{Monitor}
+use Rattle.dgt_ask.specs.declared.tasks.Task.{Task}
+use Rattle.dgt_ask.specs.declared.tasks.Task.TheVariants.{Monitor}
 use Rattle.dgt_program.specs.declared.fault.Fault.{Fault}
 use Rattle.dgt_program.specs.declared.fault.Fault.TheVariants.{BadHex, BadPlacement, LineTooSmall, OutOfMemory, Run}
 use Rattle.dgt_program.specs.Tasks.{Does, DoesOne, InWorld, IsPrintedWith, IsShown, OnBoard, PlaysWith, Prints, Shows, ShowsWord}
@@ -26,21 +26,21 @@ use Rattle.dgt_program.specs.Tasks.{Does, DoesOne, InWorld, IsPrintedWith, IsSho
 abbrev pub IsBeforeRuns : Fault → Type 0
 IsBeforeRuns fault = (run : RunFault) → fault ≢ Run run
 
--- if a task has another fault than that of a run, nothing was read and nothing was written
+-- if a task ends with a fault that is not of a run, no bytes were read or written
 abbrev pub FaultsComeFirst : {S T : Type 0} → Source S → Sink T → Type 0
 FaultsComeFirst {S} {T} R W =
     (task : Task) (source : Change S) (sink : Change T) (fault : Fault) → IsBeforeRuns fault
     → Does R W task source sink (Err fault)
     → (source.new ≡ source.old) × (sink.new ≡ sink.old)
 
--- if a run for any words has another fault, nothing was read and nothing was written
+-- if a run for any words ends with such a fault, no bytes were read or written
 abbrev pub WordsComeFirst : {S T : Type 0} → Source S → Sink T → Type 0
 WordsComeFirst {S} {T} R W =
     (source : Change S) (sink : Change T) (fault : Fault) → IsBeforeRuns fault
     → DoesOne R W source sink (Err fault)
     → (source.new ≡ source.old) × (sink.new ≡ sink.old)
 
--- ---- runs that end well
+-- ---- runs that succeed
 
 -- the text was written and flushed
 abbrev pub TextsAreFlushed : {T : Type 0} → Sink T → Type 0
@@ -48,8 +48,8 @@ TextsAreFlushed {T} W =
     (sink : Change T) (text : List ℕ) → Prints W sink (Ok tt) text
     → Appends (W.written sink.old) (W.written sink.new) text × IsTrue (W.flushed sink.new)
 
--- all bytes left this in the sink, the sink did not fail, and nothing is left to flush if nothing
--- was before
+-- the sink contains this for all bytes, did not fail, and has no bytes left to flush if it had none
+-- before
 abbrev pub AllIsShown : {T : Type 0} → Sink T
     → (Result (Unit {0}) RunFault → List ℕ → List ℕ → Type 0) → Type 0
 AllIsShown {T} W leaves =
@@ -59,14 +59,15 @@ AllIsShown {T} W leaves =
     × (W.failed sink.new ≡ W.failed sink.old)
     × (IsTrue (W.flushed sink.old) → IsTrue (W.flushed sink.new))
 
--- the source was read to its end, and all that it gave left this in the sink
+-- the source was read to its end, and the sink contains this for all of its bytes
 abbrev pub AllIsMonitored : {S T : Type 0} → Source S → Sink T → Bool
     → (List ℕ → List ℕ → Type 0) → Type 0
 AllIsMonitored {S} {T} R W names leaves =
     (source : Change S) (sink : Change T) → Does R W (Monitor names) source sink (Ok tt)
     → Ran R W source sink leaves × IsTrue (R.ended source.new)
 
--- a script was played to its end under these rules, and the world that is left is shown so
+-- a script was played to its end under these rules, and ShowsBoard holds for the last world and the
+-- text that was written
 abbrev pub PlaysAll : {S T : Type 0} → Source S → Sink T → Bool → Rules
     → (WorldView → List ℕ → Type 0) → Type 0
 PlaysAll {S} {T} R W faults rules ShowsBoard =
@@ -76,20 +77,20 @@ PlaysAll {S} {T} R W faults rules ShowsBoard =
     × Ran R W source sink (IsSimulated {A = Unit {0}} rules (R.ended source.new) (Ok tt) world last)
     × Ran R W source sink (λ _ out. ShowsBoard last out)
 
--- ---- what is shown
+-- ---- printed bytes
 
--- Fewer bytes than 4,294,967,295 are shown whole, or a write was refused.
+-- Fewer bytes than 4,294,967,295 are all printed, or a write was refused.
 abbrev pub ShowsAll : Type 0
 ShowsAll =
     (run : Result (Unit {0}) RunFault) (bytes out : List ℕ) → length bytes < 4294967295
     → IsShown IsMonitored run bytes out → (out ≡ monitor_text bytes) ⊎ (run ≡ Err WriteFailed)
 
--- of no bytes nothing is written
+-- nothing is written for an empty word
 abbrev pub ShowsNothing : Type 0
 ShowsNothing =
     (out : List ℕ) → IsShown IsMonitored (Err WriteFailed) [] out → IsPrefix out (monitor_text [])
 
--- a word is shown if it is hexadecimal, and else refused, if there is memory for it
+-- a word is printed if it is hexadecimal, and refused otherwise, if there is memory for it
 abbrev pub WordsAreDecoded : {T : Type 0} → Sink T → Type 0
 WordsAreDecoded {T} W =
     (sink : Change T) (r : Result (Unit {0}) Fault) (names : Bool) (word : List ℕ)
@@ -100,14 +101,14 @@ WordsAreDecoded {T} W =
 
 -- ---- boards and worlds
 
--- if these squares are the board's position, the placement is theirs
+-- if the board has this position, the placement is that of the position
 abbrev pub PositionsArePlaced : {S T : Type 0} → Source S → Sink T → Type 0
 PositionsArePlaced {S} {T} R W =
     (source : Change S) (sink : Change T) (placement : List ℕ) (squares : List Piece)
     → OnBoard source sink (Ok tt) placement (λ position. position ≡ squares)
     → IsPlacement placement squares
 
--- if there is no position, the placement is bad at the offset that is reported
+-- without a position, the placement is bad at the offset that is reported
 abbrev pub PlacementsAreRefused : {S T : Type 0} → Source S → Sink T → Type 0
 PlacementsAreRefused {S} {T} R W =
     (source : Change S) (sink : Change T) (r : Result (Unit {0}) Fault) (placement : List ℕ)
@@ -122,7 +123,7 @@ WorldsAreLarge {S} {T} R W =
     → (67 ≤ up) × (257 ≤ down)
     × (new_world position simulated_times simulated_identity up down ≡ made)
 
--- if none is made, a line was too small, or there was no memory
+-- if no world is made, a line was too small, or memory was refused
 abbrev pub SmallLinesAreRefused : {S T : Type 0} → Source S → Sink T → Type 0
 SmallLinesAreRefused {S} {T} R W =
     (source : Change S) (sink : Change T) (r : Result (Unit {0}) Fault) (up down : ℕ)

@@ -14,7 +14,7 @@ fault_status (BadPlacement _) = 2
 fault_status LineTooSmall = 2
 fault_status OutOfMemory = 3
 
--- the words ask for no task, or their reader was refused memory
+-- the words are not a valid command line, or their reader was refused memory
 abbrev pub IsOfWords : Fault → Type 0
 IsOfWords (CommandLine _) = ⊤
 IsOfWords OutOfMemory = ⊤

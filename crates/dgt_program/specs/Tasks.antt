@@ -20,8 +20,8 @@ use Rattle.dgt_lines.specs.Turns.{Change, InTurns, Ran, RunsInTurns, sink_mark_a
 use Rattle.dgt_lines.specs.Writing.{Writes}
 use Rattle.dgt_text.specs.Serving.{IsServed}
 use Rattle.dgt_text.specs.Simulating.{IsSimulated, Rules, ShowsHealed, ShowsPicture, faulty_rules, plain_rules}
-use Rattle.dgt_arguments.specs.declared.command_line.Task.{Task}
-use Rattle.dgt_arguments.specs.declared.command_line.Task.TheVariants.{Help, Show, Monitor, Picture, Log, Commands, Ask, Board, Simulate}
+use Rattle.dgt_ask.specs.declared.tasks.Task.{Task}
+use Rattle.dgt_ask.specs.declared.tasks.Task.TheVariants.{Help, Show, Monitor, Picture, Log, Commands, Ask, Board, Simulate}
 use Rattle.dgt_program.specs.declared.program.TheConstants.{MOST_TURNS}
 use Rattle.dgt_program.specs.declared.fault.Fault.{Fault}
 use Rattle.dgt_program.specs.declared.fault.Fault.TheVariants.{BadHex, BadPlacement, LineTooSmall, Run, OutOfMemory}
@@ -29,23 +29,23 @@ use Rattle.dgt_program.specs.Faults.{IsOfWords}
 
 -- ---- how a task ends
 
--- its answer, if an engine gave this one
+-- the result of a task, if its engine returned this one
 abbrev pub task_answer : Result (Unit {0}) RunFault → Result (Unit {0}) Fault
 task_answer (Ok done) = Ok done
 task_answer (Err fault) = Err (Run fault)
 
--- nothing was asked of the source or the sink
+-- the source and the sink were not called
 abbrev pub Untouched : {S : Type 0} → Change S → Type 0
 Untouched stream = stream.new ≡ stream.old
 
--- this fault came before the first read and the first write
+-- this fault was found before the first read and the first write
 pub record Refuses {S T : Type 0} (source : Change S) (sink : Change T)
     (r : Result (Unit {0}) Fault) (fault : Fault) : Type 0 where
   pub answer : r ≡ Err fault
   pub unread : Untouched source
   pub unwritten : Untouched sink
 
--- an engine ran, and of its answer, what it read and what it wrote `leaves` holds
+-- an engine ran, and `leaves` holds for its result and for what it read and wrote
 pub record Runs {S T : Type 0} (R : Source S) (W : Sink T) (source : Change S) (sink : Change T)
     (r : Result (Unit {0}) Fault)
     (leaves : Result (Unit {0}) RunFault → List ℕ → List ℕ → Type 0) : Type 0 where
@@ -64,15 +64,15 @@ pub record Prints {T : Type 0} (W : Sink T) (sink : Change T) (r : Result (Unit 
   pub output : Writes W sink.old sink.new run text
   pub flushed : OnOk run (IsTrue (W.flushed sink.new))
 
--- what stands in the sink for the bytes that were read, if an engine gave this answer that prints
--- the lines of messages with names or without
+-- what the sink contains for the bytes that were read, if an engine that prints messages, with or
+-- without names, returned this result
 abbrev pub IsPrintedWith : Bool → Result (Unit {0}) RunFault → List ℕ → List ℕ → Type 0
 IsPrintedWith false run bytes out = IsMonitored run bytes out
 IsPrintedWith true run bytes out = AreMonitored run bytes out
 
--- What stands in the sink for the bytes of a word, if an engine gave this answer that leaves this
--- of the bytes that it reads. It read all of the word, unless a write was refused or there were too
--- many reads. Then it read a prefix, which has a byte for each read if there were too many.
+-- What the sink contains for the bytes of a word, if an engine that writes this for the bytes that
+-- it reads returned this result. It read all of the word, unless a write was refused or there were
+-- too many reads. Then it read a prefix. If there were too many reads, each gave at least a byte.
 abbrev pub IsShown : (Result (Unit {0}) RunFault → List ℕ → List ℕ → Type 0)
     → Result (Unit {0}) RunFault → List ℕ → List ℕ → Type 0
 IsShown leaves (Ok done) bytes out = leaves (Ok done) bytes out
@@ -83,7 +83,7 @@ IsShown leaves (Err TooManyTurns) bytes out =
 IsShown leaves (Err fault) bytes out =
     (read : List ℕ) × IsPrefix read bytes × leaves (Err fault) read out
 
--- these bytes are shown
+-- these bytes are printed
 pub record Shows {T : Type 0} (W : Sink T) (sink : Change T) (r : Result (Unit {0}) Fault)
     (leaves : Result (Unit {0}) RunFault → List ℕ → List ℕ → Type 0) (bytes : List ℕ) : Type 0
   where
@@ -106,7 +106,7 @@ ShowsWord W sink r leaves word =
 
 -- ---- tasks with a board
 
--- a placement has a position, of which P holds, or it is refused
+-- a placement has a position, and P holds for it, or it is refused
 abbrev pub OnBoard : {S T : Type 0} → Change S → Change T → Result (Unit {0}) Fault → List ℕ
     → (List Piece → Type 0) → Type 0
 OnBoard source sink r placement P =
@@ -163,7 +163,7 @@ Does R W (Simulate placement up down faults) source sink r =
     OnBoard source sink r placement.now
     (InWorld source sink r up down (PlaysWith faults R W source sink r))
 
--- the words ask for no task, or one task is done
+-- the words are not a valid command line, or one task is done
 abbrev pub DoesOne : {S T : Type 0} → Source S → Sink T → Change S → Change T
     → Result (Unit {0}) Fault → Type 0
 DoesOne R W source sink r =

@@ -1,9 +1,9 @@
-//! Why the program stopped, and how it says so.
+//! The faults that end the program, and their texts.
 
 ghost use Rattle.std.specs.Prelude.{◌≡◌};
 ghost use Rattle.dgt_program.specs.Faults.{IsOfWords, IsOfWorld, fault_status};
 
-use dgt_arguments::BadArguments;
+use dgt_ask::BadArguments;
 use dgt_link::WorldFault;
 use dgt_text::RunFault;
 use dgt_values::BadPlacement;
@@ -11,16 +11,16 @@ use std::alloc::{AllocError, AllocFailed};
 use std::io::Write;
 use thiserror::Error;
 
-/// What ends the program before its work is done.
+/// Why the program stopped before its work was done.
 #[derive(Debug, Drop, Error)]
 pub enum Fault {
-    /// The words are no command line. The text is of whole lines.
+    /// The words are not a valid command line. The text consists of whole lines.
     #[error("{text}")]
     CommandLine { text: String },
-    /// The word of bytes is no hexadecimal text.
+    /// The word of `dgt show` is not hexadecimal digits of whole bytes.
     #[error("bad hex")]
     BadHex,
-    /// The position is no placement, from this offset on.
+    /// The position is not a placement from this offset on.
     #[error("bad placement at {at}")]
     BadPlacement { at: usize },
     /// A line of the simulated world would hold too few bytes.
@@ -70,7 +70,7 @@ impl From<WorldFault> for Fault {
 
     fn from(error: WorldFault) -> Fault {
         match error {
-            // The command line has refused such a line.
+            // The command line refuses such a line before.
             WorldFault::LineTooSmall => Fault::LineTooSmall,
             WorldFault::OutOfMemory => Fault::OutOfMemory,
         }
@@ -94,7 +94,7 @@ impl Fault {
     pub fn report<E: Write>(self, errors: &mut E) -> u8
         ensures { result ≡ fault_status self }
     {
-        // If standard error refuses it, only the status is left.
+        // If standard error refuses the text, only the status reports the fault.
         let _ = match &self {
             Fault::CommandLine { text } => write!(errors, "{text}"),
             fault => writeln!(errors, "dgt: {fault}"),

@@ -1,5 +1,5 @@
-//! What holds of the program's numbers, its faults and the ends of its tasks. Nothing here runs:
-//! each function stands for the facts that its contract states.
+//! Facts about the program's limits, its faults and the ends of its tasks. Nothing here runs: the
+//! contract of each function states a fact.
 
 ghost use Rattle.std.specs.Prelude.{◌≡◌, ℕ, List, map, All, Ok, true, false};
 ghost use Rattle.dgt_command.specs.Content.{CommandContent};
@@ -19,13 +19,13 @@ ghost use Rattle.dgt_program.specs.declared.fault.Fault.{Fault as AnyFault};
 use crate::MOST_TURNS;
 use dgt_text::{Sink, Source};
 
-/// The reads that an engine of the program makes at most.
+/// The limit of reads of an engine of the program.
 pub fn limits()
     ensures turns { MOST_TURNS ≡ 4294967295 }
 {}
 
-/// The text that `dgt commands` has for a command asks `dgt ask` for that command, if it is one
-/// word. So the texts of commands in a row, a word each, give back their bytes
+/// Given the text that `dgt commands` prints for a command, as one word, `dgt ask` writes that
+/// command. So the texts of several commands, a word each, give back their bytes
 /// (`dgt_ask::asked_bytes`).
 pub fn commands_are_asked_back()
     ensures each { (command : CommandContent) (bytes : List ℕ) → EncodesCommand command bytes →
@@ -35,7 +35,7 @@ pub fn commands_are_asked_back()
         AskInOrder (map command_text commands) (map command_encoding commands) }
 {}
 
-/// Words ask for no task with the status 2, or with 3 for refused memory, and have no other fault.
+/// Wrong words end the program with status 2, and refused memory with 3. They have no other fault.
 /// A world that is not made ends the program with the same statuses.
 pub fn faults()
     ensures run { (run : RunFault) → ¬ (IsOfWords (AnyFault.Run run)) }
@@ -48,14 +48,14 @@ pub fn faults()
         fault_status fault ≡ 3 }
 {}
 
-/// If a task has another fault than that of a run, nothing was read and nothing was written. The
-/// same holds of any words.
+/// If a task ends with a fault that is not of a run, no bytes were read or written. The same holds
+/// for any words.
 pub fn faults_come_first<R: Source, W: Sink>()
     ensures tasks { FaultsComeFirst R.Source W.Sink }
     ensures words { WordsComeFirst R.Source W.Sink }
 {}
 
-/// What was read and written if a task ends well.
+/// What was read and written if a task succeeds.
 pub fn tasks_end_well<R: Source, W: Sink>()
     ensures flushed { TextsAreFlushed W.Sink }
     ensures shown { AllIsShown W.Sink IsMonitored }
@@ -68,15 +68,15 @@ pub fn tasks_end_well<R: Source, W: Sink>()
     ensures played_with_faults { PlaysAll R.Source W.Sink true faulty_rules ShowsHealed }
 {}
 
-/// A word that is hexadecimal is shown, and all of it, unless a write is refused.
+/// All bytes of a hexadecimal word are printed, unless a write is refused.
 pub fn words_are_shown<W: Sink>()
     ensures decoded { WordsAreDecoded W.Sink }
     ensures all { ShowsAll }
     ensures nothing { ShowsNothing }
 {}
 
-/// A placement is the board's or is refused, and the lines of a world are large enough or are
-/// refused.
+/// A placement becomes the board's position or is refused. The capacities of a world's lines are
+/// large enough or are refused.
 pub fn worlds_are_as_said<R: Source, W: Sink>()
     ensures placed { PositionsArePlaced R.Source W.Sink }
     ensures refused { PlacementsAreRefused R.Source W.Sink }

@@ -1,10 +1,9 @@
-//! The program `dgt`, over any words, any reader and any writers.
+//! The program `dgt`, with any task, reader and writers.
 //!
-//! [`run_words`] does what the words ask for: it is [`run`] over a `Device` of each stream.
-//! `dgt_arguments` reads the words, and [`run_task`] says what each task reads and writes, by the
-//! engines of `dgt_text`. [`Fault`] is what can go wrong, with the text and the exit status of
-//! each. The crate `dgt` is this program. Before it runs, it says if a terminal is read or gets
-//! bytes:
+//! [`run_to_status`] runs the program: it is [`run`] over a `Device` of each stream.
+//! `dgt_arguments` reads the words, and [`run_task`] does each task with the engines of `dgt_text`.
+//! [`Fault`] lists what can go wrong, with the text and the exit status of each. The crate `dgt` is
+//! this program. It first prints a note if it reads bytes from a terminal or writes bytes to one:
 //!
 //! ```rust
 //! fn main(rt: HostRuntime) -> ExitCode {
@@ -30,4 +29,4 @@ pub mod laws;
 mod program;
 
 pub use fault::Fault;
-pub use program::{MOST_TURNS, run, run_task, run_words};
+pub use program::{MOST_TURNS, run, run_task, run_to_status};

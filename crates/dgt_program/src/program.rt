@@ -1,4 +1,4 @@
-//! The program, over any words and streams.
+//! Runs the program with any task and streams.
 
 ghost use Rattle.std.specs.Prelude.{◌≡◌, ◌<◌, ◌≤◌, ◌⊎◌, IsErr, MatchResult, Ok};
 ghost use Rattle.hex.specs.Hex.{decode_of};
@@ -15,7 +15,7 @@ ghost use Rattle.dgt_text.specs.Simulating.{ShowsHealed, ShowsPicture, faulty_ru
 ghost use Rattle.dgt_program.specs.Tasks.{AnswersFor, Does, DoesOne, InWorld, IsPrintedWith, OnBoard, PlaysScript, PlaysWith, Prints, Runs, ShowsWord};
 
 use crate::fault::Fault;
-use dgt_arguments::{Task, read};
+use dgt_ask::{BadArguments, Task};
 use dgt_board::{Board, Identity, simulated_clock};
 use dgt_lines::laws::writes_in_a_row;
 use dgt_lines::{flush, put};
@@ -29,20 +29,19 @@ use hex::FromHexError;
 use std::alloc::Global;
 use std::io::{Read, Write};
 
-/// The reads that an engine of the program makes at most.
+/// The limit of reads of an engine of the program.
 pub const MOST_TURNS: u32 = u32::MAX;
 
-/// Does what the words ask for, of which the first is the program's name, and answers the exit
-/// status.
+/// Runs the program with the task that its words ask for, and returns the exit status.
 ///
-/// What an engine reads comes from `input`, what is asked for goes to `output`, and the text of a
-/// fault to `errors`. All memory is taken before the first read and the first write.
+/// It reads from `input`, writes to `output`, and writes the text of a fault to `errors`. All
+/// memory is allocated before the first read and the first write.
 ///
-/// It does what [`run`] does over a [`Device`] of each stream. What that leaves in the streams is
-/// no clause here: they are let go when this returns.
-pub fn run_words<I: Read + Drop, O: Write + Drop, E: Write + Drop>(
+/// It does the same as [`run`] over a [`Device`] of each stream. The contract doesn't state what
+/// that leaves in the streams, since they are dropped at the end.
+pub fn run_to_status<I: Read + Drop, O: Write + Drop, E: Write + Drop>(
     alloc: Global,
-    words: Vec<String>,
+    task: Result<Task<'_>, BadArguments>,
     input: I,
     output: O,
     mut errors: E,
@@ -50,32 +49,30 @@ pub fn run_words<I: Read + Drop, O: Write + Drop, E: Write + Drop>(
     ensures { result ≤ 3 }
 {
     let (mut input, mut output) = (Device::new(input), Device::new(output));
-    match run(alloc, words.as_slice(), &mut input, &mut output) {
+    match run(alloc, task, &mut input, &mut output) {
         Ok(()) => 0,
         Err(fault) => fault.report(&mut errors),
     }
 }
 
-/// Does what the words ask for, of which the first is the program's name.
-///
-/// The faults of the command line come first. Then one task is done, as [`run_task`] says. Which
-/// task the words ask for is no clause.
+/// Does the task that the words ask for, as [`run_task`] does. If they are not a valid command
+/// line, it returns that fault, and reads and writes nothing.
 pub fn run<R: Source, W: Sink>(
     alloc: Global,
-    words: &[String],
+    task: Result<Task<'_>, BadArguments>,
     input: &mut R,
     output: &mut W,
 ) -> Result<(), Fault>
     ensures { DoesOne R.Source W.Sink (change input.old input.new) (change output.old output.new)
         result }
 {
-    run_task(alloc, &read(alloc, words)?, input, output)
+    run_task(alloc, &task?, input, output)
 }
 
-/// Does what a task asks for.
+/// Does a task.
 ///
-/// The faults of a hexadecimal word or a placement come first, then those of making a world, each
-/// before the first read and the first write, and then those of the run.
+/// Faults of a hexadecimal word or a placement are reported first, then those of making a world,
+/// both before the first read and the first write. Faults of the run follow.
 pub fn run_task<R: Source, W: Sink>(
     alloc: Global,
     task: &Task<'_>,
@@ -103,9 +100,9 @@ pub fn run_task<R: Source, W: Sink>(
     }
 }
 
-// Each task has room of its own on the stack, and is not inlined. Room for all of them at once is
-// more than a process has from its start, and if the address space is limited, a stack that
-// can't grow ends the process by a signal.
+// The functions below are not inlined, so that only one of them at a time takes room on the stack.
+// Together they need more than a process has at its start. With a limited address space, a stack
+// that can't grow ends the process by a signal.
 
 #[inline(never)]
 fn show<W: Sink>(alloc: Global, word: &str, names: bool, output: &mut W) -> Result<(), Fault>
@@ -213,8 +210,8 @@ fn play<R: Source, W: Sink>(
     }
 }
 
-// The world is handed in, so that there is no room for both kinds of worlds on the stack while it
-// is made, which takes the most of it.
+// The world is a parameter, so that the stack holds only one kind of world while it is made. That
+// takes the most room.
 #[inline(never)]
 fn play_at_fault<R: Source, W: Sink>(
     world: World,
@@ -252,8 +249,7 @@ fn decode(alloc: Global, word: &str) -> Result<Vec<u8>, Fault>
     }
 }
 
-// The fault stays that of dgt_link: to turn it into the program's here would take room for a second
-// world.
+// The fault stays one of dgt_link: to convert it here would take room for a second world.
 #[inline(never)]
 fn make_world(alloc: Global, position: Position, up: u16, down: u16) -> Result<World, WorldFault>
     ensures { MatchResult result

@@ -1,4 +1,4 @@
-//! The texts of help.
+//! The helps of the program and its commands.
 use super::*;
 use dgt_arguments::help::{
     ASK_NOTES, BOARD_NOTES, COMMANDS_NOTES, LOG_NOTES, MONITOR_NOTES, PICTURE_NOTES, PROGRAM_NOTES,
@@ -7,19 +7,19 @@ use dgt_arguments::help::{
 
 /// The help of the program, before its notes.
 const PROGRAM: &str = "\
-Shows what a DGT electronic chess board says, and stands in for one
+Reads and simulates DGT electronic chess boards
 
 Usage: dgt <COMMAND>
 
 Commands:
-  show      Shows the messages in the bytes of a hexadecimal word
-  monitor   Shows the messages in the bytes of standard input, as they come
-  picture   Shows the pieces of the board after each change on standard input
-  log       Shows what a board has stored, by its messages on standard input
-  ask       Writes the bytes of commands to a board
-  commands  Shows the commands in the bytes of standard input, as they come
-  board     Answers the commands on standard input, as a board does
-  simulate  Plays a script with a board, a host, and the lines between them
+  show      Prints the messages in bytes given as hexadecimal digits
+  monitor   Prints the messages in a board's bytes, as they arrive
+  picture   Prints the position after each change, from a board's bytes
+  log       Prints what a board stored while no program was reading it
+  ask       Writes the bytes of named commands, to send to a board
+  commands  Prints the commands in a host's bytes, as they arrive
+  board     Simulates a board that replies to the commands it reads
+  simulate  Runs a script with a simulated board, host and serial line
   help      Print this message or the help of the given subcommand(s)
 
 Options:
@@ -30,47 +30,47 @@ Options:
 
 /// The help of `show`, before its notes.
 const SHOW: &str = "\
-Shows the messages in the bytes of a hexadecimal word
+Prints the messages in bytes given as hexadecimal digits
 
 Usage: dgt show [OPTIONS] <HEX>
 
 Arguments:
-  <HEX>  The bytes that a board sends, two hexadecimal digits each
+  <HEX>  The bytes that a board sent, two hexadecimal digits each
 
 Options:
-      --names  Names buttons, flags, charges and texts, too
+      --names  Also names clock buttons, flags, charges and texts
   -h, --help   Print help
 
 ";
 
 /// The help of `monitor`, before its notes.
 const MONITOR: &str = "\
-Shows the messages in the bytes of standard input, as they come
+Prints the messages in a board's bytes, as they arrive
 
 Usage: dgt monitor [OPTIONS]
 
 Options:
-      --names  Names buttons, flags, charges and texts, too
+      --names  Also names clock buttons, flags, charges and texts
   -h, --help   Print help
 
 ";
 
 /// The help of `picture`, before its notes.
 const PICTURE: &str = "\
-Shows the pieces of the board after each change on standard input
+Prints the position after each change, from a board's bytes
 
 Usage: dgt picture [OPTIONS]
 
 Options:
-      --doubt  Reports when the pieces may be wrong, too
-      --clock  Shows the clock after each change, too
+      --doubt  Also reports when the position may be wrong
+      --clock  Also prints the clock after each change
   -h, --help   Print help
 
 ";
 
 /// The help of `log`, before its notes.
 const LOG: &str = "\
-Shows what a board has stored, by its messages on standard input
+Prints what a board stored while no program was reading it
 
 Usage: dgt log
 
@@ -81,12 +81,12 @@ Options:
 
 /// The help of `ask`, before its notes.
 const ASK: &str = "\
-Writes the bytes of commands to a board
+Writes the bytes of named commands, to send to a board
 
 Usage: dgt ask <WORD>...
 
 Arguments:
-  <WORD>...  The commands by name, in order
+  <WORD>...  The commands by name, in order, with their operands
 
 Options:
   -h, --help  Print help
@@ -95,7 +95,7 @@ Options:
 
 /// The help of `commands`, before its notes.
 const COMMANDS: &str = "\
-Shows the commands in the bytes of standard input, as they come
+Prints the commands in a host's bytes, as they arrive
 
 Usage: dgt commands
 
@@ -106,27 +106,27 @@ Options:
 
 /// The help of `board`, before its notes.
 const BOARD: &str = "\
-Answers the commands on standard input, as a board does
+Simulates a board that replies to the commands it reads
 
 Usage: dgt board [OPTIONS]
 
 Options:
-      --position <P>  The pieces, as in a FEN [default: as a game begins]
+      --position <P>  The position, as in a FEN [default: the start of a game]
   -h, --help          Print help
 
 ";
 
 /// The help of `simulate`, before its notes.
 const SIMULATE: &str = "\
-Plays a script with a board, a host, and the lines between them
+Runs a script with a simulated board, host and serial line
 
 Usage: dgt simulate [OPTIONS]
 
 Options:
-      --position <P>  The pieces, as in a FEN [default: as a game begins]
-      --up <N>        Room for bytes to the host, 67 to 65535 [default: 1024]
-      --down <N>      Room for bytes to the board, 257 to 65535 [default: 1024]
-      --faults        Takes garbleup, garbledown, boardlost, restart, giveup
+      --position <P>  The position, as in a FEN [default: the start of a game]
+      --up <N>        Capacity to the host, 67 to 65535 bytes [default: 1024]
+      --down <N>      Capacity to the board, 257 to 65535 bytes [default: 1024]
+      --faults        Allows garbleup, garbledown, boardlost, restart, giveup
   -h, --help          Print help
 
 ";

@@ -5,7 +5,7 @@ use Rattle.hex.specs.Hex.{decode_of, decode_pairs}
 use Rattle.dgt_ask.specs.declared.details.Detail.TheVariants as detail
 use Rattle.dgt_ask.proofs.laws.details_ask.Goals as goal
 
--- the text of some bytes is no hyphen
+-- the text of at least one byte is not a hyphen
 no_hyphen : (digits bytes : List ℕ) → decode_of digits ≡ Ok bytes → digits ≢ codes "-"
 no_hyphen digits bytes read e = grind (arith, read, e)
 
