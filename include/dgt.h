@@ -1,79 +1,80 @@
 /*
- * dgt.h: a host, a follower, a decoder, a reader of commands and a board for the DGT electronic
+ * dgt.h: a host, a follower, a decoder, a decoder of commands and a board for the DGT electronic
  * chess board.
  *
- * Nothing here opens a line, takes memory or waits. You read bytes from the serial line and hand
- * them in, in chunks of any length; you write out what a call wrote into your buffer. All memory is
- * yours. (dgt_port.h opens a serial port and waits for its bytes. In C++ dgt.hpp has classes.) A
- * program that follows a board on a serial line, with a time in milliseconds:
+ * Nothing here opens a line, allocates memory or waits. You read bytes from the serial line and
+ * pass them in chunks of any length; you send the bytes that a call wrote into your buffer. You
+ * provide all memory. (dgt_port.h opens a serial port and waits for its bytes. dgt.hpp contains
+ * classes for C++.) This program follows a board on a serial line, with times in milliseconds:
  *
  *     static dgt_follower follower;                 // 23 KiB
  *     uint8_t out[DGT_MAX_ASKING], chunk[256];
  *     uint64_t due;
- *     if (!dgt_follower_new(&follower, 10000, 6)) return 1; // the library has another size for it
+ *     if (!dgt_follower_new(&follower, 10000, 6)) return 1; // the linked library's size differs
  *     for (;;) {
  *         dgt_sent asked = dgt_follower_ask(&follower, now(), out, sizeof out);
- *         write(line, out, asked.bytes);            // 0 bytes if it is not due
- *         if (!dgt_follower_due_at(&follower, &due)) return 1; // not with such a period
+ *         write(line, out, asked.bytes);            // 0 bytes if none is due
+ *         if (!dgt_follower_due_at(&follower, &due)) return 1; // with such a period none is due
  *         ...                                       // wait for bytes until `due`, and read n
  *         dgt_follower_hear_all(&follower, now(), chunk, n);
  *     }
  *
- * A follower asks again by itself. A host is asked by rules of your own.
+ * A follower asks again by itself. A host asks only when you call it.
  *
- * WHAT IS PROVED, AND YOUR PART. The Rattle code of the library is proved to keep its contracts: if
- * you keep to what follows, each call returns, and touches only the memory that it is given,
+ * WHAT IS PROVED, AND YOUR PART. The Rattle code of the library is proved to keep its contracts. If
+ * you keep to the rules below, each call returns, and accesses only the memory that you pass,
  * whatever the bytes are. This header's comments and inline functions, such as dgt_host_new, are
- * tested and not proved. If you don't keep to it, nothing is promised. Unless NDEBUG is defined,
- * each call asserts that its handle stands where it was made. Nothing tests the rest at run time.
+ * tested and not proved. If you break a rule, nothing is guaranteed. Unless NDEBUG is defined, each
+ * call asserts that its handle is where it was made. Nothing checks the other rules at run time.
  *
- *  - A pointer whose length is the next parameter may be NULL if that length is 0, in each call. No
- *    other pointer is null. Each is aligned as its type is. A length is at most 2^63 - 1, and
- *    may be read or written as a whole there: of an array of events, `capacity` times
- *    sizeof(dgt_event). An array parameter has its stated length. What a call reads is initialised.
+ *  - A pointer may be NULL if its length, the next parameter, is 0. No other pointer is null. Each
+ *    pointer is aligned for its type. A length is at most 2^63 - 1, and all of that memory may be
+ *    read or written: for an array of events, `capacity` times sizeof(dgt_event) bytes. An array
+ *    parameter has its declared length. Everything that a call reads is initialised.
  *  - A handle is a dgt_host, a dgt_follower, a dgt_decoder, a dgt_command_decoder or a dgt_board.
- *    It is made by its _new or its _init before any other call. Afterwards it is not copied and not
- *    moved, neither by assignment nor by memcpy or realloc: it points into itself. Don't touch its
+ *    Its _new or its _init is called before any other call. Afterwards it is never copied or moved,
+ *    neither by assignment nor by memcpy or realloc: it points into itself. Don't touch its
  *    members. There is nothing to free: stop using it, and its memory is yours again.
  *  - The arguments of one call don't overlap: not a slice and a struct, not a slice and the handle.
- *    Until it returns, nobody else writes what it is handed, or reads what it writes.
+ *    Until the call returns, nobody else writes to its arguments, or reads what it writes.
  *  - Two calls with the same handle never run at once: neither in two threads without a lock
- *    between them, nor in a signal handler. Different handles are independent. A handle goes to
+ *    between them, nor in a signal handler. Different handles are independent. A handle may pass to
  *    another thread under a lock, or by starting or joining that thread.
  *
- * Calls that only look still take a handle that is not const: for the time of the call it is theirs
- * alone. A struct or a slice that a call writes may hold anything before; a slice keeps what stands
- * after the bytes that are written.
+ * Calls that only read still take a handle that isn't const, because they need exclusive access to
+ * it. A struct or a slice that a call writes may be uninitialised; the bytes of a slice after those
+ * written are unchanged.
  *
  * PLATFORM: Linux on x86-64 and on 64-bit ARM processors, with pointers of 64 bits (not x32, not
  * ILP32). All sizes are the same on both. lib/build compiles the library for any of these
- * processors, also the first ones. Elsewhere sizes and calls would differ.
+ * processors, including the first ones. On other platforms, sizes and calls would differ.
  *
- * VERSIONS. DGT_VERSION is the version of this header. The shared library's soname has its first
- * number: libdgt.so.1. A program that was compiled with this header runs with each library of this
- * soname that isn't older. Among all versions with one soname
+ * VERSIONS. DGT_VERSION is the version of this header. The soname of the shared library contains
+ * its first number: libdgt.so.1. A program that was compiled with this header runs with each
+ * library of this soname that isn't older. In all versions with one soname
  *
- *  - each call keeps its name, its parameters and what it is said to do here;
- *  - each struct and each handle keeps its size, its alignment and its members. Only of a member
- *    `reserved` bytes may become members. So hand in zeros there, as `= {0}` does, and don't count
- *    on zeros in what you get;
- *  - each constant keeps its number. No call returns a number that isn't listed here for it, but
+ *  - each call keeps its name, its parameters and its behaviour as documented here;
+ *  - each struct and each handle keeps its size, its alignment and its members. Only bytes of a
+ *    member `reserved` may become members. Therefore set them to zero, as `= {0}` does, and don't
+ *    rely on zeros in results;
+ *  - each constant keeps its number. No call returns a number that isn't listed here for it, except
  *    for the kinds and codes of the next paragraph.
  *
- * A later version may report events and commands for which this one has no name. Their kind, of a
- * dgt_event or a dgt_command, is the next number that is free, or the code of a dgt_command is new.
- * A message that is a DGT_EVENT_OTHER now can get a kind of its own, by which dgt_encode_message
- * takes it then. It still sets `code` and `body_len`, and its body is copied. An event that is no
- * message has the `body_len` 0. So treat a kind of event that you don't know as DGT_EVENT_OTHER,
- * and a kind or a code of a command as DGT_STRAY_BYTE.
+ * A later version may report new events and commands. The kind of such a dgt_event or dgt_command
+ * is the next free number, or the code of the dgt_command is new. A message that is now a
+ * DGT_EVENT_OTHER may get its own kind, which dgt_encode_message then accepts. It still sets `code`
+ * and `body_len`, and its body is copied. An event that isn't a message has a `body_len` of 0.
+ * Therefore treat an unknown kind of event as DGT_EVENT_OTHER, and an unknown kind or code of a
+ * command as DGT_STRAY_BYTE.
  *
- * What may grow are the calls, the constants and the structs that come with new calls: then the
- * second number grows. The third one grows with a correction. Whatever breaks one of these rules
- * has another first number, and so another soname.
+ * A version with new calls, and constants and structs for them, has a greater second number. A
+ * correction has a greater third number. A version that breaks one of these rules has another first
+ * number, and therefore another soname.
  *
- * Squares are numbered rank by rank from 8 down: a8 is 0, b8 is 1, h8 is 7, a7 is 8 and h1 is 63.
- * Pieces are numbered as on the line. White pawn, rook, knight, bishop, king and queen are 1 to 6,
- * and the black ones 7 to 12. 0 is none, and 13 to 15 are three extra pieces without a meaning.
+ * Squares are numbered rank by rank from the eighth down: a8 is 0, b8 is 1, h8 is 7, a7 is 8 and h1
+ * is 63. Pieces have the numbers of the protocol. White pawn, rook, knight, bishop, king and queen
+ * are 1 to 6, and the black ones 7 to 12. 0 is no piece, and 13 to 15 are three extra pieces
+ * without a meaning.
  */
 #ifndef DGT_H
 #define DGT_H
@@ -89,8 +90,7 @@
 extern "C" {
 #endif
 
-/* ---- Attributes for compilers that have them. Names that end with _ are for this
- * header alone. */
+/* ---- Attributes for compilers that have them. Names that end with _ are only for this header. */
 
 #ifdef __has_attribute
 #define DGT_HAS_(attribute) __has_attribute(attribute)
@@ -104,13 +104,13 @@ extern "C" {
 #define DGT_NONNULL_(...)
 #endif
 
-#if DGT_HAS_(warn_unused_result) /* the result says how far the call came, or whether it did */
+#if DGT_HAS_(warn_unused_result) /* the result says how much was done, or whether it was */
 #define DGT_MUST_USE_ __attribute__((warn_unused_result))
 #else
 #define DGT_MUST_USE_
 #endif
 
-#if DGT_HAS_(access) /* an argument is read, or written; a second one is how much of it */
+#if DGT_HAS_(access) /* an argument is read or written; a second one is its length */
 #define DGT_READS_(...) __attribute__((access(read_only, __VA_ARGS__)))
 #define DGT_WRITES_(...) __attribute__((access(write_only, __VA_ARGS__)))
 #else
@@ -124,7 +124,7 @@ extern "C" {
 #define DGT_LEAST_ static
 #endif
 
-/* ---- The version of this header, by which conditions can be compiled, and of the library. */
+/* ---- The versions of this header, for conditional compilation, and of the library. */
 
 #define DGT_VERSION_MAJOR 1
 #define DGT_VERSION_MINOR 0
@@ -132,8 +132,8 @@ extern "C" {
 #define DGT_VERSION \
     (DGT_VERSION_MAJOR * 1000000 + DGT_VERSION_MINOR * 1000 + DGT_VERSION_PATCH)
 
-/* The version of the library that is linked, as one number, three digits a part: 1.2.3 is 1002003.
- * If it is DGT_VERSION or more, with the same first part, it has all that this header says. */
+/* The version of the linked library as one number, with three digits a part: 1.2.3 is 1002003. If
+ * it is DGT_VERSION or more, with the same first part, it provides all of this header. */
 uint32_t dgt_version(void);
 
 /* ---- Limits. */
@@ -150,12 +150,13 @@ uint32_t dgt_version(void);
 #define DGT_MAX_SENT 67         /* the most bytes that dgt_board_poll writes */
 #define DGT_MAX_KEPT 64         /* the most bytes of a trademark, a battery body or a long serial
                                    number that a board keeps */
-#define DGT_PLACEMENT_ROOM 72   /* room for each placement and the zero at its end */
+#define DGT_PLACEMENT_ROOM 72   /* room for any placement and its final zero byte */
 
-/* ---- Handles. Their members are the library's. */
+/* ---- Handles. Their members are private. */
 
-/* How many bytes they take, as dgt_host_size() and its like return, and _new compares. That is more
- * than the library needs today, so that a handle can grow within its size. */
+/* Their sizes in bytes, as the linked library's dgt_host_size() and the other such calls return
+ * them, and as each _new checks. They are more than the library needs today, so that a handle can
+ * grow within its size. */
 #define DGT_HOST_SIZE 22528
 #define DGT_FOLLOWER_SIZE 23552
 #define DGT_DECODER_SIZE 21504
@@ -194,12 +195,12 @@ typedef struct dgt_time {
     uint8_t hours;   /* 0 to 9 */
     uint8_t minutes; /* 0 to 59 */
     uint8_t seconds; /* 0 to 59 */
-    uint8_t flags;   /* 0 to 7, carried: D4 to D6 of the byte of the hours, as DGT_FLAG_BLOCKED */
+    uint8_t flags;   /* 0 to 7: D4 to D6 of the byte of the hours, such as DGT_FLAG_BLOCKED */
 } dgt_time;
 
 /* dgt_clock.kind */
 enum {
-    DGT_CLOCK_UNKNOWN = 0, /* nothing was reported: all else is 0 */
+    DGT_CLOCK_UNKNOWN = 0, /* nothing was reported: all members are 0 */
     DGT_CLOCK_TIMES = 1,   /* the times of both sides, and the status; raw is 0 */
     DGT_CLOCK_NONE = 2     /* no clock is connected: raw and the status; the times are 0 */
 };
@@ -215,8 +216,8 @@ enum {
 };
 
 /* A report of a clock. `first` and `second` are the clock's two sides, in the order of the message.
- * They say nothing of colours. If it is handed in, members that its kind doesn't set are not looked
- * at. */
+ * They don't say which colour is on which side. Calls that read the struct ignore members that its
+ * kind doesn't set. */
 typedef struct dgt_clock {
     uint8_t kind;
     uint8_t status; /* 0 to 127 */
@@ -225,43 +226,43 @@ typedef struct dgt_clock {
     dgt_time second;
 } dgt_clock;
 
-/* ---- What a board's bytes make known. */
+/* ---- The events in a board's bytes. */
 
-/* dgt_event.kind, and which members it sets beside `unasked` and `place`. The other members are 0.
- * DGT_EVENT_DUMP to DGT_EVENT_OTHER are messages. Kinds of a later version follow from 16 on: treat
- * one that you don't know as DGT_EVENT_OTHER. */
+/* dgt_event.kind, and which members it sets in addition to `unasked` and `place`. The other members
+ * are 0. DGT_EVENT_DUMP to DGT_EVENT_OTHER are messages. Kinds of later versions are numbered from
+ * 16 on: treat an unknown one as DGT_EVENT_OTHER. */
 enum {
     DGT_EVENT_NONE = 0,         /* nothing yet: all bytes were used */
     DGT_EVENT_DUMP = 1,         /* all squares were reported: pieces */
     DGT_EVENT_FIELD = 2,        /* one square was reported: square, piece */
     DGT_EVENT_TIMES = 3,        /* the clock's times: clock */
     DGT_EVENT_NO_CLOCK = 4,     /* no clock is connected: clock */
-    DGT_EVENT_ACK = 5,          /* the answer to a message for the clock: ack, ack_status */
+    DGT_EVENT_ACK = 5,          /* the reply to a clock message: ack, ack_status */
     DGT_EVENT_SERIAL = 6,       /* the serial number: serial */
     DGT_EVENT_TRADEMARK = 7,    /* the trademark: code, body_len, and the body */
-    DGT_EVENT_VERSION = 8,      /* the version of the board's program: main_number, sub_number */
+    DGT_EVENT_VERSION = 8,      /* the version of the board's firmware: main_number, sub_number */
     DGT_EVENT_BATTERY = 9,      /* the state of the battery: code, body_len, and the body */
     DGT_EVENT_LONG_SERIAL = 10, /* the long serial number: code, body_len, and the body */
     DGT_EVENT_OTHER = 11,       /* a message that is carried unread: code, body_len, and the body */
-    DGT_EVENT_REFUSED = 12,     /* a whole message whose body says nothing: code, fault, at */
-    DGT_EVENT_CUT = 13,         /* a message was cut off by the next, which begins here: have */
-    DGT_EVENT_BAD_LENGTH = 14,  /* the length of a message is less than that of its header, 3 */
-    DGT_EVENT_STRAY = 15        /* a byte in no message: byte */
+    DGT_EVENT_REFUSED = 12,     /* a whole message with an invalid body: code, fault, at */
+    DGT_EVENT_CUT = 13,         /* the next message begins here and cuts off one: have */
+    DGT_EVENT_BAD_LENGTH = 14,  /* the length of a message is less than 3, the size of its header */
+    DGT_EVENT_STRAY = 15        /* a byte that belongs to no message: byte */
 };
 
 /* dgt_event.fault */
 enum {
     DGT_NO_FAULT = 0,
-    DGT_WRONG_SIZE = 1,  /* the body has not the size of its code */
-    DGT_BAD_PIECE = 2,   /* the byte of the body at `at` is no piece */
-    DGT_BAD_SQUARE = 3,  /* it is no square */
-    DGT_BAD_READING = 4  /* it has a digit that the times of a clock never have */
+    DGT_WRONG_SIZE = 1,  /* the body doesn't have the size that its code fixes */
+    DGT_BAD_PIECE = 2,   /* the byte of the body at `at` is not a piece */
+    DGT_BAD_SQUARE = 3,  /* it is not a square */
+    DGT_BAD_READING = 4  /* it contains a digit that a clock's time never contains */
 };
 
 typedef struct dgt_event {
     uint8_t kind;
-    uint8_t unasked;      /* set by a host alone: 1 if the message doesn't answer the first awaited
-                             command, else 0 */
+    uint8_t unasked;      /* only set by a host: 1 if the message doesn't answer the first awaited
+                             command, and otherwise 0 */
     uint8_t code;         /* of the message, 0 to 127 */
     uint8_t square;
     uint8_t piece;
@@ -275,54 +276,54 @@ typedef struct dgt_event {
     dgt_clock clock;
     uint8_t pieces[64];
     uint8_t reserved[29]; /* each 0 */
-    size_t have;          /* how many bytes of the message had come, at least 1 */
+    size_t have;          /* how many bytes of the message were received, at least 1 */
     size_t at;            /* the place in the body, from 0 on */
-    size_t body_len;      /* how many bytes the body has, also if not all were copied */
-    size_t place;         /* of the bytes handed to the call, how many had been used when the event
-                             came: at least 1. It is 0 if the kind is DGT_EVENT_NONE, and in an
-                             event of dgt_view_message */
+    size_t body_len;      /* the length of the body, even if not all of it was copied */
+    size_t place;         /* how many bytes of the call there are up to and including the event's
+                             last one: at least 1. It is 0 if the kind is DGT_EVENT_NONE, and in
+                             an event of dgt_view_message */
 } dgt_event;
 
-/* ---- What a host's bytes mean. */
+/* ---- The commands in a host's bytes. */
 
-/* dgt_command.kind, and which members it sets. The other members are 0. Kinds of a later version
- * follow from 6 on: treat one that you don't know as DGT_STRAY_BYTE. */
+/* dgt_command.kind, and which members it sets. The other members are 0. Kinds of later versions are
+ * numbered from 6 on: treat an unknown one as DGT_STRAY_BYTE. */
 enum {
     DGT_NO_WORD = 0,   /* nothing yet: all bytes were used */
     DGT_COMMAND = 1,   /* a command: code, id of a clock message, word_len, and the word */
     DGT_BAD_SIZE = 2,  /* the second byte of a clock message, its size, is below 3 */
     DGT_BAD_START = 3, /* the third byte of a clock message isn't 03 */
     DGT_BAD_END = 4,   /* the last byte of a clock message isn't 00 */
-    DGT_STRAY_BYTE = 5 /* a byte that begins no command: byte */
+    DGT_STRAY_BYTE = 5 /* a byte that doesn't begin a command: byte */
 };
 
-/* The first byte of each command, dgt_command.code. Treat a command with another code, of a later
- * version, as a DGT_STRAY_BYTE. */
+/* The first byte of each command, dgt_command.code. Treat a command with an unknown code, of a
+ * later version, as a DGT_STRAY_BYTE. */
 enum {
-    DGT_SEND_CLOCK_MESSAGE = 0x2b, /* word[3] is the id, and word[4] to word[word_len - 2] what
-                                      the message carries */
+    DGT_SEND_CLOCK_MESSAGE = 0x2b, /* word[3] is the id, and word[4] to word[word_len - 2] the
+                                      payload */
     DGT_SEND_RESET = 0x40,         /* go to the idle mode */
     DGT_SEND_CLOCK = 0x41,         /* send the clock's times */
     DGT_SEND_DUMP = 0x42,          /* send all squares */
-    DGT_SEND_UPDATE = 0x43,        /* from now on send each change, and the clock's times */
-    DGT_SEND_UPDATE_BOARD = 0x44,  /* from now on send each change */
+    DGT_SEND_UPDATE = 0x43,        /* from now on, send each change and the clock's times */
+    DGT_SEND_UPDATE_BOARD = 0x44,  /* from now on, send each change */
     DGT_SEND_SERIAL = 0x45,        /* send the serial number */
     DGT_SEND_TRADEMARK = 0x47,     /* send the trademark */
-    DGT_SEND_UPDATE_NICE = 0x4b,   /* from now on send each change, and the times as they change */
+    DGT_SEND_UPDATE_NICE = 0x4b,   /* from now on, send each change and changed times */
     DGT_SEND_BATTERY = 0x4c,       /* send the state of the battery */
     DGT_SEND_VERSION = 0x4d,       /* send the version */
     DGT_SEND_LONG_SERIAL = 0x55,   /* send the long serial number */
     DGT_SEND_LEDS = 0x60           /* word[2] to word[word_len - 1] are the LEDs' bytes */
 };
 
-/* The ids of clock messages, and what they carry. */
+/* The ids of clock messages, and their payloads. */
 enum {
     DGT_ID_DISPLAY = 0x01,     /* segments of the places 3, 2, 1, 6, 5, 4 from the left, dots,
                                      beep: 8 bytes */
     DGT_ID_ICONS = 0x02,       /* any bytes */
-    DGT_ID_END = 0x03,         /* nothing: show the times again */
-    DGT_ID_BUTTON = 0x08,      /* nothing */
-    DGT_ID_VERSION = 0x09,     /* nothing: the answer is a DGT_EVENT_ACK */
+    DGT_ID_END = 0x03,         /* empty: show the times again */
+    DGT_ID_BUTTON = 0x08,      /* empty */
+    DGT_ID_VERSION = 0x09,     /* empty: the reply is a DGT_EVENT_ACK */
     DGT_ID_SET_AND_RUN = 0x0a, /* hours, minutes, seconds left and right, control: 7 bytes */
     DGT_ID_BEEP = 0x0b,        /* the duration: 1 byte */
     DGT_ID_TEXT = 0x0c         /* eight letters and beep: 9 bytes */
@@ -334,17 +335,17 @@ typedef struct dgt_command {
     uint8_t id;
     uint8_t byte;
     uint8_t reserved[4]; /* each 0 */
-    size_t word_len;     /* how many bytes the command has, also if not all were copied */
+    size_t word_len;     /* the length of the command, even if not all of it was copied */
 } dgt_command;
 
-/* ---- A host: asks a board, and keeps a picture of it from what it hears. */
+/* ---- A host: sends commands, and tracks the board's position from the messages that it hears. */
 
-/* Its events, one after another:
+/* Its events, one by one:
  *
  *     static dgt_host host;                         // 22 KiB
  *     uint8_t out[DGT_RESTART_LENGTH], body[DGT_MAX_BODY];
  *     dgt_event event;
- *     if (!dgt_host_new(&host)) return 1;           // the library has another size for it
+ *     if (!dgt_host_new(&host)) return 1;           // the linked library's size differs
  *     dgt_sent sent = dgt_host_restart(&host, out, sizeof out);
  *     write(line, out, sent.bytes);
  *     while ((n = read(line, chunk, sizeof chunk)) > 0)
@@ -353,17 +354,16 @@ typedef struct dgt_command {
  *             if (event.kind == DGT_EVENT_FIELD) ...
  *         }
  *
- * After a fault of the line it has to be asked again: a follower does that by itself. */
+ * After a fault of the line you have to ask the board again: a follower does that by itself. */
 
-/* How many bytes a dgt_host takes, by the library that is linked. */
+/* The size of a dgt_host in bytes, according to the linked library. */
 size_t dgt_host_size(void);
 
-/* Makes the memory at `host`, of dgt_host_size() bytes and aligned to 8, a host that knows nothing
- * and awaits nothing. */
+/* Makes a host that knows nothing and awaits nothing in the memory at `host`: dgt_host_size()
+ * bytes, aligned to 8. */
 void dgt_host_init(dgt_host *host) DGT_NONNULL_(1);
 
-/* The same; false, and nothing done, if the library that is linked has another size for it than
- * this header. */
+/* The same. Returns false and does nothing if the linked library's size is different. */
 DGT_MUST_USE_ DGT_NONNULL_(1)
 static inline bool dgt_host_new(dgt_host *host) {
     if (dgt_host_size() != sizeof *host) return false;
@@ -371,39 +371,37 @@ static inline bool dgt_host_new(dgt_host *host) {
     return true;
 }
 
-/* Uses bytes up to and including the first that makes an event, or all of them, and returns how
- * many: at least 1 if n > 0. Writes the event to `event`, and as much of its body as there is room
- * for to the beginning of `body`. A message changes what the host knows: a dump sets the picture, a
- * field one square of a picture that is known, and a reading of the clock the clock. The first
- * awaited reply is then awaited no longer; another one is `unasked`. Call again with the bytes that
- * are left. */
+/* Uses the bytes up to and including the first that completes an event, or all of them, and returns
+ * how many: at least 1 if n > 0. Writes the event to `event`, and as much of its body as fits to
+ * the beginning of `body`. A dump sets the picture, a field update one square of a known picture,
+ * and a reading of the clock the clock. The first awaited reply is then no longer awaited; any
+ * other reply is `unasked`. Call again with the remaining bytes. */
 size_t dgt_host_hear(dgt_host *host, const uint8_t *bytes, size_t n, dgt_event *event,
                      uint8_t *body, size_t room)
     DGT_MUST_USE_ DGT_NONNULL_(1, 4) DGT_READS_(2, 3) DGT_WRITES_(4) DGT_WRITES_(5, 6);
 
-/* How far dgt_host_hear_all and dgt_decoder_feed_all have come. */
+/* The result of dgt_host_hear_all and dgt_decoder_feed_all. */
 typedef struct dgt_told {
     size_t used;  /* how many bytes of the chunk were used */
     size_t count; /* how many events there were: the first ones of `events` */
 } dgt_told;
 
-/* Hears a whole chunk, as dgt_host_hear does event by event, and writes the events in their order
- * to `events`, which has room for `capacity` of them. The offset of an event in all that a board
- * sent, as `dgt monitor` prints it, is its `place` and what the calls before used, added up.
+/* Hears a whole chunk, as dgt_host_hear does event by event, and writes the events in order to
+ * `events`, which has room for `capacity` of them. The offset of an event in all bytes of a board,
+ * as `dgt monitor` prints it, is its `place` plus the bytes used by earlier calls.
  * The call ends before the chunk does in two cases: after the event that fills the array, and after
- * an event with a body (body_len > 0). As much of that body as there is room for is written to the
- * beginning of `body`. Call again with the bytes that are left: at least 1 is used if n > 0 and
- * capacity > 0. The structs after those that are written stay as they were, and so does `body` if
- * no event has a body. */
+ * an event with a body (body_len > 0). As much of that body as fits is written to the beginning of
+ * `body`. Call again with the remaining bytes: at least 1 is used if n > 0 and capacity > 0. The
+ * structs after those written are unchanged, and so is `body` if no event has a body. */
 dgt_told dgt_host_hear_all(dgt_host *host, const uint8_t *bytes, size_t n, dgt_event *events,
                            size_t capacity, uint8_t *body, size_t room)
     DGT_MUST_USE_ DGT_NONNULL_(1) DGT_READS_(2, 3) DGT_WRITES_(4, 5) DGT_WRITES_(6, 7);
 
 /* The status of a dgt_sent. */
 enum {
-    DGT_SENT = 0,      /* `bytes` bytes stand at the front of the buffer: write them to the line */
+    DGT_SENT = 0,      /* `bytes` bytes were written to the buffer: send them on the line */
     DGT_TOO_MANY = 1,  /* 16 replies are awaited already: nothing changed, and bytes is 0 */
-    DGT_NO_ROOM = 2,   /* the buffer has less than `bytes` bytes: nothing changed */
+    DGT_NO_ROOM = 2,   /* the buffer is shorter than `bytes`: nothing changed */
     DGT_NO_COMMAND = 3 /* there is no such command: nothing changed, and bytes is 0 */
 };
 
@@ -412,47 +410,46 @@ typedef struct dgt_sent {
     size_t bytes;
 } dgt_sent;
 
-/* Asks for each change from now on, and for all squares: writes 44 42. A dump is awaited then.
- * DGT_TOO_MANY goes before DGT_NO_ROOM, here and below. */
+/* Requests each change from now on, and all squares: writes 44 42. A dump is then awaited.
+ * DGT_TOO_MANY is checked before DGT_NO_ROOM, here and below. */
 dgt_sent dgt_host_follow(dgt_host *host, uint8_t *out, size_t n)
     DGT_MUST_USE_ DGT_NONNULL_(1) DGT_WRITES_(2, 3);
 
-/* The same after 255 zeros, which end whatever command the board is in the middle of: writes
- * DGT_RESTART_LENGTH bytes. For a line on which another program may have talked to the board. */
+/* The same after 255 zeros, which complete any unfinished command of the board: writes
+ * DGT_RESTART_LENGTH bytes. Use it on a line that another program may have used. */
 dgt_sent dgt_host_restart(dgt_host *host, uint8_t *out, size_t n)
     DGT_MUST_USE_ DGT_NONNULL_(1) DGT_WRITES_(2, 3);
 
-/* Sends the command that is the byte `code` alone, DGT_SEND_RESET to DGT_SEND_LONG_SERIAL. A reply
- * is awaited then of a dump, a serial number, a trademark, a battery state, a version and a long
- * serial number. DGT_NO_COMMAND goes before all else. */
+/* Sends the command of the single byte `code`, DGT_SEND_RESET to DGT_SEND_LONG_SERIAL. A requested
+ * dump, serial number, trademark, battery state, version or long serial number is then awaited.
+ * DGT_NO_COMMAND is checked first. */
 dgt_sent dgt_host_send(dgt_host *host, uint8_t code, uint8_t *out, size_t n)
     DGT_MUST_USE_ DGT_NONNULL_(1) DGT_WRITES_(3, 4);
 
-/* Sends the message with this id and this payload to the clock. DGT_NO_COMMAND if the payload
- * has more than DGT_MAX_PAYLOAD bytes. */
+/* Sends the clock message with this id and this payload. Returns DGT_NO_COMMAND if the payload is
+ * longer than DGT_MAX_PAYLOAD bytes. */
 dgt_sent dgt_host_send_clock(dgt_host *host, uint8_t id, const uint8_t *payload, size_t payload_len,
                              uint8_t *out, size_t n)
     DGT_MUST_USE_ DGT_NONNULL_(1) DGT_READS_(3, 4) DGT_WRITES_(5, 6);
 
-/* Clock messages by their meaning. Each number is sent as it is: what `dots`, `beep`, `duration`
- * and `control` mean is the clock's. A board that has a clock acknowledges each of them by a
- * DGT_EVENT_ACK. */
+/* Clock messages by their meaning. Each number is sent as it is: the clock interprets `dots`,
+ * `beep`, `duration` and `control`. A board with a clock acknowledges each by a DGT_EVENT_ACK. */
 
-/* Shows six digits, spaces and hyphens, from left to right. DGT_NO_COMMAND if there is another
- * character among them; it goes before all else. It reads six bytes, and no zero after them:
+/* Shows six digits, spaces and hyphens, from left to right. Returns DGT_NO_COMMAND for any other
+ * character, before all other checks. It reads six bytes without a final zero byte:
  * dgt_host_show_digits takes a text such as "12-34". */
 dgt_sent dgt_host_send_display(dgt_host *host, const uint8_t text[DGT_LEAST_ 6], uint8_t dots,
                                uint8_t beep, uint8_t *out, size_t n)
     DGT_MUST_USE_ DGT_NONNULL_(1, 2) DGT_READS_(2) DGT_WRITES_(5, 6);
 
-/* Shows eight characters, from left to right, a byte each. It reads eight bytes, and no zero after
- * them: dgt_host_show_text takes a text such as "hello". */
+/* Shows eight characters, from left to right, a byte each. It reads eight bytes without a final
+ * zero byte: dgt_host_show_text takes a text such as "hello". */
 dgt_sent dgt_host_send_text(dgt_host *host, const uint8_t text[DGT_LEAST_ 8], uint8_t beep,
                             uint8_t *out, size_t n)
     DGT_MUST_USE_ DGT_NONNULL_(1, 2) DGT_READS_(2) DGT_WRITES_(4, 5);
 
-/* Copies a text, and as many spaces after it as there is room for. False if it doesn't fit, or is
- * not ASCII. */
+/* Copies a text, and fills the room after it with spaces. Returns false if it is too long or not
+ * ASCII. */
 static inline bool dgt_pad_(const char *text, uint8_t *padded, size_t room) {
     for (size_t at = 0; at < room; at++) {
         char each = *text != '\0' ? *text++ : ' ';
@@ -462,9 +459,9 @@ static inline bool dgt_pad_(const char *text, uint8_t *padded, size_t room) {
     return *text == '\0';
 }
 
-/* Shows a text of at most six digits, spaces and hyphens, with a zero at its end. A short one
- * has spaces after it. DGT_NO_COMMAND if it is longer or has another character; it goes before all
- * else. */
+/* Shows a text of at most six digits, spaces and hyphens, which ends with a zero byte. Spaces are
+ * added after a short one. Returns DGT_NO_COMMAND if it is longer or contains another character,
+ * before all other checks. */
 DGT_MUST_USE_ DGT_NONNULL_(1, 2) DGT_WRITES_(5, 6)
 static inline dgt_sent dgt_host_show_digits(dgt_host *host, const char *text, uint8_t dots,
                                             uint8_t beep, uint8_t *out, size_t n) {
@@ -474,8 +471,8 @@ static inline dgt_sent dgt_host_show_digits(dgt_host *host, const char *text, ui
     return dgt_host_send_display(host, padded, dots, beep, out, n);
 }
 
-/* Shows a text of at most eight ASCII characters, with a zero at its end. A short one has spaces
- * after it. DGT_NO_COMMAND if it is longer or not ASCII; it goes before all else. */
+/* Shows a text of at most eight ASCII characters, which ends with a zero byte. Spaces are added
+ * after a short one. Returns DGT_NO_COMMAND if it is longer or not ASCII, before other checks. */
 DGT_MUST_USE_ DGT_NONNULL_(1, 2) DGT_WRITES_(4, 5)
 static inline dgt_sent dgt_host_show_text(dgt_host *host, const char *text, uint8_t beep,
                                           uint8_t *out, size_t n) {
@@ -489,116 +486,116 @@ static inline dgt_sent dgt_host_show_text(dgt_host *host, const char *text, uint
 dgt_sent dgt_host_send_beep(dgt_host *host, uint8_t duration, uint8_t *out, size_t n)
     DGT_MUST_USE_ DGT_NONNULL_(1) DGT_WRITES_(3, 4);
 
-/* Sets the times of both sides, in hours, minutes and seconds, and has the clock do what `control`
- * says. */
+/* Sets the times of both sides, in hours, minutes and seconds, and sends `control` to the clock. */
 dgt_sent dgt_host_send_set_and_run(dgt_host *host, const uint8_t left[3], const uint8_t right[3],
                                    uint8_t control, uint8_t *out, size_t n)
     DGT_MUST_USE_ DGT_NONNULL_(1, 2, 3) DGT_READS_(2) DGT_READS_(3) DGT_WRITES_(5, 6);
 
-/* Shows the icons of these bytes. DGT_NO_COMMAND if there are more than DGT_MAX_PAYLOAD. */
+/* Shows the icons of these bytes. Returns DGT_NO_COMMAND for more than DGT_MAX_PAYLOAD bytes. */
 dgt_sent dgt_host_send_icons(dgt_host *host, const uint8_t *icons, size_t icons_len, uint8_t *out,
                              size_t n)
     DGT_MUST_USE_ DGT_NONNULL_(1) DGT_READS_(2, 3) DGT_WRITES_(4, 5);
 
-/* Ends what is shown, so that the clock shows its times again. */
+/* Ends the display of a text or icons: the clock shows its times again. */
 dgt_sent dgt_host_send_end(dgt_host *host, uint8_t *out, size_t n)
     DGT_MUST_USE_ DGT_NONNULL_(1) DGT_WRITES_(2, 3);
 
-/* Asks for the state of the clock's buttons. */
+/* Requests the state of the clock's buttons. */
 dgt_sent dgt_host_send_button(dgt_host *host, uint8_t *out, size_t n)
     DGT_MUST_USE_ DGT_NONNULL_(1) DGT_WRITES_(2, 3);
 
-/* Asks for the version of the clock. */
+/* Requests the version of the clock. */
 dgt_sent dgt_host_send_clock_version(dgt_host *host, uint8_t *out, size_t n)
     DGT_MUST_USE_ DGT_NONNULL_(1) DGT_WRITES_(2, 3);
 
-/* Sends an LED frame. DGT_NO_COMMAND if it has more than DGT_MAX_LEDS bytes. */
+/* Sends an LED frame. Returns DGT_NO_COMMAND for more than DGT_MAX_LEDS bytes. */
 dgt_sent dgt_host_send_leds(dgt_host *host, const uint8_t *leds, size_t leds_len, uint8_t *out,
                             size_t n)
     DGT_MUST_USE_ DGT_NONNULL_(1) DGT_READS_(2, 3) DGT_WRITES_(4, 5);
 
-/* The pieces on the squares, by their numbers. False, and nothing written, until a dump was heard.
- */
+/* The pieces on the squares, by square number. Returns false and writes nothing before the first
+ * dump. */
 bool dgt_host_picture(dgt_host *host, uint8_t pieces[64])
     DGT_MUST_USE_ DGT_NONNULL_(1, 2) DGT_WRITES_(2);
 
-/* The same as the placement of a FEN, with a zero at its end. */
+/* The same as the placement of a FEN, which ends with a zero byte. */
 bool dgt_host_placement(dgt_host *host, char text[DGT_PLACEMENT_ROOM])
     DGT_MUST_USE_ DGT_NONNULL_(1, 2) DGT_WRITES_(2);
 
-/* The clock as the board reported it last. */
+/* The clock as last reported. */
 void dgt_host_clock(dgt_host *host, dgt_clock *clock) DGT_NONNULL_(1, 2) DGT_WRITES_(2);
 
-/* How many replies are awaited. The codes of the commands that ask for them, as DGT_SEND_DUMP,
- * stand at the front of `codes`, the next one first. */
+/* How many replies are awaited. The codes of the commands that request them, such as DGT_SEND_DUMP,
+ * are written at the beginning of `codes`, the next one first. */
 size_t dgt_host_awaited(dgt_host *host, uint8_t codes[DGT_MAX_AWAITED])
     DGT_NONNULL_(1, 2) DGT_WRITES_(2);
 
-/* Gives up all replies that are awaited, and returns how many there were. Nothing else changes: the
- * host keeps its picture, its clock and the bytes of a message that is not finished. Call it when a
+/* Removes all awaited replies from the list, and returns how many there were. Nothing else changes:
+ * the host keeps its picture, its clock and the bytes of an unfinished message. Call it when a
  * reply is overdue. A lost reply stays the next one awaited: each reply after it is `unasked`, and
- * once 16 are awaited, each further question is DGT_TOO_MANY. A reply that comes after this call is
- * `unasked` as well. Ask again next, with dgt_host_restart or dgt_host_send. */
+ * once 16 are awaited, each further request returns DGT_TOO_MANY. A reply that arrives after this
+ * call is `unasked` as well. Ask again next, with dgt_host_restart or dgt_host_send. */
 size_t dgt_host_give_up_awaited(dgt_host *host) DGT_NONNULL_(1);
 
-/* How many bytes were heard of a message that is not finished: at most 16382. */
+/* How many bytes of an unfinished message were heard: at most 16382. */
 size_t dgt_host_unread(dgt_host *host) DGT_NONNULL_(1);
 
-/* The line is lost, and what was under way on it: the host is as new. Follow the board again once
- * the line is back. */
+/* Reports that the line was lost, with all bytes under way: the host is as new. Follow the board
+ * again when the line is back. */
 void dgt_host_line_lost(dgt_host *host) DGT_NONNULL_(1);
 
-/* ---- A follower: a host that keeps its picture right by asking for the whole board again. */
+/* ---- A follower: a host that requests the whole board again and again. */
 
-/* A follower asks the board for all its squares once in each period, as the program at the head of
- * this file has it do. You hand in the time, as milliseconds of a clock that doesn't go back, and
- * hand on what it writes.
+/* A follower requests all squares from the board once in each period, as the program at the top of
+ * this file does. You pass the time, as milliseconds of a clock that doesn't go back, and send the
+ * bytes that it writes.
  *
- * An asking is a heartbeat: the command of the mode and DGT_SEND_DUMP, 2 bytes. Or it begins anew:
- * 255 zeros, which end whatever command the board is in the middle of, 44 42 and the command of the
- * mode, 258 bytes. The host gives up the replies that it awaits then. A heartbeat is enough if a
- * dump that was awaited came since the last asking, nothing disturbed the line since, fewer than 16
- * replies are awaited, and the patience has not run out.
+ * A request is a heartbeat or a new start. A heartbeat is the command of the mode and
+ * DGT_SEND_DUMP, 2 bytes. To start over, the follower writes 258 bytes: 255 zeros, which complete
+ * any unfinished command of the board, 44 42 and the command of the mode. The host then gives up
+ * the replies that it awaits. A heartbeat is enough if an awaited dump was heard since the last
+ * request, without a disturbance after it, fewer than 16 replies are awaited, and patience is left.
  *
- * Disturbances are a cut, refused, misstated or stray message, one that is not asked for, and a
- * dump that isn't the picture that was known. So is a message that stays unfinished for a second
- * after its last byte. A clock that shows no digits, as one does while it is set, is none
- * (DGT_BAD_READING). If a new beginning gave up requests of yours while nothing was wrong, what
- * comes unasked before the next asking is none either.
+ * Disturbances are a cut or refused message, a bad length, a stray byte, an unasked message, and a
+ * dump that differs from the known picture. So is a message that is unfinished for a second after
+ * its last byte. A clock without digits, as while it is being set (DGT_BAD_READING), is not a
+ * disturbance. Neither is an unasked message before the next request, if a new start gave up
+ * requests of yours although nothing was wrong.
  *
- * In a mode that reports the clock, DGT_MODE_UPDATE or DGT_MODE_UPDATE_NICE, an asking ends with
- * DGT_SEND_CLOCK, which requests a reading of the clock: a heartbeat has 3 bytes then, and a new
- * beginning DGT_MAX_ASKING. The reading is not awaited, so no asking begins anew because it has not
- * come.
+ * In a mode that reports the clock, DGT_MODE_UPDATE or DGT_MODE_UPDATE_NICE, a request ends with
+ * DGT_SEND_CLOCK, which requests a reading of the clock. A heartbeat is then 3 bytes long, and a
+ * new start DGT_MAX_ASKING. The reading is not awaited: if it doesn't arrive, the follower doesn't
+ * start over for that.
  *
  * A picture is in doubt, confirmed or neither.
  *
- *  - In doubt: since the last dump that was awaited there was a disturbance, or an answer was a
- *    second late. It may be wrong, and is asked for again.
- *  - Confirmed: a dump that was awaited repeated it. Since then nothing changed it, came unasked or
- *    disturbed, and no answer was late. It was right when that dump was sent, if at most one
- *    message was altered, lost or inserted since the last whole dump before it. Two that agree can
- *    make it wrong. A change that is lost later shows with the next dump.
- *  - Neither: it has just been reported or changed, and no dump has repeated it yet. One altered
- *    message is enough to make it wrong. dgt_follower_set_confirm has it confirmed soon. */
+ *  - In doubt: since the last awaited dump there was a disturbance, or an answer was a second late.
+ *    The picture may be wrong, and is requested again.
+ *  - Confirmed: an awaited dump repeated it. Since then there was no change, no unasked message, no
+ *    disturbance and no late answer. It is then what the board had reported, up to that dump or
+ *    including it, if at most one message was altered, lost or inserted since the last whole dump
+ *    before it. Two faults that agree can make it wrong, and so can one in a dump that is the first
+ *    to report a change. The next dump shows it.
+ *  - Neither: it was just reported or changed, and no dump has repeated it yet. One altered message
+ *    is enough to make it wrong. After dgt_follower_set_confirm it is confirmed soon. */
 
-/* How many bytes a dgt_follower takes, by the library that is linked. */
+/* The size of a dgt_follower in bytes, according to the linked library. */
 size_t dgt_follower_size(void);
 
-/* Makes the memory at `follower`, of dgt_follower_size() bytes and aligned to 8, a follower that
- * has never asked, with a period of 10000 milliseconds, a patience of 6, and the mode
+/* Makes a follower that has sent no request in the memory at `follower`: dgt_follower_size() bytes,
+ * aligned to 8. It has a period of 10000 milliseconds, a patience of 6, and the mode
  * DGT_MODE_UPDATE_BOARD. */
 void dgt_follower_init(dgt_follower *follower) DGT_NONNULL_(1);
 
-/* Makes a follower anew: it has never asked, knows no picture, and has this period, this patience
- * and the mode DGT_MODE_UPDATE_BOARD. It neither confirms nor identifies. `period` is in
- * milliseconds, from one asking to the next. One below DGT_LEAST_PERIOD counts as that: a new
- * beginning and its dump take a third of a second on the line, so that shorter periods would fill
- * it. `patience` is how many heartbeats may follow one another before it begins anew whatever it
- * has heard; with 0 it always begins anew. */
+/* Makes a follower as new: it has sent no request, knows no picture, and has this period, this
+ * patience and the mode DGT_MODE_UPDATE_BOARD. It neither confirms nor identifies. `period` is the
+ * time from one request to the next, in milliseconds. One below DGT_LEAST_PERIOD counts as that: a
+ * new start and its dump occupy the line for a third of a second, so that shorter periods would
+ * fill it. `patience` is how many heartbeats may follow one another before the follower starts
+ * over, whatever it has heard; with 0 it always starts over. */
 void dgt_follower_start(dgt_follower *follower, uint64_t period, uint32_t patience) DGT_NONNULL_(1);
 
-/* Both; false, and nothing done, if the sizes differ, as with dgt_host_new. */
+/* Both calls. Returns false and does nothing if the sizes differ, as with dgt_host_new. */
 DGT_MUST_USE_ DGT_NONNULL_(1)
 static inline bool dgt_follower_new(dgt_follower *follower, uint64_t period, uint32_t patience) {
     if (dgt_follower_size() != sizeof *follower) return false;
@@ -607,64 +604,63 @@ static inline bool dgt_follower_new(dgt_follower *follower, uint64_t period, uin
     return true;
 }
 
-/* Uses bytes, which came at this time, up to and including the first that makes an event, or all of
- * them, and returns how many: at least 1 if n > 0. The event is written to `event`, and its body
- * copied, as dgt_host_hear does. Call again with the bytes that are left. */
+/* Uses the bytes, received at this time, up to and including the first that completes an event, or
+ * all of them, and returns how many: at least 1 if n > 0. The event is written to `event`, and its
+ * body copied, as dgt_host_hear does. Call again with the remaining bytes. */
 size_t dgt_follower_hear(dgt_follower *follower, uint64_t now, const uint8_t *bytes, size_t n,
                          dgt_event *event, uint8_t *body, size_t capacity)
     DGT_MUST_USE_ DGT_NONNULL_(1, 5) DGT_READS_(3, 4) DGT_WRITES_(5) DGT_WRITES_(6, 7);
 
-/* Uses all of the bytes, as dgt_follower_hear does event by event, and reports no event. Whatever
- * chunks the bytes of one time come in, the follower is the same afterwards. */
+/* Uses all bytes, as dgt_follower_hear does event by event, and reports no events. However bytes
+ * received at one time are cut into chunks, the follower is the same afterwards. */
 void dgt_follower_hear_all(dgt_follower *follower, uint64_t now, const uint8_t *bytes, size_t n)
     DGT_NONNULL_(1) DGT_READS_(3, 4);
 
-/* Asks the board, if that is due at this time. DGT_SENT: `bytes` bytes stand at the front of the
- * buffer, and 0 bytes if it is not due. DGT_NO_ROOM: the buffer has less than the `bytes` bytes
- * that it would write, and nothing changed. There is no other status. The picture stays known, and
- * a dump is awaited then.
- * It is due at any time if it has never asked. Else it is due a period after the last asking, or
- * earlier:
- *  - if there was a disturbance since, a quarter of the period after it, rounded down;
- *  - if it has no answer, at the same time, but no less than a second after it;
- *  - if the picture is to be confirmed, a second after it changed and after the last asking;
- *  - after dgt_follower_ask_now, at once, or once it is answered;
- *  - if `now` is before it, since your clock has gone back.
- * An answer that is a second late is a doubt after the next call of this, whether that writes or
- * not. So is a message that has stayed unfinished for a second, which is a disturbance besides; its
- * rest is heard if it comes later. */
+/* Writes a request, if one is due at this time. DGT_SENT: `bytes` bytes are at the beginning of the
+ * buffer, 0 if none is due. DGT_NO_ROOM: the buffer is shorter than the `bytes` bytes of the
+ * request, and nothing changed. There is no other status. The picture stays known, and a dump is
+ * then awaited. The first request is due at any time. Each other one is due a period after the last
+ * request, or earlier:
+ *  - after a disturbance, a quarter of the period after the last request, rounded down;
+ *  - if the last request has no answer, at the same time, but no less than a second after it;
+ *  - if the picture is to be confirmed, a second after it changed and after the last request;
+ *  - after dgt_follower_ask_now, at once, or once the last request is answered;
+ *  - if `now` is before the last request, since your clock was set back.
+ * If an answer is a second late, the next call puts the picture in doubt, whether it writes or not.
+ * The same happens if a message is unfinished for a second, which is also a disturbance; the rest
+ * of it is still heard if it arrives later. */
 dgt_sent dgt_follower_ask(dgt_follower *follower, uint64_t now, uint8_t *out, size_t n)
     DGT_MUST_USE_ DGT_NONNULL_(1) DGT_WRITES_(3, 4);
 
 /* The first time at which dgt_follower_ask writes, or finds an answer or the rest of a message
- * overdue, if nothing is heard before: 0 if it asks at once. False, and nothing written, if that is
- * past UINT64_MAX: it never asks then. */
+ * overdue. It assumes that nothing is heard before, and is 0 if a request is due at once. Returns
+ * false and writes nothing if that time is above UINT64_MAX: then no request is ever due. */
 bool dgt_follower_due_at(dgt_follower *follower, uint64_t *time)
     DGT_MUST_USE_ DGT_NONNULL_(1, 2) DGT_WRITES_(2);
 
-/* What each asking asks the board to report by itself: DGT_MODE_UPDATE_BOARD, DGT_MODE_UPDATE or
- * DGT_MODE_UPDATE_NICE, which are declared with dgt_board_mode. The latter two report the clock. */
+/* Which changes the board is asked to report by itself: DGT_MODE_UPDATE_BOARD, DGT_MODE_UPDATE or
+ * DGT_MODE_UPDATE_NICE, which are declared with dgt_board_mode. The last two include the clock. */
 uint8_t dgt_follower_mode(dgt_follower *follower) DGT_NONNULL_(1);
 
-/* Has each asking from now on ask for this mode. When the next one is due stays as it was. False,
- * and nothing changed, if `mode` is none of the three. */
+/* Sets the mode that each later request asks for. It doesn't change when the next one is due.
+ * Returns false and changes nothing if `mode` is not one of the three. */
 bool dgt_follower_set_mode(dgt_follower *follower, uint8_t mode) DGT_NONNULL_(1);
 
-/* Has an asking be due at once, or once the last one is answered. The answer is no older than this
+/* Makes a request due at once, or once the last one is answered. Its answer is no older than this
  * call. */
 void dgt_follower_ask_now(dgt_follower *follower) DGT_NONNULL_(1);
 
-/* Has a picture that isn't confirmed be asked for again, or not: a heartbeat a second after it last
- * changed, and a second after the last asking, until it is confirmed. */
+/* Sets whether a picture that isn't confirmed is requested again: by a heartbeat a second after its
+ * last change, and a second after the last request, until it is confirmed. */
 void dgt_follower_set_confirm(dgt_follower *follower, bool confirm) DGT_NONNULL_(1);
 
-/* Has the serial number of the board be requested while it is unknown, or not: DGT_SEND_SERIAL once
- * after each asking that was answered, at most three times. A reply that is lost is noticed as any
- * other is, by the next dump, which then comes unasked. */
+/* Sets whether the serial number of the board is requested while it is unknown: DGT_SEND_SERIAL
+ * once after each answered request, at most three times. A lost reply is noticed like any other,
+ * because the next dump is then unasked. */
 void dgt_follower_set_identify(dgt_follower *follower, bool identify) DGT_NONNULL_(1);
 
-/* Sends the command that is the byte `code` alone, as dgt_host_send does. It doesn't count as an
- * asking. After DGT_SEND_RESET the board reports no change until the next asking. */
+/* Sends the command of the single byte `code`, as dgt_host_send does. It doesn't count as a request
+ * of the follower's. After DGT_SEND_RESET the board reports no change until the next request. */
 dgt_sent dgt_follower_send(dgt_follower *follower, uint8_t code, uint8_t *out, size_t n)
     DGT_MUST_USE_ DGT_NONNULL_(1) DGT_WRITES_(3, 4);
 
@@ -673,7 +669,7 @@ dgt_sent dgt_follower_send_clock(dgt_follower *follower, uint8_t id, const uint8
                                  size_t payload_len, uint8_t *out, size_t n)
     DGT_MUST_USE_ DGT_NONNULL_(1) DGT_READS_(3, 4) DGT_WRITES_(5, 6);
 
-/* Sends what the calls of the same names send for a host. */
+/* The same as the calls for a host. */
 dgt_sent dgt_follower_send_display(dgt_follower *follower, const uint8_t text[DGT_LEAST_ 6],
                                    uint8_t dots, uint8_t beep, uint8_t *out, size_t n)
     DGT_MUST_USE_ DGT_NONNULL_(1, 2) DGT_READS_(2) DGT_WRITES_(5, 6);
@@ -718,62 +714,61 @@ dgt_sent dgt_follower_send_leds(dgt_follower *follower, const uint8_t *leds, siz
                                 uint8_t *out, size_t n)
     DGT_MUST_USE_ DGT_NONNULL_(1) DGT_READS_(2, 3) DGT_WRITES_(4, 5);
 
-/* The pieces on the squares, by their numbers. False, and nothing written, until a dump was heard.
- * The picture stays known while the follower asks, also when it begins anew. */
+/* The pieces on the squares, by square number. Returns false and writes nothing before the first
+ * dump. The picture stays known during requests, even if the follower starts over. */
 bool dgt_follower_picture(dgt_follower *follower, uint8_t pieces[64])
     DGT_MUST_USE_ DGT_NONNULL_(1, 2) DGT_WRITES_(2);
 
-/* The same as the placement of a FEN, with a zero at its end. */
+/* The same as the placement of a FEN, which ends with a zero byte. */
 bool dgt_follower_placement(dgt_follower *follower, char text[DGT_PLACEMENT_ROOM])
     DGT_MUST_USE_ DGT_NONNULL_(1, 2) DGT_WRITES_(2);
 
-/* What the board reported last of its clock. It is unknown while that has no reading: if the clock
- * shows no digits, so that the report was refused, or if all its bytes are zero, as before its
- * first reading. */
+/* The clock as last reported. It is unknown if the last report contains no reading: either the
+ * clock shows no digits, and the report was refused, or all its bytes are zero, as before its first
+ * reading. */
 void dgt_follower_clock(dgt_follower *follower, dgt_clock *clock) DGT_NONNULL_(1, 2) DGT_WRITES_(2);
 
-/* How many bytes were heard of a message that is not finished: at most 16382. */
+/* How many bytes of an unfinished message were heard: at most 16382. */
 size_t dgt_follower_unread(dgt_follower *follower) DGT_NONNULL_(1);
 
-/* Whether the picture is in doubt, as said above. */
+/* Whether the picture is in doubt, as described above. */
 bool dgt_follower_in_doubt(dgt_follower *follower) DGT_NONNULL_(1);
 
-/* Whether the picture is confirmed, as said above. It is not in doubt then. The first awaited dump
- * after a new beginning confirms nothing: it may be a late answer to an earlier asking. */
+/* Whether the picture is confirmed, as described above. Then it is not in doubt. The first awaited
+ * dump after a new start confirms nothing: it may be a late answer to an earlier request. */
 bool dgt_follower_confirmed(dgt_follower *follower) DGT_NONNULL_(1);
 
-/* The serial number of the board: five bytes, each 0 to 127. False, and nothing written, if none
- * was reported since the line was last lost. */
+/* The serial number of the board: five bytes, each 0 to 127. Returns false and writes nothing if
+ * none was reported since the line was last lost. */
 bool dgt_follower_serial(dgt_follower *follower, uint8_t serial[5])
     DGT_MUST_USE_ DGT_NONNULL_(1, 2) DGT_WRITES_(2);
 
-/* The time of the last whole message. False, and nothing written, if none was heard. */
+/* The time of the last whole message. Returns false and writes nothing if none was heard. */
 bool dgt_follower_last_heard(dgt_follower *follower, uint64_t *time)
     DGT_MUST_USE_ DGT_NONNULL_(1, 2) DGT_WRITES_(2);
 
-/* How many heartbeats may still follow one another, of those that the patience allows. */
+/* How many more heartbeats the patience allows. */
 uint32_t dgt_follower_heartbeats_left(dgt_follower *follower) DGT_NONNULL_(1);
 
-/* Bytes from the board were lost or altered, as whoever reads the line has found out: serial ports
- * count overruns and framing errors (dgt_port.h asks for them). It is a disturbance. Have the
- * follower hear the bytes before the fault first. */
+/* Reports that bytes from the board were lost or altered. The reader of the line may know it:
+ * serial ports count overruns and framing errors (dgt_port.h reads these counts). It is a
+ * disturbance. Let the follower hear the bytes before the fault first. */
 void dgt_follower_line_disturbed(dgt_follower *follower) DGT_NONNULL_(1);
 
-/* The line is lost, and what was under way on it: the follower is as new, with its period, its
- * patience and its mode, and with whether it confirms and identifies. It knows no picture and no
- * serial number, and its next asking is due at once. */
+/* Reports that the line was lost, with all bytes under way: the follower is as new, but keeps its
+ * period, its patience, its mode, and whether it confirms and identifies. It knows no picture and
+ * no serial number, and its next request is due at once. */
 void dgt_follower_line_lost(dgt_follower *follower) DGT_NONNULL_(1);
 
-/* ---- A decoder: reports the events of a board's bytes, and keeps no picture. */
+/* ---- A decoder: reports the events in a board's bytes, and keeps no picture. */
 
-/* How many bytes a dgt_decoder takes, by the library that is linked. */
+/* The size of a dgt_decoder in bytes, according to the linked library. */
 size_t dgt_decoder_size(void);
 
-/* Makes the memory at `decoder`, of dgt_decoder_size() bytes and aligned to 8, a decoder that holds
- * nothing. */
+/* Makes a decoder that holds nothing at `decoder`: dgt_decoder_size() bytes, aligned to 8. */
 void dgt_decoder_init(dgt_decoder *decoder) DGT_NONNULL_(1);
 
-/* The same; false, and nothing done, if the sizes differ, as with dgt_host_new. */
+/* The same. Returns false and does nothing if the sizes differ, as with dgt_host_new. */
 DGT_MUST_USE_ DGT_NONNULL_(1)
 static inline bool dgt_decoder_new(dgt_decoder *decoder) {
     if (dgt_decoder_size() != sizeof *decoder) return false;
@@ -781,35 +776,35 @@ static inline bool dgt_decoder_new(dgt_decoder *decoder) {
     return true;
 }
 
-/* As dgt_host_hear, without what a host knows. `unasked` is 0. */
+/* The same as dgt_host_hear, without the state of a host. `unasked` is 0. */
 size_t dgt_decoder_feed(dgt_decoder *decoder, const uint8_t *bytes, size_t n, dgt_event *event,
                         uint8_t *body, size_t room)
     DGT_MUST_USE_ DGT_NONNULL_(1, 4) DGT_READS_(2, 3) DGT_WRITES_(4) DGT_WRITES_(5, 6);
 
-/* As dgt_host_hear_all, without what a host knows. `unasked` is 0 in each event. */
+/* The same as dgt_host_hear_all, without the state of a host. `unasked` is 0 in each event. */
 dgt_told dgt_decoder_feed_all(dgt_decoder *decoder, const uint8_t *bytes, size_t n,
                               dgt_event *events, size_t capacity, uint8_t *body, size_t room)
     DGT_MUST_USE_ DGT_NONNULL_(1) DGT_READS_(2, 3) DGT_WRITES_(4, 5) DGT_WRITES_(6, 7);
 
-/* How many bytes have come of a message that is not finished: at most 16382. */
+/* How many bytes of an unfinished message were received: at most 16382. */
 size_t dgt_decoder_rest(dgt_decoder *decoder) DGT_NONNULL_(1);
 
-/* The same, at the end of the bytes. The decoder is as new then. */
+/* The same, at the end of the bytes. The decoder is then as new. */
 size_t dgt_decoder_finish(dgt_decoder *decoder) DGT_NONNULL_(1);
 
-/* Makes it as new. */
+/* Returns it to its initial state. */
 void dgt_decoder_reset(dgt_decoder *decoder) DGT_NONNULL_(1);
 
-/* ---- A reader of commands: reports the commands in a host's bytes. */
+/* ---- A decoder of commands: reports the commands in a host's bytes. */
 
-/* How many bytes a dgt_command_decoder takes, by the library that is linked. */
+/* The size of a dgt_command_decoder in bytes, according to the linked library. */
 size_t dgt_command_decoder_size(void);
 
-/* Makes the memory at `decoder`, of dgt_command_decoder_size() bytes and aligned to 8, a reader
- * that holds nothing. */
+/* Makes a decoder of commands that holds nothing in the memory at `decoder`:
+ * dgt_command_decoder_size() bytes, aligned to 8. */
 void dgt_command_decoder_init(dgt_command_decoder *decoder) DGT_NONNULL_(1);
 
-/* The same; false, and nothing done, if the sizes differ, as with dgt_host_new. */
+/* The same. Returns false and does nothing if the sizes differ, as with dgt_host_new. */
 DGT_MUST_USE_ DGT_NONNULL_(1)
 static inline bool dgt_command_decoder_new(dgt_command_decoder *decoder) {
     if (dgt_command_decoder_size() != sizeof *decoder) return false;
@@ -817,33 +812,32 @@ static inline bool dgt_command_decoder_new(dgt_command_decoder *decoder) {
     return true;
 }
 
-/* Uses bytes up to and including the first that completes a command or shows a fault, or all of
- * them, and returns how many: at least 1 if n > 0. Writes the result to `command`, and as much of a
- * command's word, its bytes from the first to the last, as there is room for to the beginning of
- * `word`. */
+/* Uses the bytes up to and including the first that completes a command or a fault, or all of them,
+ * and returns how many: at least 1 if n > 0. Writes the result to `command`. Of a command's word,
+ * its bytes from the first to the last, it writes as many as fit to the beginning of `word`. */
 size_t dgt_command_decoder_feed(dgt_command_decoder *decoder, const uint8_t *bytes, size_t n,
                                 dgt_command *command, uint8_t *word, size_t room)
     DGT_MUST_USE_ DGT_NONNULL_(1, 4) DGT_READS_(2, 3) DGT_WRITES_(4) DGT_WRITES_(5, 6);
 
-/* How many bytes have come of a command that is not finished: at most 256. */
+/* How many bytes of an unfinished command were received: at most 256. */
 size_t dgt_command_decoder_rest(dgt_command_decoder *decoder) DGT_NONNULL_(1);
 
-/* The same, at the end of the bytes. The reader is as new then. */
+/* The same, at the end of the bytes. The decoder is then as new. */
 size_t dgt_command_decoder_finish(dgt_command_decoder *decoder) DGT_NONNULL_(1);
 
-/* Makes it as new. */
+/* Returns it to its initial state. */
 void dgt_command_decoder_reset(dgt_command_decoder *decoder) DGT_NONNULL_(1);
 
-/* ---- A board, as a host meets it on the line. */
+/* ---- A simulated board. */
 
-/* How many bytes a dgt_board takes, by the library that is linked. */
+/* The size of a dgt_board in bytes, according to the linked library. */
 size_t dgt_board_size(void);
 
-/* Makes the memory at `board`, of dgt_board_size() bytes and aligned to 8, a board in the starting
- * position, with a clock that shows 0:00:00 twice, and the identity of a simulated board. */
+/* Makes a board in the memory at `board`: dgt_board_size() bytes, aligned to 8. It has the starting
+ * position, a clock that shows 0:00:00 twice, and the identity of a simulated board. */
 void dgt_board_init(dgt_board *board) DGT_NONNULL_(1);
 
-/* The same; false, and nothing done, if the sizes differ, as with dgt_host_new. */
+/* The same. Returns false and does nothing if the sizes differ, as with dgt_host_new. */
 DGT_MUST_USE_ DGT_NONNULL_(1)
 static inline bool dgt_board_new(dgt_board *board) {
     if (dgt_board_size() != sizeof *board) return false;
@@ -851,7 +845,7 @@ static inline bool dgt_board_new(dgt_board *board) {
     return true;
 }
 
-/* Bytes of a body, each below 128: `len` of them, at most 64, at the front of `bytes`. */
+/* Bytes of a body, each below 128: the first `len` of `bytes`, at most 64. */
 typedef struct dgt_body {
     size_t len;
     uint8_t bytes[DGT_MAX_KEPT];
@@ -862,51 +856,51 @@ typedef struct dgt_identity {
     uint8_t serial[5];     /* each 0 to 127 */
     uint8_t main_number;   /* 0 to 127 */
     uint8_t sub_number;    /* 0 to 127 */
-    uint8_t clock_version; /* of the clock: the main number in the high, the sub number in the low
-                              four bits */
+    uint8_t clock_version; /* of the clock: the main number in the high four bits, the sub number in
+                              the low four */
     dgt_body trademark;
     dgt_body battery;
     dgt_body long_serial;
     uint8_t reserved[32];  /* each 0 */
 } dgt_identity;
 
-/* What dgt_board_start answers. */
+/* The results of dgt_board_start. */
 enum {
     DGT_STARTED = 0,
     DGT_START_BAD_PIECES = 1,   /* a number above 15 */
-    DGT_START_BAD_CLOCK = 2,    /* a member that the clock's kind sets is out of its range, or the
-                                   kind is neither DGT_CLOCK_TIMES nor DGT_CLOCK_NONE */
-    DGT_START_BAD_IDENTITY = 3  /* a member of the identity is out of its range */
+    DGT_START_BAD_CLOCK = 2,    /* a member that the clock's kind sets is out of range, or the kind
+                                   is neither DGT_CLOCK_TIMES nor DGT_CLOCK_NONE */
+    DGT_START_BAD_IDENTITY = 3  /* a member of the identity is out of range */
 };
 
-/* Makes the board anew, with these pieces, this clock and this identity: idle, with its squares
- * reported and its clock not, and with nothing owed. If something is out of its range, the first of
- * the three is returned, and nothing changes. */
+/* Makes the board as new, with these pieces, this clock and this identity: idle, with its squares
+ * reported and its clock not, and with nothing owed. If a value is out of range, the first such
+ * result is returned, and nothing changes. */
 uint8_t dgt_board_start(dgt_board *board, const uint8_t pieces[64], const dgt_clock *clock,
                         const dgt_identity *identity)
     DGT_NONNULL_(1, 2, 3, 4) DGT_READS_(2) DGT_READS_(3) DGT_READS_(4);
 
-/* Puts a piece, or 0 for none, on a square. False, and nothing changed, if square > 63 or
- * piece > 15. */
+/* Puts a piece, or 0 for none, on a square. False, and nothing changed, if square > 63 or piece >
+ * 15. */
 bool dgt_board_change(dgt_board *board, uint8_t square, uint8_t piece) DGT_NONNULL_(1);
 
-/* Sets what the clock shows. False, and nothing changed, if dgt_board_start would return
+/* Sets what the clock shows. Returns false and changes nothing if dgt_board_start would return
  * DGT_START_BAD_CLOCK. */
 bool dgt_board_hand_clock(dgt_board *board, const dgt_clock *clock)
     DGT_NONNULL_(1, 2) DGT_READS_(2);
 
-/* The line is lost, and what was under way on it: the board keeps its squares, its clock and its
+/* Simulates a lost line, with all bytes under way: the board keeps its squares, its clock and its
  * identity, and is otherwise as new. */
 void dgt_board_line_lost(dgt_board *board) DGT_NONNULL_(1);
 
 typedef struct dgt_taken {
-    bool busy;   /* eight replies are owed, so poll first: nothing was used, and nothing changed */
+    bool busy;   /* eight replies are owed: poll first. Nothing was used, and nothing changed */
     size_t used; /* how many bytes were used: at least 1 if it isn't busy and n > 0 */
 } dgt_taken;
 
-/* Uses bytes up to and including the first that completes a command or shows a fault, or all of
- * them. A command has its effect, and is reported as by dgt_command_decoder_feed. If the board is
- * busy, DGT_NO_WORD is reported. */
+/* Uses the bytes up to and including the first that completes a command or a fault, or all of them.
+ * A command takes effect, and is reported as by dgt_command_decoder_feed. If the board is busy,
+ * DGT_NO_WORD is reported. */
 dgt_taken dgt_board_take(dgt_board *board, const uint8_t *bytes, size_t n, dgt_command *command,
                          uint8_t *word, size_t room)
     DGT_MUST_USE_ DGT_NONNULL_(1, 4) DGT_READS_(2, 3) DGT_WRITES_(4) DGT_WRITES_(5, 6);
@@ -914,9 +908,9 @@ dgt_taken dgt_board_take(dgt_board *board, const uint8_t *bytes, size_t n, dgt_c
 /* The status of a dgt_polled. */
 enum {
     DGT_NOTHING = 0,  /* nothing is to be sent, and bytes is 0 */
-    DGT_WROTE = 1,    /* `bytes` bytes at the front of the buffer are a message: write them to the
-                         line */
-    DGT_NEED_ROOM = 2 /* the next message takes `bytes` bytes, and the buffer has fewer: nothing
+    DGT_WROTE = 1,    /* `bytes` bytes at the beginning of the buffer are a message: write them to
+                         the line */
+    DGT_NEED_ROOM = 2 /* the next message takes `bytes` bytes, and the buffer is shorter: nothing
                          changed */
 };
 
@@ -925,10 +919,10 @@ typedef struct dgt_polled {
     size_t bytes;
 } dgt_polled;
 
-/* Writes the next message that is to be sent, and counts it as sent. The owed replies come first,
- * in their order. Then come the squares that differ from what was reported, if the mode asks for
- * them, then the clock if it is to be sent. DGT_MAX_SENT bytes are room for each. With no call in
- * between that changes the board, DGT_NOTHING comes after at most 73 messages. */
+/* Writes the next message, and counts it as sent. The order is: the owed replies in their order,
+ * then the squares that differ from what was reported, if the mode reports them, then the clock if
+ * it is to be sent. DGT_MAX_SENT bytes are room for any message. If no other call changes the
+ * board, DGT_NOTHING follows after at most 73 messages. */
 dgt_polled dgt_board_poll(dgt_board *board, uint8_t *out, size_t n)
     DGT_MUST_USE_ DGT_NONNULL_(1) DGT_WRITES_(2, 3);
 
@@ -938,15 +932,15 @@ bool dgt_board_owes(dgt_board *board) DGT_NONNULL_(1);
 /* How many replies are owed: at most DGT_MAX_OWED. */
 size_t dgt_board_owed_len(dgt_board *board) DGT_NONNULL_(1);
 
-/* How many bytes have come of a command that is not finished: at most 256. */
+/* How many bytes of an unfinished command were received: at most 256. */
 size_t dgt_board_partial(dgt_board *board) DGT_NONNULL_(1);
 
-/* What dgt_board_mode returns: which changes the board sends by itself. */
+/* The results of dgt_board_mode: which changes the board reports by itself. */
 enum {
     DGT_MODE_IDLE = 0,
-    DGT_MODE_UPDATE = 1,       /* each changed square, and the clock each time that it is handed */
+    DGT_MODE_UPDATE = 1,       /* each changed square, and each reading of the clock */
     DGT_MODE_UPDATE_BOARD = 2, /* each changed square */
-    DGT_MODE_UPDATE_NICE = 3   /* each changed square, and the clock where it changed */
+    DGT_MODE_UPDATE_NICE = 3   /* each changed square, and the clock if it changed */
 };
 
 /* The mode, one of these. */
@@ -962,8 +956,8 @@ void dgt_board_clock(dgt_board *board, dgt_clock *clock) DGT_NONNULL_(1, 2) DGT_
 
 /* The status of a dgt_encoded. */
 enum {
-    DGT_ENCODED = 0,    /* `bytes` bytes were written to the front of the buffer */
-    DGT_TOO_SHORT = 1,  /* the buffer has less than the `bytes` bytes that it takes: nothing was
+    DGT_ENCODED = 0,    /* `bytes` bytes were written at the beginning of the buffer */
+    DGT_TOO_SHORT = 1,  /* the buffer is shorter than the `bytes` bytes that it takes: nothing was
                            written */
     DGT_NOT_ENCODED = 2 /* there is no such message or command: nothing was written, and bytes is 0
                          */
@@ -974,67 +968,68 @@ typedef struct dgt_encoded {
     size_t bytes;
 } dgt_encoded;
 
-/* Writes the message that `message` says as an event does: by its kind, which is that of a message,
- * and the members that this kind sets. Three are read otherwise: a body is the `body_len` bytes at
- * `body`, whatever message->body_len says; `code` is looked at in a DGT_EVENT_OTHER alone; and the
- * kind of `clock` has to be that of the event. A message has 3 to 16383 bytes: DGT_MAX_BODY + 3
- * bytes are room for each. An acknowledgement can be encoded in several ways: this is the one with
- * both marks, and without D6 in them.
- * DGT_NOT_ENCODED goes before DGT_TOO_SHORT. It comes if the kind is no message's, or a member is
- * out of its range. It comes if `clock` is none that dgt_board_start takes, or if a body has more
- * than DGT_MAX_BODY bytes, or one above 127. It also comes if the code of a DGT_EVENT_OTHER is
- * above 127, or that of a message of another kind. */
+/* Writes the message in `message`, a struct like that of an event: a message's kind, and the
+ * members that this kind sets. There are three differences. A body is the `body_len` bytes at
+ * `body`, and message->body_len is ignored. `code` is read only for a DGT_EVENT_OTHER. The kind of
+ * `clock` has to be that of the event. A message takes 3 to 16383 bytes: DGT_MAX_BODY + 3 bytes are
+ * room for any. An acknowledgement has several encodings: this is the one with both marks, and
+ * without D6 in them.
+ * DGT_NOT_ENCODED is checked before DGT_TOO_SHORT. It is returned if the kind isn't a message's, if
+ * a member is out of range, or if dgt_board_start would refuse `clock`. It is returned if a body
+ * has more than DGT_MAX_BODY bytes, or a byte above 127. It is also returned if the code of a
+ * DGT_EVENT_OTHER is above 127, or belongs to another kind. */
 dgt_encoded dgt_encode_message(const dgt_event *message, const uint8_t *body, size_t body_len,
                                uint8_t *out, size_t n)
     DGT_MUST_USE_ DGT_NONNULL_(1) DGT_READS_(1) DGT_READS_(2, 3) DGT_WRITES_(4, 5);
 
 /* Writes the message with this code and this body to `event`, or a DGT_EVENT_REFUSED with the fault
  * of the body. The code is the first byte of the message without its top bit; the body is its bytes
- * from the fourth on. `unasked` and `place` are 0. False, and nothing written, if no message has
- * such a code or such a body: the code or a byte is above 127, or there are more than DGT_MAX_BODY
- * bytes. */
+ * from the fourth on. `unasked` and `place` are 0. Returns false and writes nothing if the code or
+ * a byte is above 127, or there are more than DGT_MAX_BODY bytes. */
 bool dgt_view_message(uint8_t code, const uint8_t *body, size_t body_len, dgt_event *event)
     DGT_MUST_USE_ DGT_NONNULL_(4) DGT_READS_(2, 3) DGT_WRITES_(4);
 
-/* Writes the text of an event and a zero, such as "field e4 P": it is what `dgt monitor` prints
- * after the offset of the event. The event is read as dgt_encode_message reads it, and may be a
- * fault, too. 80 bytes are room for each event without a body; each byte of a body takes two more.
- * `bytes` counts the zero. DGT_NOT_ENCODED goes before DGT_TOO_SHORT. It comes for the kind
- * DGT_EVENT_NONE and for one that isn't listed here, or if a member is out of its range. */
+/* Writes the text of an event, such as "field e4 P", and a zero byte: the text that `dgt monitor`
+ * prints after the offset of the event. The event is read as dgt_encode_message reads it, and may
+ * also be a fault. 80 bytes are room for any event without a body; each byte of a body takes two
+ * more. `bytes` counts the zero byte. DGT_NOT_ENCODED is checked before DGT_TOO_SHORT. It is
+ * returned for the kind DGT_EVENT_NONE, for a kind that isn't listed here, and for a member out of
+ * range. */
 dgt_encoded dgt_event_text(const dgt_event *event, const uint8_t *body, size_t body_len, char *text,
                            size_t n)
     DGT_MUST_USE_ DGT_NONNULL_(1) DGT_READS_(1) DGT_READS_(2, 3) DGT_WRITES_(4, 5);
 
 /* Writes the command that begins with the byte `code`, DGT_SEND_CLOCK_MESSAGE to DGT_SEND_LEDS. It
  * carries `carried_len` bytes: the payload of the clock message with this id, at most
- * DGT_MAX_PAYLOAD; the bytes of an LED frame, at most DGT_MAX_LEDS; and in each other command none.
- * The id of all but a clock message is not looked at. DGT_MAX_WORD bytes are room for each.
- * DGT_NOT_ENCODED goes before DGT_TOO_SHORT. It comes if no command has this code, or if there are
- * more bytes than it carries. No reply is awaited: that is what dgt_host_send and its like are for.
- */
+ * DGT_MAX_PAYLOAD; the bytes of an LED frame, at most DGT_MAX_LEDS; and none in every other
+ * command. The id is ignored except for a clock message. DGT_MAX_WORD bytes are room for any
+ * command. DGT_NOT_ENCODED is checked before DGT_TOO_SHORT. It is returned if no command has this
+ * code, or if there are more bytes than it can carry. No reply is awaited: for that use
+ * dgt_host_send and the other calls of a host. */
 dgt_encoded dgt_encode_command(uint8_t code, uint8_t id, const uint8_t *carried,
                                size_t carried_len, uint8_t *out, size_t n)
     DGT_MUST_USE_ DGT_READS_(3, 4) DGT_WRITES_(5, 6);
 
-/* Writes the command whose bytes, from the first to the last, are exactly these to `command`, as
- * dgt_command_decoder_feed does. False, and nothing written, if there is no such command. */
+/* Writes the command with exactly these bytes to `command`, as dgt_command_decoder_feed does.
+ * Returns false and writes nothing if there is no such command. */
 bool dgt_view_command(const uint8_t *word, size_t word_len, dgt_command *command)
     DGT_MUST_USE_ DGT_NONNULL_(3) DGT_READS_(1, 2) DGT_WRITES_(3);
 
-/* ---- What a board has stored, and names of bytes that messages carry unread. The published
- * protocol leaves these bytes open: what is said here of them is what other programs read in them.
- * No clock and no board was tried. */
+/* ---- What a board has stored, and the meaning of bytes that messages carry unread. The published
+ * protocol leaves these bytes open: these calls read them as other programs do. They were not
+ * tested with a clock or a board. */
 
-/* A board stores its pieces and its clock while no host listens. It sends all that after the byte
- * 49, of which no call makes a command: write the byte to the line. The answer is a
- * DGT_EVENT_OTHER with the code 0f. */
+/* A board stores its pieces and its clock while no host is connected. It sends all that after the
+ * byte 49, for which there is no call: write the byte to the line. The reply is a DGT_EVENT_OTHER
+ * with the code 0f. */
 
 /* dgt_stored.kind, and which members it sets. The other members are 0. */
 enum {
-    DGT_STORED_PIECE = 1,  /* this piece, or none, stands on this square now: square, piece, bit */
-    DGT_STORED_TIME = 2,   /* the time of one player: time, whose flags are 6 or 7, one for each */
-    DGT_STORED_MARK = 3,   /* a byte that stands by itself, one of the marks: byte */
-    DGT_STORED_UNKNOWN = 4 /* a byte that is none of these, or begins one that isn't whole: byte */
+    DGT_STORED_PIECE = 1,  /* this piece, or none, is now on this square: square, piece, bit */
+    DGT_STORED_TIME = 2,   /* the time of one player: time; its flags are 6 for one and 7 for the
+                              other */
+    DGT_STORED_MARK = 3,   /* an item of one byte, one of the marks: byte */
+    DGT_STORED_UNKNOWN = 4 /* any other byte, or the first of an item that is cut off: byte */
 };
 
 /* The marks. */
@@ -1042,37 +1037,37 @@ enum {
     DGT_MARK_NOTHING = 0x00,      /* nothing is stored here */
     DGT_MARK_POWER_UP = 0x6a,     /* the board was switched on */
     DGT_MARK_END = 0x6b,          /* the end of what is stored */
-    DGT_MARK_FOUR_ROWS = 0x6c,    /* pieces stand on four ranks, as before a game */
-    DGT_MARK_EMPTY_BOARD = 0x6d,  /* no piece is on the board */
-    DGT_MARK_DOWNLOADED = 0x6e,   /* all before this was sent to a host */
-    DGT_MARK_BEGIN = 0x6f,        /* the pieces stand as a game begins */
+    DGT_MARK_FOUR_ROWS = 0x6c,    /* the pieces are on four ranks, as before a game */
+    DGT_MARK_EMPTY_BOARD = 0x6d,  /* the board is empty */
+    DGT_MARK_DOWNLOADED = 0x6e,   /* everything before this was sent to a host */
+    DGT_MARK_BEGIN = 0x6f,        /* the pieces are in the initial position of a game */
     DGT_MARK_TURNED_BEGIN = 0x7a, /* the same, with the board turned */
     DGT_MARK_TAG = 0x7b,          /* a tag */
-    DGT_MARK_WATCHDOG = 0x7c,     /* the board began anew by itself */
-    DGT_MARK_ERASED = 0x7f        /* nothing was stored here yet */
+    DGT_MARK_WATCHDOG = 0x7c,     /* the board restarted by itself */
+    DGT_MARK_ERASED = 0x7f        /* nothing was ever stored here */
 };
 
 typedef struct dgt_stored {
     uint8_t kind;
     uint8_t square;
     uint8_t piece;
-    uint8_t bit;  /* D4 of the byte of the piece, carried: 0 or 1 */
+    uint8_t bit;  /* D4 of the byte of the piece: 0 or 1 */
     uint8_t byte;
     dgt_time time;
     uint8_t reserved[7]; /* each 0 */
 } dgt_stored;
 
-/* Writes what a body says first to `stored`, and returns how many of its bytes that takes, 1 to 3.
- * Call again with the bytes that are left. Returns 0, and writes nothing, if there are none. */
+/* Writes the first item of a body to `stored`, and returns how many bytes it takes, 1 to 3. Call
+ * again with the remaining bytes. Returns 0 and writes nothing if there are none. */
 size_t dgt_stored_first(const uint8_t *body, size_t body_len, dgt_stored *stored)
     DGT_MUST_USE_ DGT_NONNULL_(3) DGT_READS_(1, 2) DGT_WRITES_(3);
 
 /* dgt_signal.kind, and which members it sets. The other members are 0. */
 enum {
-    DGT_SIGNAL_DONE = 1,    /* the clock has done what the message with this id asks for: id */
+    DGT_SIGNAL_DONE = 1,    /* the clock has executed the message with this id: id */
     DGT_SIGNAL_VERSION = 2, /* the version of the clock: main_number, sub_number */
-    DGT_SIGNAL_PRESSED = 3, /* this button was pressed, asked for or not: button */
-    DGT_SIGNAL_OFF = 4,     /* Ok was pressed with Back, which switches a clock off */
+    DGT_SIGNAL_PRESSED = 3, /* this button was pressed, even if no message asked for it: button */
+    DGT_SIGNAL_OFF = 4,     /* Ok was pressed together with Back, which switches a clock off */
     DGT_SIGNAL_READY = 5    /* the clock was switched on, and is ready */
 };
 
@@ -1094,44 +1089,44 @@ typedef struct dgt_signal {
     uint8_t reserved[3]; /* each 0 */
 } dgt_signal;
 
-/* Writes what the bytes of an acknowledgement say, dgt_event.ack, to `signal`. False, and nothing
- * written, if that is unknown, or the first byte isn't 10, which is success. */
+/* Writes the meaning of the bytes of an acknowledgement, dgt_event.ack, to `signal`. Returns false
+ * and writes nothing if it is unknown, or if the first byte isn't 10, which means success. */
 bool dgt_signal_of(const uint8_t ack[4], dgt_signal *signal)
     DGT_MUST_USE_ DGT_NONNULL_(1, 2) DGT_READS_(1) DGT_WRITES_(2);
 
 /* The bits of dgt_time.flags in the times of a clock. */
 enum {
     DGT_FLAG_BLOCKED = 0x01,  /* the flag has fallen, and the clock stays at zero */
-    DGT_FLAG_PER_MOVE = 0x02, /* the time is one for each move */
+    DGT_FLAG_PER_MOVE = 0x02, /* the time is per move */
     DGT_FLAG_FALLEN = 0x04    /* the flag has fallen, and the clock shows that */
 };
 
-#define DGT_BATTERY_UNKNOWN 127 /* one of the first three numbers of a battery isn't known */
+#define DGT_BATTERY_UNKNOWN 127 /* one of the first three numbers of a battery is unknown */
 
 typedef struct dgt_battery {
-    uint8_t percent;      /* what is left of its charge */
-    uint8_t hours_left;   /* how long that lasts, or after how long it is charged */
+    uint8_t percent;      /* the charge left */
+    uint8_t hours_left;   /* the time until it is empty, or until it is charged */
     uint8_t minutes_left;
     uint8_t hours_on;     /* how long the board has been on */
     uint8_t minutes_on;
-    uint8_t days_resting; /* how long it has been resting */
+    uint8_t days_resting; /* how long it has been idle */
     uint8_t hours_resting;
     uint8_t minutes_resting;
-    uint8_t charging;     /* 1 if it is, else 0 */
+    uint8_t charging;     /* 1 if it is, and otherwise 0 */
     uint8_t discharging;
     uint8_t reserved[6];  /* each 0 */
 } dgt_battery;
 
-/* Writes what the body of a DGT_EVENT_BATTERY says to `battery`. False, and nothing written, if it
- * hasn't nine bytes. */
+/* Writes the meaning of the body of a DGT_EVENT_BATTERY to `battery`. Returns false and writes
+ * nothing if the body isn't nine bytes long. */
 bool dgt_battery_of(const uint8_t *body, size_t body_len, dgt_battery *battery)
     DGT_MUST_USE_ DGT_NONNULL_(3) DGT_READS_(1, 2) DGT_WRITES_(3);
 
-/* Whether bytes, as those of a serial number or a trademark, are a text: at least one, and each a
- * character of ASCII that prints. */
+/* Whether bytes, such as those of a serial number or a trademark, are a text: at least one byte,
+ * and each a printable ASCII character. */
 bool dgt_is_text(const uint8_t *bytes, size_t n) DGT_READS_(1, 2);
 
-/* ---- Plain helpers. */
+/* ---- Helpers. */
 
 #define DGT_NO_SUCH 255 /* no piece, no square, no segments */
 
@@ -1141,30 +1136,29 @@ char dgt_piece_letter(uint8_t piece);
 /* The piece with this letter, or DGT_NO_SUCH. */
 uint8_t dgt_piece_code(uint8_t letter);
 
-/* Writes a name as "e4". False, and nothing written, if square > 63. */
+/* Writes a name such as "e4". Returns false and writes nothing if square > 63. */
 bool dgt_square_name(uint8_t square, char name[3]) DGT_NONNULL_(2) DGT_WRITES_(2);
 
 /* The square with this file, 'a' to 'h', and this rank, '1' to '8', or DGT_NO_SUCH. */
 uint8_t dgt_square_number(uint8_t file, uint8_t rank);
 
-/* Writes the placement of a FEN, with a zero at its end. False, and nothing written, if a piece
- * is above 15. */
+/* Writes the placement of a FEN, with a final zero byte. Returns false and writes nothing if a
+ * piece is above 15. */
 bool dgt_placement(const uint8_t pieces[64], char text[DGT_PLACEMENT_ROOM])
     DGT_NONNULL_(1, 2) DGT_READS_(1) DGT_WRITES_(2);
 
-/* The squares on which two positions differ: bit n of the mask is set if square n differs, and else
- * clear. False, and nothing written, where a piece is above 15. */
+/* The squares on which two positions differ: bit n of the mask is set if square n differs, and
+ * otherwise clear. Returns false and writes nothing if a piece is above 15. */
 bool dgt_differ(const uint8_t pieces[64], const uint8_t others[64], uint64_t *squares)
     DGT_MUST_USE_ DGT_NONNULL_(1, 2, 3) DGT_READS_(1) DGT_READS_(2) DGT_WRITES_(3);
 
 typedef struct dgt_parsed {
     bool ok;
-    size_t at; /* if it is not ok: the offset of the first byte with which the text no longer
-                  begins any placement, or its length if it is only too short; else 0 */
+    size_t at; /* if it is not ok: the offset of the first wrong byte of the text, or its length
+                  if it is only too short; otherwise 0 */
 } dgt_parsed;
 
-/* Reads the placement of a FEN. Two digits may stand side by side. If it is not ok, nothing is
- * written. */
+/* Reads the placement of a FEN. Two digits may be adjacent. If it is not ok, nothing is written. */
 dgt_parsed dgt_parse_placement(const char *text, size_t n, uint8_t pieces[64])
     DGT_MUST_USE_ DGT_NONNULL_(3) DGT_READS_(1, 2) DGT_WRITES_(3);
 
@@ -1172,7 +1166,7 @@ dgt_parsed dgt_parse_placement(const char *text, size_t n, uint8_t pieces[64])
  * on: top, right top, right bottom, bottom, left bottom, left top, middle. */
 uint8_t dgt_segment(uint8_t character);
 
-/* ---- The sizes that the library has. If they differ, the platform is another one. */
+/* ---- The library's sizes. If they differ, this is another platform. */
 
 #if defined(__cplusplus) || (defined(__STDC_VERSION__) && __STDC_VERSION__ >= 201112L)
 #ifdef __cplusplus

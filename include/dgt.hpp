@@ -10,21 +10,21 @@
 //         if (auto placement = follower.placement()) ...
 //     }
 //
-// Bytes that are handed in are a ByteView: any container of std::uint8_t with data() and size(),
-// such as a std::vector, a std::array or a std::span, or {pointer, length}. Bytes to write to the
-// line lie in the object that a call returns, which has data(), size(), begin() and end().
+// Bytes are passed as a ByteView: any container of std::uint8_t with data() and size(), such as a
+// std::vector, a std::array or a std::span, or {pointer, length}. Bytes for the line are in the
+// object that a call returns, which has data(), size(), begin() and end().
 //
 // Nothing here opens a line or waits. A Host, a Follower, a Decoder, a CommandDecoder and a Board
-// can't be copied or moved, since they point into themselves: keep one where it is, or in a
-// std::unique_ptr. Nothing has to be closed. One thread at a time may use one, also for a call that
-// only looks.
+// can't be copied or moved, since they point into themselves: don't move them, or keep them in a
+// std::unique_ptr. Nothing has to be closed. Only one thread at a time may use one, even for a call
+// that only reads.
 //
-// Each call says which exceptions it throws: std::invalid_argument for an argument out of its
-// range, TooManyAwaited and WrongLibrary. Nothing has changed then. A call that returns a container
-// may throw std::bad_alloc, too. A function that you hand in may throw what it likes. The exception
-// comes to you, and the object has heard the bytes up to and including those of the event that the
-// function was handed, and none after them. If the rest matters, call hear_one and the like, which
-// return how many bytes they used.
+// Each call names the exceptions that it throws: std::invalid_argument for an argument out of
+// range, TooManyAwaited and WrongLibrary. Then nothing has changed. A call that returns a container
+// may also throw std::bad_alloc. A function that you pass may throw anything. The exception is
+// passed on to you, and the object has heard the bytes up to and including those of the event that
+// the function was called with, and none after them. If the rest matters, call hear_one and the
+// other calls of this kind, which return how many bytes they used.
 //
 // Squares are numbered rank by rank from a8 (0) to h1 (63).
 #ifndef DGT_HPP
@@ -57,13 +57,13 @@ namespace dgt {
 
 using Bytes = std::vector<std::uint8_t>;
 
-/// Bytes that lie elsewhere, as long as they do.
+/// Borrowed bytes, which have to outlive the view.
 class ByteView {
 public:
     constexpr ByteView() noexcept = default;
     constexpr ByteView(const std::uint8_t *bytes, std::size_t n) noexcept : at_(bytes), n_(n) {}
 
-    /// The bytes of a container, as of a std::vector, a std::array or a std::span.
+    /// The bytes of a container, such as a std::vector, a std::array or a std::span.
     template <class Container, class At = decltype(std::declval<const Container &>().data()),
               class = std::enable_if_t<std::is_convertible_v<At, const std::uint8_t *>>>
     constexpr ByteView(const Container &bytes) noexcept : ByteView(bytes.data(), bytes.size()) {}
@@ -77,7 +77,7 @@ public:
     constexpr const std::uint8_t *begin() const noexcept { return at_; }
     constexpr const std::uint8_t *end() const noexcept { return at_ + n_; }
 
-    /// The first `count` bytes, which it has, and those after them.
+    /// The first `count` bytes, which must exist, and those after them.
     constexpr ByteView first(std::size_t count) const noexcept { return {at_, count}; }
     constexpr ByteView after(std::size_t count) const noexcept { return {at_ + count, n_ - count}; }
 
@@ -88,7 +88,7 @@ private:
     std::size_t n_ = 0;
 };
 
-/// Bytes that were written, at most `Room` of them. They lie in the object.
+/// Bytes that were written, at most `Room` of them. They are stored in the object.
 template <std::size_t Room> class Written {
 public:
     const std::uint8_t *data() const noexcept { return bytes_.data(); }
@@ -97,7 +97,7 @@ public:
     const std::uint8_t *begin() const noexcept { return data(); }
     const std::uint8_t *end() const noexcept { return data() + n_; }
 
-    /// For the calls of dgt.h, which write to `room`: `n` of its bytes are written then.
+    /// For calls of dgt.h that write to `room`: afterwards it contains `n` bytes.
     std::uint8_t *room() noexcept { return bytes_.data(); }
     void resize(std::size_t n) noexcept { n_ = n; }
 
@@ -109,27 +109,27 @@ private:
 using Commands = Written<DGT_MAX_ASKING>; ///< what a host sends
 using Message = Written<DGT_MAX_SENT>;    ///< what a board sends
 
-/// A time since any beginning, by a clock that doesn't go back, or how long something takes.
+/// A time by a clock that doesn't go back, or a duration.
 using Milliseconds = std::chrono::milliseconds;
 
-/// The time by the standard library's clock that doesn't go back.
+/// The time by the standard library's steady clock.
 inline Milliseconds now() {
     auto time = std::chrono::steady_clock::now().time_since_epoch();
     return std::chrono::duration_cast<Milliseconds>(time);
 }
 
-// ---- What may go wrong.
+// ---- Exceptions.
 
-/// The library that is linked has other sizes than this header.
+/// The linked library has other sizes than this header.
 class WrongLibrary : public std::runtime_error {
 public:
-    WrongLibrary() : std::runtime_error("this library for DGT boards has another header") {}
+    WrongLibrary() : std::runtime_error("the linked libdgt doesn't match this header") {}
 };
 
 /// 16 replies are awaited already.
 class TooManyAwaited : public std::runtime_error {
 public:
-    TooManyAwaited() : std::runtime_error("too many replies are awaited") {}
+    TooManyAwaited() : std::runtime_error("16 replies are awaited already") {}
 };
 
 // ---- Squares, pieces and positions.
@@ -146,7 +146,7 @@ inline char letter(Piece piece) {
     return dgt_piece_letter(static_cast<std::uint8_t>(piece));
 }
 
-/// The piece with this letter. std::invalid_argument if there is none.
+/// The piece with this letter. Throws std::invalid_argument if there is none.
 inline Piece piece(char letter) {
     std::uint8_t code = dgt_piece_code(static_cast<std::uint8_t>(letter));
     if (code == DGT_NO_SUCH)
@@ -157,12 +157,12 @@ inline Piece piece(char letter) {
 /// A square of the board.
 class Square {
 public:
-    /// By its number. std::invalid_argument above 63.
+    /// By its number. Throws std::invalid_argument above 63.
     explicit Square(unsigned number) : number_(static_cast<std::uint8_t>(number)) {
-        if (number > 63) throw std::invalid_argument("a square is numbered from 0 to 63");
+        if (number > 63) throw std::invalid_argument("squares are numbered from 0 to 63");
     }
 
-    /// By its name, as "e4". std::invalid_argument if no square has it.
+    /// By its name, such as "e4". Throws std::invalid_argument if there is no such square.
     explicit Square(std::string_view name) : number_(DGT_NO_SUCH) {
         if (name.size() == 2)
             number_ = dgt_square_number(static_cast<std::uint8_t>(name[0]),
@@ -186,25 +186,25 @@ private:
     std::uint8_t number_;
 };
 
-/// What stands on the 64 squares.
+/// The pieces on the 64 squares.
 class Position {
 public:
-    /// No piece on any square.
+    /// The empty board.
     Position() noexcept : codes_{} {}
 
-    /// By the numbers of the pieces. std::invalid_argument if one is above 15.
+    /// By the numbers of the pieces. Throws std::invalid_argument if one is above 15.
     explicit Position(const std::array<std::uint8_t, 64> &codes) : codes_(codes) {
         if (*std::max_element(codes.begin(), codes.end()) > 15)
-            throw std::invalid_argument("a piece is numbered from 0 to 15");
+            throw std::invalid_argument("pieces are numbered from 0 to 15");
     }
 
-    /// By the first field of a FEN. std::invalid_argument if the text is none.
+    /// By the first field of a FEN. Throws std::invalid_argument for any other text.
     explicit Position(std::string_view placement) : codes_{} {
         if (!dgt_parse_placement(placement.data(), placement.size(), codes_.data()).ok)
             throw std::invalid_argument("not a placement: '" + std::string(placement) + "'");
     }
 
-    /// The position in which a game begins.
+    /// The initial position of a game.
     static Position start() { return Position("rnbqkbnr/pppppppp/8/8/8/8/PPPPPPPP/RNBQKBNR"); }
 
     Piece operator[](Square square) const { return static_cast<Piece>(codes_[square.number()]); }
@@ -217,9 +217,9 @@ public:
         return text;
     }
 
-    /// The squares on which the other differs: bit n is set exactly if square n differs.
+    /// The squares on which the two differ: bit n is set if square n differs.
     std::uint64_t differ(const Position &other) const {
-        std::uint64_t squares = 0; // a position has no code that is refused
+        std::uint64_t squares = 0; // the codes of a position are never refused
         return dgt_differ(codes_.data(), other.codes_.data(), &squares) ? squares : 0;
     }
 
@@ -232,14 +232,14 @@ private:
 
 // ---- Clocks.
 
-/// The time of one side of a clock. In a set_and_run and in a Board its parts are in these ranges.
+/// The time of one side of a clock. In a set_and_run and a Board its parts are in these ranges.
 struct Time {
     std::uint8_t hours = 0;   ///< 0 to 9
     std::uint8_t minutes = 0; ///< 0 to 59
     std::uint8_t seconds = 0; ///< 0 to 59
     std::uint8_t flags = 0;   ///< 0 to 7
 
-    /// What the flags of a clock's time say, as DGT_FLAG_BLOCKED and its like.
+    /// The meaning of the flags of a clock's time, such as DGT_FLAG_BLOCKED.
     bool blocked() const { return (flags & DGT_FLAG_BLOCKED) != 0; }
     bool per_move() const { return (flags & DGT_FLAG_PER_MOVE) != 0; }
     bool fallen() const { return (flags & DGT_FLAG_FALLEN) != 0; }
@@ -251,14 +251,14 @@ private:
     std::tuple<int, int, int, int> all() const { return {hours, minutes, seconds, flags}; }
 };
 
-/// As 1:29:55.
+/// In the form 1:29:55.
 inline std::string to_string(const Time &time) {
     auto two = [](int n) { return std::string(n < 10 ? ":0" : ":") + std::to_string(n); };
     return std::to_string(time.hours) + two(time.minutes) + two(time.seconds);
 }
 
-/// A clock, and the times of its two sides, in the order of the message. They say nothing of
-/// colours.
+/// A clock, and the times of its two sides, in the order of the message. No side has a fixed
+/// colour.
 struct Times {
     Time first, second;
     std::uint8_t status = 0; ///< 0 to 127, without DGT_STATUS_ABSENT
@@ -288,7 +288,7 @@ struct NoClock {
 
 using Clock = std::variant<Times, NoClock>;
 
-// ---- What a board's bytes make known.
+// ---- The events in a board's bytes.
 
 struct Dump { Position position; bool unasked; };
 struct Field { Square square; Piece piece; };
@@ -298,7 +298,7 @@ struct Trademark { Bytes body; bool unasked; };
 struct Version { std::uint8_t main_number, sub_number; bool unasked; };
 struct Battery { Bytes body; bool unasked; };
 struct LongSerial { Bytes body; bool unasked; };
-/// A message that is carried unread, or an event for which only a later version has a name.
+/// A message that is carried unread, or an event that only a later version knows.
 struct Other { std::uint8_t code; Bytes body; };
 
 enum class Fault : std::uint8_t {
@@ -308,29 +308,29 @@ enum class Fault : std::uint8_t {
     bad_reading = DGT_BAD_READING
 };
 
-/// A whole message whose body says nothing. `at` is the offset of the byte at fault.
+/// A whole message with an invalid body. `at` is the offset of the byte at fault.
 struct Refused { std::uint8_t code; Fault fault; std::size_t at; };
-/// The next message cut off a message, of which `have` bytes had come.
+/// The next message cut off one of which `have` bytes were received.
 struct Cut { std::size_t have; };
-/// The length of a message is less than that of its header.
+/// The length of a message is less than the size of its header.
 struct BadLength {};
 /// A byte outside any message.
 struct Stray { std::uint8_t byte; };
 
-/// An event. `unasked` is true if a host or a follower had not asked for the message first of all;
-/// from a Decoder it is false.
+/// An event. `unasked` is true if the message isn't the first reply that a host or a follower
+/// awaits; from a Decoder it is false.
 using Event = std::variant<Dump, Field, Times, NoClock, Ack, Serial, Trademark, Version, Battery,
                            LongSerial, Other, Refused, Cut, BadLength, Stray>;
 
-/// How many bytes were used, and the event that they make, if they make one.
+/// How many bytes were used, and the event that they complete, if there is one.
 struct Heard {
     std::size_t used;
     std::optional<Event> event;
 };
 
-// ---- What a host's bytes say.
+// ---- The commands in a host's bytes.
 
-/// A command that is one byte. A later version may report more of them.
+/// A command of one byte. A later version may report more of them.
 enum class Ask : std::uint8_t {
     reset = DGT_SEND_RESET,
     clock = DGT_SEND_CLOCK,
@@ -346,25 +346,25 @@ enum class Ask : std::uint8_t {
 };
 
 struct Asked { Ask ask; };
-/// A message for the clock: its id, as DGT_ID_BEEP, and what it carries.
+/// A clock message: its id, such as DGT_ID_BEEP, and its payload.
 struct ClockMessage { std::uint8_t id; Bytes payload; };
 struct Leds { Bytes leds; };
 /// The size of a clock message is below 3, its third byte isn't 03, or its last one isn't 00.
 struct BadSize {};
 struct BadStart {};
 struct BadEnd {};
-/// A byte that begins no command, or a fault for which only a later version has a name.
+/// A byte that doesn't begin a command, or a fault that only a later version knows.
 struct StrayByte { std::uint8_t byte; };
 
 using Word = std::variant<Asked, ClockMessage, Leds, BadSize, BadStart, BadEnd, StrayByte>;
 
-/// How many bytes were used, and the command or the fault that they make, if they make one.
+/// How many bytes were used, and the command or the fault that they complete, if there is one.
 struct Read {
     std::size_t used;
     std::optional<Word> word;
 };
 
-/// What a board reports by itself.
+/// Which changes a board reports by itself.
 enum class Mode : std::uint8_t {
     idle = DGT_MODE_IDLE,
     update = DGT_MODE_UPDATE,             ///< each changed square, and each time of the clock
@@ -372,7 +372,7 @@ enum class Mode : std::uint8_t {
     update_nice = DGT_MODE_UPDATE_NICE    ///< each changed square, and the clock if it changed
 };
 
-// ---- How all this crosses to dgt.h. Not for use outside this header.
+// ---- Conversions to and from dgt.h. Not for use outside this header.
 
 namespace detail {
 
@@ -419,7 +419,7 @@ template <std::size_t N> std::array<std::uint8_t, N> copied(const std::uint8_t (
     return copy;
 }
 
-/// The event of a struct, whose body lies in `room`.
+/// The event of a struct. Its body is in `room`.
 inline std::optional<Event> read_event(const dgt_event &event, const std::uint8_t *room) {
     const bool unasked = event.unasked != 0;
     auto body = [&] { return Bytes(room, room + event.body_len); };
@@ -444,7 +444,7 @@ inline std::optional<Event> read_event(const dgt_event &event, const std::uint8_
     }
 }
 
-/// The command of a struct, whose bytes lie in `word`.
+/// The command of a struct. Its bytes are in `word`.
 inline std::optional<Word> read_word(const dgt_command &command, const std::uint8_t *word) {
     const std::uint8_t *end = word + command.word_len;
     switch (command.kind) {
@@ -461,7 +461,8 @@ inline std::optional<Word> read_word(const dgt_command &command, const std::uint
     return Asked{static_cast<Ask>(command.code)};
 }
 
-/// What a call of dgt.h sends: `send` is given room and its size. Throws as Host::send_clock does.
+/// The bytes that a call of dgt.h sends: `send` gets room and its size. Throws like
+/// Host::send_clock.
 template <class Send> Commands sent(Send &&send) {
     Commands out;
     dgt_sent done = send(out.room(), std::size_t{DGT_MAX_ASKING});
@@ -544,18 +545,18 @@ inline ByteView write_event(const Event &event, dgt_event &out) {
     return std::visit(EventWriter{out}, event);
 }
 
-/// What a call of dgt.h encodes: `encode` is given room and its size, once it said how much.
+/// The bytes that a call of dgt.h encodes: `encode` returns the length, and then fills the room.
 template <class Out = Bytes, class Encode> Out encoded(Encode &&encode) {
     using Unit = typename Out::value_type;
     dgt_encoded done = encode(static_cast<Unit *>(nullptr), std::size_t{0});
-    if (done.status == DGT_NOT_ENCODED) throw std::invalid_argument("no such event or command");
+    if (done.status == DGT_NOT_ENCODED)
+        throw std::invalid_argument("not an event or a command: a part is out of range");
     Out out(done.bytes, Unit{});
     done = encode(out.data(), out.size());
     return out;
 }
 
-/// Has `hear_one` use all of the bytes. Hands each event to `tell`, and its place to one that takes
-/// it.
+/// Lets `hear_one` use all bytes. Passes each event to `tell`, with its place if `tell` takes one.
 template <class HearOne, class Tell> void hear(ByteView bytes, HearOne hear_one, Tell &tell) {
     for (std::size_t place = 0; place < bytes.size();) {
         Heard heard = hear_one(bytes.after(place));
@@ -574,7 +575,7 @@ template <class Handle, class Known> std::optional<Position> picture(Handle *han
     return Position(codes);
 }
 
-/// A time or a period for dgt.h. std::invalid_argument if it is negative.
+/// A time or a period for dgt.h. Throws std::invalid_argument if it is negative.
 inline std::uint64_t count(Milliseconds time) {
     if (time.count() < 0) throw std::invalid_argument("a time or a period is negative");
     return static_cast<std::uint64_t>(time.count());
@@ -586,7 +587,7 @@ inline std::optional<Milliseconds> time(bool is_known, std::uint64_t count) {
     return Milliseconds(static_cast<Milliseconds::rep>(count));
 }
 
-// The calls of dgt.h that send a message to the clock, by one name for a host and a follower.
+// The calls of dgt.h that send a clock message, under one name for a host and a follower.
 
 inline dgt_sent send_display(dgt_host *it, const std::uint8_t *text, std::uint8_t dots,
                              std::uint8_t beep, std::uint8_t *out, std::size_t n) {
@@ -664,11 +665,10 @@ inline dgt_sent send_clock_version(dgt_follower *it, std::uint8_t *out, std::siz
 
 } // namespace detail
 
-// ---- Messages and commands, encoded and viewed by themselves.
+// ---- Messages and commands, encoded and viewed without an object.
 
-/// The bytes of a message. Throws std::invalid_argument if the event is no message (a Cut, for
-/// example), if a part of it is out of its range, or if the code of an Other is that of another
-/// case.
+/// The bytes of a message. Throws std::invalid_argument if the event is not a message (such as a
+/// Cut), if a part is out of range, or if the code of an Other belongs to another kind.
 inline Bytes encode_message(const Event &event) {
     dgt_event written{};
     ByteView body = detail::write_event(event, written);
@@ -677,29 +677,29 @@ inline Bytes encode_message(const Event &event) {
     });
 }
 
-/// The text of an event, such as "field e4 P": it is what `dgt monitor` prints after the offset of
-/// the event. Throws std::invalid_argument if a part of it is out of its range.
+/// The text of an event, such as "field e4 P", which `dgt monitor` prints after the offset of the
+/// event. Throws std::invalid_argument if a part of it is out of range.
 inline std::string to_string(const Event &event) {
     dgt_event written{};
     ByteView body = detail::write_event(event, written);
     auto text = detail::encoded<std::string>([&](auto *out, auto n) {
         return dgt_event_text(&written, body.data(), body.size(), out, n);
     });
-    text.pop_back(); // the zero
+    text.pop_back(); // the zero byte
     return text;
 }
 
-/// The message with this code, from 0 to 127, and this body, or a Refused with the fault of the
-/// body. std::invalid_argument if the code or a byte is above 127, or above DGT_MAX_BODY bytes.
+/// The message with this code and this body, or a Refused with the fault of the body. Throws
+/// std::invalid_argument if the code or a byte is above 127, or for more than DGT_MAX_BODY bytes.
 inline Event view_message(std::uint8_t code, ByteView body) {
     dgt_event event;
     if (!dgt_view_message(code, body.data(), body.size(), &event))
-        throw std::invalid_argument("no code of a message, or no body of one");
+        throw std::invalid_argument("not a message: a byte is above 127, or the body is too long");
     return detail::read_event(event, body.data()).value();
 }
 
-/// The bytes of a command. std::invalid_argument if the word is a fault, as a BadSize, or carries
-/// too many bytes.
+/// The bytes of a command. Throws std::invalid_argument for a fault, such as a BadSize, or too many
+/// carried bytes.
 inline Bytes encode_command(const Word &word) {
     std::uint8_t code = 0, id = 0;
     ByteView carried;
@@ -712,17 +712,17 @@ inline Bytes encode_command(const Word &word) {
     });
 }
 
-/// The command whose bytes are exactly these, if there is one.
+/// The command with exactly these bytes, if there is one.
 inline std::optional<Word> view_command(ByteView word) {
     dgt_command command;
     if (!dgt_view_command(word.data(), word.size(), &command)) return std::nullopt;
     return detail::read_word(command, word.data());
 }
 
-// ---- What a board has stored, and names of bytes that messages carry unread. They are what other
-// programs read in these bytes: no clock and no board was tried.
+// ---- What a board has stored, and the meaning of bytes that messages carry unread, as other
+// programs read them. Not tested with a clock or a board.
 
-/// A byte that is stored by itself.
+/// A stored item of one byte.
 enum class Mark : std::uint8_t {
     nothing = DGT_MARK_NOTHING,
     power_up = DGT_MARK_POWER_UP,
@@ -737,17 +737,17 @@ enum class Mark : std::uint8_t {
     erased = DGT_MARK_ERASED
 };
 
-/// This piece, or none, stood on this square then. `bit` is D4 of its byte, carried.
+/// This piece, or none, was then on this square. `bit` is D4 of its byte.
 struct StoredPiece { Square square; Piece piece; bool bit; };
-/// The time of one player. Its flags are 6 or 7, one for each.
+/// The time of one player. Its flags are 6 for one player and 7 for the other.
 struct StoredTime { Time time; };
-/// A byte that is none of these, or begins one that isn't whole.
+/// A byte of no other kind, or the first of an item that is cut off.
 struct UnknownByte { std::uint8_t byte; };
 
 using Stored = std::variant<StoredPiece, StoredTime, Mark, UnknownByte>;
 
-/// What the body of an Other with the code 0f says, in its order. A board sends that after the byte
-/// 49, of which no call makes a command: write the byte to the line.
+/// The items in the body of an Other with the code 0f, in order. A board sends that after the byte
+/// 49, for which there is no call: write the byte to the line.
 inline std::vector<Stored> read_stored(ByteView body) {
     std::vector<Stored> read;
     for (dgt_stored it; !body.empty();) {
@@ -774,19 +774,19 @@ enum class Button : std::uint8_t {
     ok = DGT_BUTTON_OK
 };
 
-/// The clock has done what the message with this id asks for, as DGT_ID_BEEP.
+/// The clock has executed the message with this id, such as DGT_ID_BEEP.
 struct Done { std::uint8_t id; };
 struct ClockVersion { std::uint8_t main_number, sub_number; };
-/// This button was pressed, asked for or not.
+/// This button was pressed, even if no message asked for it.
 struct Pressed { Button button; };
-/// Ok was pressed with Back, which switches a clock off.
+/// Ok was pressed together with Back, which switches a clock off.
 struct Off {};
 /// The clock was switched on, and is ready.
 struct Ready {};
 
 using Signal = std::variant<Done, ClockVersion, Pressed, Off, Ready>;
 
-/// What an acknowledgement says, if that is known.
+/// The meaning of an acknowledgement, if it is known.
 inline std::optional<Signal> signal_of(const Ack &ack) {
     dgt_signal it;
     if (!dgt_signal_of(ack.ack.data(), &it)) return std::nullopt;
@@ -800,17 +800,17 @@ inline std::optional<Signal> signal_of(const Ack &ack) {
     }
 }
 
-/// What a battery says of itself.
+/// What a battery reports of itself.
 struct BatteryState {
     std::optional<std::uint8_t> percent; ///< what is left of its charge, if that is known
-    /// How long that lasts, or after how long it is charged.
+    /// The time until it is empty, or until it is charged.
     std::optional<std::uint8_t> hours_left, minutes_left;
     std::uint8_t hours_on, minutes_on; ///< how long the board has been on
     std::uint8_t days_resting, hours_resting, minutes_resting; ///< how long it has been resting
     bool charging, discharging;
 };
 
-/// What the body of a battery message says, if it has nine bytes.
+/// The meaning of the body of a battery message, if it is nine bytes long.
 inline std::optional<BatteryState> state_of(const Battery &battery) {
     dgt_battery it;
     if (!dgt_battery_of(battery.body.data(), battery.body.size(), &it)) return std::nullopt;
@@ -822,8 +822,8 @@ inline std::optional<BatteryState> state_of(const Battery &battery) {
                         it.minutes_resting, it.charging != 0, it.discharging != 0};
 }
 
-/// The text that bytes are, as those of a serial number or a trademark. None if there are none, or
-/// one of them is no character of ASCII that prints.
+/// The text of bytes such as those of a serial number or a trademark. None if there are no bytes,
+/// or one of them is not a printable ASCII character.
 inline std::optional<std::string> text_of(ByteView bytes) {
     if (!dgt_is_text(bytes.data(), bytes.size())) return std::nullopt;
     return std::string(bytes.begin(), bytes.end());
@@ -831,9 +831,9 @@ inline std::optional<std::string> text_of(ByteView bytes) {
 
 // ---- The commands for the clock.
 
-/// What a Host and a Follower send to the clock of a board. A board that has one acknowledges each
-/// by an Ack. Shorter texts have spaces after them. std::invalid_argument if a text is too long or
-/// has other characters than are named.
+/// The messages that a Host and a Follower send to the clock of a board, which acknowledges each by
+/// an Ack. Spaces are added after shorter texts. Throws std::invalid_argument if a text is too long
+/// or contains other characters than those named.
 template <class Sender> class ClockCommands {
 public:
     /// Shows at most six digits, spaces and hyphens, from left to right.
@@ -841,7 +841,7 @@ public:
         auto shown = padded<6>(text);
         for (std::uint8_t each : shown)
             if (dgt_segment(each) == DGT_NO_SUCH)
-                throw std::invalid_argument("no digit, space or hyphen");
+                throw std::invalid_argument("not a digit, a space or a hyphen");
         return sent([&](auto *it, auto *out, auto n) {
             return detail::send_display(it, shown.data(), dots, beep, out, n);
         });
@@ -851,7 +851,7 @@ public:
     Commands text(std::string_view text, std::uint8_t beep = 0) {
         auto shown = padded<8>(text);
         for (std::uint8_t each : shown)
-            if (each > 127) throw std::invalid_argument("not ASCII");
+            if (each > 127) throw std::invalid_argument("the text is not ASCII");
         return sent([&](auto *it, auto *out, auto n) {
             return detail::send_text(it, shown.data(), beep, out, n);
         });
@@ -863,8 +863,8 @@ public:
         });
     }
 
-    /// Sets the times of both sides, and has the clock do what `control` says, whose bits are the
-    /// clock's. std::invalid_argument if a time is out of its range, or has flags.
+    /// Sets the times of both sides. The clock interprets the bits of `control`. Throws
+    /// std::invalid_argument if a time is out of range, or has flags.
     Commands set_and_run(const Time &left, const Time &right, std::uint8_t control) {
         auto one = side(left), other = side(right);
         return sent([&](auto *it, auto *out, auto n) {
@@ -872,24 +872,24 @@ public:
         });
     }
 
-    /// Shows the icons of these bytes. std::invalid_argument above DGT_MAX_PAYLOAD of them.
+    /// Shows the icons of these bytes. Throws std::invalid_argument above DGT_MAX_PAYLOAD of them.
     Commands icons(ByteView payload) {
         return sent([&](auto *it, auto *out, auto n) {
             return detail::send_icons(it, payload.data(), payload.size(), out, n);
         });
     }
 
-    /// Ends what is shown. The clock shows its times again.
+    /// Ends the display of a text or icons: the clock shows its times again.
     Commands end() {
         return sent([](auto *it, auto *out, auto n) { return detail::send_end(it, out, n); });
     }
 
-    /// Asks for the state of the clock's buttons.
+    /// Requests the state of the clock's buttons.
     Commands button() {
         return sent([](auto *it, auto *out, auto n) { return detail::send_button(it, out, n); });
     }
 
-    /// Asks for the version of the clock.
+    /// Requests the version of the clock.
     Commands clock_version() {
         return sent([](auto *it, auto *out, auto n) {
             return detail::send_clock_version(it, out, n);
@@ -916,24 +916,24 @@ private:
 
     static std::array<std::uint8_t, 3> side(const Time &time) {
         if (time.hours > 9 || time.minutes > 59 || time.seconds > 59 || time.flags != 0)
-            throw std::invalid_argument("no time from 0:00:00 to 9:59:59 without flags");
+            throw std::invalid_argument("not a time from 0:00:00 to 9:59:59 without flags");
         return {time.hours, time.minutes, time.seconds};
     }
 };
 
 // ---- A host.
 
-/// Asks a board, and keeps a picture of it from what it hears. 38 KiB.
+/// Sends commands, and tracks the board's position from the messages that it hears. 38 KiB.
 class Host : public ClockCommands<Host> {
 public:
-    /// It knows nothing and awaits nothing. WrongLibrary.
+    /// A host that knows nothing and awaits nothing. Throws WrongLibrary.
     Host() {
         if (!dgt_host_new(&host_)) throw WrongLibrary();
     }
     Host(const Host &) = delete;
     Host &operator=(const Host &) = delete;
 
-    /// Hears bytes up to the first event, or all of them: at least 1, if there are any.
+    /// Hears the bytes up to the first event, or all of them: at least 1, if there are any.
     Heard hear_one(ByteView bytes) {
         dgt_event event;
         std::size_t used = dgt_host_hear(&host_, bytes.data(), bytes.size(), &event, body_.data(),
@@ -941,44 +941,44 @@ public:
         return {used, detail::read_event(event, body_.data())};
     }
 
-    /// Hears all of the bytes, and hands each event to `tell` once it is heard. If `tell` takes a
-    /// std::size_t after the event, it gets how many of the bytes had been used by then.
+    /// Hears all bytes, and passes each event to `tell` once it is heard, also with the number of
+    /// bytes used by then if `tell` takes a std::size_t.
     template <class Tell> void hear(ByteView bytes, Tell &&tell) {
         detail::hear(bytes, [&](ByteView left) { return hear_one(left); }, tell);
     }
 
-    /// Asks for each change from now on, and for all squares. TooManyAwaited.
+    /// Requests each change from now on, and all squares. Throws TooManyAwaited.
     Commands follow() {
         return detail::sent([&](auto *out, auto n) { return dgt_host_follow(&host_, out, n); });
     }
 
-    /// The same after zeros, which end whatever command the board is in the middle of.
+    /// The same after zeros, which complete any unfinished command of the board.
     Commands restart() {
         return detail::sent([&](auto *out, auto n) { return dgt_host_restart(&host_, out, n); });
     }
 
-    /// TooManyAwaited, if a reply is to be awaited.
+    /// Throws TooManyAwaited if a reply would have to be awaited.
     Commands send(Ask ask) {
         auto code = static_cast<std::uint8_t>(ask);
         return detail::sent([&](auto *out, auto n) { return dgt_host_send(&host_, code, out, n); });
     }
 
-    /// Sends a message with this id, as DGT_ID_BEEP, to the clock. std::invalid_argument above
-    /// DGT_MAX_PAYLOAD bytes.
+    /// Sends the clock message with this id, such as DGT_ID_BEEP. Throws std::invalid_argument for
+    /// more than DGT_MAX_PAYLOAD bytes.
     Commands send_clock(std::uint8_t id, ByteView payload) {
         return detail::sent([&](auto *out, auto n) {
             return dgt_host_send_clock(&host_, id, payload.data(), payload.size(), out, n);
         });
     }
 
-    /// Sends an LED frame. std::invalid_argument above DGT_MAX_LEDS bytes.
+    /// Sends an LED frame. Throws std::invalid_argument for more than DGT_MAX_LEDS bytes.
     Commands send_leds(ByteView leds) {
         return detail::sent([&](auto *out, auto n) {
             return dgt_host_send_leds(&host_, leds.data(), leds.size(), out, n);
         });
     }
 
-    /// What stands on the squares, once a dump was heard.
+    /// The pieces on the squares, once a dump was heard.
     std::optional<Position> picture() {
         return detail::picture(&host_, [](auto *host, auto *codes) {
             return dgt_host_picture(host, codes);
@@ -992,14 +992,14 @@ public:
         return std::string(text);
     }
 
-    /// What the board reported last of its clock, if it did.
+    /// The clock as last reported, if it was.
     std::optional<Clock> clock() {
         dgt_clock clock;
         dgt_host_clock(&host_, &clock);
         return detail::read_clock(clock);
     }
 
-    /// The questions whose replies are awaited, the next one first.
+    /// The requests with awaited replies, the next one first.
     std::vector<Ask> awaited() {
         std::uint8_t codes[DGT_MAX_AWAITED];
         std::vector<Ask> asked;
@@ -1008,13 +1008,13 @@ public:
         return asked;
     }
 
-    /// Gives up all replies that are awaited, and returns how many there were (see dgt.h).
+    /// Removes all awaited replies from the list, and returns how many there were (see dgt.h).
     std::size_t give_up_awaited() { return dgt_host_give_up_awaited(&host_); }
 
-    /// How many bytes were heard of a message that is not finished.
+    /// How many bytes of an unfinished message were heard.
     std::size_t unread() { return dgt_host_unread(&host_); }
 
-    /// The line is lost, and what was under way on it: the host is as new.
+    /// Reports that the line was lost, with all bytes under way: the host is as new.
     void line_lost() { dgt_host_line_lost(&host_); }
 
 private:
@@ -1027,14 +1027,14 @@ private:
 
 // ---- A follower.
 
-/// A host that asks for the whole board again and again, so that its picture becomes right again
-/// after any fault of the line (see dgt.h). A time or a period that is negative is a
-/// std::invalid_argument. 39 KiB.
+/// A host that requests the whole board again and again, so that its picture becomes right again
+/// after any fault of the line (see dgt.h). Throws std::invalid_argument for a negative time or
+/// period. 39 KiB.
 class Follower : public ClockCommands<Follower> {
 public:
-    /// `period` is from one asking to the next, at least DGT_LEAST_PERIOD: a shorter one counts as
-    /// that. `patience` is how many in a row may be short ones. WrongLibrary. std::invalid_argument
-    /// if `mode` is idle.
+    /// `period` is the time from one request to the next, at least DGT_LEAST_PERIOD: a shorter one
+    /// counts as that. `patience` is how many heartbeats may follow one another. Throws
+    /// WrongLibrary, and std::invalid_argument if `mode` is idle.
     explicit Follower(Milliseconds period = std::chrono::seconds(10), std::uint32_t patience = 6,
                       Mode mode = Mode::update_board) {
         if (!dgt_follower_new(&follower_, detail::count(period), patience)) throw WrongLibrary();
@@ -1043,7 +1043,7 @@ public:
     Follower(const Follower &) = delete;
     Follower &operator=(const Follower &) = delete;
 
-    /// What to ask the board at this time: nothing if that isn't due.
+    /// The request at this time, empty if none is due.
     Commands ask(Milliseconds now) {
         auto time = detail::count(now);
         return detail::sent([&](auto *out, auto n) {
@@ -1051,16 +1051,16 @@ public:
         });
     }
 
-    /// When to call `ask` next, if nothing is heard before: 0 if it asks at once. An answer that is
-    /// overdue then is a doubt, and so is the rest of a message. Nothing if that is later than any
-    /// time.
+    /// When to call `ask` next, if nothing is heard before: 0 if a request is due at once. An
+    /// answer or the rest of a message may be overdue then, which is a doubt. Nothing if it is out
+    /// of range.
     std::optional<Milliseconds> due() {
         std::uint64_t time = 0;
         bool is_known = dgt_follower_due_at(&follower_, &time);
         return detail::time(is_known, time);
     }
 
-    /// As Host::hear_one and hear, of bytes that came at this time.
+    /// As Host::hear_one and hear, with the time at which the bytes were received.
     Heard hear_one(Milliseconds now, ByteView bytes) {
         dgt_event event;
         std::size_t used = dgt_follower_hear(&follower_, detail::count(now), bytes.data(),
@@ -1071,31 +1071,31 @@ public:
         detail::hear(bytes, [&](ByteView left) { return hear_one(now, left); }, tell);
     }
 
-    /// Hears all of them, and reports no event.
+    /// Hears all bytes, and reports no events.
     void hear(Milliseconds now, ByteView bytes) {
         dgt_follower_hear_all(&follower_, detail::count(now), bytes.data(), bytes.size());
     }
 
-    /// Has it ask at once, or once its last asking is answered.
+    /// Makes a request due at once, or once the last one is answered.
     void ask_now() { dgt_follower_ask_now(&follower_); }
 
-    /// Has it ask again for a picture that isn't confirmed, or not: a second after the last change
-    /// and after the last asking.
+    /// Sets whether a picture that isn't confirmed is requested again: a second after the last
+    /// change and after the last request.
     void set_confirm(bool confirm) { dgt_follower_set_confirm(&follower_, confirm); }
 
-    /// Has it request the serial number of the board while that is unknown, or not.
+    /// Sets whether the serial number of the board is requested while it is unknown.
     void set_identify(bool identify) { dgt_follower_set_identify(&follower_, identify); }
 
-    /// What the board is asked to report by itself, from the next asking on.
+    /// Which changes the board is asked to report by itself, from the next request on.
     Mode mode() { return static_cast<Mode>(dgt_follower_mode(&follower_)); }
 
-    /// std::invalid_argument if it is idle.
+    /// Throws std::invalid_argument if it is idle.
     void set_mode(Mode mode) {
         if (!dgt_follower_set_mode(&follower_, static_cast<std::uint8_t>(mode)))
-            throw std::invalid_argument("a follower has no mode in which a board reports nothing");
+            throw std::invalid_argument("a follower's mode can't be idle");
     }
 
-    /// As Host::send, send_clock and send_leds. They don't count as askings.
+    /// As Host::send, send_clock and send_leds. They don't count as the follower's requests.
     Commands send(Ask ask) {
         auto code = static_cast<std::uint8_t>(ask);
         return detail::sent([&](auto *out, auto n) {
@@ -1113,7 +1113,7 @@ public:
         });
     }
 
-    /// What stands on the squares, once a dump was heard. It stays known while it asks again.
+    /// The pieces on the squares, once a dump was heard. The picture stays known during requests.
     std::optional<Position> picture() {
         return detail::picture(&follower_, [](auto *follower, auto *codes) {
             return dgt_follower_picture(follower, codes);
@@ -1127,21 +1127,20 @@ public:
         return std::string(text);
     }
 
-    /// What the board reported last of its clock, if it did. Nothing while the clock shows no
-    /// digits.
+    /// The clock as last reported, if it was. Nothing while the clock shows no digits.
     std::optional<Clock> clock() {
         dgt_clock clock;
         dgt_follower_clock(&follower_, &clock);
         return detail::read_clock(clock);
     }
 
-    /// How many bytes were heard of a message that is not finished.
+    /// How many bytes of an unfinished message were heard.
     std::size_t unread() { return dgt_follower_unread(&follower_); }
 
     /// Whether the picture may be wrong.
     bool in_doubt() { return dgt_follower_in_doubt(&follower_); }
 
-    /// Whether an awaited dump repeated the picture, and nothing has changed or disturbed it since.
+    /// Whether an awaited dump repeated the picture, without a change or a disturbance since.
     bool confirmed() { return dgt_follower_confirmed(&follower_); }
 
     /// The serial number of the board, if it was reported.
@@ -1158,14 +1157,14 @@ public:
         return detail::time(is_known, time);
     }
 
-    /// How many short askings may still follow one another.
+    /// How many more heartbeats the patience allows.
     std::uint32_t heartbeats_left() { return dgt_follower_heartbeats_left(&follower_); }
 
-    /// Bytes were lost or altered, as whoever reads the line has found out. It is a disturbance.
+    /// Reports that bytes were lost or altered, which is a disturbance.
     void line_disturbed() { dgt_follower_line_disturbed(&follower_); }
 
-    /// The line is lost, and what was under way on it: it is as new, with its period, its patience
-    /// and its mode, and with whether it confirms and identifies.
+    /// Reports that the line was lost, with all bytes under way: the follower is as new, but keeps
+    /// its period, patience and mode, and whether it confirms and identifies.
     void line_lost() { dgt_follower_line_lost(&follower_); }
 
 private:
@@ -1176,12 +1175,12 @@ private:
     std::array<std::uint8_t, DGT_MAX_BODY> body_;
 };
 
-// ---- A decoder and a reader of commands.
+// ---- A decoder, and a decoder of commands.
 
-/// Reports the events of a board's bytes, and keeps no picture. 37 KiB.
+/// Reports the events in a board's bytes, and keeps no picture. 37 KiB.
 class Decoder {
 public:
-    /// It holds nothing. WrongLibrary.
+    /// A decoder that holds nothing. Throws WrongLibrary.
     Decoder() {
         if (!dgt_decoder_new(&decoder_)) throw WrongLibrary();
     }
@@ -1199,13 +1198,13 @@ public:
         detail::hear(bytes, [&](ByteView left) { return feed_one(left); }, tell);
     }
 
-    /// How many bytes have come of a message that is not finished.
+    /// How many bytes of an unfinished message were received.
     std::size_t rest() { return dgt_decoder_rest(&decoder_); }
 
-    /// The same, at the end of the bytes. The decoder is as new then.
+    /// The same, at the end of the bytes. The decoder is then as new.
     std::size_t finish() { return dgt_decoder_finish(&decoder_); }
 
-    /// Makes it as new.
+    /// Returns it to its initial state.
     void reset() { dgt_decoder_reset(&decoder_); }
 
 private:
@@ -1216,14 +1215,15 @@ private:
 /// Reports the commands in a host's bytes.
 class CommandDecoder {
 public:
-    /// It holds nothing. WrongLibrary.
+    /// A decoder that holds nothing. Throws WrongLibrary.
     CommandDecoder() {
         if (!dgt_command_decoder_new(&decoder_)) throw WrongLibrary();
     }
     CommandDecoder(const CommandDecoder &) = delete;
     CommandDecoder &operator=(const CommandDecoder &) = delete;
 
-    /// Uses bytes up to the first command or fault, or all of them: at least 1, if there are any.
+    /// Uses the bytes up to the first command or fault, or all of them: at least 1, if there are
+    /// any.
     Read feed_one(ByteView bytes) {
         dgt_command command;
         std::uint8_t word[DGT_MAX_WORD];
@@ -1232,7 +1232,7 @@ public:
         return {used, detail::read_word(command, word)};
     }
 
-    /// Uses all of the bytes, and hands each command and each fault to `tell`.
+    /// Uses all bytes, and passes each command and each fault to `tell`.
     template <class Tell> void feed(ByteView bytes, Tell &&tell) {
         while (!bytes.empty()) {
             Read read = feed_one(bytes);
@@ -1241,13 +1241,13 @@ public:
         }
     }
 
-    /// How many bytes have come of a command that is not finished.
+    /// How many bytes of an unfinished command were received.
     std::size_t rest() { return dgt_command_decoder_rest(&decoder_); }
 
-    /// The same, at the end of the bytes. The reader is as new then.
+    /// The same, at the end of the bytes. The decoder is then as new.
     std::size_t finish() { return dgt_command_decoder_finish(&decoder_); }
 
-    /// Makes it as new.
+    /// Returns it to its initial state.
     void reset() { dgt_command_decoder_reset(&decoder_); }
 
 private:
@@ -1256,8 +1256,8 @@ private:
 
 // ---- A board.
 
-/// What a board reports of itself. Each byte but the clock's version is below 128, and a body has
-/// at most DGT_MAX_KEPT of them.
+/// What a board reports of itself. Each byte except the clock's version is below 128, and a body
+/// has at most DGT_MAX_KEPT of them.
 struct Identity {
     std::array<std::uint8_t, 5> serial{};
     std::uint8_t main_number = 0, sub_number = 0;
@@ -1265,23 +1265,23 @@ struct Identity {
     Bytes trademark, battery, long_serial;
 };
 
-/// How many bytes a board took, and the command or the fault that they make. Nothing if it is busy.
+/// How many bytes a board took, and the command or fault that they complete. Nothing if it is busy.
 struct Taken {
     bool busy;
     std::size_t used;
     std::optional<Word> word;
 };
 
-/// Takes the place of a board.
+/// A simulated board.
 class Board {
 public:
-    /// In the position in which a game begins, with a clock that shows 0:00:00 twice, and the
-    /// identity of a simulated board. WrongLibrary.
+    /// A board in the initial position, with a clock that shows 0:00:00 twice, and the identity of
+    /// a simulated board. Throws WrongLibrary.
     Board() {
         if (!dgt_board_new(&board_)) throw WrongLibrary();
     }
 
-    /// WrongLibrary. std::invalid_argument if the clock or the identity is out of its range.
+    /// Throws WrongLibrary, and std::invalid_argument if the clock or the identity is out of range.
     Board(const Position &position, const Clock &clock, const Identity &identity) : Board() {
         dgt_identity written{};
         std::copy(identity.serial.begin(), identity.serial.end(), std::begin(written.serial));
@@ -1292,7 +1292,7 @@ public:
         write_body(identity.long_serial, written.long_serial);
         dgt_clock shown = detail::write_clock(clock);
         if (dgt_board_start(&board_, position.codes().data(), &shown, &written) != DGT_STARTED)
-            throw std::invalid_argument("the clock or the identity is out of its range");
+            throw std::invalid_argument("the clock or the identity is out of range");
     }
     Board(const Board &) = delete;
     Board &operator=(const Board &) = delete;
@@ -1300,18 +1300,18 @@ public:
     /// Puts a piece, or none, on a square.
     void change(Square square, Piece piece) {
         if (!dgt_board_change(&board_, square.number(), static_cast<std::uint8_t>(piece)))
-            throw std::invalid_argument("a piece is numbered from 0 to 15");
+            throw std::invalid_argument("pieces are numbered from 0 to 15");
     }
 
-    /// Sets what the clock shows. std::invalid_argument if it is out of its range.
+    /// Sets what the clock shows. Throws std::invalid_argument if it is out of range.
     void hand_clock(const Clock &clock) {
         dgt_clock shown = detail::write_clock(clock);
         if (!dgt_board_hand_clock(&board_, &shown))
-            throw std::invalid_argument("the clock is out of its range");
+            throw std::invalid_argument("the clock is out of range");
     }
 
-    /// Takes bytes up to the first command or fault, or all of them. It is busy, and takes none, if
-    /// eight replies are owed: poll first.
+    /// Takes the bytes up to the first command or fault, or all of them. It is busy, and takes
+    /// none, if eight replies are owed: poll first.
     Taken take(ByteView bytes) {
         dgt_command command;
         std::uint8_t word[DGT_MAX_WORD];
@@ -1320,7 +1320,7 @@ public:
         return {taken.busy, taken.used, detail::read_word(command, word)};
     }
 
-    /// The next message that is to be sent, if there is one. It counts as sent.
+    /// The next message to be sent, if there is one. It counts as sent.
     std::optional<Message> poll() {
         Message out;
         dgt_polled polled = dgt_board_poll(&board_, out.room(), std::size_t{DGT_MAX_SENT});
@@ -1329,8 +1329,8 @@ public:
         return out;
     }
 
-    /// Takes all of the bytes, and hands each message that is to be sent to `send`: those that were
-    /// pending first, and after each command those that answer it.
+    /// Takes all bytes, and passes each message to be sent to `send`: first those that were
+    /// pending, and after each command those that answer it.
     template <class Send> void answer(ByteView bytes, Send &&send) {
         for (;;) {
             while (std::optional<Message> message = poll()) send(std::as_const(*message));
@@ -1345,7 +1345,7 @@ public:
     /// How many replies are owed, at most DGT_MAX_OWED.
     std::size_t owed_len() { return dgt_board_owed_len(&board_); }
 
-    /// How many bytes have come of a command that is not finished.
+    /// How many bytes of an unfinished command were received.
     std::size_t partial() { return dgt_board_partial(&board_); }
 
     Mode mode() { return static_cast<Mode>(dgt_board_mode(&board_)); }
@@ -1363,8 +1363,8 @@ public:
         return detail::read_clock(clock).value();
     }
 
-    /// The line is lost, and what was under way on it: the board keeps its squares, its clock and
-    /// its identity, and is else as new.
+    /// Simulates a lost line, with all bytes under way: the board keeps its squares, its clock and
+    /// its identity, and is otherwise as new.
     void line_lost() { dgt_board_line_lost(&board_); }
 
 private:

@@ -1,8 +1,8 @@
 /*
  * dgt_port.h: the serial port of a DGT board, for programs in C on Linux.
  *
- * Each function is static: the library has none of them, and dgt.h doesn't need them. A program
- * that follows a board:
+ * Each function is static: the library contains none of them, and dgt.h doesn't need them. This
+ * program follows a board:
  *
  *     int port = dgt_port_open("/dev/ttyUSB0");
  *     if (port < 0) return fprintf(stderr, "%s\n", dgt_port_advice(errno)), 1;
@@ -13,12 +13,12 @@
  *     fprintf(stderr, "%s\n", dgt_port_advice(errno));        // the port has gone
  *     dgt_port_close(port);                                   // open it again once it is back
  *
- * dgt_port_next lists the ports that may be boards. One process has a port: others are refused, by
- * flock and by TIOCEXCL. A port that comes back may have another number; its name in
- * /dev/serial/by-id stays. examples/trainer.c waits for it.
+ * dgt_port_next lists the ports that may be boards. Only one process can use a port: others are
+ * refused, by flock and by TIOCEXCL. A port that is plugged in again may get another number; its
+ * name in /dev/serial/by-id stays the same. examples/trainer.c waits for it.
  *
- * With -std=c99 or -std=c11 define _DEFAULT_SOURCE before the first #include. With -std=gnu11 and
- * the like, and in C++, nothing has to be defined.
+ * With -std=c99 or -std=c11, define _DEFAULT_SOURCE before the first #include. With -std=gnu11 and
+ * other GNU modes, and in C++, nothing has to be defined.
  */
 #ifndef DGT_PORT_H
 #define DGT_PORT_H
@@ -52,28 +52,28 @@
 #endif
 
 enum {
-    DGT_PORT_PATIENCE = 2000,   /* for how many milliseconds dgt_port_write waits for the port */
-    DGT_PORT_LONGEST = 3600000, /* for how many dgt_port_read does */
-    DGT_PORT_LATE = 100,        /* for how many bytes may come from before a fault */
-    DGT_PORT_PATH_ROOM = 512    /* the room of a path, with the 0 at its end */
+    DGT_PORT_PATIENCE = 2000,   /* the longest wait of dgt_port_write, in milliseconds */
+    DGT_PORT_LONGEST = 3600000, /* the longest wait of dgt_port_read, in milliseconds */
+    DGT_PORT_LATE = 100,        /* how long bytes from before a fault may arrive, in milliseconds */
+    DGT_PORT_PATH_ROOM = 512    /* the room of a path with its final zero byte */
 };
 
-/* The time in milliseconds, by a clock that doesn't go back: for dgt_follower_ask and its like. */
+/* The time in milliseconds, by a clock that doesn't go back, for dgt_follower_ask and others. */
 static inline uint64_t dgt_port_now(void) {
     struct timespec time;
     clock_gettime(CLOCK_MONOTONIC, &time);
     return (uint64_t)time.tv_sec * 1000 + (uint64_t)time.tv_nsec / 1000000;
 }
 
-/* A list of ports, which dgt_port_next goes through. Set all of it to 0 first. Another `folder` may
- * stand for /dev. `path` is the port that was found; leave it as it is. */
+/* A list of ports for dgt_port_next. Set all of it to 0 first. Set `folder` to use another folder
+ * than /dev. `path` is the port that was found; don't change it. */
 typedef struct dgt_ports {
     const char *folder;
     bool are_links_over_;
     char path[DGT_PORT_PATH_ROOM];
 } dgt_ports;
 
-/* Whether an entry of a folder has the name of a port. A link with a dot is being made. */
+/* Whether an entry of a folder has the name of a port. A link with a dot is not yet complete. */
 static inline bool dgt_port_is_named_(const char *name, bool is_link) {
     if (is_link) return name[0] != '.';
     return !strncmp(name, "rfcomm", 6) || !strncmp(name, "ttyACM", 6) ||
@@ -81,7 +81,7 @@ static inline bool dgt_port_is_named_(const char *name, bool is_link) {
 }
 
 /* Finds the first path in a folder, in the order of names, that is after another one. It exists,
- * and it is the same file as `same`, if that isn't NULL. False if there is none. */
+ * and it is the same file as `same`, if that isn't NULL. Returns false if there is none. */
 static inline bool dgt_port_first_(const char *folder, bool are_links, const char *after,
                                    const struct stat *same, char first[DGT_PORT_PATH_ROOM]) {
     char path[DGT_PORT_PATH_ROOM];
@@ -102,13 +102,14 @@ static inline bool dgt_port_first_(const char *folder, bool are_links, const cha
     return is_found;
 }
 
-/* Finds the next serial port that may be a board, which is one of USB or Bluetooth, and puts its
- * name into `path`. False if there is no other. No port is opened.
+/* Finds the next serial port that may be a board, which is one of USB or Bluetooth, and writes its
+ * name to `path`. Returns false if there is no other. It opens no port.
  *
  *     for (dgt_ports ports = {0}; dgt_port_next(&ports);) puts(ports.path);
  *
- * A port has its first name in /dev/serial/by-id, which stays, or else the one in /dev. Those in
- * by-id come first; both are in the order of their names. What doesn't fit is left out. */
+ * The name is the port's first one in /dev/serial/by-id, which stays the same, or otherwise that in
+ * /dev. Names in by-id are listed first; both groups are sorted. Paths that are too long are
+ * omitted. */
 static inline bool dgt_port_next(dgt_ports *ports) {
     char links[DGT_PORT_PATH_ROOM], path[DGT_PORT_PATH_ROOM];
     const char *folder = ports->folder ? ports->folder : "/dev";
@@ -119,7 +120,7 @@ static inline bool dgt_port_next(dgt_ports *ports) {
         bool are_links = !ports->are_links_over_;
         if (dgt_port_first_(are_links ? links : folder, are_links, ports->path, NULL, path)) {
             memcpy(ports->path, path, strlen(path) + 1);
-            if (stat(path, &file) != 0) continue; /* it has just gone */
+            if (stat(path, &file) != 0) continue; /* it has just disappeared */
             bool is_linked = dgt_port_first_(links, true, "", &file, path);
             if (are_links ? is_linked && !strcmp(path, ports->path) : !is_linked) return true;
         } else if (are_links) {
@@ -131,7 +132,7 @@ static inline bool dgt_port_next(dgt_ports *ports) {
     }
 }
 
-/* Locks an open port, and sets it up. False, with errno, if it can't. */
+/* Locks an open port, and sets it up. Returns false, with errno, on failure. */
 static inline bool dgt_port_take_(int port) {
     struct termios settings;
     if (flock(port, LOCK_EX | LOCK_NB) != 0 || tcgetattr(port, &settings) != 0) return false;
@@ -144,9 +145,9 @@ static inline bool dgt_port_take_(int port) {
     return tcsetattr(port, TCSANOW, &settings) == 0 && ioctl(port, TIOCEXCL) == 0;
 }
 
-/* Opens a port for this process alone: 9600 baud, 8 bits, no parity, 1 stop bit, no flow control,
- * raw. Returns its descriptor, which doesn't block. -1, with errno, if it can't be opened or locked
- * or is no serial port. It never waits. */
+/* Opens a port only for this process: 9600 baud, 8 bits, no parity, 1 stop bit, no flow control,
+ * raw. Returns its descriptor, which doesn't block. Returns -1, with errno, if it can't be opened
+ * or locked, or isn't a serial port. It never waits. */
 static inline int dgt_port_open(const char *name) {
     int port = open(name, O_RDWR | O_NOCTTY | O_NONBLOCK | O_CLOEXEC);
     if (port < 0 || dgt_port_take_(port)) return port;
@@ -156,7 +157,7 @@ static inline int dgt_port_open(const char *name) {
     return -1;
 }
 
-/* What an errno of these functions says of a port, and what to do about it. */
+/* A description of an errno of these functions, and what to do about it. */
 static inline const char *dgt_port_advice(int why) {
     switch (why) {
     case ENOENT: return "no such port (plug the board in; /dev/serial/by-id lists the ports)";
@@ -172,16 +173,15 @@ static inline const char *dgt_port_advice(int why) {
     }
 }
 
-/* Waits until there is something to do with a port, or until a time. Returns what poll does. */
+/* Waits for an event of a port, or until a time. Returns the result of poll. */
 static inline int dgt_port_wait_(int port, short events, uint64_t until) {
     uint64_t now = dgt_port_now(), left = until > now ? until - now : 0;
     struct pollfd polled = {port, events, 0};
     return poll(&polled, 1, left > DGT_PORT_LONGEST ? DGT_PORT_LONGEST : (int)left);
 }
 
-/* Sends all of the bytes. False, with errno, if the port has gone, or has taken none of them for
- * DGT_PORT_PATIENCE. The system keeps what the line has not carried yet, so that this seldom
- * waits. */
+/* Sends all bytes. Returns false, with errno, if the port has gone, or has taken none of them for
+ * DGT_PORT_PATIENCE. The system buffers the bytes, so this seldom waits. */
 static inline bool dgt_port_write(int port, const uint8_t *bytes, size_t n) {
     uint64_t end = dgt_port_now() + DGT_PORT_PATIENCE;
     while (n > 0) {
@@ -200,9 +200,9 @@ static inline bool dgt_port_write(int port, const uint8_t *bytes, size_t n) {
     return true;
 }
 
-/* Waits until bytes come, or until a time of dgt_port_now, and reads as many as there are, `n` at
- * most. Returns how many: 0 if none came by then, after a signal, and after DGT_PORT_LONGEST. -1,
- * with errno, if the port has gone. */
+/* Waits for bytes, or until a time of dgt_port_now, and reads as many as there are, at most `n`.
+ * Returns how many: 0 if none arrived by then, after a signal, and after DGT_PORT_LONGEST. Returns
+ * -1, with errno, if the port has gone. */
 static inline long dgt_port_read(int port, uint8_t *bytes, size_t n, uint64_t until) {
     int ready = dgt_port_wait_(port, POLLIN, until);
     if (ready <= 0) return ready == 0 || errno == EINTR ? 0 : -1;
@@ -213,8 +213,8 @@ static inline long dgt_port_read(int port, uint8_t *bytes, size_t n, uint64_t un
     return -1;
 }
 
-/* Sends what a follower asks the board for, if it asks now, and reads until it is to be called
- * again (dgt_follower_due_at), as dgt_port_read does. The follower has yet to hear the bytes. */
+/* Sends a follower's request, if one is due, and reads until it is to be called again
+ * (dgt_follower_due_at), as dgt_port_read does. The follower has yet to hear the bytes. */
 static inline long dgt_port_exchange(int port, dgt_follower *follower, uint8_t *bytes, size_t n) {
     uint8_t out[DGT_MAX_ASKING];
     uint64_t now = dgt_port_now(), due;
@@ -224,9 +224,8 @@ static inline long dgt_port_exchange(int port, dgt_follower *follower, uint8_t *
     return dgt_port_read(port, bytes, n, due);
 }
 
-/* How many bytes a port has lost or altered since it was plugged in, as the system counts. They
- * overran, were framed wrongly, had a wrong parity or were a break. 0 if the port doesn't count
- * them, as a pseudo-terminal. */
+/* How many bytes a port has lost or altered since it was plugged in, as the system counts them:
+ * overruns, framing errors, parity errors and breaks. 0 if the port has no counters. */
 static inline unsigned dgt_port_count_(int port) {
     struct serial_icounter_struct count;
     if (ioctl(port, TIOCGICOUNT, &count) != 0) return 0;
@@ -234,15 +233,15 @@ static inline unsigned dgt_port_count_(int port) {
            (unsigned)count.brk + (unsigned)count.buf_overrun;
 }
 
-/* What a port has lost or altered. Set all of it to 0 first. */
+/* The faults of a port so far. Set all of it to 0 first. */
 typedef struct dgt_port_faults {
     unsigned count_;
     uint64_t late_until_;
 } dgt_port_faults;
 
 /* Whether a port has lost or altered bytes since the last call. Call it once a follower has heard
- * what was read, and if so dgt_follower_line_disturbed. It is true for DGT_PORT_LATE milliseconds
- * after a fault: bytes may come that the port got before it. */
+ * the bytes read, and if it returns true, call dgt_follower_line_disturbed. It stays true for
+ * DGT_PORT_LATE milliseconds after a fault: bytes from before the fault may still arrive. */
 static inline bool dgt_port_is_disturbed(int port, dgt_port_faults *faults) {
     unsigned count = dgt_port_count_(port);
     uint64_t now = dgt_port_now();
@@ -251,7 +250,7 @@ static inline bool dgt_port_is_disturbed(int port, dgt_port_faults *faults) {
     return now < faults->late_until_;
 }
 
-/* Closes a port, for others to open. */
+/* Closes a port, so that others can open it. */
 static inline void dgt_port_close(int port) {
     ioctl(port, TIOCNXCL);
     close(port);

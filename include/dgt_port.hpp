@@ -12,8 +12,8 @@
 
 namespace dgt {
 
-/// The serial ports that may be boards, by the names to open them by, as dgt_port_next lists them.
-/// None is opened. Another folder may stand for /dev.
+/// The names of the serial ports that may be boards, as dgt_port_next lists them. It opens none.
+/// Set `folder` to use another folder than /dev.
 inline std::vector<std::string> ports(const std::string &folder = "/dev") {
     std::vector<std::string> found;
     dgt_ports listed{};
@@ -22,7 +22,7 @@ inline std::vector<std::string> ports(const std::string &folder = "/dev") {
     return found;
 }
 
-/// A port can't be opened, or has gone. The text says why, and what to do.
+/// A port can't be opened, or has gone. The text gives the reason, and what to do.
 class PortError : public std::runtime_error {
 public:
     PortError(const std::string &name, int error)
@@ -35,8 +35,8 @@ private:
     int error_;
 };
 
-/// A serial port that this process alone has: 9600 baud, 8 bits, no parity, 1 stop bit, raw. It is
-/// closed with the object. Each call may throw a PortError.
+/// A serial port that only this process can use: 9600 baud, 8 bits, no parity, 1 stop bit, raw. It
+/// is closed with the object. Each call may throw a PortError.
 class Port {
 public:
     explicit Port(const std::string &name) : name_(name), port_(dgt_port_open(name.c_str())) {
@@ -55,15 +55,14 @@ public:
         return *this;
     }
 
-    /// Sends all of the bytes. It fails if the port has gone, or hasn't taken them for two seconds.
+    /// Sends all bytes. Fails if the port has gone, or hasn't taken them for two seconds.
     void write(ByteView bytes) {
         if (!dgt_port_write(port_, bytes.data(), bytes.size()))
             throw PortError(name_, errno);
     }
 
-    /// Waits until bytes come, or until a time of dgt::now, if one is given. Returns what is there,
-    /// at most `Room` bytes: none if none came by then, or after a signal. It fails if the port has
-    /// gone.
+    /// Waits for bytes, or until a time of dgt::now, if one is passed. Returns the bytes received,
+    /// at most `Room`: none if none arrived by then, or after a signal. Fails if the port has gone.
     template <std::size_t Room = 256>
     Written<Room> read(std::optional<Milliseconds> until = std::nullopt) {
         Written<Room> chunk;
@@ -74,18 +73,18 @@ public:
         return chunk;
     }
 
-    /// Sends what a follower asks the board for, if it asks now, and reads until it is due again.
-    /// The follower has yet to hear the bytes.
+    /// Sends a follower's request, if one is due, and reads until the next one is due. The follower
+    /// has yet to hear the bytes.
     template <std::size_t Room = 256> Written<Room> exchange(Follower &follower) {
         write(follower.ask(now()));
         return read<Room>(follower.due());
     }
 
     /// Whether the port has lost or altered bytes since the last call. Call it once a follower has
-    /// heard what was read, and if so its line_disturbed.
+    /// heard the bytes read, and if it returns true, call line_disturbed.
     bool is_disturbed() { return dgt_port_is_disturbed(port_, &faults_); }
 
-    /// The descriptor, for poll and its like. It doesn't block.
+    /// The descriptor, for poll and similar calls. It doesn't block.
     int descriptor() const noexcept { return port_; }
 
 private:

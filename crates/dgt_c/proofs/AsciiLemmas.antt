@@ -1,4 +1,4 @@
--- Placements are ASCII, so that a text is none from its first other byte on.
+-- Placements are ASCII, so a text is wrong from its first other byte on.
 use Prim.Native.Char.{code as ascii}
 use Rattle.std.proofs.Common.{◌≡◌, ℕ, ◌+◌, ◌<◌, ◌≤◌, List, [], ◌∷◌, ◌++◌, length, take, lit<, arith, inl, inr}
 use Rattle.std.proofs.lemmas.Bool.{cases_lt}
@@ -38,7 +38,7 @@ ranks-ascii (rank ∷ next ∷ ranks) pieces (squares, rest, eight, is_rank, oth
 placement-ascii : (text : List ℕ) (pieces : List Piece) → IsPlacement text pieces → IsAscii text
 placement-ascii text pieces h = rw h.joined (ranks-ascii h.ranks pieces h.each)
 
--- bytes up to the first that is no ASCII
+-- bytes up to the first that isn't ASCII
 pub ascii_prefix : (text : List ℕ) (end : ℕ) → end ≤ length text
     → ((k : ℕ) → k < end → slice_index text k < 128) → IsAscii (take end text)
 ascii_prefix text end h low = λ i. elim (cases_lt i end) [
@@ -48,7 +48,7 @@ ascii_prefix text end h low = λ i. elim (cases_lt i end) [
       rw (get_or_past (take end text) i 0 past) (lit< tt)
 ]
 
--- no placement begins with bytes up to one that is no ASCII
+-- no placement begins with bytes up to one that isn't ASCII
 no_longer : (text : List ℕ) (at : ℕ) → at < length text → 128 ≤ slice_index text at
     → ¬ (BeginsPlacement (take (at + 1) text))
 no_longer text at h top (more, pieces, placed) =
@@ -59,7 +59,7 @@ no_longer text at h top (more, pieces, placed) =
     let below : slice_index text at < 128 = rw (prefix, same) at low in
     absurd (omega (arith, below, top))
 
--- a placement and then a byte that is no ASCII
+-- a placement and then a byte that isn't ASCII
 pub bad_behind : (text : List ℕ) (end : ℕ) (pieces : List Piece) → end < length text → 128 ≤ slice_index text end
     → IsPlacement (take end text) pieces → IsFirstBadOffset text end
 bad_behind text end pieces h top placed = record {
@@ -69,7 +69,7 @@ bad_behind text end pieces h top placed = record {
   too_short = λ same. absurd (omega (arith, h, same));
 }
 
--- what is bad up to a byte that is no ASCII, or up to the end, is so in the whole
+-- a part up to a byte that isn't ASCII, or up to the end, that is wrong makes the whole wrong
 pub bad_in_prefix : (text : List ℕ) (end at : ℕ) → end ≤ length text
     → (end < length text → 128 ≤ slice_index text end) → IsFirstBadOffset (take end text) at → IsFirstBadOffset text at
 bad_in_prefix text end at h top bad =

@@ -17,7 +17,7 @@ use Rattle.dgt_c.specs.declared.header.DgtEvent.{DgtEvent}
 
 -- ---- More bytes
 
--- what more bytes make comes after what was made
+-- the events of more bytes follow the earlier events
 events_more : EventsAppend → (held chunk : List ℕ) (i n : ℕ) → let s = held ++ take i chunk in
     events_up_to held chunk (i + n) ≡ events_up_to held chunk i
     ++ shifted (length s - length (unfinished_message s)) (events (unfinished_message s ++ take n (drop i chunk)))
@@ -26,7 +26,7 @@ events_more later held chunk i n =
     ∙ ap events (sym (append_assoc held (take i chunk) (take n (drop i chunk))))
     ∙ later (held ++ take i chunk) (take n (drop i chunk))
 
--- bytes that make no event
+-- bytes that complete no event
 quiet : EventsAppend → (held chunk : List ℕ) (i n : ℕ)
     → events (unfinished_message (held ++ take i chunk) ++ take n (drop i chunk)) ≡ []
     → events_up_to held chunk (i + n) ≡ events_up_to held chunk i
@@ -40,11 +40,11 @@ prefix_nil : {X : Type 0} (xs ys : List X) → xs ++ ys ≡ [] → xs ≡ []
 prefix_nil [] ys e = refl
 prefix_nil (x ∷ xs) ys e = absurd cc
 
--- the prefix of bytes that make no event makes none
+-- a prefix of bytes that complete no event completes none
 quiet_prefix : EventsAppend → (s p : List ℕ) → events (s ++ p) ≡ [] → events s ≡ []
 quiet_prefix later s p none = prefix_nil (events s) _ (sym (later s p) ∙ none)
 
--- ---- The first event of what is left
+-- ---- The first event of the remaining bytes
 
 -- the first k of some bytes, and the others of them
 pub prefix_and_rest : (k n : ℕ) (xs : List ℕ) → k ≤ n → take n xs ≡ take k xs ++ take (n - k) (drop k xs)
@@ -52,7 +52,7 @@ prefix_and_rest k n xs h =
     let whole : k + (n - k) ≡ n = omega arith in
     ap (λ (m : ℕ). take m xs) (sym whole) ∙ take-add k (n - k) xs
 
--- before its last byte no byte that is used makes an event
+-- before its last byte no used byte completes an event
 quiet_before : EventsAppend → (held rest : List ℕ) (n k : ℕ) (event : Option Event) → FirstEvent held rest n event
     → k < n → events (held ++ take k rest) ≡ []
 quiet_before later held rest n k None (all, none) h =
@@ -61,7 +61,7 @@ quiet_before later held rest n k None (all, none) h =
     ∙ ap (λ (xs : List ℕ). events (held ++ xs)) (take-append-drop k rest) ∙ none)
 quiet_before later held rest n k (Some event) (within, made, least) h = least k h
 
--- the events of all that is used then
+-- the events of all bytes used then
 quiet_used : EventsAppend → (held chunk : List ℕ) (i n : ℕ)
     → FirstEvent (unfinished_message (held ++ take i chunk)) (drop i chunk) n None
     → events_up_to held chunk (i + n) ≡ events_up_to held chunk i
@@ -70,13 +70,13 @@ quiet_used later held chunk i n (all, none) =
     quiet later held chunk i n
     (ap (λ (xs : List ℕ). events (unfinished_message (held ++ take i chunk) ++ xs)) rest ∙ none)
 
--- the place of the event that is made next
+-- the place of the next event
 abbrev next_place : List ℕ → List ℕ → ℕ → ℕ → ℕ
 next_place held chunk i n =
     let s : List ℕ = held ++ take i chunk in
     (length s - length (unfinished_message s)) + (length (unfinished_message s) + n)
 
--- in the chunk it is the number of bytes that are used then
+-- in the chunk it is the number of bytes used then
 place_in_chunk : UnfinishedIsPart → (held chunk : List ℕ) (i n : ℕ) → i ≤ length chunk
     → next_place held chunk i n - length held ≡ i + n
 place_in_chunk part held chunk i n h =
@@ -223,10 +223,10 @@ module _ (later : EventsAppend) (held chunk : List ℕ) (old : List DgtEvent) (o
         absurd (uses.ends (omega (arith, zero, some)) (rw made (room, refl)))
   ]
 
--- ---- What hears a chunk: a host, or a decoder
+-- ---- A reader of a chunk: a host, or a decoder
 
--- what it has of an unfinished message, what it is after some bytes, and whether a struct holds the event that it
--- makes then, with this place, and structs the events that it has made
+-- its unfinished message, its state after some bytes, whether a struct contains the event that it
+-- then reports, with this place, and structs the events that it has reported
 pub record Hearer : Type 1 where
   pub S : Type 0
   pub held : S → List ℕ
@@ -284,7 +284,7 @@ decoder = record {
   one_reported = fed_more;
 }
 
--- what hears bytes in two chunks is what hears them in one
+-- hearing bytes in two chunks is the same as hearing them in one
 abbrev pub InChunks : Hearer → Type 0
 InChunks K = (x : K.S) (bytes more : List ℕ) → K.after (K.after x bytes) more ≡ K.after x (bytes ++ more)
 
@@ -299,7 +299,7 @@ pub record HasHeard (K : Hearer) (x now : K.S) (chunk : List ℕ) (used count : 
   pub reports : K.ReportsAll x (events_up_to (K.held x) chunk used) (take count reported)
 
 module _ (K : Hearer) (later : EventsAppend) (x : K.S) (chunk : List ℕ) (old : List DgtEvent) (old_body : List ℕ) where
-  -- What is unfinished makes no event.
+  -- Unfinished bytes complete no event.
   no_event : UnfinishedIsQuiet → unfinished_message (K.held x) ≡ K.held x → events (K.held x ++ []) ≡ []
   no_event quiet same = ap events (append-nil (K.held x) ∙ sym same) ∙ quiet.no_event (K.held x)
 

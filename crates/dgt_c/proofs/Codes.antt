@@ -4,7 +4,7 @@ use Rattle.std.proofs.lemmas.List.{take_more, length-map, length-take}
 use Rattle.std.proofs.lemmas.Grind.{common_steps}
 use Rattle.std.proofs.Math.Seq.{set-append_seam}
 
--- one more number has replaced what was there at its place
+-- one more number has replaced the one at its place
 pub one_more_in_prefix : {A : Type 0} (f : A → ℕ) (xs : List A) (old : List ℕ) (i : ℕ) (d : A) → i < length xs
     → i < length old
     → set (map f (take i xs) ++ drop i old) i (f (get_or xs i d)) ≡ map f (take (i + 1) xs) ++ drop (i + 1) old

@@ -1,4 +1,4 @@
--- What each handle is.
+-- The parts of each handle.
 use Rattle.std.proofs.Common.{refl}
 use Rattle.dgt_board.specs.contracts.boards.Board.{the_row as board_row}
 use Rattle.dgt_board.proofs.boards.Board.TheLaws.{the_row_laws as board_laws}

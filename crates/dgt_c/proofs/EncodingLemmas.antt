@@ -1,4 +1,4 @@
--- What a struct of C says, and what it doesn't.
+-- What a struct of C describes, and what it doesn't.
 use Rattle.std.proofs.Common.{◌≡◌, ◌≢◌, ◌⊎◌, ◌+◌, refl, ℕ, ◌<◌, ◌≤◌, List, [], ◌∷◌, length, map, Option, Some, None, ap, arith, subst, sym}
 use Rattle.std.specs.List.{AllByRecursion}
 use Rattle.std.proofs.lemmas.List.Elements.{All-from_recursion, All-map}
@@ -24,7 +24,7 @@ are_pieces pieces codes same =
     subst ArePieces same
     (All-map (λ (code : ℕ). code < 16) piece_code pieces (λ k d h. piece_code-below (slice_index_or pieces k d)))
 
--- the kind of a message that is carried is that of a serial number or a later one
+-- the kind of a message that is carried unread is that of a serial number or a later one
 carried_least : (known : Option KnownCode) (code : ℕ) (body : List ℕ) → 6 ≤ (carried_reported known code body).kind
 carried_least None code body = omega arith
 carried_least (Some KnownCode.Dump) code body = omega arith
@@ -49,7 +49,7 @@ message_kinds (Content.no_clock absence) = (3, omega arith, refl)
 message_kinds (Content.ack answer) = (4, omega arith, refl)
 message_kinds (Content.carried code body) = carried_kinds (known_with code) code body
 
--- an event of no kind of message says none
+-- an event of a kind that isn't a message's describes none
 pub no_message : (said : DgtEvent) (body : List ℕ) → AllByRecursion (λ kind. kind ≢ said.kind) kinds_of_messages
     → (message : Content) → SaysMessage said body message → ⊥
 no_message said body none message says =
@@ -57,7 +57,7 @@ no_message said body none message says =
     All-from_recursion (λ each. each ≢ said.kind) kinds_of_messages none kind.0 said.kind kind.1
     (subst (λ is. slice_index_or kinds_of_messages kind.0 is ≡ is) (sym says.1.0) kind.2)
 
--- an event of a dump with a number that is no piece's says none either
+-- an event of a dump with a number that isn't a piece describes none
 pub no_dump : (said : DgtEvent) (body : List ℕ) → said.kind ≡ EVENT_DUMP → (ArePieces said.pieces → ⊥)
     → (message : Content) → SaysMessage said body message → ⊥
 no_dump said body kind none (Content.dump pieces) says = none (are_pieces pieces said.pieces says.1.1)
@@ -65,7 +65,7 @@ no_dump said body kind none (Content.carried code bytes) says =
     absurd (omega (arith, kind, says.1.0, carried_least (known_with code) code bytes))
 no_dump said body kind none _ says = absurd (omega (arith, kind, says.1.0))
 
--- nor does an event of a clock that says no clock
+-- nor does an event of a clock without a valid clock
 pub no_clock : (said : DgtEvent) (body : List ℕ) → EVENT_TIMES ≤ said.kind → said.kind ≤ EVENT_NO_CLOCK
     → ((shown : ClockState) → SaysClock said.clock shown → ⊥) → (message : Content) → SaysMessage said body message → ⊥
 no_clock said body least most none (Content.times readings) says = none (ClockState.times readings) says.1.1
@@ -98,7 +98,7 @@ carried_bytes place (Some KnownCode.Serial) code body size = refl
 carried_bytes place (Some KnownCode.Version) code body size = two body size
 carried_bytes place (Some _) code body size = refl
 
--- the bytes of a message of a kind with no member for them are the body
+-- the bytes of a message of a kind without a member for them are the body
 pub said_apart : (said : DgtEvent) (body : List ℕ) (known : Option KnownCode) (code : ℕ) (bytes : List ℕ)
     → (said.kind ≡ 7) ⊎ (said.kind ≡ 9) ⊎ (said.kind ≡ 10) ⊎ (said.kind ≡ 11)
     → said.kind ≡ (carried_reported known code bytes).kind → carried_said known said body ≡ body
@@ -107,12 +107,12 @@ said_apart said body (Some KnownCode.Serial) code bytes kind is = absurd (omega 
 said_apart said body (Some KnownCode.Version) code bytes kind is = absurd (omega (arith, kind, is))
 said_apart said body (Some _) code bytes kind is = refl
 
--- a code that has no case is none of the known ones
+-- a code without a variant is none of the known ones
 pub no_case : (known : Option KnownCode) → (IsTrue (is_some known) → ⊥) → known ≡ None
 no_case None none = refl
 no_case (Some code) none = absurd (none refl)
 
--- a struct of the kind of other messages, with their code, says one
+-- a struct of the kind of other messages, with their code, describes one
 pub other_said : (said : DgtEvent) (body bytes : List ℕ) (code : ℕ) → code < 128 → known_with code ≡ None
     → said.kind ≡ EVENT_OTHER → code ≡ said.code → bytes ≡ body → IsCarried bytes
     → SaysMessage said body (Content.carried code bytes)

@@ -1,4 +1,5 @@
--- The code of each handle's `get` lends what lies where the handle points, and the handle follows it.
+-- The code of each handle's `get` borrows the value that the handle points to, and the handle
+-- follows it.
 use Rattle.std.proofs.Common.{◌≡◌, ℕ, List, [], ◌∷◌, refl, sym, ap, ◌∙◌}
 use Rattle.std.proofs.raw_atomic.Walks.{proved}
 use Rattle.std.proofs.VecSteps.Shapes.{after}
@@ -76,7 +77,7 @@ module _ (K : Handle) where
         (fact 𝓤 (r.now ≡ K.inside a.0.now));
   }
 
-  -- what the handle owns beside what is inside
+  -- what the handle owns in addition to the value
   abbrev Rest : K.D → List Val → ℕ → ℕ → Fml
   Rest h us rb ro = fsep ((Struct (shape (handle_type K))).own_val (K.at h, tt) us) (cell_at full_share R.mir us rb ro)
 

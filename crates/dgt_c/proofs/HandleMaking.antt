@@ -39,7 +39,7 @@ use denote.Triple.Table.{framed}
 use denote.Triple.Walked.{Stays, walk_of, stay_dropped, Goes-dropped, ends_at}
 use Rattle.dgt_c.proofs.HandleRow.{Handle, code_of, handle_row, handle_type}
 
--- what makes the value that is put inside
+-- the function that makes the value
 module _ (T : RattleType) (x : T.Denot) where
   abbrev pub fresh_ended : Ended
   fresh_ended = record {
@@ -67,7 +67,7 @@ module _ (K : Handle) (place_name : Sym) (new : Callee) where
   abbrev whole : Ty
   whole = ty_struct place_name parts
 
-  -- where what the handle owns begins
+  -- the place at which the value begins
   abbrev behind : ℕ
   behind = up (align (lone T.mir)) 8
 

@@ -1,4 +1,4 @@
--- A handle of C's as a row: a struct of one pointer, which owns what lies there.
+-- A handle of C's as a row: a struct of one pointer, which owns the value there.
 use Rattle.std.proofs.Common.{◌≡◌, ℕ, List, [], ◌∷◌}
 use base.Fraction.{full_share}
 use base.Shift.{Keyless}
@@ -17,7 +17,7 @@ lies : (R : RattleType) → IsSend R → (p : Ptr) (x : R.Denot) → Keyless (li
 lies R s (block_ptr b o) x = part_keyless R s full_share x b o
 lies R s null_ptr x = tt
 
--- the type of what is inside, the struct's name, and the record D that contracts see, with its fields
+-- the type of the value, the struct's name, and the record D that contracts see, with its fields
 pub record Handle : Type 2 where
   pub inside_row : RattleType
   pub laws : Laws inside_row
@@ -84,11 +84,11 @@ module _ (K : Handle) where
   abbrev pub handle_row : RattleType
   handle_row = row handle_type
 
-  -- the handle of what is inside now
+  -- the handle of the present value
   abbrev pub with_inside : K.D → K.inside_row.Denot → K.D
   with_inside h w = K.make (K.at h) w
 
-  -- it may go to another thread if what is inside may
+  -- it can be sent to another thread if the value can
   pub sends : IsSend K.inside_row → IsSend handle_row
   sends s =
       owning_send handle_type (search sendable, tt) (λ d. lies K.inside_row s (K.at d) (K.inside d)) (λ k x w. tt)

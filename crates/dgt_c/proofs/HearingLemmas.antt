@@ -1,4 +1,4 @@
--- What a listener makes of the one event that is heard, if there is one.
+-- How a listener changes by the one event that is heard, if there is one.
 use Rattle.std.proofs.Common.{Option, Some, None, ℕ}
 use Rattle.std.specs.List.{FoldsTo}
 use Rattle.dgt_decode.specs.Grammar.{Event, Placed, at_place}

@@ -1,4 +1,4 @@
--- What the proofs of handles share.
+-- Shared by the proofs of handles.
 pub mod HandleRow
 pub mod HandleLending
 pub mod HandleMaking

@@ -29,7 +29,7 @@ use Rattle.dgt_c.proofs.ChunkLemmas.{overwritten_nothing, prefix_and_rest}
 
 -- ---- events
 
--- what is asked of a reader of messages
+-- the properties required of a reader of messages
 abbrev pub OneFirstEvent : Type 0
 OneFirstEvent =
     (held chunk : List ℕ) (j k : ℕ) (x y : Option Event) → FirstEvent held chunk j x → FirstEvent held chunk k y
@@ -41,7 +41,7 @@ same_bool false false f g = refl
 same_bool true false f g = sym (f refl)
 same_bool false true f g = g refl
 
--- the struct of an event with its place, and whether it was not asked for
+-- the struct of an event with its place, and whether it is unasked
 abbrev struct_of : ℕ → Option Event → Bool → DgtEvent
 struct_of place event unasked = record (reported_at place event) { unasked = flag unasked }
 
@@ -185,7 +185,7 @@ busy_boards_stay before after chunk taken reported busy p =
       stays.2,
     )
 
--- ---- what C says
+-- ---- the values in structs
 
 one_not_two : ¬ (◌≡◌ {A = ℕ} 1 2)
 one_not_two e = absurd (omega (arith, e))

@@ -1,4 +1,4 @@
--- The reserved members of what is reported are 0.
+-- The reserved members of reports are 0.
 use Rattle.std.proofs.Common.{◌≡◌, ◌∙◌, refl, ap, ℕ, ◌-◌, List, Option, Some, None}
 use Rattle.std.specs.Prelude.{replicate}
 use Rattle.dgt_message.specs.declared.known.KnownCode.{KnownCode}

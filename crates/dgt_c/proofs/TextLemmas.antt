@@ -1,4 +1,4 @@
--- The struct and the body that report an event say it, and its text is written.
+-- The struct and the body that report an event describe it, and its text is written.
 use Rattle.std.proofs.Common.{refl, ℕ, Some, ap, inl, inr}
 use Rattle.dgt_message.specs.Code.{known_with}
 use Rattle.dgt_message.specs.declared.viewing.BodyFault.{BodyFault}

@@ -1,4 +1,4 @@
--- What C receives from a board.
+-- What C calls report of a board.
 use Rattle.std.specs.Prelude.{◌≡◌, ℕ, List, take, Option, None, true, false}
 use Rattle.dgt_command.specs.Content.{EventContent}
 use Rattle.dgt_board.specs.declared.modes.Mode.{Mode}
@@ -36,7 +36,7 @@ polled_reported Polled.Nothing = record { status = POLLED_NOTHING; bytes = 0 }
 polled_reported (Polled.Wrote bytes) = record { status = POLLED_WROTE; bytes = bytes }
 polled_reported (Polled.NeedRoom bytes) = record { status = POLLED_NEED_ROOM; bytes = bytes }
 
--- the struct says what polling returns: the board before and after, the slice before and after
+-- the struct contains the result of polling: the board before and after, the slice before and after
 abbrev pub PollsReported : DgtPolled → BoardView → BoardView → List ℕ → List ℕ → Type 0
 PollsReported reported before after old new =
     (polled : Polled) × Polls polled (next_message before.state) before after old new

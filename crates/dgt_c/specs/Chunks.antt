@@ -1,4 +1,4 @@
--- What C gets for a whole chunk that a decoder is fed, or a host hears.
+-- What C calls report of a whole chunk that a decoder or a host reads.
 use Rattle.std.specs.Prelude.{◌≡◌, ◌↔◌, ◌≤◌, ◌<◌, ◌-◌, ℕ, List, [], ◌∷◌, ◌++◌, length, map, take, Some, Bool, IsTrue}
 use Rattle.std.specs.List.{flat_map}
 use Rattle.dgt_values.specs.declared.kinds.Kind.{Kind}
@@ -8,11 +8,11 @@ use Rattle.dgt_c.specs.Hearing.{flag}
 use Rattle.dgt_c.specs.Reported.{body_said, reported_at}
 use Rattle.dgt_c.specs.declared.header.DgtEvent.{DgtEvent}
 
--- the events that the first `used` bytes of a chunk make after an unfinished message
+-- the events that the first `used` bytes of a chunk complete after an unfinished message
 abbrev pub events_up_to : List ℕ → List ℕ → ℕ → List Placed
 events_up_to held chunk used = events (held ++ take used chunk)
 
--- the bodies that these events carry unread, in a row
+-- the bodies that these events carry unread, concatenated
 abbrev pub bodies : List Placed → List ℕ
 bodies made = flat_map (λ x. body_said (Some x.event)) made
 
@@ -20,22 +20,21 @@ bodies made = flat_map (λ x. body_said (Some x.event)) made
 abbrev pub GoesOn : ℕ → List Placed → Type 0
 GoesOn capacity made = (length made < capacity) × (bodies made ≡ [])
 
--- `used` is the least number of the chunk's bytes whose events fill the array, or have a body. If
--- there is none, the whole chunk is used.
+-- `used` is the least number of the chunk's bytes with events that fill the array or have a body.
+-- If there is none, the whole chunk is used.
 pub record UsesUpTo (held chunk : List ℕ) (capacity used : ℕ) : Type 0 where
   pub within : used ≤ length chunk
   pub least : (k : ℕ) → k < used → GoesOn capacity (events_up_to held chunk k)
   pub ends : used < length chunk → ¬ (GoesOn capacity (events_up_to held chunk used))
 
--- The struct holds this event, and whether it is a message that was not asked for. Its place is the
--- number of bytes of the chunk up to and including the one that makes it. `before` bytes came
--- before the chunk.
+-- The struct contains this event, and whether it is an unasked message. Its place is the number of
+-- bytes of the chunk up to and including its last one. `before` bytes came before the chunk.
 abbrev pub Reports : ℕ → List Kind → Placed → DgtEvent → Type 0
 Reports before awaited x reported =
     (unasked : Bool) × (IsTrue unasked ↔ IsUnasked awaited (Some x.event))
     × (reported ≡ record (reported_at (x.place - before) (Some x.event)) { unasked = flag unasked })
 
--- the structs hold these events, each as it is for the host that has heard those before it
+-- the structs contain these events, each for the host that has heard those before it
 abbrev pub ReportsEach : ℕ → HostView → List Placed → List DgtEvent → Type 0
 ReportsEach before host [] [] = Unit {0}
 ReportsEach before host (x ∷ made) (reported ∷ more) =
@@ -43,6 +42,6 @@ ReportsEach before host (x ∷ made) (reported ∷ more) =
     × ReportsEach before (host_after_event host x.event) made more
 ReportsEach before host _ _ = ⊥
 
--- the structs that hold these events for a decoder, with their places in the chunk
+-- the structs that contain these events for a decoder, with their places in the chunk
 abbrev pub each_reported : ℕ → List Placed → List DgtEvent
 each_reported before made = map (λ x. reported_at (x.place - before) (Some x.event)) made

@@ -1,4 +1,4 @@
--- What C has a sender send to the clock.
+-- C calls that send messages to the clock.
 use Rattle.std.specs.Prelude.{◌⊎◌, ℕ, List, None}
 use Rattle.dgt_command.specs.Content.{ClockContent, CommandContent, clock_content}
 use Rattle.dgt_command.specs.Display.{HasNoSegments, Shows}

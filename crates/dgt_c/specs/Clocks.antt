@@ -1,4 +1,4 @@
--- What C receives about a clock, and what it sends about one.
+-- How C calls report a clock and accept one.
 use Rattle.std.specs.Prelude.{◌≡◌, replicate, Option, Some, None}
 use Rattle.dgt_message.specs.Clock.{Absence, AreTimes, ClockState, IsAbsence, Time, Times, absence_of, time_of, times_of}
 use Rattle.dgt_c.specs.declared.header.DgtClock.{DgtClock}
@@ -13,11 +13,11 @@ time_reported time = record {
   flags = time.flags;
 }
 
--- the value of a time of which nothing is said
+-- an unused time
 abbrev pub no_time : DgtTime
 no_time = time_reported (time_of 0 0 0 0)
 
--- the struct that holds this clock
+-- the struct of this clock
 abbrev pub clock_reported : ClockState → DgtClock
 clock_reported (ClockState.times readings) = record {
   kind = CLOCK_TIMES;
@@ -49,7 +49,7 @@ times_said reported =
 abbrev pub absence_said : DgtClock → Absence
 absence_said reported = absence_of reported.raw reported.status
 
--- C says this clock, whose values are in their ranges
+-- the struct describes this clock, with values in their ranges
 abbrev pub SaysClock : DgtClock → ClockState → Type 0
 SaysClock said (ClockState.times readings) =
     (said.kind ≡ CLOCK_TIMES) × AreTimes readings × (readings ≡ times_said said)

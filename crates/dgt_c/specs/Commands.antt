@@ -1,5 +1,5 @@
--- What C receives about a frame of a host: a struct, whose kind says which fields are set, and the
--- bytes of a command.
+-- How C calls report a frame from a host: a struct with a kind that determines which fields are
+-- set, and the bytes of a command.
 use Rattle.std.specs.Prelude.{◌≡◌, ℕ, List, [], length, Option, Some, None}
 use Rattle.dgt_command.specs.Content.{CommandContent, EventContent, Read, BadSize, BadStart, BadEnd, Stray}
 use Rattle.dgt_command.specs.Encoding.{command_code, command_encoding}
@@ -20,7 +20,7 @@ read_reported command = record NO_WORD {
   word_len = length (command_encoding command);
 }
 
--- the struct that holds this command or fault, or says that there is none
+-- the struct of this command or fault, or of none
 abbrev pub command_reported : Option EventContent → DgtCommand
 command_reported None = NO_WORD
 command_reported (Some (Read command)) = read_reported command
@@ -34,13 +34,13 @@ abbrev pub word_said : Option EventContent → List ℕ
 word_said (Some (Read command)) = command_encoding command
 word_said _ = []
 
--- What is reported of a chunk: a struct, and a slice before and after.
+-- The report of a chunk: a struct, and a slice before and after.
 pub record CommandReporting : Type 0 where
   pub command : DgtCommand
   pub old : List ℕ
   pub new : List ℕ
 
--- This event is reported, and the bytes of a command were copied, as many as there is room for.
+-- This event is reported, and as many bytes of a command were copied as fit.
 abbrev pub ReportsCommand : Option EventContent → CommandReporting → Type 0
 ReportsCommand event reported =
     (reported.command ≡ command_reported event)

@@ -1,4 +1,4 @@
--- Messages that C has encoded and viewed without a handle, and what it receives about an encoding.
+-- Messages that C calls encode and view without a handle, and what the calls report.
 use Rattle.std.specs.Prelude.{◌≡◌, ◌⊎◌, ◌<◌, ℕ, List, [], ◌∷◌, Contains, map, Option, Some, Result, Ok, Err, MatchOption}
 use Rattle.dgt_values.specs.Board.{piece_code}
 use Rattle.dgt_values.specs.Bytes.{WritesPrefix}
@@ -22,19 +22,20 @@ abbrev pub encoded_reported : Result ℕ NoRoom → DgtEncoded
 encoded_reported (Ok bytes) = record { status = ENCODED; bytes = bytes }
 encoded_reported (Err fault) = record { status = TOO_SHORT; bytes = fault.need }
 
--- These bytes are written to the beginning of the slice; or it is too short for them, and stays.
+-- These bytes are written at the beginning of the slice; or it is too short for them, and
+-- unchanged.
 abbrev pub EncodesBytes : List ℕ → List ℕ → List ℕ → DgtEncoded → Type 0
 EncodesBytes bytes old new reported =
     (outcome : Result ℕ NoRoom) × WritesPrefix bytes old new outcome
     × (reported ≡ encoded_reported outcome)
 
--- there is nothing to encode, and the slice stays
+-- there is nothing to encode, and the slice is unchanged
 abbrev pub EncodesNothing : List ℕ → List ℕ → DgtEncoded → Type 0
 EncodesNothing old new reported = (reported ≡ NOTHING_ENCODED) × (new ≡ old)
 
 -- ---- Messages
 
--- The kinds of messages. The other kinds are those of faults, or none yet.
+-- The kinds of messages. The other kinds are those of faults, or unused.
 abbrev pub kinds_of_messages : List ℕ
 kinds_of_messages =
     EVENT_DUMP ∷ EVENT_FIELD ∷ EVENT_TIMES ∷ EVENT_NO_CLOCK ∷ EVENT_ACK ∷ EVENT_SERIAL
@@ -43,13 +44,13 @@ kinds_of_messages =
 abbrev pub IsMessageKind : ℕ → Type 0
 IsMessageKind kind = Contains kinds_of_messages kind
 
--- the bytes that the kind of a message under this code says: members, or the body
+-- the bytes that determine the kind of a message under this code: members, or the body
 abbrev pub carried_said : Option KnownCode → DgtEvent → List ℕ → List ℕ
 carried_said (Some KnownCode.Serial) said body = said.serial
 carried_said (Some KnownCode.Version) said body = said.main_number ∷ said.sub_number ∷ []
 carried_said _ said body = body
 
--- the members that the kind of a message sets, or the body, say this message
+-- the members that the kind of a message sets, or the body, describe this message
 abbrev pub SaysMembers : DgtEvent → List ℕ → Content → Type 0
 SaysMembers said body (Content.dump pieces) = map piece_code pieces ≡ said.pieces
 SaysMembers said body (Content.field square piece) =
@@ -63,22 +64,23 @@ SaysMembers said body (Content.carried code bytes) =
     (said.kind ≡ EVENT_OTHER → code ≡ said.code)
     × (bytes ≡ carried_said (known_with code) said body)
 
--- the kind and the members, or the body, say this message
+-- the kind and the members, or the body, describe this message
 abbrev pub SaysContent : DgtEvent → List ℕ → Content → Type 0
 SaysContent said body message =
     (said.kind ≡ (message_reported message).kind) × SaysMembers said body message
 
--- C says this message, whose values are in their ranges
+-- the struct and the body describe this message, with values in their ranges
 abbrev pub SaysMessage : DgtEvent → List ℕ → Content → Type 0
 SaysMessage said body message = IsMessage message × SaysContent said body message
 
--- the message that C says, if it says one
+-- the message that the struct and the body describe, if they describe one
 abbrev pub ReadsMessage : DgtEvent → List ℕ → Option Message → Type 0
 ReadsMessage said body result =
     MatchOption result ((message : Content) → ¬ (SaysMessage said body message))
     (λ read. SaysMessage said body (content read))
 
--- The message that C says is encoded; or C says none, and nothing is.
+-- The message that the struct and the body describe is encoded; or they describe none, and nothing
+-- is.
 abbrev pub EncodesMessage : DgtEvent → List ℕ → List ℕ → List ℕ → DgtEncoded → Type 0
 EncodesMessage said body old new reported =
     ((message : Content) × SaysMessage said body message
@@ -89,6 +91,6 @@ EncodesMessage said body old new reported =
 abbrev pub IsCodeAndBody : ℕ → List ℕ → Type 0
 IsCodeAndBody code body = (code < 128) × IsCarried body
 
--- the struct that holds the message with this code and this body, or the fault of the body
+-- the struct of the message with this code and this body, or of the fault of the body
 abbrev pub view_reported : ℕ → List ℕ → DgtEvent
 view_reported code body = event_reported (Some (reading_event code (reading code body)))

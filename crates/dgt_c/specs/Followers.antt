@@ -1,4 +1,4 @@
--- What C receives from a follower.
+-- What C calls report of a follower.
 use Rattle.std.specs.Prelude.{◌≡◌, ℕ, List, Result, Ok, Err}
 use Rattle.dgt_values.specs.declared.refusals.NoRoom.{NoRoom}
 use Rattle.dgt_follow.specs.declared.asking.UpdateMode.{UpdateMode}
@@ -17,7 +17,9 @@ abbrev pub asked_reported : Result ℕ NoRoom → DgtSent
 asked_reported (Ok bytes) = record { status = SENT; bytes = bytes }
 asked_reported (Err fault) = record { status = SENT_NO_ROOM; bytes = fault.need }
 
--- the struct says what asking returns: the follower before and after, the slice before and after
+-- the struct contains the result of `ask`: the follower before and after, the slice before and
+-- after
+-- after
 abbrev pub AsksReported : ℕ → FollowerView → FollowerView → List ℕ → List ℕ → DgtSent → Type 0
 AsksReported now before after old new reported =
     (outcome : Result ℕ NoRoom)

@@ -1,11 +1,11 @@
--- Numbers and structs as C has them.
+-- Numbers and structs of C.
 use Rattle.std.specs.Prelude.{⊤, ℕ, ◌<◌, ◌≤◌, ◌^◌, List, ◌∷◌}
 use Rattle.std.specs.Mem.{type_size}
 use denote.RattleType.{RattleType}
 use denote.Memory.{lone}
 use prog.Offsets.{Lies}
 
--- the number of which bit k alone is set
+-- the number with only bit k set
 abbrev pub bit_alone : ℕ → ℕ
 bit_alone k = 2 ^ k
 
@@ -19,12 +19,12 @@ abbrev pub Ascend : List ℕ → Type 0
 Ascend (a ∷ b ∷ rest) = (a < b) × Ascend (b ∷ rest)
 Ascend _ = ⊤
 
--- A value of the type takes `size` bytes and lies at a multiple of this alignment. Its members
--- begin at these offsets, in the order of their declaration.
+-- A value of the type takes `size` bytes and is aligned to this multiple. Its members begin at
+-- these offsets, in the order of their declaration.
 abbrev pub LiesAs : RattleType → ℕ → ℕ → List ℕ → Type 0
 LiesAs row size alignment offsets = Lies (lone row.mir) size alignment offsets
 
--- The same of a value that takes `room` bytes at most.
+-- The same for a value that takes at most `room` bytes.
 abbrev pub FitsIn : RattleType → ℕ → ℕ → List ℕ → Type 0
 FitsIn row room alignment offsets =
     (type_size row ≤ room) × LiesAs row (type_size row) alignment offsets

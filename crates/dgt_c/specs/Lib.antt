@@ -1,4 +1,4 @@
--- What C receives and sends, in the order to read.
+-- What C calls receive and report, in the order to read.
 pub mod Slices
 pub mod Clocks
 pub mod Reported
@@ -17,7 +17,7 @@ pub mod Starting
 pub mod PlainBoard
 pub mod Followers
 pub mod PlainFollower
--- What they determine.
+-- That reports are unique.
 pub mod Once
 -- Structs of C in memory.
 pub mod Layouts

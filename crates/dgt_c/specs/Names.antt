@@ -1,4 +1,4 @@
--- What C receives about stored things, and about names of bytes that messages carry.
+-- How C calls report stored items, and the meaning of bytes that messages carry.
 use Rattle.std.specs.Prelude.{ℕ, replicate, Option, Some, None}
 use Rattle.dgt_values.specs.Board.{piece_code}
 use Rattle.dgt_command.specs.Ids.{id_number}
@@ -13,7 +13,7 @@ use Rattle.dgt_c.specs.declared.header.DgtSignal.{DgtSignal}
 use Rattle.dgt_c.specs.declared.header.DgtStored.{DgtStored}
 use Rattle.dgt_c.specs.declared.header.TheConstants.{BATTERY_UNKNOWN, NO_SIGNAL, NO_STORED, SIGNAL_DONE, SIGNAL_VERSION, SIGNAL_PRESSED, SIGNAL_OFF, SIGNAL_READY, STORED_PIECE, STORED_TIME, STORED_MARK, STORED_UNKNOWN}
 
--- the struct that holds what is stored
+-- the struct of a stored item
 abbrev pub stored_reported : StoredContent → DgtStored
 stored_reported (StoredContent.piece square stands bit) = record NO_STORED {
   kind = STORED_PIECE;
@@ -28,7 +28,7 @@ stored_reported (StoredContent.mark marks) =
 stored_reported (StoredContent.unknown byte) =
     record NO_STORED { kind = STORED_UNKNOWN; byte = byte }
 
--- the struct that holds what a clock signals
+-- the struct of a clock's signal
 abbrev pub signal_reported : Signal → DgtSignal
 signal_reported (Signal.Done id) = record NO_SIGNAL { kind = SIGNAL_DONE; id = id_number id }
 signal_reported (Signal.Version main sub) =
@@ -42,7 +42,7 @@ abbrev pub number_if_known : Option ℕ → ℕ
 number_if_known None = BATTERY_UNKNOWN
 number_if_known (Some n) = n
 
--- the struct that holds the state of a battery
+-- the struct of a battery's state
 abbrev pub battery_reported : BatteryState → DgtBattery
 battery_reported state = record {
   percent = number_if_known state.percent;

@@ -1,5 +1,5 @@
--- What calls of C determine: of one chunk or of one struct two reports are the same. And what a
--- refusal leaves.
+-- The reports of C calls are unique: two reports of one chunk or one struct are the same. Also the
+-- effect of a refusal.
 use Rattle.std.specs.Prelude.{◌≡◌, ◌<◌, ◌≤◌, ℕ, List, [], ◌∷◌, ◌++◌, All, length, replicate, take, Option, Some, None, Bool, true}
 use Rattle.dgt_values.specs.Bytes.{AreSevenBit}
 use Rattle.dgt_values.specs.declared.kinds.Kind.{Kind}
@@ -34,7 +34,7 @@ use Rattle.dgt_c.specs.declared.header.DgtTaken.{DgtTaken}
 
 -- ---- events
 
--- the two say the same of slices that were the same
+-- if two slices were equal before, the two reports of them are equal
 pub record AreSameReports (first second : Reporting) : Type 0 where
   pub event : first.event ≡ second.event
   pub new : first.new ≡ second.new
@@ -57,7 +57,7 @@ OneUse =
     (held chunk : List ℕ) (capacity used other : ℕ)
     → UsesUpTo held chunk capacity used → UsesUpTo held chunk capacity other → used ≡ other
 
--- an array for one event has room only if there is none yet, and a body ends a chunk's reading
+-- an array for one event has room only while it is empty, and a body ends a chunk's reading
 abbrev pub RoomIsLeft : Type 0
 RoomIsLeft =
     ((made : List Placed) → GoesOn 1 made → made ≡ [])
@@ -68,7 +68,7 @@ OneReportEach =
     (before : ℕ) (host : HostView) (made : List Placed) (first second : List DgtEvent)
     → ReportsEach before host made first → ReportsEach before host made second → first ≡ second
 
--- a struct that reports an event, alone or of a chunk, has zeros for its reserved member
+-- the reserved member of a struct that reports an event, of a chunk or by itself, is zero
 abbrev pub ReportsReserveZeros : Type 0
 ReportsReserveZeros =
     ((place : ℕ) (event : Option Event) → (reported_at place event).reserved ≡ replicate 29 0)
@@ -77,14 +77,14 @@ ReportsReserveZeros =
     × ((before : ℕ) (awaited : List Kind) (x : Placed) (reported : DgtEvent)
     → Reports before awaited x reported → reported.reserved ≡ replicate 29 0)
 
--- a struct that views a message has zeros for its reserved member
+-- the reserved member of a struct that views a message is zero
 abbrev pub ViewsReserveZeros : Type 0
 ViewsReserveZeros =
     (code : ℕ) (body : List ℕ) → (view_reported code body).reserved ≡ replicate 29 0
 
 -- ---- commands
 
--- a struct that reports a command or a fault has zeros for its reserved member
+-- the reserved member of a struct that reports a command or a fault is zero
 abbrev pub CommandsReserveZeros : Type 0
 CommandsReserveZeros =
     (event : Option EventContent) (reported : CommandReporting) → ReportsCommand event reported
@@ -109,7 +109,7 @@ OneTaking =
     → TakesBytes before chunk other second last
     → (used ≡ other) × AreSameCommands first second × (after ≡ last)
 
--- a busy board uses nothing, reports nothing and stays
+-- a busy board uses nothing, reports nothing and is unchanged
 abbrev pub BusyBoardsStay : Type 0
 BusyBoardsStay =
     (before after : BoardView) (chunk : List ℕ) (taken : DgtTaken) (reported : CommandReporting)
@@ -117,9 +117,9 @@ BusyBoardsStay =
     → (taken.used ≡ 0) × (reported.command.kind ≡ 0) × (reported.new ≡ reported.old)
     × (after ≡ before)
 
--- ---- what C says
+-- ---- the values in structs
 
--- C says one clock, whose values are in their ranges
+-- a struct describes one clock, with values in their ranges
 abbrev pub OneClock : Type 0
 OneClock =
     (said : DgtClock) (first second : ClockState) → SaysClock said first → SaysClock said second
@@ -131,7 +131,7 @@ ClocksAreInRange =
     × ((said : DgtClock) (absence : Absence) → SaysClock said (ClockState.no_clock absence)
     → IsAbsence absence)
 
--- C says one board, and an identity whose values are in their ranges
+-- structs describe one board, and an identity with values in their ranges
 abbrev pub OneStart : Type 0
 OneStart =
     (codes : List ℕ) (clock : DgtClock) (identity : DgtIdentity) (board other : BoardView)
@@ -156,14 +156,14 @@ OneEncoding =
     → EncodesBytes bytes old new reported → EncodesBytes bytes old other also
     → (new ≡ other) × (reported ≡ also)
 
--- if C says no message, nothing is encoded and the slice stays
+-- if the struct describes no message, nothing is encoded and the slice is unchanged
 abbrev pub NothingIsEncoded : Type 0
 NothingIsEncoded =
     (said : DgtEvent) (body old new : List ℕ) (reported : DgtEncoded)
     → ((message : Content) → ¬ (SaysMessage said body message))
     → EncodesMessage said body old new reported → (reported.status ≡ 2) × (new ≡ old)
 
--- if C says a message, such a message is encoded
+-- if the struct describes a message, one such message is encoded
 abbrev pub MessagesAreEncoded : Type 0
 MessagesAreEncoded =
     (said : DgtEvent) (body old new : List ℕ) (reported : DgtEncoded) (message : Content)
@@ -171,7 +171,7 @@ MessagesAreEncoded =
     → (other : Content) × SaysMessage said body other
     × EncodesBytes (encoding other) old new reported
 
--- nothing is read only if C says no message
+-- nothing is read only if the struct describes no message
 abbrev pub MessagesAreRead : Type 0
 MessagesAreRead =
     (said : DgtEvent) (body : List ℕ) (message : Content) → SaysMessage said body message
@@ -183,13 +183,13 @@ IsEvent (Message said) = IsMessage said
 IsEvent (Refused code fault) = code < 128
 IsEvent event = event ≡ event
 
--- the struct and the body that report an event say it
+-- the struct and the body that report an event describe it
 abbrev pub ReportsAreSaid : Type 0
 ReportsAreSaid =
     (place : ℕ) (event : Event) → IsEvent event
     → SaysEvent (reported_at place (Some event)) (body_said (Some event)) event
 
--- if C says an event, the text of such an event is written
+-- if the struct describes an event, the text of such an event is written
 abbrev pub EventsHaveTexts : Type 0
 EventsHaveTexts =
     (said : DgtEvent) (body old new : List ℕ) (reported : DgtEncoded) (event : Event)
@@ -197,27 +197,27 @@ EventsHaveTexts =
     → (other : Event) × SaysEvent said body other
     × EncodesBytes (event_text other ++ 0 ∷ []) old new reported
 
--- if C says no event, nothing is written
+-- if the struct describes no event, nothing is written
 abbrev pub NothingHasNoText : Type 0
 NothingHasNoText =
     (said : DgtEvent) (body old new : List ℕ) (reported : DgtEncoded)
     → ((event : Event) → ¬ (SaysEvent said body event))
     → WritesText said body old new reported → (reported.status ≡ 2) × (new ≡ old)
 
--- nothing is read only if C says no event
+-- nothing is read only if the struct describes no event
 abbrev pub EventsAreRead : Type 0
 EventsAreRead =
     (said : DgtEvent) (body : List ℕ) (event : Event) → SaysEvent said body event
     → ¬ (ReadsEvent said body None)
 
--- if there is no such command, the host and the slice stay
+-- if there is no such command, the host and the slice are unchanged
 abbrev pub RefusedCommandsStay : Type 0
 RefusedCommandsStay =
     (before after : HostView) (old new : List ℕ) (reported : DgtSent)
     → RefusesCommand before after old new reported
     → (reported.status ≡ 3) × (after ≡ before) × (new ≡ old)
 
--- a text whose characters have segments is shown, and no other is
+-- a text is shown if and only if its characters have segments
 abbrev pub TextsAreShown : Type 0
 TextsAreShown =
     (text old new : List ℕ) (dots beep : ℕ) (before after : HostView) (reported : DgtSent)

@@ -1,4 +1,4 @@
--- The board of a handle before C starts another.
+-- The default board of a handle.
 use Rattle.dgt_values.specs.Board.{start_pieces}
 use Rattle.dgt_board.specs.Simulated.{simulated_identity, simulated_times}
 use Rattle.dgt_board.specs.View.{BoardView, new_view}

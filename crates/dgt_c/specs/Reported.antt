@@ -1,5 +1,5 @@
--- What C receives about an event: a struct, whose kind says which members are set, and the bytes of
--- a body that no member has.
+-- How C calls report an event: a struct with a kind that determines which members are set, and the
+-- bytes of a body that no member contains.
 use Rattle.std.specs.Prelude.{ℕ, List, [], length, map, slice_index, Option, Some, None}
 use Rattle.dgt_values.specs.Board.{piece_code}
 use Rattle.dgt_message.specs.declared.known.KnownCode.{KnownCode}
@@ -12,14 +12,14 @@ use Rattle.dgt_c.specs.Clocks.{clock_reported}
 use Rattle.dgt_c.specs.declared.header.DgtEvent.{DgtEvent}
 use Rattle.dgt_c.specs.declared.header.TheConstants.{NOTHING, EVENT_DUMP, EVENT_FIELD, EVENT_TIMES, EVENT_NO_CLOCK, EVENT_ACK, EVENT_SERIAL, EVENT_TRADEMARK, EVENT_VERSION, EVENT_BATTERY, EVENT_LONG_SERIAL, EVENT_OTHER, EVENT_REFUSED, EVENT_CUT, EVENT_BAD_LENGTH, EVENT_STRAY, FAULT_WRONG_SIZE, FAULT_BAD_PIECE, FAULT_BAD_SQUARE, FAULT_BAD_READING}
 
--- the kind of a message whose body no member has
+-- the kind of a message with a body that no member contains
 abbrev pub carried_kind : Option KnownCode → ℕ
 carried_kind (Some KnownCode.Trademark) = EVENT_TRADEMARK
 carried_kind (Some KnownCode.Battery) = EVENT_BATTERY
 carried_kind (Some KnownCode.LongSerial) = EVENT_LONG_SERIAL
 carried_kind _ = EVENT_OTHER
 
--- the message under a code whose body is carried as it is
+-- the message under a code with a body that is carried unread
 abbrev pub carried_reported : Option KnownCode → ℕ → List ℕ → DgtEvent
 carried_reported (Some KnownCode.Serial) code body =
     record NOTHING { kind = EVENT_SERIAL; serial = body }
@@ -65,7 +65,7 @@ refused_reported code fault = record NOTHING {
   at = fault_place fault;
 }
 
--- the struct that holds this event, or says that there is none
+-- the struct of this event, or of none
 abbrev pub event_reported : Option Event → DgtEvent
 event_reported None = NOTHING
 event_reported (Some (Message said)) = message_reported said
@@ -74,12 +74,12 @@ event_reported (Some (Cut have)) = record NOTHING { kind = EVENT_CUT; have = hav
 event_reported (Some BadLength) = record NOTHING { kind = EVENT_BAD_LENGTH }
 event_reported (Some (Stray byte)) = record NOTHING { kind = EVENT_STRAY; byte = byte }
 
--- the same, and the place of the byte that made the event
+-- the same, and the place of the event's last byte
 abbrev pub reported_at : ℕ → Option Event → DgtEvent
 reported_at place None = NOTHING
 reported_at place (Some event) = record (event_reported (Some event)) { place = place }
 
--- the body under a code, if no member has it
+-- the body under a code, if no member contains it
 abbrev pub body_apart : Option KnownCode → List ℕ → List ℕ
 body_apart (Some KnownCode.Serial) body = []
 body_apart (Some KnownCode.Version) body = []

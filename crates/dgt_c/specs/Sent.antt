@@ -1,4 +1,4 @@
--- What C receives about a sending.
+-- What C calls report of a sending.
 use Rattle.std.specs.Prelude.{◌≡◌, ℕ, List, Result, Ok, Err}
 use Rattle.dgt_host.specs.declared.sending.SendFault.{SendFault}
 use Rattle.dgt_host.specs.declared.sending.SendFault.TheVariants.{TooMany, NoRoom}
@@ -11,7 +11,7 @@ sent_reported (Ok bytes) = record { status = SENT; bytes = bytes }
 sent_reported (Err TooMany) = record { status = SENT_TOO_MANY; bytes = 0 }
 sent_reported (Err (NoRoom need)) = record { status = SENT_NO_ROOM; bytes = need }
 
--- the struct says what sending returns: the host before and after, the slice before and after
+-- the struct contains the result of sending: the host before and after, the slice before and after
 abbrev pub SendsReported : Request → HostView → HostView → List ℕ → List ℕ → DgtSent → Type 0
 SendsReported request before after old new reported =
     (outcome : Result ℕ SendFault) × Sends request before after old new outcome

@@ -1,4 +1,4 @@
--- What C says of a board that it makes.
+-- How C describes a new board.
 use Rattle.std.specs.Prelude.{◌≡◌, ℕ, ◌<◌, ◌≤◌, List, All, map, take}
 use Rattle.dgt_values.specs.declared.pieces.Piece.{Piece}
 use Rattle.dgt_values.specs.Board.{piece_code}
@@ -12,7 +12,7 @@ use Rattle.dgt_c.specs.declared.header.DgtBody.{DgtBody}
 use Rattle.dgt_c.specs.declared.header.DgtIdentity.{DgtIdentity}
 use Rattle.dgt_c.specs.Clocks.{SaysClock}
 
--- each number is the code of a piece
+-- each number is a piece code
 abbrev pub ArePieces : List ℕ → Type 0
 ArePieces codes = All (λ code. code < 16) codes
 
@@ -23,7 +23,7 @@ AreZeros bytes = All (λ byte. byte ≡ 0) bytes
 abbrev pub body_in : DgtBody → List ℕ
 body_in said = take said.len said.bytes
 
--- C says a body that a board keeps
+-- the struct describes a body that a board keeps
 pub record IsBody (said : DgtBody) : Type 0 where
   pub short : said.len ≤ MAX_KEPT_BODY
   pub seven_bit : AreSevenBit (body_in said)
@@ -39,7 +39,7 @@ identity_in said = record {
   long_serial = body_in said.long_serial;
 }
 
--- C says an identity, whose values are in their ranges
+-- the struct describes an identity, with values in their ranges
 pub record IsIdentity (said : DgtIdentity) : Type 0 where
   pub serial : AreSevenBit said.serial
   pub main : said.main_number < 128
@@ -49,7 +49,7 @@ pub record IsIdentity (said : DgtIdentity) : Type 0 where
   pub long_serial : IsBody said.long_serial
   pub reserved : AreZeros said.reserved
 
--- a board just made, of what C says
+-- a new board with what the structs describe
 abbrev pub Starts : List ℕ → DgtClock → DgtIdentity → BoardView → Type 0
 Starts codes clock identity board =
     (pieces : List Piece) × (shown : ClockState) × (map piece_code pieces ≡ codes)

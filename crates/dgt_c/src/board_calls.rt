@@ -1,4 +1,4 @@
-//! What C asks of a board.
+//! C calls of a board.
 
 ghost use Rattle.std.specs.Prelude.{◌≡◌, ◌≤◌, ◌<◌, ◌↔◌, ◌+◌, length, false, IsTrue, IsSome, IfSome, map};
 ghost use Rattle.dgt_values.specs.Board.{piece_code};
@@ -23,7 +23,7 @@ use dgt_board::{MAX_OWED, MAX_SENT, Mode, Polled};
 use dgt_command::MAX_WORD;
 use dgt_values::{Piece, Square};
 
-/// Puts a piece on a square, or takes one off. False if there is no such square or piece.
+/// Puts a piece on a square, or removes one. Returns false if there is no such square or piece.
 #[unsafe(no_mangle)]
 pub extern "C" fn dgt_board_change(board: &mut DgtBoard, square: u8, piece: u8) -> bool
     ensures place { board.new.at ≡ board.old.at }
@@ -43,7 +43,7 @@ pub extern "C" fn dgt_board_change(board: &mut DgtBoard, square: u8, piece: u8) 
     true
 }
 
-/// Sets what the clock shows. False if no clock shows that.
+/// Sets what the clock shows. Returns false if the struct is not a clock.
 #[unsafe(no_mangle)]
 pub extern "C" fn dgt_board_hand_clock(board: &mut DgtBoard, clock: &DgtClock) -> bool
     ensures place { board.new.at ≡ board.old.at }
@@ -62,7 +62,7 @@ pub extern "C" fn dgt_board_hand_clock(board: &mut DgtBoard, clock: &DgtClock) -
     }
 }
 
-/// The line is lost: the board forgets what was said on it.
+/// Simulates a lost line: the board forgets all requests.
 #[unsafe(no_mangle)]
 pub extern "C" fn dgt_board_line_lost(board: &mut DgtBoard)
     ensures place { board.new.at ≡ board.old.at }
@@ -71,8 +71,8 @@ pub extern "C" fn dgt_board_line_lost(board: &mut DgtBoard)
     board.get().line_lost();
 }
 
-/// Uses bytes up to and including the first that completes a command or shows a fault, or all of
-/// them. Reports what it is, and copies the bytes of a command, as many as there is room for.
+/// Uses the bytes up to and including the first that completes a command or a fault, or all of
+/// them. Reports the command or fault, and copies as many of the command's bytes as fit.
 #[unsafe(no_mangle)]
 pub extern "C" fn dgt_board_take(
     board: &mut DgtBoard,
@@ -144,7 +144,7 @@ pub extern "C" fn dgt_board_owed_len(board: &mut DgtBoard) -> usize
     board.get().owed_len()
 }
 
-/// How many bytes are held of an unfinished command.
+/// How many bytes of an unfinished command are held.
 #[unsafe(no_mangle)]
 pub extern "C" fn dgt_board_partial(board: &mut DgtBoard) -> usize
     ensures place { board.new.at ≡ board.old.at }
@@ -156,7 +156,7 @@ pub extern "C" fn dgt_board_partial(board: &mut DgtBoard) -> usize
     board.get().partial()
 }
 
-/// The board's mode: what it sends unasked.
+/// The board's mode: which changes it reports by itself.
 #[unsafe(no_mangle)]
 pub extern "C" fn dgt_board_mode(board: &mut DgtBoard) -> u8
     ensures place { board.new.at ≡ board.old.at }

@@ -1,4 +1,4 @@
-//! Bytes of C's that are looked at before they are taken.
+//! Checks of bytes from C.
 
 ghost use Rattle.std.specs.Prelude.{◌≡◌, ◌↔◌, IsTrue, MatchOption, map};
 ghost use Rattle.dgt_values.specs.Board.{piece_code, pieces_of};
@@ -7,7 +7,7 @@ ghost use Rattle.dgt_c.specs.Starting.{ArePieces, AreZeros};
 
 use dgt_values::{Position, SevenBit};
 
-/// Whether each byte is 0.
+/// Whether all bytes are 0.
 pub(crate) fn are_zeros(bytes: &[u8]) -> bool
     ensures { IsTrue result ↔ AreZeros bytes.now }
 {
@@ -20,7 +20,7 @@ fn are_seven_bit(bytes: &[u8]) -> bool
     bytes.iter().all(|byte| *byte < 128)
 }
 
-/// The seven-bit bytes that these are, if no byte has its top bit set.
+/// These bytes as seven-bit bytes, if no byte has its top bit set.
 pub(crate) fn read_seven_bits<const N: usize>(bytes: &[u8; N]) -> Option<[SevenBit; N]>
     ensures { MatchOption result (¬ (AreSevenBit bytes.now))
         (λ read. (map number read ≡ bytes.now) × AreSevenBit bytes.now) }
@@ -35,7 +35,7 @@ pub(crate) fn read_seven_bits<const N: usize>(bytes: &[u8; N]) -> Option<[SevenB
     Some(read)
 }
 
-/// The position of these codes, from a8 to h1, if each is the code of a piece.
+/// The position of these codes, from a8 to h1, if each is a piece code.
 pub(crate) fn read_position(codes: &[u8; 64]) -> Option<Position>
     ensures { MatchOption result (¬ (ArePieces codes.now))
         (λ position. map piece_code (pieces_of position) ≡ codes.now) }

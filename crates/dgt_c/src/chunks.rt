@@ -1,4 +1,4 @@
-//! What C has a host hear, and a decoder be fed, as a whole chunk.
+//! C calls by which a host or a decoder reads a whole chunk.
 
 ghost use Rattle.std.specs.Prelude.{◌≡◌, ◌<◌, ◌++◌, ◌↔◌, IsTrue, length, take, drop};
 ghost use Rattle.dgt_decode.specs.Grammar.{unfinished_message};
@@ -14,8 +14,8 @@ use crate::hearing::report_heard;
 use dgt_decode::{Decoder, laws};
 use dgt_host::Host;
 
-// Whether more of a chunk is to be read. An event with a body is the last: the slice has room for
-// the body of one.
+// Whether to read more of a chunk. An event with a body is the last: the slice can hold the body of
+// one.
 #[inline(always)]
 fn goes_on(used: usize, chunk: &[u8], count: usize, reported: &[DgtEvent], body_len: usize) -> bool
     ensures { IsTrue result
@@ -41,7 +41,7 @@ fn hear_each(host: &mut Host, chunk: &[u8], reported: &mut [DgtEvent], body: &mu
     laws::unfinished_is_quiet();
     dgt_host::laws::heard_in_chunks();
     dgt_host::laws::nothing_heard();
-    let _ = host.unread(); // It says that what is unread makes no event.
+    let _ = host.unread(); // Its contract says that the unread bytes complete no event.
     let (mut used, mut count, mut body_len) = (0, 0, 0);
     while goes_on(used, chunk, count, reported, body_len) {
         let heard = host.hear(&chunk[used..]);
@@ -57,9 +57,8 @@ fn hear_each(host: &mut Host, chunk: &[u8], reported: &mut [DgtEvent], body: &mu
     DgtTold { used, count }
 }
 
-/// Hears a chunk up to and including the byte whose event fills the array or has a body, or all of
-/// it. The array gets the events one after another. The body of the last is copied, as much of it
-/// as there is room for.
+/// Hears a chunk up to and including the event that fills the array or has a body, or all of it.
+/// The events are written to the array in order. As much of the last one's body is copied as fits.
 #[unsafe(no_mangle)]
 pub extern "C" fn dgt_host_hear_all(
     host: &mut DgtHost,
@@ -103,7 +102,7 @@ fn feed_each(
     laws::unfinished_append();
     laws::unfinished_is_part();
     laws::unfinished_is_quiet();
-    let _ = decoder.rest(); // It says that what is held makes no event.
+    let _ = decoder.rest(); // Its contract says that the bytes held complete no event.
     let (mut used, mut count, mut body_len) = (0, 0, 0);
     while goes_on(used, chunk, count, reported, body_len) {
         let fed = decoder.feed(&chunk[used..]);
@@ -119,9 +118,8 @@ fn feed_each(
     DgtTold { used, count }
 }
 
-/// Reads a chunk up to and including the byte whose event fills the array or has a body, or all of
-/// it. The array gets the events one after another. The body of the last is copied, as much of it
-/// as there is room for.
+/// Reads a chunk up to and including the event that fills the array or has a body, or all of it.
+/// The events are written to the array in order. As much of the last one's body is copied as fits.
 #[unsafe(no_mangle)]
 pub extern "C" fn dgt_decoder_feed_all(
     decoder: &mut DgtDecoder,

@@ -1,4 +1,4 @@
-//! A clock as C has it, in both directions.
+//! Clocks as structs of C, in both directions.
 
 ghost use Rattle.std.specs.Prelude.{◌≡◌, ◌≤◌, ◌<◌, MatchOption};
 ghost use Rattle.dgt_message.specs.Clock.{AreTimes, ClockState, IsAbsence, IsTime};
@@ -10,7 +10,7 @@ use crate::header::{CLOCK_NONE, CLOCK_TIMES, DgtClock, DgtTime, NO_TIME};
 use dgt_message::{Clock, NoClock, Reading, Status, Times};
 use dgt_values::SevenBit;
 
-/// The time of one player.
+/// The time of one player, as a struct.
 pub(crate) fn time_for_c(reading: Reading) -> DgtTime
     ensures { result ≡ time_reported (time_seen reading) }
 {
@@ -22,7 +22,7 @@ pub(crate) fn time_for_c(reading: Reading) -> DgtTime
     }
 }
 
-/// The times of both players.
+/// The times of both players, as a struct.
 pub(crate) fn times_reported(times: Times) -> DgtClock
     ensures { result ≡ clock_reported (ClockState.times (times_seen times)) }
 {
@@ -35,7 +35,7 @@ pub(crate) fn times_reported(times: Times) -> DgtClock
     }
 }
 
-/// That there is no clock.
+/// The absence of a clock, as a struct.
 pub(crate) fn absence_reported(absence: NoClock) -> DgtClock
     ensures { result ≡ clock_reported (ClockState.no_clock (absence_seen absence)) }
 {
@@ -49,7 +49,7 @@ pub(crate) fn absence_reported(absence: NoClock) -> DgtClock
     }
 }
 
-/// What a clock shows.
+/// A clock, as a struct.
 pub(crate) fn clock_for_c(clock: &Clock) -> DgtClock
     ensures { result ≡ clock_reported (clock_seen clock.now) }
 {
@@ -74,7 +74,7 @@ fn read_status(status: u8) -> Option<Status>
     Some(Status::new(code))
 }
 
-// The times that C says, if they are times.
+// The times in the struct, if they are valid.
 fn read_times(clock: &DgtClock) -> Option<Times>
     ensures { let times = times_said clock.now in MatchOption result (¬ (AreTimes times))
         (λ read. (times_seen read ≡ times) × AreTimes times) }
@@ -85,7 +85,7 @@ fn read_times(clock: &DgtClock) -> Option<Times>
     Times::new(first, second, status).ok()
 }
 
-// What C says of a board without a clock, if it is that.
+// The report of a board without a clock, if the struct contains one.
 fn read_absence(clock: &DgtClock) -> Option<NoClock>
     ensures { let absence = absence_said clock.now in MatchOption result (¬ (IsAbsence absence))
         (λ read. (absence_seen read ≡ absence) × IsAbsence absence) }
@@ -95,7 +95,7 @@ fn read_absence(clock: &DgtClock) -> Option<NoClock>
     NoClock::new(raw, status).ok()
 }
 
-/// The clock that C says, if it is one.
+/// The clock in the struct, if it is valid.
 pub(crate) fn read_clock(clock: &DgtClock) -> Option<Clock>
     ensures { MatchOption result ((shown : ClockState) → ¬ (SaysClock clock.now shown))
         (λ read. SaysClock clock.now (clock_seen read)) }

@@ -1,4 +1,4 @@
-//! Commands that C has encoded and viewed without a handle.
+//! C calls that encode and view commands without a handle.
 
 ghost use Rattle.std.specs.Prelude.{◌≡◌, ◌≢◌, ◌≤◌, ◌<◌, ◌∷◌, [], false, length, IsTrue};
 ghost use Rattle.dgt_command.specs.Content.{CommandContent};
@@ -13,7 +13,7 @@ use crate::header::{DgtCommand, DgtEncoded, NOTHING_ENCODED};
 use crate::sender::put_clock;
 use dgt_command::{Command, LedBytes, MAX_PAYLOAD, MAX_WORD, encode, view_command};
 
-// The command whose bytes these are, if there is one.
+// Writes the command with exactly these bytes, if there is one.
 fn encode_word(word: &[u8], out: &mut [u8]) -> DgtEncoded
     ensures encoded { (said : CommandContent) → word.now ≡ command_encoding said →
         EncodesBytes word.now out.old out.new result }
@@ -27,7 +27,7 @@ fn encode_word(word: &[u8], out: &mut [u8]) -> DgtEncoded
     }
 }
 
-// The clock message of this id that carries these bytes.
+// Writes the clock message of this id with this payload.
 fn encode_clock(id: u8, payload: &[u8], out: &mut [u8]) -> DgtEncoded
     ensures encoded { length payload.now ≤ MAX_PAYLOAD →
         EncodesBytes (command_encoding
@@ -44,7 +44,7 @@ fn encode_clock(id: u8, payload: &[u8], out: &mut [u8]) -> DgtEncoded
     encode_word(word, out)
 }
 
-// The LED frame of these bytes.
+// Writes the LED frame of these bytes.
 fn encode_leds(leds: &[u8], out: &mut [u8]) -> DgtEncoded
     ensures encoded { length leds.now ≤ MAX_LED_BYTES →
         EncodesBytes (command_encoding (CommandContent.Leds leds.now)) out.old out.new result }
@@ -56,10 +56,10 @@ fn encode_leds(leds: &[u8], out: &mut [u8]) -> DgtEncoded
     }
 }
 
-/// Writes the command with this code to the beginning of the slice.
+/// Writes the command with this code at the beginning of the slice.
 ///
-/// It is the clock message of this id that carries these bytes, the LED frame of these bytes, or a
-/// command that is its code alone and carries nothing.
+/// It is the clock message of this id with these bytes, the LED frame of these bytes, or a command
+/// of one byte.
 #[unsafe(no_mangle)]
 pub extern "C" fn dgt_encode_command(code: u8, id: u8, carried: &[u8], out: &mut [u8]) -> DgtEncoded
     ensures clock_message { code ≡ 0x2b → length carried.now ≤ MAX_PAYLOAD →
@@ -88,8 +88,8 @@ pub extern "C" fn dgt_encode_command(code: u8, id: u8, carried: &[u8], out: &mut
     }
 }
 
-/// Writes the command whose bytes are exactly these to the struct. Returns false if there is none,
-/// and then the struct stays.
+/// Writes the command with exactly these bytes to the struct. Returns false if there is none; then
+/// the struct is unchanged.
 #[unsafe(no_mangle)]
 pub extern "C" fn dgt_view_command(word: &[u8], command: &mut DgtCommand) -> bool
     ensures views { IsTrue result → (said : CommandContent) × EncodesCommand said word.now

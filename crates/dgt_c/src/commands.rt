@@ -1,4 +1,4 @@
-//! A command that a board was sent, as C has it.
+//! Commands that a board has received, as structs of C.
 
 ghost use Rattle.std.specs.Prelude.{◌≡◌, option_map};
 ghost use Rattle.dgt_command.specs.Content.{command_content, command_event_content};
@@ -22,7 +22,7 @@ fn message_id(command: &Command<'_>) -> u8
     }
 }
 
-// A command that was read. Its bytes are copied, as many as there is room for.
+// Reports a command, and copies as many of its bytes as fit.
 pub(crate) fn report_read(command: &Command<'_>, out: &mut [u8]) -> DgtCommand
     ensures reported { result ≡ read_reported (command_content command.now) }
     ensures word { out.new
@@ -44,8 +44,7 @@ pub(crate) fn report_read(command: &Command<'_>, out: &mut [u8]) -> DgtCommand
     }
 }
 
-/// Reports a command or a fault, or that there is none. If it is a command, its bytes are copied,
-/// as many as there is room for.
+/// Reports a command, a fault, or nothing. For a command, as many of its bytes are copied as fit.
 pub(crate) fn report_command(event: &Option<CommandEvent<'_>>, out: &mut [u8]) -> DgtCommand
     ensures reported { result ≡ command_reported (option_map command_event_content event.now) }
     ensures word { out.new

@@ -1,4 +1,4 @@
-//! Bytes copied into slices of C's.
+//! Copies bytes into slices of C.
 
 ghost use Rattle.std.specs.Prelude.{◌≡◌};
 ghost use Rattle.dgt_values.specs.Board.{pieces_of};
@@ -8,7 +8,7 @@ ghost use Rattle.dgt_c.specs.Slices.{overwritten, with_text};
 use crate::header::PLACEMENT_ROOM;
 use dgt_values::Position;
 
-/// Writes as many of the bytes as there is room for at the beginning of the slice.
+/// Writes as many of the bytes as fit at the beginning of the slice.
 #[inline(always)]
 pub(crate) fn overwrite(bytes: &[u8], out: &mut [u8])
     ensures { out.new ≡ overwritten out.old bytes.now }
@@ -23,7 +23,7 @@ pub(crate) fn overwrite(bytes: &[u8], out: &mut [u8])
     }
 }
 
-/// Writes the placement of a position and a zero at the beginning of the slice.
+/// Writes the placement of a position and a zero byte at the beginning of the slice.
 pub(crate) fn put_placement(position: &Position, text: &mut [u8; PLACEMENT_ROOM])
     ensures { text.new ≡ with_text (placement_text (pieces_of position.now)) text.old }
 {

@@ -1,4 +1,4 @@
-//! Messages that C has encoded and viewed without a handle.
+//! C calls that encode and view messages without a handle.
 
 ghost use Rattle.std.specs.Prelude.{◌≡◌, ◌≤◌, false, IsTrue, MatchOption};
 ghost use Rattle.dgt_values.specs.Bytes.{body_bytes};
@@ -28,7 +28,7 @@ pub(crate) fn encoded_for_c(outcome: Result<usize, NoRoom>) -> DgtEncoded
     DgtEncoded { status, bytes }
 }
 
-// The body of these bytes, if a message carries them.
+// These bytes as a message body, if they are one.
 fn read_body(body: &[u8]) -> Option<Body<'_>>
     ensures { MatchOption result (¬ (IsCarried body.now))
         (λ read. (body_bytes read ≡ body.now) × IsCarried body.now) }
@@ -45,7 +45,7 @@ fn read_ack(ack: [u8; 4], status: u8) -> Option<ClockAck>
     Some(ClockAck { ack, status })
 }
 
-/// The message that C says, if it says one.
+/// The message in the struct and the body, if it is valid.
 pub(crate) fn read_message<'a>(said: &DgtEvent, body: &'a [u8]) -> Option<Message<'a>>
     ensures { ReadsMessage said.now body.now result }
 {
@@ -80,7 +80,7 @@ pub(crate) fn read_message<'a>(said: &DgtEvent, body: &'a [u8]) -> Option<Messag
     }
 }
 
-/// Writes the message that the struct and the body say to the beginning of the slice.
+/// Writes the message in the struct and the body at the beginning of the slice.
 #[unsafe(no_mangle)]
 pub extern "C" fn dgt_encode_message(said: &DgtEvent, body: &[u8], out: &mut [u8]) -> DgtEncoded
     ensures encodes { EncodesMessage said.now body.now out.old out.new result }
@@ -93,7 +93,7 @@ pub extern "C" fn dgt_encode_message(said: &DgtEvent, body: &[u8], out: &mut [u8
 
 /// Writes the message with this code and this body to the struct, or the fault of the body.
 ///
-/// Returns false if no message has such a code or such a body, and then the struct stays.
+/// Returns false if no message has this code or no body these bytes; then the struct is unchanged.
 #[unsafe(no_mangle)]
 pub extern "C" fn dgt_view_message(code: u8, body: &[u8], event: &mut DgtEvent) -> bool
     ensures views { IsTrue result → IsCodeAndBody code body.now

@@ -1,4 +1,4 @@
-//! An event as C has it.
+//! Events as structs of C.
 
 ghost use Rattle.std.specs.Prelude.{◌≡◌, Some, length};
 ghost use Rattle.dgt_values.specs.Bytes.{body_bytes};
@@ -18,8 +18,8 @@ use dgt_decode::Event;
 use dgt_message::{BodyFault, KnownCode, Message, serial_bytes};
 use dgt_values::Body;
 
-// Each struct is written where it lies for C: to copy one takes longer than to write it. What
-// reports an event is inlined, so that the event itself is not copied once more.
+// Each struct is written in place, in C's memory: copying one takes longer. The functions that
+// report an event are inlined, to avoid a copy of the event.
 fn report_carried(kind: u8, code: u8, body: Body<'_>, out: &mut DgtEvent)
     ensures { out.new ≡ record out.old {
       kind = kind;
@@ -126,7 +126,7 @@ pub(crate) fn report_event(event: &Event<'_>, out: &mut DgtEvent)
     }
 }
 
-/// Reports an event, or that there is none.
+/// Reports an event, or nothing.
 #[inline(always)]
 pub(crate) fn report(event: &Option<Event<'_>>, out: &mut DgtEvent)
     ensures { out.new ≡ event_reported (event_content_if_any event.now) }
@@ -137,7 +137,7 @@ pub(crate) fn report(event: &Option<Event<'_>>, out: &mut DgtEvent)
     }
 }
 
-/// Writes an event and its place to the struct, or that there is none.
+/// Writes an event, or nothing, and its place to the struct.
 #[inline(always)]
 pub(crate) fn report_at(event: &Option<Event<'_>>, place: usize, out: &mut DgtEvent)
     ensures { out.new ≡ reported_at place (event_content_if_any event.now) }
@@ -148,7 +148,7 @@ pub(crate) fn report_at(event: &Option<Event<'_>>, place: usize, out: &mut DgtEv
     }
 }
 
-/// The body of a message that is carried unread, and else no byte.
+/// The body of a message that is carried unread, and otherwise no bytes.
 #[inline(always)]
 pub(crate) fn body_in<'a>(event: &Event<'a>) -> &'a [u8]
     ensures { result.now ≡ body_said (Some (event_content event.now)) }
@@ -162,7 +162,7 @@ pub(crate) fn body_in<'a>(event: &Event<'a>) -> &'a [u8]
     }
 }
 
-/// The same of an event, if there is one.
+/// The same for an optional event.
 #[inline(always)]
 pub(crate) fn body_of<'a>(event: &Option<Event<'a>>) -> &'a [u8]
     ensures { result.now ≡ body_said (event_content_if_any event.now) }

@@ -1,4 +1,4 @@
-//! What C has a follower do.
+//! C calls of a follower.
 
 ghost use Rattle.std.specs.Prelude.{◌≡◌, ◌≤◌, ◌<◌, ◌↔◌, length, take, false, true, IsTrue, IsSome, MatchOption};
 ghost use Rattle.dgt_host.specs.Host.{new_host};
@@ -18,7 +18,7 @@ use dgt_follow::{Follower, UpdateMode};
 use dgt_host::SendFault;
 use dgt_values::NoRoom;
 
-/// Makes the follower anew, with this period in milliseconds and this patience.
+/// Makes the follower as new, with this period in milliseconds and this patience.
 #[unsafe(no_mangle)]
 pub extern "C" fn dgt_follower_start(follower: &mut DgtFollower, period: u64, patience: u32)
     ensures place { follower.new.at ≡ follower.old.at }
@@ -27,7 +27,7 @@ pub extern "C" fn dgt_follower_start(follower: &mut DgtFollower, period: u64, pa
     *follower.get() = Follower::new(period, patience);
 }
 
-// Reports an event to the struct, and its body to the slice.
+// Writes an event to the struct, and its body to the slice.
 #[derive(Drop)]
 struct Reporter<'a> {
     event: DgtEvent,
@@ -75,9 +75,8 @@ fn hear_event(
     heard.used
 }
 
-/// Uses bytes, which came at this time, up to and including the first that makes an event, or all
-/// of them, and returns how many. Reports the event, and copies its body, as much of it as there is
-/// room for.
+/// Uses the bytes, received at this time, up to and including the first that completes an event, or
+/// all of them, and returns how many. Reports the event, and copies as much of its body as fits.
 #[unsafe(no_mangle)]
 pub extern "C" fn dgt_follower_hear(
     follower: &mut DgtFollower,
@@ -97,7 +96,7 @@ pub extern "C" fn dgt_follower_hear(
     hear_event(follower.get(), now, chunk, event, body)
 }
 
-/// Uses all of the chunk, which came at this time.
+/// Uses the whole chunk, received at this time.
 #[unsafe(no_mangle)]
 pub extern "C" fn dgt_follower_hear_all(follower: &mut DgtFollower, now: u64, chunk: &[u8])
     ensures place { follower.new.at ≡ follower.old.at }
@@ -112,7 +111,7 @@ fn asked_for_c(outcome: Result<usize, NoRoom>) -> DgtSent
     sent_for_c(outcome.map_err(|NoRoom { need }| SendFault::NoRoom { need }))
 }
 
-/// Writes what the board has to be asked at this time at the beginning of the slice, if it is due.
+/// Writes a request at the beginning of the slice, if one is due at this time.
 #[unsafe(no_mangle)]
 pub extern "C" fn dgt_follower_ask(follower: &mut DgtFollower, now: u64, out: &mut [u8]) -> DgtSent
     ensures place { follower.new.at ≡ follower.old.at }
@@ -135,8 +134,8 @@ fn put_time(said: Option<u64>, time: &mut u64) -> bool
     }
 }
 
-/// The first time at which asking writes, if nothing is heard before. False if there is none, and
-/// then `time` stays.
+/// The first time at which a request is due, if nothing is heard before. Returns false if there is
+/// none; then `time` is unchanged.
 #[unsafe(no_mangle)]
 pub extern "C" fn dgt_follower_due_at(follower: &mut DgtFollower, time: &mut u64) -> bool
     ensures place { follower.new.at ≡ follower.old.at }
@@ -148,7 +147,7 @@ pub extern "C" fn dgt_follower_due_at(follower: &mut DgtFollower, time: &mut u64
     put_time(follower.get().due_at(), time)
 }
 
-/// The time of the last whole message. False if none was heard, and then `time` stays.
+/// The time of the last whole message. Returns false if none was heard; then `time` is unchanged.
 #[unsafe(no_mangle)]
 pub extern "C" fn dgt_follower_last_heard(follower: &mut DgtFollower, time: &mut u64) -> bool
     ensures place { follower.new.at ≡ follower.old.at }
@@ -160,7 +159,7 @@ pub extern "C" fn dgt_follower_last_heard(follower: &mut DgtFollower, time: &mut
     put_time(follower.get().last_heard(), time)
 }
 
-/// What the board is asked to report by itself.
+/// Which changes the board is asked to report by itself.
 #[unsafe(no_mangle)]
 pub extern "C" fn dgt_follower_mode(follower: &mut DgtFollower) -> u8
     ensures place { follower.new.at ≡ follower.old.at }
@@ -187,7 +186,7 @@ fn read_mode(mode: u8) -> Option<UpdateMode>
     }
 }
 
-/// Has each asking from now on ask for this mode. False if there is no such mode.
+/// Sets the mode that each later request asks for. Returns false if there is no such mode.
 #[unsafe(no_mangle)]
 pub extern "C" fn dgt_follower_set_mode(follower: &mut DgtFollower, mode: u8) -> bool
     ensures place { follower.new.at ≡ follower.old.at }
@@ -216,7 +215,7 @@ pub extern "C" fn dgt_follower_in_doubt(follower: &mut DgtFollower) -> bool
     follower.get().in_doubt()
 }
 
-/// How many heartbeats may still follow one another.
+/// How many more heartbeats the patience allows.
 #[unsafe(no_mangle)]
 pub extern "C" fn dgt_follower_heartbeats_left(follower: &mut DgtFollower) -> u32
     ensures place { follower.new.at ≡ follower.old.at }
@@ -237,7 +236,7 @@ pub extern "C" fn dgt_follower_confirmed(follower: &mut DgtFollower) -> bool
     follower.get().confirmed()
 }
 
-/// Has a picture that isn't confirmed be asked for again, or not.
+/// Sets whether a picture that isn't confirmed is requested again.
 #[unsafe(no_mangle)]
 pub extern "C" fn dgt_follower_set_confirm(follower: &mut DgtFollower, confirm: bool)
     ensures place { follower.new.at ≡ follower.old.at }
@@ -247,7 +246,7 @@ pub extern "C" fn dgt_follower_set_confirm(follower: &mut DgtFollower, confirm: 
     follower.get().set_confirm(confirm);
 }
 
-/// Has an asking be due at once, or as soon as the last one is answered.
+/// Makes a request due at once, or as soon as the last one is answered.
 #[unsafe(no_mangle)]
 pub extern "C" fn dgt_follower_ask_now(follower: &mut DgtFollower)
     ensures place { follower.new.at ≡ follower.old.at }
@@ -257,7 +256,7 @@ pub extern "C" fn dgt_follower_ask_now(follower: &mut DgtFollower)
     follower.get().ask_now();
 }
 
-/// The serial number of the board, if it was reported. False if it wasn't, and then `serial` stays.
+/// The serial number of the board. Returns false if it wasn't reported; then `serial` is unchanged.
 #[unsafe(no_mangle)]
 pub extern "C" fn dgt_follower_serial(follower: &mut DgtFollower, serial: &mut [u8; 5]) -> bool
     ensures place { follower.new.at ≡ follower.old.at }
@@ -275,7 +274,7 @@ pub extern "C" fn dgt_follower_serial(follower: &mut DgtFollower, serial: &mut [
     }
 }
 
-/// Has the serial number of the board be requested while it is unknown, or not.
+/// Sets whether the serial number is requested while it is unknown.
 #[unsafe(no_mangle)]
 pub extern "C" fn dgt_follower_set_identify(follower: &mut DgtFollower, identify: bool)
     ensures place { follower.new.at ≡ follower.old.at }
@@ -285,7 +284,7 @@ pub extern "C" fn dgt_follower_set_identify(follower: &mut DgtFollower, identify
     follower.get().set_identify(identify);
 }
 
-/// Bytes from the board were lost or altered, as whoever reads the line has found out.
+/// Reports that bytes from the board were lost or altered.
 #[unsafe(no_mangle)]
 pub extern "C" fn dgt_follower_line_disturbed(follower: &mut DgtFollower)
     ensures place { follower.new.at ≡ follower.old.at }
@@ -295,7 +294,7 @@ pub extern "C" fn dgt_follower_line_disturbed(follower: &mut DgtFollower)
     follower.get().line_disturbed();
 }
 
-/// The line is lost: the follower is as new, with its settings.
+/// Reports that the line was lost: the follower is as new, with its settings.
 #[unsafe(no_mangle)]
 pub extern "C" fn dgt_follower_line_lost(follower: &mut DgtFollower)
     ensures place { follower.new.at ≡ follower.old.at }

@@ -1,4 +1,5 @@
-//! The handles of C. Each points to what it owns in memory of C's. Contracts see that as `inside`.
+//! The handles of C. Each points to the value that it owns, in C's memory. Contracts see that value
+//! as `inside`.
 
 ghost use Rattle.std.specs.Prelude.{◌≡◌, ℕ, List};
 ghost use Rattle.std.specs.Borrow.{Lends, full_share, sem};
@@ -19,10 +20,10 @@ use dgt_follow::Follower;
 use dgt_host::Host;
 use std::marker::{Model, Send};
 
-// The handles are five structs with one proof: a struct with type arguments can't cross to C, and
-// the gate refuses an impl that a macro wrote.
+// The handles are five structs with one proof: a struct with type arguments can't be passed to C,
+// and the gate refuses an impl that a macro wrote.
 
-/// A host in memory of C's.
+/// A host in C's memory.
 #[repr(C)]
 #[derive(Drop)]
 pub struct DgtHost {
@@ -34,13 +35,13 @@ impl Model for DgtHost {
     ghost also_owns = { λ handle. lies_at host_row full_share handle.at handle.inside };
 }
 
-// It may go to another thread, as what it points to may.
+// It can be sent to another thread, as the value that it points to can.
 unsafe impl Send for DgtHost {}
 
 impl DgtHost {
     ghost use Rattle.dgt_c.specs.contracts.handles.DgtHost.{the_row};
 
-    /// The host, lent. The handle follows what is done to it.
+    /// The host, borrowed.
     pub(crate) fn get(&mut self) -> &mut Host
         ensures* writes_back { sem 𝓛 (Lends the_row host_row self.entry result
             (λ inside. record self.old { inside = inside })) }
@@ -50,7 +51,7 @@ impl DgtHost {
     }
 }
 
-/// A follower in memory of C's.
+/// A follower in C's memory.
 #[repr(C)]
 #[derive(Drop)]
 pub struct DgtFollower {
@@ -62,13 +63,13 @@ impl Model for DgtFollower {
     ghost also_owns = { λ handle. lies_at follower_row full_share handle.at handle.inside };
 }
 
-// It may go to another thread, as what it points to may.
+// It can be sent to another thread, as the value that it points to can.
 unsafe impl Send for DgtFollower {}
 
 impl DgtFollower {
     ghost use Rattle.dgt_c.specs.contracts.handles.DgtFollower.{the_row};
 
-    /// The follower, lent. The handle follows what is done to it.
+    /// The follower, borrowed.
     pub(crate) fn get(&mut self) -> &mut Follower
         ensures* writes_back { sem 𝓛 (Lends the_row follower_row self.entry result
             (λ inside. record self.old { inside = inside })) }
@@ -78,7 +79,7 @@ impl DgtFollower {
     }
 }
 
-/// A decoder in memory of C's.
+/// A decoder in C's memory.
 #[repr(C)]
 #[derive(Drop)]
 pub struct DgtDecoder {
@@ -90,13 +91,13 @@ impl Model for DgtDecoder {
     ghost also_owns = { λ handle. lies_at decoder_row full_share handle.at handle.inside };
 }
 
-// It may go to another thread, as what it points to may.
+// It can be sent to another thread, as the value that it points to can.
 unsafe impl Send for DgtDecoder {}
 
 impl DgtDecoder {
     ghost use Rattle.dgt_c.specs.contracts.handles.DgtDecoder.{the_row};
 
-    /// The decoder, lent. The handle follows what is done to it.
+    /// The decoder, borrowed.
     pub(crate) fn get(&mut self) -> &mut Decoder
         ensures* writes_back { sem 𝓛 (Lends the_row decoder_row self.entry result
             (λ inside. record self.old { inside = inside })) }
@@ -106,7 +107,7 @@ impl DgtDecoder {
     }
 }
 
-/// A reader of commands in memory of C's.
+/// A decoder of commands in C's memory.
 #[repr(C)]
 #[derive(Drop)]
 pub struct DgtCommandDecoder {
@@ -118,13 +119,13 @@ impl Model for DgtCommandDecoder {
     ghost also_owns = { λ handle. lies_at command_decoder_row full_share handle.at handle.inside };
 }
 
-// It may go to another thread, as what it points to may.
+// It can be sent to another thread, as the value that it points to can.
 unsafe impl Send for DgtCommandDecoder {}
 
 impl DgtCommandDecoder {
     ghost use Rattle.dgt_c.specs.contracts.handles.DgtCommandDecoder.{the_row};
 
-    /// The reader of commands, lent. The handle follows what is done to it.
+    /// The decoder of commands, borrowed.
     pub(crate) fn get(&mut self) -> &mut CommandDecoder
         ensures* writes_back { sem 𝓛 (Lends the_row command_decoder_row self.entry result
             (λ inside. record self.old { inside = inside })) }
@@ -134,7 +135,7 @@ impl DgtCommandDecoder {
     }
 }
 
-/// A board in memory of C's.
+/// A board in C's memory.
 #[repr(C)]
 #[derive(Drop)]
 pub struct DgtBoard {
@@ -146,13 +147,13 @@ impl Model for DgtBoard {
     ghost also_owns = { λ handle. lies_at board_row full_share handle.at handle.inside };
 }
 
-// It may go to another thread, as what it points to may.
+// It can be sent to another thread, as the value that it points to can.
 unsafe impl Send for DgtBoard {}
 
 impl DgtBoard {
     ghost use Rattle.dgt_c.specs.contracts.handles.DgtBoard.{the_row};
 
-    /// The board, lent. The handle follows what is done to it.
+    /// The board, borrowed.
     pub(crate) fn get(&mut self) -> &mut Board
         ensures* writes_back { sem 𝓛 (Lends the_row board_row self.entry result
             (λ inside. record self.old { inside = inside })) }

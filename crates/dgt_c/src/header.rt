@@ -1,27 +1,27 @@
-//! The numbers and the structs of `dgt.h`, which says of each what it stands for. The laws of
-//! `laws::header`, which tools/c_boundary makes from `dgt.h`, compare them with it.
+//! The numbers and the structs of `dgt.h`, which describes them. The laws of `laws::header`, which
+//! tools/c_boundary generates from `dgt.h`, compare them with it.
 
 use dgt_board::MAX_KEPT_BODY;
 
-/// Room for each placement and a zero.
+/// Enough room for any placement and a zero byte.
 pub const PLACEMENT_ROOM: usize = 72;
 
-/// How many bytes a `dgt_host` takes, which is more than the handle and the host need today.
+/// The size of a `dgt_host` in bytes, more than the handle and the host need today.
 pub const HOST_ROOM: usize = 22 * 1024;
 
-/// How many bytes a `dgt_follower` takes.
+/// The size of a `dgt_follower` in bytes.
 pub const FOLLOWER_ROOM: usize = 23 * 1024;
 
-/// How many bytes a `dgt_decoder` takes.
+/// The size of a `dgt_decoder` in bytes.
 pub const DECODER_ROOM: usize = 21 * 1024;
 
-/// How many bytes a `dgt_command_decoder` takes.
+/// The size of a `dgt_command_decoder` in bytes.
 pub const COMMAND_DECODER_ROOM: usize = 512;
 
-/// How many bytes a `dgt_board` takes.
+/// The size of a `dgt_board` in bytes.
 pub const BOARD_ROOM: usize = 1280;
 
-/// What stands for no piece, no square and no segments.
+/// The number for no piece, no square and no segments.
 pub const NONE: u8 = 255;
 
 /// No clock was reported.
@@ -141,7 +141,7 @@ pub const SIGNAL_OFF: u8 = 4;
 
 pub const SIGNAL_READY: u8 = 5;
 
-/// What a battery doesn't know of itself.
+/// The number for what a battery doesn't report.
 pub const BATTERY_UNKNOWN: u8 = 127;
 
 /// The time of one player.
@@ -172,7 +172,7 @@ pub(crate) const NO_TIME: DgtTime = DgtTime {
     flags: 0,
 };
 
-/// That no clock was reported.
+/// No clock was reported.
 pub const UNKNOWN_CLOCK: DgtClock = DgtClock {
     kind: CLOCK_UNKNOWN,
     status: 0,
@@ -206,7 +206,7 @@ pub struct DgtEvent {
     pub place: usize,
 }
 
-/// That nothing was made known.
+/// No event.
 pub const NOTHING: DgtEvent = DgtEvent {
     kind: EVENT_NONE,
     unasked: 0,
@@ -229,7 +229,7 @@ pub const NOTHING: DgtEvent = DgtEvent {
     place: 0,
 };
 
-/// How far a chunk was read.
+/// How much of a chunk was read.
 #[repr(C)]
 #[derive(Clone, Copy)]
 pub struct DgtTold {
@@ -237,7 +237,7 @@ pub struct DgtTold {
     pub count: usize,
 }
 
-/// What a frame of a host is.
+/// A frame from a host: a command or a fault.
 #[repr(C)]
 #[derive(Clone, Copy)]
 pub struct DgtCommand {
@@ -249,7 +249,7 @@ pub struct DgtCommand {
     pub word_len: usize,
 }
 
-/// That no frame was completed.
+/// No frame was completed.
 pub const NO_WORD: DgtCommand = DgtCommand {
     kind: COMMAND_NONE,
     code: 0,
@@ -259,7 +259,7 @@ pub const NO_WORD: DgtCommand = DgtCommand {
     word_len: 0,
 };
 
-/// How a sending went.
+/// The result of a sending.
 #[repr(C)]
 #[derive(Clone, Copy)]
 pub struct DgtSent {
@@ -267,13 +267,13 @@ pub struct DgtSent {
     pub bytes: usize,
 }
 
-/// That there is no such command.
+/// There is no such command.
 pub const NO_SUCH_COMMAND: DgtSent = DgtSent {
     status: SENT_NO_COMMAND,
     bytes: 0,
 };
 
-/// How an encoding went.
+/// The result of an encoding.
 #[repr(C)]
 #[derive(Clone, Copy)]
 pub struct DgtEncoded {
@@ -281,7 +281,7 @@ pub struct DgtEncoded {
     pub bytes: usize,
 }
 
-/// That there is no such message or command.
+/// There is no such message or command.
 pub const NOTHING_ENCODED: DgtEncoded = DgtEncoded {
     status: NOT_ENCODED,
     bytes: 0,
@@ -309,7 +309,7 @@ pub struct DgtIdentity {
     pub reserved: [u8; 32],
 }
 
-/// How a taking went.
+/// The result of a taking.
 #[repr(C)]
 #[derive(Clone, Copy)]
 pub struct DgtTaken {
@@ -317,7 +317,7 @@ pub struct DgtTaken {
     pub used: usize,
 }
 
-/// How a poll went.
+/// The result of a poll.
 #[repr(C)]
 #[derive(Clone, Copy)]
 pub struct DgtPolled {
@@ -325,7 +325,7 @@ pub struct DgtPolled {
     pub bytes: usize,
 }
 
-/// What a text is read as.
+/// The result of reading a text.
 #[repr(C)]
 #[derive(Clone, Copy)]
 pub struct DgtParsed {
@@ -333,7 +333,7 @@ pub struct DgtParsed {
     pub at: usize,
 }
 
-/// What is stored.
+/// A stored item.
 #[repr(C)]
 #[derive(Clone, Copy)]
 pub struct DgtStored {
@@ -346,7 +346,7 @@ pub struct DgtStored {
     pub reserved: [u8; 7],
 }
 
-/// A struct of no kind.
+/// No stored item.
 pub const NO_STORED: DgtStored = DgtStored {
     kind: 0,
     square: 0,
@@ -357,7 +357,7 @@ pub const NO_STORED: DgtStored = DgtStored {
     reserved: [0; 7],
 };
 
-/// What a clock signals.
+/// A signal of a clock.
 #[repr(C)]
 #[derive(Clone, Copy)]
 pub struct DgtSignal {
@@ -369,7 +369,7 @@ pub struct DgtSignal {
     pub reserved: [u8; 3],
 }
 
-/// A struct of no kind.
+/// No signal.
 pub const NO_SIGNAL: DgtSignal = DgtSignal {
     kind: 0,
     id: 0,

@@ -1,4 +1,4 @@
-//! What C has a host hear, and decoders be fed.
+//! C calls by which a host and decoders read bytes.
 
 ghost use Rattle.std.specs.Prelude.{◌≡◌, ◌≤◌, ◌<◌, length, take, ◌++◌, []};
 ghost use Rattle.dgt_decode.specs.Feeding.{event_content_if_any};
@@ -17,14 +17,14 @@ use crate::header::{DgtCommand, DgtEvent};
 use dgt_command::MAX_WORD;
 use dgt_decode::{Event, MAX_TOTAL};
 
-/// A number that says yes or no.
+/// 1 for true and 0 for false.
 pub(crate) fn flag_for_c(said: bool) -> u8
     ensures { result ≡ flag said }
 {
     if said { 1 } else { 0 }
 }
 
-/// Writes an event to the struct, with its place and whether it was not asked for.
+/// Writes an event to the struct, with its place and whether it is unasked.
 #[inline(always)]
 pub(crate) fn report_heard(
     event: &Option<Event<'_>>,
@@ -39,8 +39,8 @@ pub(crate) fn report_heard(
     out.unasked = flag_for_c(unasked);
 }
 
-/// Uses bytes up to and including the first that makes an event, or all of them, and returns how
-/// many. Reports the event, and copies its body, as much of it as there is room for.
+/// Uses the bytes up to and including the first that completes an event, or all of them, and
+/// returns how many. Reports the event, and copies as much of its body as fits.
 #[unsafe(no_mangle)]
 pub extern "C" fn dgt_host_hear(
     host: &mut DgtHost,
@@ -61,7 +61,7 @@ pub extern "C" fn dgt_host_hear(
     heard.used
 }
 
-/// The line is lost: the host is as new.
+/// Reports that the line was lost: the host is as new.
 #[unsafe(no_mangle)]
 pub extern "C" fn dgt_host_line_lost(host: &mut DgtHost)
     ensures place { host.new.at ≡ host.old.at }
@@ -70,7 +70,8 @@ pub extern "C" fn dgt_host_line_lost(host: &mut DgtHost)
     host.get().line_lost();
 }
 
-/// Gives up all replies that are awaited, and returns how many there were. Nothing else changes.
+/// Removes all awaited replies from the list, and returns how many there were. Nothing else
+/// changes.
 #[unsafe(no_mangle)]
 pub extern "C" fn dgt_host_give_up_awaited(host: &mut DgtHost) -> usize
     ensures place { host.new.at ≡ host.old.at }
@@ -80,8 +81,8 @@ pub extern "C" fn dgt_host_give_up_awaited(host: &mut DgtHost) -> usize
     host.get().give_up_awaited()
 }
 
-/// Uses bytes up to and including the first that makes an event, or all of them, and returns how
-/// many. Reports the event, and copies its body, as much of it as there is room for.
+/// Uses the bytes up to and including the first that completes an event, or all of them, and
+/// returns how many. Reports the event, and copies as much of its body as fits.
 #[unsafe(no_mangle)]
 pub extern "C" fn dgt_decoder_feed(
     decoder: &mut DgtDecoder,
@@ -103,7 +104,7 @@ pub extern "C" fn dgt_decoder_feed(
     fed.used
 }
 
-/// How many bytes have come of an unfinished message.
+/// How many bytes of an unfinished message were received.
 #[unsafe(no_mangle)]
 pub extern "C" fn dgt_decoder_rest(decoder: &mut DgtDecoder) -> usize
     ensures place { decoder.new.at ≡ decoder.old.at }
@@ -115,7 +116,7 @@ pub extern "C" fn dgt_decoder_rest(decoder: &mut DgtDecoder) -> usize
     decoder.get().rest()
 }
 
-/// How many bytes had come of an unfinished message, or 0. The decoder is as new.
+/// How many bytes of an unfinished message were received, or 0. Resets the decoder.
 #[unsafe(no_mangle)]
 pub extern "C" fn dgt_decoder_finish(decoder: &mut DgtDecoder) -> usize
     ensures place { decoder.new.at ≡ decoder.old.at }
@@ -128,7 +129,7 @@ pub extern "C" fn dgt_decoder_finish(decoder: &mut DgtDecoder) -> usize
     }
 }
 
-/// Makes the decoder as new.
+/// Returns the decoder to its initial state.
 #[unsafe(no_mangle)]
 pub extern "C" fn dgt_decoder_reset(decoder: &mut DgtDecoder)
     ensures place { decoder.new.at ≡ decoder.old.at }
@@ -137,9 +138,9 @@ pub extern "C" fn dgt_decoder_reset(decoder: &mut DgtDecoder)
     decoder.get().reset();
 }
 
-/// Uses bytes up to and including the first that completes a command or shows a fault, or all of
-/// them, and returns how many. Reports what it is, and copies the bytes of a command, as many as
-/// there is room for.
+/// Uses the bytes up to and including the first that completes a command or a fault, or all of
+/// them, and returns how many. Reports the command or fault, and copies as many of the command's
+/// bytes as fit.
 #[unsafe(no_mangle)]
 pub extern "C" fn dgt_command_decoder_feed(
     command_decoder: &mut DgtCommandDecoder,
@@ -159,7 +160,7 @@ pub extern "C" fn dgt_command_decoder_feed(
     fed.used
 }
 
-/// How many bytes are held of an unfinished command.
+/// How many bytes of an unfinished command are held.
 #[unsafe(no_mangle)]
 pub extern "C" fn dgt_command_decoder_rest(command_decoder: &mut DgtCommandDecoder) -> usize
     ensures place { command_decoder.new.at ≡ command_decoder.old.at }
@@ -171,7 +172,7 @@ pub extern "C" fn dgt_command_decoder_rest(command_decoder: &mut DgtCommandDecod
     command_decoder.get().partial()
 }
 
-/// How many bytes were held of an unfinished command, or 0. The reader is as new.
+/// How many bytes of an unfinished command were held, or 0. Resets the decoder.
 #[unsafe(no_mangle)]
 pub extern "C" fn dgt_command_decoder_finish(command_decoder: &mut DgtCommandDecoder) -> usize
     ensures place { command_decoder.new.at ≡ command_decoder.old.at }
@@ -184,7 +185,7 @@ pub extern "C" fn dgt_command_decoder_finish(command_decoder: &mut DgtCommandDec
     have
 }
 
-/// Makes the reader as new.
+/// Returns the decoder to its initial state.
 #[unsafe(no_mangle)]
 pub extern "C" fn dgt_command_decoder_reset(command_decoder: &mut DgtCommandDecoder)
     ensures place { command_decoder.new.at ≡ command_decoder.old.at }

@@ -1,5 +1,5 @@
-//! What holds of what calls report to C. [`header`] has the laws of numbers and structs. Nothing
-//! here runs: each function stands for the fact that its contract states.
+//! Laws of what calls report to C. [`header`] contains those of numbers and structs. Each function
+//! does nothing at run time: its contract states a fact.
 
 ghost use Rattle.std.specs.Prelude.{◌≡◌, ◌⊎◌, ◌<◌, ◌∷◌, ◌↔◌, ℕ, List, [], map, replicate, None, Some, IsTrue};
 ghost use Rattle.dgt_values.specs.declared.pieces.Piece.{Piece as AnyPiece};
@@ -29,8 +29,7 @@ ghost use Rattle.dgt_c.specs.Texts.{SaysEvent, SaysFault};
 
 pub mod header;
 
-/// A chunk of a board's bytes has one report: how many of its bytes are used, the structs and the
-/// bodies.
+/// A chunk of a board's bytes has one report: the number of bytes used, the structs and the bodies.
 pub fn one_report()
     ensures feed { OneFeed }
     ensures hearing { OneHearing }
@@ -41,8 +40,8 @@ pub fn one_report()
     dgt_decode::laws::one_first_event();
 }
 
-/// A chunk of a host's bytes has one report, and leaves one board that has taken it. A busy board
-/// stays as it was.
+/// A chunk of a host's bytes has one report, and leads to one state of the board that takes it. A
+/// busy board stays as it was.
 pub fn one_command()
     ensures word { OneWord }
     ensures taking { OneTaking }
@@ -59,7 +58,7 @@ pub fn reserved_members()
     ensures commands { CommandsReserveZeros }
 {}
 
-/// A struct of C says one clock or one board at most, whose values are in their ranges.
+/// A struct of C describes at most one clock or one board, with values in their ranges.
 pub fn one_meaning()
     ensures clock { OneClock }
     ensures times { ClocksAreInRange }
@@ -69,7 +68,7 @@ pub fn one_meaning()
     dgt_values::laws::one_piece_a_code();
 }
 
-/// The kinds and the members with which a struct says a message, whose values are in their ranges.
+/// The kinds and the members by which a struct describes a message with values in their ranges.
 pub fn said_messages()
     ensures range { (said : DgtEvent) (body : List ℕ) (message : Content) →
         SaysMessage said body message → IsMessage message }
@@ -100,8 +99,8 @@ pub fn said_messages()
         SaysContent said body (Content.carried code bytes) → code ≡ said.code }
 {}
 
-/// An encoding has one report. If C says no message, there is none and the slice stays; and if it
-/// says one, one is encoded.
+/// An encoding has one report. If the struct doesn't describe a message, none is written; if it
+/// does, one is encoded.
 pub fn one_encoding()
     ensures bytes { OneEncoding }
     ensures nothing { NothingIsEncoded }
@@ -109,19 +108,19 @@ pub fn one_encoding()
     ensures read { MessagesAreRead }
 {}
 
-/// The struct and the body that report an event say it.
+/// The struct and the body that report an event also describe it.
 pub fn reports_are_said()
     ensures said { ReportsAreSaid }
 {}
 
-/// The text of an event that a struct says is written, and if it says none, nothing is.
+/// The text of an event is written if a struct describes one, and otherwise nothing is.
 pub fn event_texts()
     ensures text { EventsHaveTexts }
     ensures nothing { NothingHasNoText }
     ensures read { EventsAreRead }
 {}
 
-/// The kinds and the members with which a struct says an event.
+/// The kinds and the members by which a struct describes an event.
 pub fn said_events()
     ensures message { (said : DgtEvent) (body : List ℕ) (message : Content) →
         SaysEvent said body (Message message) → SaysMessage said body message }
@@ -143,8 +142,8 @@ pub fn said_events()
         SaysEvent said body (Stray byte) → (said.kind ≡ 15) × (said.byte ≡ byte) }
 {}
 
-/// The kinds and the members with which a struct says what is stored, what a clock signals, and the
-/// state of a battery. The reserved members are 0.
+/// The kinds and the members by which a struct describes a stored item, a signal of a clock, and
+/// the state of a battery. The reserved members are 0.
 pub fn said_names()
     ensures piece { (said : DgtStored) (square bit : ℕ) (piece : AnyPiece) →
         said ≡ stored_reported (StoredContent.piece square piece bit)

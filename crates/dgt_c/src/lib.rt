@@ -1,8 +1,8 @@
-//! A host, a follower, a decoder, a reader of commands and a board for programs in C, and by it for
-//! programs in other languages.
+//! A host, a follower, a decoder, a decoder of commands and a board for C, and through C for other
+//! languages.
 //!
-//! The header is `include/dgt.h`, which says of each call what it does and what a caller owes.
-//! `lib/build` makes the archive and the shared object.
+//! The header `include/dgt.h` documents each call and the rules for callers. `lib/build` builds the
+//! archive and the shared library.
 //!
 //! ```c
 //! #include <dgt.h>
@@ -17,25 +17,27 @@
 //! }
 //! ```
 //!
-//! C has a *handle*, an object of a stated size: a pointer, followed by the room for what it points
-//! to. `DgtHost` is that pointer. Contracts see what the handle owns as its ghost field `inside`,
-//! which is what the crate below says of a host; `get` lends it. So each call carries the clauses
-//! of the call that it wraps, at `inside`: `dgt_host_hear` has those of `Host::hear`. Clauses that
-//! follow from another one or from a type are left out: `dgt_board_poll` doesn't repeat that the
-//! board was one before. The clause `place` says that the handle still points to its own room.
-//! `dgt_host_hear_all` and `dgt_decoder_feed_all` wrap as many calls as a chunk takes, and say what
-//! these return in a row (`specs/Chunks.antt`).
+//! C holds a *handle*, an object of a stated size: a pointer, followed by the room for what it
+//! points to. `DgtHost` is that pointer. Contracts see the value that the handle owns as its ghost
+//! field `inside`, and `get` borrows it.
+//!
+//! Each call therefore states the clauses of the call that it wraps, for `inside`: `dgt_host_hear`
+//! states those of `Host::hear`. Clauses that follow from another one or from a type are omitted:
+//! `dgt_board_poll` doesn't repeat that the board was well-formed before. The clause `place` says
+//! that the handle still points to its own room. `dgt_host_hear_all` and `dgt_decoder_feed_all`
+//! wrap as many calls as a chunk takes, and state the list of their results (`specs/Chunks.antt`).
 //!
 //! | In Rust | In C |
 //! |---|---|
-//! | an event, which lends its body | a struct, with the fields of its kind (`event_reported`) |
-//! | its body | bytes in a slice of the caller's, as many as there is room for (`overwritten`) |
+//! | an event, which borrows its body | a struct, with the fields of its kind (`event_reported`) |
+//! | its body | bytes in the caller's slice, as many as fit (`overwritten`) |
 //! | a result | a status and a number |
-//! | a clock, an identity, pieces | taken exactly if they are ones (`SaysClock`, `IsIdentity`) |
+//! | a clock, an identity, pieces | accepted if they are valid (`SaysClock`, `IsIdentity`) |
 //!
-//! `dgt_host_init` and its like make a handle in memory of C's, which holds nothing yet. Beyond
-//! them no call has a `requires`. What is left to a caller in C are the facts that a reference in
-//! Rust has by its type: it points to something, and no other refers to it.
+//! `dgt_host_init` and the other four such calls make a handle in C's memory, which is
+//! uninitialised before. No other call has a `requires`. A caller in C has to ensure the facts that
+//! the type of a Rust reference ensures: it points to an object, and no other reference points
+//! there.
 #![tactic(auto)]
 
 mod board_calls;

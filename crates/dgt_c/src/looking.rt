@@ -1,4 +1,4 @@
-//! What C asks of what a host knows, and a follower by its host.
+//! C calls that read the state of a host, or of a follower through its host.
 
 ghost use Rattle.std.specs.Prelude.{◌≡◌, ◌↔◌, ◌≤◌, ◌++◌, length, drop, map, option_map, IsTrue, IsSome, MatchOption};
 ghost use Rattle.dgt_values.specs.Board.{piece_code};
@@ -17,7 +17,7 @@ use crate::header::{DgtClock, PLACEMENT_ROOM, UNKNOWN_CLOCK};
 use dgt_host::{Clock, Host, MAX_AWAITED};
 use dgt_values::Kind;
 
-// The codes of the pieces on the board, if a picture is known; else the slice stays.
+// Writes the codes of the pieces on the board, if a picture is known.
 fn put_picture(host: &Host, pieces: &mut [u8; 64]) -> bool
     ensures known { IsTrue result ↔ IsSome host.now.picture }
     ensures pieces { MatchOption host.now.picture (pieces.new ≡ pieces.old)
@@ -32,7 +32,7 @@ fn put_picture(host: &Host, pieces: &mut [u8; 64]) -> bool
     }
 }
 
-// The placement of the pieces and a zero, if a picture is known; else the slice stays.
+// Writes the placement of the pieces and a zero byte, if a picture is known.
 fn put_text(host: &Host, text: &mut [u8; PLACEMENT_ROOM]) -> bool
     ensures known { IsTrue result ↔ IsSome host.now.picture }
     ensures text { MatchOption host.now.picture (text.new ≡ text.old)
@@ -47,7 +47,7 @@ fn put_text(host: &Host, text: &mut [u8; PLACEMENT_ROOM]) -> bool
     }
 }
 
-// A report of the clock, if it is known.
+// The clock as a struct, if it is known.
 fn known_clock_for_c(known: Option<&Clock>) -> DgtClock
     ensures { result
         ≡ clock_if_reported (option_map (λ clock. clock_seen clock.now) known.entry) }
@@ -58,7 +58,7 @@ fn known_clock_for_c(known: Option<&Clock>) -> DgtClock
     }
 }
 
-/// The codes of the pieces on the board, if they are known; else the slice stays.
+/// Writes the codes of the pieces on the board, if they are known.
 #[unsafe(no_mangle)]
 pub extern "C" fn dgt_host_picture(host: &mut DgtHost, pieces: &mut [u8; 64]) -> bool
     ensures place { host.new.at ≡ host.old.at }
@@ -70,7 +70,7 @@ pub extern "C" fn dgt_host_picture(host: &mut DgtHost, pieces: &mut [u8; 64]) ->
     put_picture(host.get(), pieces)
 }
 
-/// The placement of the pieces and a zero, if they are known; else the slice stays.
+/// Writes the placement of the pieces and a zero byte, if they are known.
 #[unsafe(no_mangle)]
 pub extern "C" fn dgt_host_placement(host: &mut DgtHost, text: &mut [u8; PLACEMENT_ROOM]) -> bool
     ensures place { host.new.at ≡ host.old.at }
@@ -82,7 +82,7 @@ pub extern "C" fn dgt_host_placement(host: &mut DgtHost, text: &mut [u8; PLACEME
     put_text(host.get(), text)
 }
 
-/// What was reported last of the clock.
+/// The clock as last reported.
 #[unsafe(no_mangle)]
 pub extern "C" fn dgt_host_clock(host: &mut DgtHost, clock: &mut DgtClock)
     ensures place { host.new.at ≡ host.old.at }
@@ -92,7 +92,7 @@ pub extern "C" fn dgt_host_clock(host: &mut DgtHost, clock: &mut DgtClock)
     *clock = known_clock_for_c(host.get().clock());
 }
 
-/// The codes of the pieces on the board, if they are known; else the slice stays.
+/// Writes the codes of the pieces on the board, if they are known.
 #[unsafe(no_mangle)]
 pub extern "C" fn dgt_follower_picture(follower: &mut DgtFollower, pieces: &mut [u8; 64]) -> bool
     ensures place { follower.new.at ≡ follower.old.at }
@@ -104,7 +104,7 @@ pub extern "C" fn dgt_follower_picture(follower: &mut DgtFollower, pieces: &mut 
     put_picture(follower.get().host(), pieces)
 }
 
-/// The placement of the pieces and a zero, if they are known; else the slice stays.
+/// Writes the placement of the pieces and a zero byte, if they are known.
 #[unsafe(no_mangle)]
 pub extern "C" fn dgt_follower_placement(
     follower: &mut DgtFollower,
@@ -119,7 +119,7 @@ pub extern "C" fn dgt_follower_placement(
     put_text(follower.get().host(), text)
 }
 
-/// What was reported last of the clock, if that was readable.
+/// The clock as last reported, if the report was readable.
 #[unsafe(no_mangle)]
 pub extern "C" fn dgt_follower_clock(follower: &mut DgtFollower, clock: &mut DgtClock)
     ensures place { follower.new.at ≡ follower.old.at }
@@ -129,7 +129,7 @@ pub extern "C" fn dgt_follower_clock(follower: &mut DgtFollower, clock: &mut Dgt
     *clock = known_clock_for_c(follower.get().clock());
 }
 
-/// How many bytes were heard of an unfinished message.
+/// How many bytes of an unfinished message were received.
 #[unsafe(no_mangle)]
 pub extern "C" fn dgt_host_unread(host: &mut DgtHost) -> usize
     ensures place { host.new.at ≡ host.old.at }
@@ -140,7 +140,7 @@ pub extern "C" fn dgt_host_unread(host: &mut DgtHost) -> usize
     host.get().unread()
 }
 
-/// How many bytes the follower's host has heard of an unfinished message.
+/// How many bytes of an unfinished message the follower's host has received.
 #[unsafe(no_mangle)]
 pub extern "C" fn dgt_follower_unread(follower: &mut DgtFollower) -> usize
     ensures place { follower.new.at ≡ follower.old.at }
@@ -152,7 +152,7 @@ pub extern "C" fn dgt_follower_unread(follower: &mut DgtFollower) -> usize
     follower.get().host().unread()
 }
 
-// The byte of the command that asks for a reply of this kind.
+// The byte of the command that requests a reply of this kind.
 fn code_asking_for(kind: Kind) -> u8
     ensures { result ≡ asking_code kind }
 {
@@ -166,7 +166,7 @@ fn code_asking_for(kind: Kind) -> u8
     }
 }
 
-// Writes the bytes of the commands that ask for these kinds at the beginning of the slice.
+// Writes the bytes of the commands that request these kinds at the beginning of the slice.
 fn put_kinds(kinds: &[Kind], codes: &mut [u8; MAX_AWAITED])
     requires { length kinds.now ≤ MAX_AWAITED }
     ensures { codes.new ≡ map asking_code kinds.now ++ drop (length kinds.now) codes.old }
@@ -176,8 +176,8 @@ fn put_kinds(kinds: &[Kind], codes: &mut [u8; MAX_AWAITED])
     }
 }
 
-/// How many replies are awaited. The bytes of the commands that asked for them are written at the
-/// beginning of the slice, in their order.
+/// How many replies are awaited. The bytes of the commands that requested them are written at the
+/// beginning of the slice, in order.
 #[unsafe(no_mangle)]
 pub extern "C" fn dgt_host_awaited(host: &mut DgtHost, codes: &mut [u8; MAX_AWAITED]) -> usize
     ensures place { host.new.at ≡ host.old.at }

@@ -1,4 +1,4 @@
-//! What a board has stored, and names of bytes that messages carry.
+//! C calls for stored items, and for the meaning of bytes that messages carry unread.
 
 ghost use Rattle.std.specs.Prelude.{◌≡◌, ◌≢◌, ◌≤◌, ◌↔◌, [], drop, false, length, IsTrue};
 ghost use Rattle.dgt_names.specs.Names.{IsBattery, IsSignal, IsText};
@@ -45,9 +45,9 @@ fn stored_for_c(stored: Stored) -> DgtStored
     }
 }
 
-/// Writes what a body says first to the struct, and returns how many bytes that takes.
+/// Writes the first item of a body to the struct, and returns how many bytes it takes.
 ///
-/// Returns 0 if there is none, and then the struct stays.
+/// Returns 0 if there is none; then the struct is unchanged.
 #[unsafe(no_mangle)]
 pub extern "C" fn dgt_stored_first(body: &[u8], stored: &mut DgtStored) -> usize
     ensures first { result ≢ 0 → (said : StoredContent)
@@ -95,9 +95,9 @@ fn signal_for_c(signal: Signal) -> DgtSignal
     }
 }
 
-/// Writes what these four bytes of an acknowledgement say to the struct.
+/// Writes the meaning of these four bytes of an acknowledgement to the struct.
 ///
-/// Returns false if that is unknown, and then the struct stays.
+/// Returns false if it is unknown; then the struct is unchanged.
 #[unsafe(no_mangle)]
 pub extern "C" fn dgt_signal_of(ack: &[u8; 4], signal: &mut DgtSignal) -> bool
     ensures known { IsTrue result →
@@ -138,9 +138,9 @@ fn battery_for_c(state: &BatteryState) -> DgtBattery
     }
 }
 
-/// Writes what the body of a battery message says to the struct.
+/// Writes the meaning of the body of a battery message to the struct.
 ///
-/// Returns false if it hasn't nine bytes, and then the struct stays.
+/// Returns false if the body isn't nine bytes long; then the struct is unchanged.
 #[unsafe(no_mangle)]
 pub extern "C" fn dgt_battery_of(body: &[u8], battery: &mut DgtBattery) -> bool
     ensures known { IsTrue result →
@@ -156,7 +156,7 @@ pub extern "C" fn dgt_battery_of(body: &[u8], battery: &mut DgtBattery) -> bool
     }
 }
 
-/// Whether bytes print, each as one character of ASCII, and are at least one.
+/// Whether there is at least one byte, and each is a printable ASCII character.
 #[unsafe(no_mangle)]
 pub extern "C" fn dgt_is_text(bytes: &[u8]) -> bool
     ensures { IsTrue result ↔ IsText bytes.now }

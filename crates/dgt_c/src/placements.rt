@@ -12,8 +12,8 @@ use crate::copying::put_placement;
 use crate::header::{DgtParsed, PLACEMENT_ROOM};
 use dgt_values::{BadPlacement, Position};
 
-/// Writes the placement of the pieces with these codes, and a zero. False if one of them is the
-/// code of none, and then the slice stays.
+/// Writes the placement of the pieces with these codes, and a zero byte. Returns false if one of
+/// them is not a piece code; then the slice is unchanged.
 #[unsafe(no_mangle)]
 pub extern "C" fn dgt_placement(pieces: &[u8; 64], text: &mut [u8; PLACEMENT_ROOM]) -> bool
     ensures written { IsTrue result → (stand : List Piece) × (map piece_code stand ≡ pieces.now)
@@ -29,8 +29,8 @@ pub extern "C" fn dgt_placement(pieces: &[u8; 64], text: &mut [u8; PLACEMENT_ROO
     }
 }
 
-/// The squares on which two positions differ: bit n is set exactly if square n differs. False if a
-/// code is that of no piece, and then the mask stays.
+/// The squares on which two positions differ: bit n is set if square n differs. Returns false if
+/// one of the codes is not a piece code; then the mask is unchanged.
 #[unsafe(no_mangle)]
 pub extern "C" fn dgt_differ(pieces: &[u8; 64], others: &[u8; 64], squares: &mut u64) -> bool
     ensures differ { IsTrue result → (stand : List Piece) × (other : List Piece)
@@ -46,7 +46,7 @@ pub extern "C" fn dgt_differ(pieces: &[u8; 64], others: &[u8; 64], squares: &mut
     true
 }
 
-// The offset of the first byte that is no ASCII, or the length.
+// The offset of the first byte that isn't ASCII, or the length.
 fn ascii_len(text: &[u8]) -> usize
     ensures within { result ≤ length text.now }
     ensures before { (k : ℕ) → k < result → slice_index text.now k < 128 }
@@ -60,7 +60,7 @@ fn ascii_len(text: &[u8]) -> usize
     text.len()
 }
 
-// The position of a placement. A byte that is no ASCII stands in none.
+// The position of a placement. A placement contains only ASCII.
 fn parse_text(text: &[u8]) -> Result<Position, BadPlacement>
     ensures { ParsesPlacement text.now result }
 {
@@ -76,8 +76,8 @@ fn parse_text(text: &[u8]) -> Result<Position, BadPlacement>
     }
 }
 
-/// Reads a placement. If the text is none, the slice stays, and the offset is reported from which
-/// on it is none.
+/// Reads a placement. If the text is not one, the slice is unchanged, and the offset of the first
+/// wrong byte is reported.
 #[unsafe(no_mangle)]
 pub extern "C" fn dgt_parse_placement(text: &[u8], pieces: &mut [u8; 64]) -> DgtParsed
     ensures read { IsTrue result.ok → (stand : List Piece) × IsPlacement text.now stand

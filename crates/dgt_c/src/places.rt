@@ -1,6 +1,6 @@
-//! How each handle and what it owns lie in memory of C's, and how both are made there.
+//! The layout of each handle and its value in C's memory, and how both are made there.
 //!
-//! C has more room for each than they need, so that they can grow.
+//! C reserves more room for each than they need, so that they can grow.
 
 ghost use Rattle.std.specs.Prelude.{◌≡◌, ◌≤◌, []};
 ghost use Rattle.std.specs.Borrow.{full_share, sem};
@@ -23,7 +23,7 @@ use dgt_decode::Decoder;
 use dgt_follow::Follower;
 use dgt_host::Host;
 
-// Makes a handle in the room of such a place, and this value in the part after the handle.
+// Makes a handle in this place, and the value in the part after the handle.
 macro_rules! make {
     ($handle:ident: $type:ident in $place:ident, $value:expr) => {
         let place = $handle as *mut $place;
@@ -37,15 +37,14 @@ macro_rules! make {
     };
 }
 
-/// What C calls a `dgt_host`: the handle, and the room that it points to.
+/// A `dgt_host` of C: the handle, and the room that it points to.
 #[repr(C)]
 pub struct HostPlace {
     at: *mut u8,
     inside: Host,
 }
 
-/// Makes a host that knows nothing yet and awaits nothing. There is room for a `dgt_host` where
-/// `host` points.
+/// Makes a host that knows nothing yet and awaits nothing. `host` points to room for a `dgt_host`.
 #[unsafe(no_mangle)]
 pub unsafe extern "C" fn dgt_host_init(host: *mut DgtHost)
     requires* { sem 𝓛 (room_at host_place host) }
@@ -55,7 +54,7 @@ pub unsafe extern "C" fn dgt_host_init(host: *mut DgtHost)
     make!(host: DgtHost in HostPlace, Host::new());
 }
 
-/// How many bytes a `dgt_host` takes.
+/// The size of a `dgt_host` in bytes.
 #[unsafe(no_mangle)]
 pub extern "C" fn dgt_host_size() -> usize
     ensures number { result ≡ HOST_ROOM }
@@ -64,15 +63,15 @@ pub extern "C" fn dgt_host_size() -> usize
     HOST_ROOM
 }
 
-/// What C calls a `dgt_follower`: the handle, and the room that it points to.
+/// A `dgt_follower` of C: the handle, and the room that it points to.
 #[repr(C)]
 pub struct FollowerPlace {
     at: *mut u8,
     inside: Follower,
 }
 
-/// Makes a follower that has never asked, with a period of ten seconds and a patience of six
-/// heartbeats. There is room for a `dgt_follower` where `follower` points.
+/// Makes a follower that has sent no request, with a period of ten seconds and a patience of six
+/// heartbeats. `follower` points to room for a `dgt_follower`.
 #[unsafe(no_mangle)]
 pub unsafe extern "C" fn dgt_follower_init(follower: *mut DgtFollower)
     requires* { sem 𝓛 (room_at follower_place follower) }
@@ -82,7 +81,7 @@ pub unsafe extern "C" fn dgt_follower_init(follower: *mut DgtFollower)
     make!(follower: DgtFollower in FollowerPlace, default_follower());
 }
 
-/// How many bytes a `dgt_follower` takes.
+/// The size of a `dgt_follower` in bytes.
 #[unsafe(no_mangle)]
 pub extern "C" fn dgt_follower_size() -> usize
     ensures number { result ≡ FOLLOWER_ROOM }
@@ -91,15 +90,14 @@ pub extern "C" fn dgt_follower_size() -> usize
     FOLLOWER_ROOM
 }
 
-/// What C calls a `dgt_decoder`: the handle, and the room that it points to.
+/// A `dgt_decoder` of C: the handle, and the room that it points to.
 #[repr(C)]
 pub struct DecoderPlace {
     at: *mut u8,
     inside: Decoder,
 }
 
-/// Makes a decoder that has read nothing. There is room for a `dgt_decoder` where `decoder`
-/// points.
+/// Makes a decoder that has read nothing. `decoder` points to room for a `dgt_decoder`.
 #[unsafe(no_mangle)]
 pub unsafe extern "C" fn dgt_decoder_init(decoder: *mut DgtDecoder)
     requires* { sem 𝓛 (room_at decoder_place decoder) }
@@ -109,7 +107,7 @@ pub unsafe extern "C" fn dgt_decoder_init(decoder: *mut DgtDecoder)
     make!(decoder: DgtDecoder in DecoderPlace, Decoder::new());
 }
 
-/// How many bytes a `dgt_decoder` takes.
+/// The size of a `dgt_decoder` in bytes.
 #[unsafe(no_mangle)]
 pub extern "C" fn dgt_decoder_size() -> usize
     ensures number { result ≡ DECODER_ROOM }
@@ -118,15 +116,15 @@ pub extern "C" fn dgt_decoder_size() -> usize
     DECODER_ROOM
 }
 
-/// What C calls a `dgt_command_decoder`: the handle, and the room that it points to.
+/// A `dgt_command_decoder` of C: the handle, and the room that it points to.
 #[repr(C)]
 pub struct CommandDecoderPlace {
     at: *mut u8,
     inside: CommandDecoder,
 }
 
-/// Makes a reader of commands that holds nothing. There is room for a `dgt_command_decoder`
-/// where `command_decoder` points.
+/// Makes a decoder of commands that holds nothing. `command_decoder` points to room for a
+/// `dgt_command_decoder`.
 #[unsafe(no_mangle)]
 pub unsafe extern "C" fn dgt_command_decoder_init(command_decoder: *mut DgtCommandDecoder)
     requires* { sem 𝓛 (room_at command_decoder_place command_decoder) }
@@ -136,7 +134,7 @@ pub unsafe extern "C" fn dgt_command_decoder_init(command_decoder: *mut DgtComma
     make!(command_decoder: DgtCommandDecoder in CommandDecoderPlace, CommandDecoder::new());
 }
 
-/// How many bytes a `dgt_command_decoder` takes.
+/// The size of a `dgt_command_decoder` in bytes.
 #[unsafe(no_mangle)]
 pub extern "C" fn dgt_command_decoder_size() -> usize
     ensures number { result ≡ COMMAND_DECODER_ROOM }
@@ -145,15 +143,15 @@ pub extern "C" fn dgt_command_decoder_size() -> usize
     COMMAND_DECODER_ROOM
 }
 
-/// What C calls a `dgt_board`: the handle, and the room that it points to.
+/// A `dgt_board` of C: the handle, and the room that it points to.
 #[repr(C)]
 pub struct BoardPlace {
     at: *mut u8,
     inside: Board,
 }
 
-/// Makes a board in the position in which a game begins, with the clock and the identity of the
-/// board of the program `dgt`. There is room for a `dgt_board` where `board` points.
+/// Makes a board in the initial position of a game, with the clock and the identity of the board of
+/// the program `dgt`. `board` points to room for a `dgt_board`.
 #[unsafe(no_mangle)]
 pub unsafe extern "C" fn dgt_board_init(board: *mut DgtBoard)
     requires* { sem 𝓛 (room_at board_place board) }
@@ -163,7 +161,7 @@ pub unsafe extern "C" fn dgt_board_init(board: *mut DgtBoard)
     make!(board: DgtBoard in BoardPlace, board_of_program());
 }
 
-/// How many bytes a `dgt_board` takes.
+/// The size of a `dgt_board` in bytes.
 #[unsafe(no_mangle)]
 pub extern "C" fn dgt_board_size() -> usize
     ensures number { result ≡ BOARD_ROOM }

@@ -1,4 +1,4 @@
-//! Names of squares, letters of pieces, and segments.
+//! C calls for the names of squares, the letters of pieces, and segments.
 
 ghost use Rattle.std.specs.Prelude.{◌≡◌, ◌≢◌, ◌≤◌, ◌<◌, ◌∷◌, ◌++◌, [], ℕ, false, IsTrue};
 ghost use Rattle.dgt_values.specs.declared.pieces.Piece.{Piece};
@@ -34,8 +34,8 @@ pub extern "C" fn dgt_piece_code(letter: u8) -> u8
     }
 }
 
-/// Writes the name of a square and a zero. False if there is no such square, and then the slice
-/// stays.
+/// Writes the name of a square and a zero byte. Returns false if there is no such square; then the
+/// slice is unchanged.
 #[unsafe(no_mangle)]
 pub extern "C" fn dgt_square_name(square: u8, name: &mut [u8; 3]) -> bool
     ensures named { square < 64 → IsTrue result × (name.new ≡ square_name square ++ 0 ∷ []) }
@@ -49,7 +49,7 @@ pub extern "C" fn dgt_square_name(square: u8, name: &mut [u8; 3]) -> bool
     true
 }
 
-/// The number of the square whose name has this file and this rank, or 255.
+/// The number of the square with this file and this rank, or 255.
 #[unsafe(no_mangle)]
 pub extern "C" fn dgt_square_number(file: u8, rank: u8) -> u8
     ensures square { result ≢ NONE →
@@ -63,7 +63,7 @@ pub extern "C" fn dgt_square_number(file: u8, rank: u8) -> u8
     }
 }
 
-/// The segments that show a digit, a space or a hyphen, or 255.
+/// The segments of a digit, a space or a hyphen, or 255.
 #[unsafe(no_mangle)]
 pub extern "C" fn dgt_segment(character: u8) -> u8
     ensures shown { result ≢ NONE → IsShownBy character result }

@@ -1,11 +1,11 @@
-//! The follower of a handle before C starts another.
+//! The default follower of a handle.
 
 ghost use Rattle.std.specs.Prelude.{◌≡◌};
 ghost use Rattle.dgt_c.specs.PlainFollower.{plain_follower};
 
 use dgt_follow::Follower;
 
-/// A follower with a period of ten seconds, which may send six heartbeats in a row.
+/// A follower with a period of ten seconds and a patience of six heartbeats.
 pub(crate) fn default_follower() -> Follower
     ensures { result ≡ plain_follower }
 {

@@ -1,4 +1,4 @@
-//! What sends commands for C: a host, and a follower by its host.
+//! Sends commands for C: from a host, or from a follower through its host.
 
 ghost use Rattle.std.specs.Prelude.{◌≡◌, ◌≢◌, ◌≤◌, ◌<◌, ◌+◌, ⊤, None, length, refl};
 ghost use Rattle.dgt_command.specs.Content.{CommandContent, command_content, requested_kind};
@@ -14,11 +14,11 @@ use dgt_command::{ClockCommand, Command, LedBytes, MAX_PAYLOAD, MAX_WORD, displa
 use dgt_follow::Follower;
 use dgt_host::{Host, SendFault};
 
-/// A host, or what has one and sends by it.
+/// A host, or a value that owns one and sends through it.
 pub(crate) trait Sender {
     ghost host: { Self → HostView };
 
-    // All beside the host stays.
+    // Everything but the host stays as it is.
     ghost keeps: { Self → Self → Type 0 };
 
     /// Sends a command, as [`Host::send`] does.
@@ -55,7 +55,7 @@ impl Sender for Follower {
     }
 }
 
-/// Sends the command whose bytes these are, if there is one.
+/// Sends the command with exactly these bytes, if there is one.
 pub(crate) fn send_word<S: Sender>(sender: &mut S, word: &[u8], out: &mut [u8]) -> DgtSent
     ensures sends { (said : CommandContent) → word.now ≡ command_encoding said →
         SendsReported (record { kind = requested_kind said; bytes = word.now })
@@ -87,7 +87,7 @@ pub(crate) fn send_leds<S: Sender>(sender: &mut S, leds: &[u8], out: &mut [u8]) 
     }
 }
 
-/// Fills the slice with the clock message of this id that carries these bytes.
+/// Fills the slice with the clock message of this id with this payload.
 pub(crate) fn put_clock(id: u8, payload: &[u8], out: &mut [u8])
     requires short { length payload.now ≤ MAX_PAYLOAD }
     requires fits { length out.old ≡ length payload.now + 5 }
@@ -101,7 +101,7 @@ pub(crate) fn put_clock(id: u8, payload: &[u8], out: &mut [u8])
     end.copy_from_slice(&[0x00]);
 }
 
-/// Sends the clock message of this id that carries these bytes.
+/// Sends the clock message of this id with this payload.
 pub(crate) fn send_clock<S: Sender>(
     sender: &mut S,
     id: u8,
@@ -137,7 +137,7 @@ pub(crate) fn send_message<S: Sender>(
     sent_for_c(sender.send_command(&Command::ClockMessage(message), out))
 }
 
-/// Shows these six characters on the clock's display, if each has segments.
+/// Shows these six characters on the clock's display, if each of them has segments.
 pub(crate) fn send_display<S: Sender>(
     sender: &mut S,
     text: &[u8; 6],

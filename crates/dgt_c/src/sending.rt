@@ -1,4 +1,4 @@
-//! What C has a host and a follower send.
+//! C calls by which a host and a follower send commands.
 
 ghost use Rattle.std.specs.Prelude.{◌≡◌, ◌≢◌, ◌≤◌, ◌<◌, ◌∷◌, [], Some, None, length};
 ghost use Rattle.dgt_command.specs.Content.{CommandContent, requested_kind, known_clock};
@@ -28,7 +28,7 @@ pub(crate) fn sent_for_c(outcome: Result<usize, SendFault>) -> DgtSent
     DgtSent { status, bytes }
 }
 
-/// Asks for all squares, and for each change from then on.
+/// Requests all squares, and each change from then on.
 #[unsafe(no_mangle)]
 pub extern "C" fn dgt_host_follow(host: &mut DgtHost, out: &mut [u8]) -> DgtSent
     ensures place { host.new.at ≡ host.old.at }
@@ -38,7 +38,7 @@ pub extern "C" fn dgt_host_follow(host: &mut DgtHost, out: &mut [u8]) -> DgtSent
     sent_for_c(host.get().follow(out))
 }
 
-/// The same, after zeros that end whatever command the board is in the middle of.
+/// The same, after zeros that complete any unfinished command of the board.
 #[unsafe(no_mangle)]
 pub extern "C" fn dgt_host_restart(host: &mut DgtHost, out: &mut [u8]) -> DgtSent
     ensures place { host.new.at ≡ host.old.at }
@@ -48,7 +48,7 @@ pub extern "C" fn dgt_host_restart(host: &mut DgtHost, out: &mut [u8]) -> DgtSen
     sent_for_c(host.get().restart(out))
 }
 
-/// Sends the command that is this byte alone, if one is.
+/// Sends the command of one byte that is this byte, if there is one.
 #[unsafe(no_mangle)]
 pub extern "C" fn dgt_host_send(host: &mut DgtHost, code: u8, out: &mut [u8]) -> DgtSent
     ensures place { host.new.at ≡ host.old.at }
@@ -75,7 +75,7 @@ pub extern "C" fn dgt_host_send_leds(host: &mut DgtHost, leds: &[u8], out: &mut 
     send_leds(host.get(), leds, out)
 }
 
-/// Sends the clock message of this id that carries these bytes.
+/// Sends the clock message of this id with this payload.
 #[unsafe(no_mangle)]
 pub extern "C" fn dgt_host_send_clock(
     host: &mut DgtHost,
@@ -93,7 +93,7 @@ pub extern "C" fn dgt_host_send_clock(
     send_clock(host.get(), id, payload, out)
 }
 
-/// Sends the command that is this byte alone, if one is.
+/// Sends the command of one byte that is this byte, if there is one.
 #[unsafe(no_mangle)]
 pub extern "C" fn dgt_follower_send(follower: &mut DgtFollower, code: u8, out: &mut [u8]) -> DgtSent
     ensures place { follower.new.at ≡ follower.old.at }
@@ -126,7 +126,7 @@ pub extern "C" fn dgt_follower_send_leds(
     send_leds(follower.get(), leds, out)
 }
 
-/// Sends the clock message of this id that carries these bytes.
+/// Sends the clock message of this id with this payload.
 #[unsafe(no_mangle)]
 pub extern "C" fn dgt_follower_send_clock(
     follower: &mut DgtFollower,
@@ -193,7 +193,7 @@ pub extern "C" fn dgt_host_send_beep(host: &mut DgtHost, duration: u8, out: &mut
     send_message(host.get(), ClockCommand::Beep(duration), out)
 }
 
-/// Sets the times of both sides, in hours, minutes and seconds. What `control` does is the clock's.
+/// Sets the times of both sides, in hours, minutes and seconds. The clock interprets `control`.
 #[unsafe(no_mangle)]
 pub extern "C" fn dgt_host_send_set_and_run(
     host: &mut DgtHost,
@@ -228,7 +228,7 @@ pub extern "C" fn dgt_host_send_icons(host: &mut DgtHost, icons: &[u8], out: &mu
     send_clock(host.get(), KnownId::Icons.number(), icons, out)
 }
 
-/// Ends what is shown, so that the times are shown again.
+/// Ends the display of a text, icons or segments: the clock shows the times again.
 #[unsafe(no_mangle)]
 pub extern "C" fn dgt_host_send_end(host: &mut DgtHost, out: &mut [u8]) -> DgtSent
     ensures place { host.new.at ≡ host.old.at }
@@ -237,7 +237,7 @@ pub extern "C" fn dgt_host_send_end(host: &mut DgtHost, out: &mut [u8]) -> DgtSe
     send_message(host.get(), ClockCommand::End, out)
 }
 
-/// Asks for the state of the clock's buttons.
+/// Requests the state of the clock's buttons.
 #[unsafe(no_mangle)]
 pub extern "C" fn dgt_host_send_button(host: &mut DgtHost, out: &mut [u8]) -> DgtSent
     ensures place { host.new.at ≡ host.old.at }
@@ -247,7 +247,7 @@ pub extern "C" fn dgt_host_send_button(host: &mut DgtHost, out: &mut [u8]) -> Dg
     send_message(host.get(), ClockCommand::Button, out)
 }
 
-/// Asks for the version of the clock.
+/// Requests the version of the clock.
 #[unsafe(no_mangle)]
 pub extern "C" fn dgt_host_send_clock_version(host: &mut DgtHost, out: &mut [u8]) -> DgtSent
     ensures place { host.new.at ≡ host.old.at }
@@ -312,7 +312,7 @@ pub extern "C" fn dgt_follower_send_beep(
     send_message(follower.get(), ClockCommand::Beep(duration), out)
 }
 
-/// Sets the times of both sides, in hours, minutes and seconds. What `control` does is the clock's.
+/// Sets the times of both sides, in hours, minutes and seconds. The clock interprets `control`.
 #[unsafe(no_mangle)]
 pub extern "C" fn dgt_follower_send_set_and_run(
     follower: &mut DgtFollower,
@@ -353,7 +353,7 @@ pub extern "C" fn dgt_follower_send_icons(
     send_clock(follower.get(), KnownId::Icons.number(), icons, out)
 }
 
-/// Ends what is shown, so that the times are shown again.
+/// Ends the display of a text, icons or segments: the clock shows the times again.
 #[unsafe(no_mangle)]
 pub extern "C" fn dgt_follower_send_end(follower: &mut DgtFollower, out: &mut [u8]) -> DgtSent
     ensures place { follower.new.at ≡ follower.old.at }
@@ -364,7 +364,7 @@ pub extern "C" fn dgt_follower_send_end(follower: &mut DgtFollower, out: &mut [u
     send_message(follower.get(), ClockCommand::End, out)
 }
 
-/// Asks for the state of the clock's buttons.
+/// Requests the state of the clock's buttons.
 #[unsafe(no_mangle)]
 pub extern "C" fn dgt_follower_send_button(follower: &mut DgtFollower, out: &mut [u8]) -> DgtSent
     ensures place { follower.new.at ≡ follower.old.at }
@@ -375,7 +375,7 @@ pub extern "C" fn dgt_follower_send_button(follower: &mut DgtFollower, out: &mut
     send_message(follower.get(), ClockCommand::Button, out)
 }
 
-/// Asks for the version of the clock.
+/// Requests the version of the clock.
 #[unsafe(no_mangle)]
 pub extern "C" fn dgt_follower_send_clock_version(
     follower: &mut DgtFollower,

@@ -1,4 +1,4 @@
-//! What C says of a board that it makes.
+//! The C call that makes a board from its parts.
 
 ghost use Rattle.std.specs.Prelude.{◌≡◌, ◌≢◌, ◌≤◌, List, MatchOption, map};
 ghost use Rattle.dgt_values.specs.Board.{piece_code};
@@ -17,7 +17,7 @@ use crate::header::{
 use dgt_board::{Board, Identity, MAX_KEPT_BODY};
 use dgt_values::{Body, SevenBit};
 
-// The body that C says, if it is one.
+// The body in the struct, if it is valid.
 fn read_body<'a>(said: &'a DgtBody) -> Option<Body<'a>>
     ensures { MatchOption result (¬ (IsBody said.now))
         (λ body. IsBody said.now × (body_bytes body ≡ body_in said.now)) }
@@ -28,7 +28,7 @@ fn read_body<'a>(said: &'a DgtBody) -> Option<Body<'a>>
     Body::new(&said.bytes[..said.len]).ok()
 }
 
-// The identity that C says, if it is one.
+// The identity in the struct, if it is valid.
 fn read_identity(said: &DgtIdentity) -> Option<Identity>
     ensures { MatchOption result (¬ (IsIdentity said.now))
         (λ identity. IsIdentity said.now × (identity ≡ identity_in said.now)) }
@@ -46,8 +46,8 @@ fn read_identity(said: &DgtIdentity) -> Option<Identity>
     Identity::new(serial, trademark, main, sub, battery, version, long_serial).ok()
 }
 
-/// Makes the board anew, with these pieces, this clock and this identity; or answers which of them,
-/// the first, is none.
+/// Makes the board as new, with these pieces, this clock and this identity, or returns which of
+/// them is the first that isn't valid.
 #[unsafe(no_mangle)]
 pub extern "C" fn dgt_board_start(
     board: &mut DgtBoard,

@@ -17,7 +17,7 @@ use dgt_lines::format_event;
 use dgt_message::BodyFault;
 use dgt_values::{NoRoom, SevenBit};
 
-// The fault that C says, if it says one.
+// The fault in the struct, if it contains one.
 fn read_fault(said: &DgtEvent) -> Option<BodyFault>
     ensures { MatchOption result ((fault : BodyFault) → ¬ (SaysFault said.now fault))
         (λ read. SaysFault said.now read) }
@@ -31,7 +31,7 @@ fn read_fault(said: &DgtEvent) -> Option<BodyFault>
     }
 }
 
-// The event that C says, if it says one.
+// The event in the struct, if it contains one.
 fn read_event<'a>(said: &DgtEvent, body: &'a [u8]) -> Option<Event<'a>>
     ensures { ReadsEvent said.now body.now result }
 {
@@ -47,7 +47,7 @@ fn read_event<'a>(said: &DgtEvent, body: &'a [u8]) -> Option<Event<'a>>
     }
 }
 
-// Writes the text of an event and a zero to the beginning of the slice.
+// Writes the text of an event and a zero byte at the beginning of the slice.
 fn put_text(event: &Event<'_>, text: &mut [u8]) -> Result<usize, NoRoom>
     ensures { WritesPrefix (event_text (event_content event.now) ++ 0 ∷ []) text.old text.new
         result }
@@ -63,7 +63,7 @@ fn put_text(event: &Event<'_>, text: &mut [u8]) -> Result<usize, NoRoom>
     }
 }
 
-/// Writes the text of the event that the struct and the body say, and a zero, to the beginning of
+/// Writes the text of the event in the struct and the body, and a zero byte, at the beginning of
 /// the slice.
 #[unsafe(no_mangle)]
 pub extern "C" fn dgt_event_text(said: &DgtEvent, body: &[u8], text: &mut [u8]) -> DgtEncoded

@@ -8,7 +8,7 @@ pub const VERSION_MINOR: u32 = 0;
 
 pub const VERSION_PATCH: u32 = 0;
 
-/// The version as one number, of which each part takes three digits: 1.2.3 is 1002003.
+/// The version as one number, with three digits for each part: 1.2.3 is 1002003.
 pub const VERSION: u32 = VERSION_MAJOR * 1_000_000 + VERSION_MINOR * 1_000 + VERSION_PATCH;
 
 /// The version of the library, [`VERSION`].

@@ -1,4 +1,4 @@
-//! Laws: the crate has what `dgt.h` declares. Made from it by tools/c_boundary: don't edit it.
+//! Laws: the crate contains what `dgt.h` declares. Made from it by tools/c_boundary: don't edit it.
 
 ghost use Rattle.std.specs.Prelude.{◌≡◌, ◌∷◌, [], ℕ, List};
 ghost use Rattle.dgt_values.specs.Equality.{CloneIsSame};
@@ -23,9 +23,8 @@ use dgt_follow::{LEAST_PERIOD, MAX_ASKING};
 use dgt_host::{MAX_AWAITED, RESTART_LENGTH};
 use dgt_values::MAX_BODY;
 
-/// The numbers of `dgt.h`, by their names in small letters and without `DGT_`. The bits of a status
-/// are those that `Status` of dgt_message reads, and those of flags are those that `Flags` of
-/// dgt_names does.
+/// The numbers of `dgt.h`, by their names in lower case without `DGT_`. The bits of a status and of
+/// flags are those that `Status` of dgt_message and `Flags` of dgt_names read.
 pub fn limits()
     ensures max_body { MAX_BODY ≡ 16380 }
     ensures max_word { MAX_WORD ≡ 257 }
@@ -152,7 +151,7 @@ pub fn limits()
     ensures no_such { NONE ≡ 255 }
 {}
 
-/// No two cases of one kind have the same number: each has a greater one than the case before it.
+/// The constants of one kind differ: each is greater than the last.
 pub fn cases_differ()
     ensures clocks { Ascend (CLOCK_UNKNOWN ∷ CLOCK_TIMES ∷ CLOCK_NONE ∷ []) }
     ensures events { Ascend (EVENT_NONE ∷ EVENT_DUMP ∷ EVENT_FIELD ∷ EVENT_TIMES ∷ EVENT_NO_CLOCK
@@ -174,9 +173,8 @@ pub fn cases_differ()
         ∷ SIGNAL_READY ∷ []) }
 {}
 
-/// How the structs of `dgt.h` lie in memory: how many bytes each takes, the multiple at which it
-/// lies, and where its members begin, in the order of the law [`members`]. A handle takes at most
-/// this many bytes.
+/// The layouts of the structs of `dgt.h`: the size, the alignment, and the offsets of the members
+/// in the order of the law [`members`]. A handle takes at most its size.
 pub fn layouts()
     ensures host { FitsIn host_row 22528 8 (0 ∷ 8 ∷ []) }
     ensures follower { FitsIn follower_row 23552 8 (0 ∷ 8 ∷ []) }

@@ -1,4 +1,4 @@
--- `dgt_board_init` makes the handle and what it owns.
+-- `dgt_board_init` makes the handle and its value.
 use Rattle.dgt_c.specs.PlainBoard.{plain_board}
 use Rattle.dgt_c.proofs.plain_board.board_of_program.Symbol.{name as new}
 use Rattle.dgt_c.proofs.plain_board.board_of_program.Met.{met}

@@ -1,4 +1,4 @@
--- `dgt_command_decoder_init` makes the handle and what it owns.
+-- `dgt_command_decoder_init` makes the handle and its value.
 use Rattle.std.proofs.Common.{[]}
 use Rattle.dgt_command.proofs.decoder.CommandDecoder.new.Symbol.{name as new}
 use Rattle.dgt_command.proofs.decoder.CommandDecoder.new.Met.{met}

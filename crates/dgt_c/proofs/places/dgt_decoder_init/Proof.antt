@@ -1,4 +1,4 @@
--- `dgt_decoder_init` makes the handle and what it owns.
+-- `dgt_decoder_init` makes the handle and its value.
 use Rattle.std.proofs.Common.{[]}
 use Rattle.dgt_decode.proofs.decoder.Decoder.new.Symbol.{name as new}
 use Rattle.dgt_decode.proofs.decoder.Decoder.new.Met.{met}

@@ -1,4 +1,4 @@
--- `dgt_follower_init` makes the handle and what it owns.
+-- `dgt_follower_init` makes the handle and its value.
 use Rattle.dgt_c.specs.PlainFollower.{plain_follower}
 use Rattle.dgt_c.proofs.plain_follower.default_follower.Symbol.{name as new}
 use Rattle.dgt_c.proofs.plain_follower.default_follower.Met.{met}

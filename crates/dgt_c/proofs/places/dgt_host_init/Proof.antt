@@ -1,4 +1,4 @@
--- `dgt_host_init` makes the handle and what it owns.
+-- `dgt_host_init` makes the handle and its value.
 use Rattle.dgt_host.specs.Host.{new_host}
 use Rattle.dgt_host.proofs.host.Host.new.Symbol.{name as new}
 use Rattle.dgt_host.proofs.host.Host.new.Met.{met}

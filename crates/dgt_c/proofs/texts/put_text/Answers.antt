@@ -13,7 +13,7 @@ set_after (x ∷ xs) (suc n) within =
     let next : suc (n + 1) ≡ suc n + 1 = omega arith in
     set_after xs n (omega (arith, within)) ∙ ap (λ m. 0 ∷ drop m (x ∷ xs)) next
 
--- a zero is written after a text that was written to a prefix of a slice
+-- a zero byte is written after a text that was written to a prefix of a slice
 zero_after : (text old : List ℕ) (room n : ℕ) → length text ≡ n → n ≤ length (take room old) → n < length old
     → set ((text ++ drop n (take room old)) ++ drop room old) n 0 ≡ (text ++ 0 ∷ []) ++ drop (n + 1) old
 zero_after text old room n len fits within =

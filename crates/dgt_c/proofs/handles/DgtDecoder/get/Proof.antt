@@ -1,4 +1,4 @@
--- `get` lends what the handle owns.
+-- `get` borrows the value that the handle owns.
 use Rattle.dgt_c.specs.contracts.handles.DgtDecoder.get.Key.{name}
 use Rattle.dgt_c.proofs.EachHandle.{decoder}
 use Rattle.dgt_c.proofs.HandleLending.{lends}

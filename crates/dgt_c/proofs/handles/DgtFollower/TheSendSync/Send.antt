@@ -1,4 +1,4 @@
--- A handle may go to another thread, as what it owns may.
+-- A handle can be sent to another thread, as the value that it owns can.
 use denote.Param.Send.{IsSend}
 use Rattle.dgt_follow.proofs.follower.Follower.TheSendSync.{the_send}
 use Rattle.dgt_c.specs.contracts.handles.DgtFollower.{the_row}

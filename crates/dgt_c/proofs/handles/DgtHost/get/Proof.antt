@@ -1,4 +1,4 @@
--- `get` lends what the handle owns.
+-- `get` borrows the value that the handle owns.
 use Rattle.dgt_c.specs.contracts.handles.DgtHost.get.Key.{name}
 use Rattle.dgt_c.proofs.EachHandle.{host}
 use Rattle.dgt_c.proofs.HandleLending.{lends}
