@@ -2,7 +2,6 @@
 
 pub mod finding;
 pub mod greeting;
-pub mod helping;
 pub mod listing;
 pub mod monitoring;
 pub mod moving;

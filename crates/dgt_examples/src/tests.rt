@@ -21,20 +21,19 @@ pub const DUMP: [u8; 67] = [
     0x02, 0x03, 0x04, 0x06, 0x05, 0x04, 0x03, 0x02,
 ];
 
-/// The pawn leaves e2.
+/// The pawn is lifted from e2.
 pub const GONE: [u8; 5] = [0x8e, 0x00, 0x05, 0x34, 0x00];
 
-/// It stands on e4.
+/// It is put on e4.
 pub const CAME: [u8; 5] = [0x8e, 0x00, 0x05, 0x24, 0x01];
 
 const START: &str = "rnbqkbnr/pppppppp/8/8/8/8/PPPPPPPP/RNBQKBNR";
 
-/// A board of this project.
 pub fn board() -> Board {
     Board::new(Position::start(), simulated_clock(), Identity::simulated())
 }
 
-// What the program writes of these bytes.
+// The program's output for these bytes.
 fn shows(rt: &impl Abort, alloc: Global, bytes: &[u8], shown: &str) -> Result<(), Fail> {
     let mut output = Vec::with_capacity(alloc, 512)?;
     pictures::show(Cursor::new(bytes), &mut output)?;
@@ -79,7 +78,7 @@ fn follows(rt: HostRuntime) -> Result<(), Fail> {
 
 #[test]
 fn asks_when_due(rt: HostRuntime) -> Result<(), Fail> {
-    // what follows the 255 zeros: the rest of a new beginning, and a heartbeat
+    // what follows the 255 zeros: the rest of a new start, and a heartbeat
     let modes: [(UpdateMode, &'static [u8]); 3] = [
         (UpdateMode::Squares, &[0x44, 0x42, 0x44, 0x44, 0x42]),
         (

@@ -1,9 +1,8 @@
-//! Tests of the libraries, by public calls alone. First come values, messages, and the readers and
-//! writers of both lines' bytes. Then come boards, hosts, followers and worlds. Then come lines,
-//! scripts and engines, over sources and sinks that fail if a test wants them to. `checks/rows`
-//! runs the built program for what that can show.
+//! Tests of the libraries, through public calls only. They cover values, messages, decoders,
+//! encoders, boards, hosts, followers and worlds, and then lines, scripts and engines over sources
+//! and sinks that fail on demand. `checks/rows` runs the built program instead.
 //!
-//! They are a crate of their own since a crate with tests is proved twice, with them and without.
+//! They are a separate crate because a crate with tests is proved twice, with them and without.
 #![tactic(auto)]
 
 #[cfg(test)]

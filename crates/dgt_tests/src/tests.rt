@@ -1,4 +1,4 @@
-//! Calls, tables of bytes, conversations and runs of engines.
+//! Tests of calls, tables of bytes, conversations and runs of engines.
 
 mod asserting;
 mod boards;

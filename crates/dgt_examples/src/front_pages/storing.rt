@@ -1,7 +1,7 @@
 use dgt_stored::{Stored, first};
 use dgt_values::Piece;
 
-/// Whether the first that is stored is that a piece was lifted.
+/// Whether the first item reports that a piece was lifted.
 pub fn begins_with_a_lift(body: &[u8]) -> bool {
     match first(body) {
         Some((Stored::Piece { piece, .. }, _)) => piece == Piece::Empty,

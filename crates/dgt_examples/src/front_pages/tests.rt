@@ -1,6 +1,6 @@
 use super::{
-    finding, greeting, helping, listing, monitoring, moving, pausing, playing, printing, putting,
-    reporting, requesting, settling, storing, taking_turns,
+    finding, greeting, listing, monitoring, moving, pausing, playing, printing, putting, reporting,
+    requesting, settling, storing, taking_turns,
 };
 use crate::tests::{CAME, DUMP, GONE, board};
 use dgt_board::{Identity, simulated_clock};
@@ -53,12 +53,7 @@ fn bytes_of_a_board_and_a_host(rt: HostRuntime) -> Result<(), Fail> {
 
 #[test]
 fn words(rt: HostRuntime) -> Result<(), Fail> {
-    let alloc = rt.alloc();
-    let (dgt, monitor) = ("dgt".to_string(alloc)?, "monitor".to_string(alloc)?);
-    let words = Vec::from_array(alloc, [dgt, monitor, "--help".to_string(alloc)?])?;
-    expect(&rt, helping::asks_for_help(alloc, words.as_slice())?);
-    expect(&rt, !helping::asks_for_help(alloc, &words.as_slice()[..2])?);
-    let greeted = greeting::greeting(alloc);
+    let greeted = greeting::greeting(rt.alloc());
     let wanted: &[u8] = &[0x44, 0x42, 0x2b, 0x04, 0x03, 0x0b, 0x10, 0x00];
     expect(&rt, greeted.is_some_and(|bytes| bytes.as_slice() == wanted));
     Ok(())

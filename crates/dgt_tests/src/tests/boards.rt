@@ -1,4 +1,4 @@
-//! Boards on the line, by worked conversations. `checks/rows` has others.
+//! Boards in worked conversations. `checks/rows` contains others.
 
 use super::asserting::{assert_same, assert_that};
 use super::fixtures::*;
@@ -8,10 +8,10 @@ use dgt_values::{Body, Piece, Position, SevenBit, Square};
 use std::process::Abort;
 use std::test::Fail;
 
-// What is done to a board, or what it then does.
+// What happens to a board, or what it then sends.
 #[derive(Clone, Copy)]
 enum Step {
-    // The board takes each of these bytes in a call of its own.
+    // The board takes each of these bytes in a separate call.
     Take(&'static [u8]),
     Change(&'static str, Piece),
     Hand(Shown),
@@ -22,7 +22,7 @@ enum Step {
 
 use Step::*;
 
-// What is done to a new board, and what it then sends.
+// What happens to a new board, and what it then sends.
 const SCENES: [(&str, &[Step]); 9] = [
     (
         "replies go before fields and fields before times",
@@ -93,15 +93,15 @@ const SCENES: [(&str, &[Step]); 9] = [
     (
         "a lost line leaves the squares and the clock",
         &[
-            // a square, the times and a reply are due, and a command is half taken
+            // a square, the times and a reply are due, and a command is half received
             Take(&[0x43]),
             Change("e2", Piece::Empty),
             Hand(Shown::Running),
             Take(&[0x45, 0x2b, 0x04, 0x03]),
             LoseLine,
             Sends(&[]),
-            // only a dump reports the change; the clock is owed again, though its reading didn't
-            // come again
+            // only a dump reports the change; the clock is to be sent again, though it wasn't read
+            // again
             Take(&[0x44]),
             Sends(&[]),
             Take(&[0x42]),
@@ -143,7 +143,7 @@ fn sends(board: &mut Board, messages: &[&[u8]]) -> bool {
     !board.owes() && board.poll(&mut out) == Polled::Nothing
 }
 
-// Does what the step says, and returns whether the board did.
+// Executes the step, and returns whether the board behaved as it says.
 fn comes_true(board: &mut Board, step: Step) -> Result<bool, Fail> {
     match step {
         Take(bytes) => return Ok(takes(board, bytes)),

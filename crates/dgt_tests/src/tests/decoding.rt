@@ -1,5 +1,5 @@
-//! The decoder, the framer, and the plain reader beside them. `checks/rows` tries what bytes say,
-//! and `checks/divisions` that they say it in any chunks.
+//! The decoder, the framer, and the plain reader. `checks/rows` tests how bytes are read, and
+//! `checks/divisions` tests that in any chunks.
 
 use super::asserting::{assert_same, assert_that};
 use dgt_decode::{Decoder, Event, Found, Framer, Listener, Unfinished, first_top, plain};
@@ -9,8 +9,7 @@ use std::alloc::{AllocError, Global};
 use std::process::Abort;
 use std::test::Fail;
 
-/// The bytes make known this event, and nothing else, as the decoder reads them and as the plain
-/// reader does.
+/// Asserts that the bytes produce exactly this event, in the decoder and in the plain reader.
 fn assert_one(
     rt: &impl Abort,
     alloc: Global,
@@ -75,7 +74,7 @@ fn a_framer_lends_what_it_found(rt: HostRuntime) {
     assert_same(&rt, advanced.found, Some(Found::Stray(0x07)));
 }
 
-/// Keeps the places of the first three events, and how many of them are messages.
+/// Keeps the places of the first three events, and counts the messages among them.
 #[derive(Drop)]
 struct Places {
     places: [usize; 3],

@@ -1,4 +1,4 @@
-//! Worked messages and placements, and a clock, a board and a world to begin with.
+//! Worked messages and placements, and a clock, a board and a world to start with.
 
 use dgt_board::{Board, Identity, MAX_SENT, simulated_clock};
 use dgt_link::{World, WorldFault};
@@ -6,7 +6,7 @@ use dgt_message::{Clock, NoClock, Reading, Status, Times};
 use dgt_values::{Position, SevenBit};
 use std::alloc::Global;
 
-// A dump of the pieces before the first move, with this on e2.
+// A dump of the initial position, with this piece on e2.
 macro_rules! dump {
     ($e2:literal) => {
         [
@@ -21,7 +21,7 @@ pub const START_DUMP: [u8; MAX_SENT] = dump!(1);
 
 pub const NO_E2_DUMP: [u8; MAX_SENT] = dump!(0);
 
-/// The fields by which e2 is empty and a white pawn stands on e4.
+/// Field updates: e2 is empty, and a white pawn is on e4.
 pub const E2_FIELD: [u8; 5] = [0x8e, 0x00, 0x05, 0x34, 0x00];
 
 pub const E4_FIELD: [u8; 5] = [0x8e, 0x00, 0x05, 0x24, 0x01];
@@ -42,22 +42,22 @@ pub const TRADEMARK: [u8; 18] = [
 
 pub const BATTERY: [u8; 4] = [0xa0, 0x00, 0x04, 0x64];
 
-/// A command to the clock, and how it is acknowledged.
+/// A command to the clock, and its acknowledgement.
 pub const BEEP: [u8; 6] = [0x2b, 0x04, 0x03, 0x0b, 0x10, 0x00];
 
 pub const BEEP_ACK: [u8; 10] = [0x8d, 0x00, 0x0a, 0x0a, 0x10, 0x0b, 0x0a, 0x00, 0x00, 0x00];
 
-/// Asks for serial, trademark, version, battery and the version of the clock.
+/// Requests for serial, trademark, version, battery and the version of the clock.
 pub const QUESTIONS: [u8; 9] = [0x45, 0x47, 0x4d, 0x4c, 0x2b, 0x03, 0x03, 0x09, 0x00];
 
-/// What a clock of each kind of [`Shown`] sends.
+/// The message of a clock of each kind of [`Shown`].
 pub const ZEROS: [u8; 10] = [0x8d, 0x00, 0x0a, 0x00, 0x00, 0x00, 0x00, 0x00, 0x00, 0x00];
 
 pub const RUNNING: [u8; 10] = [0x8d, 0x00, 0x0a, 0x01, 0x30, 0x00, 0x01, 0x29, 0x55, 0x11];
 
 pub const NO_CLOCK: [u8; 10] = [0x8d, 0x00, 0x0a, 0x00, 0x00, 0x00, 0x00, 0x00, 0x00, 0x20];
 
-/// Placements: before the first move, and with e2 or e4 changed.
+/// Placements: the initial position, and with e2 or e4 changed.
 pub const START: &str = "rnbqkbnr/pppppppp/8/8/8/8/PPPPPPPP/RNBQKBNR";
 
 pub const NO_E2: &str = "rnbqkbnr/pppppppp/8/8/8/8/PPPP1PPP/RNBQKBNR";
@@ -69,7 +69,7 @@ pub const E4_PLAYED: &str = "rnbqkbnr/pppppppp/8/8/4P3/8/PPPP1PPP/RNBQKBNR";
 /// The line of `E4_FIELD`.
 pub const E4_LINE: &[u8] = b"00000005 field e4 P\n";
 
-/// The closing lines of a world in which nothing was done.
+/// The closing lines of a world in which nothing happened.
 pub const NEW_LINES: &[u8] =
     b"board rnbqkbnr/pppppppp/8/8/8/8/PPPPPPPP/RNBQKBNR\nhost unknown\nhostclock unknown\nquiet yes\n";
 
@@ -127,7 +127,7 @@ pub fn is_pictured(picture: Option<&Position>, placement: &str) -> bool {
     }
 }
 
-/// Whether a clock, if there is one, is one that shows this.
+/// Whether there is a clock, and it shows this.
 pub fn is_shown(clock: Option<&Clock>, shown: Shown) -> bool {
     match clock {
         Some(clock) => clock_that_shows(shown) == Some(*clock),

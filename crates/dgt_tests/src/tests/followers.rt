@@ -1,4 +1,5 @@
-//! Followers: when they ask, and what. `checks/follower_calls.py` has more of their calls.
+//! Followers: when they send requests, and which. `checks/follower_calls.py` tests more of their
+//! calls.
 
 use super::asserting::{assert_same, assert_that};
 use super::fixtures::*;
@@ -11,11 +12,11 @@ const NOTHING: &[u8] = &[];
 /// A byte that is in no message.
 const STRAY: &[u8] = &[0x01];
 
-/// A report of a clock whose minutes have a digit that times never have.
+/// A report of a clock with a digit of its minutes that is never part of a time.
 const UNREADABLE: [u8; 10] = [0x8d, 0x00, 0x0a, 0x01, 0x5a, 0x00, 0x01, 0x29, 0x55, 0x11];
 
-/// The time, what a follower hears then (if nothing, it asks), how many bytes it writes, when the
-/// next asking is due, and whether it is in doubt.
+/// The time, the bytes that a follower hears then (if there are none, it asks), how many bytes it
+/// writes, when the next request is due, and whether it is in doubt.
 type Row = (u64, &'static [u8], usize, u64, bool);
 
 /// With a period of a second and a patience of two heartbeats.
@@ -30,7 +31,7 @@ const ROWS: [Row; 17] = [
     // the patience has run out
     (3005, NOTHING, 258, 4005, false),
     (3010, &START_DUMP, 0, 4005, false),
-    // a disturbance makes the next asking due a quarter of the period after the last one
+    // a disturbance makes the next request due a quarter of the period after the last one
     (3020, STRAY, 0, 3255, true),
     (3254, NOTHING, 0, 3255, true),
     (3255, NOTHING, 258, 4255, true),
@@ -38,7 +39,7 @@ const ROWS: [Row; 17] = [
     (4255, NOTHING, 2, 5255, false),
     // the heartbeat had no answer
     (5255, NOTHING, 258, 6255, true),
-    // the clock of the caller has gone back
+    // the caller's clock was set back
     (5254, NOTHING, 258, 6254, true),
     (5260, &START_DUMP, 0, 6254, false),
 ];
@@ -67,7 +68,7 @@ fn askings_follow_the_period_the_answers_and_the_disturbances(rt: HostRuntime) {
     assert!(rt; follower.last_heard() == Some(5260) && follower.heartbeats_left() == 2);
 }
 
-// It asks at this time, and writes these bytes.
+// Whether it asks at this time, and writes these bytes.
 fn asks(follower: &mut Follower, now: u64, bytes: &[u8]) -> bool {
     let mut out = [0; MAX_ASKING];
     match follower.ask(now, &mut out) {
@@ -118,7 +119,7 @@ fn a_clock_without_digits_is_unknown_and_a_late_reply_no_doubt(rt: HostRuntime) 
     follower.hear_all(3, &UNREADABLE);
     assert_that(&rt, follower.clock().is_none(), "no clock");
     assert_same(&rt, follower.send(&Command::Version, &mut out), Ok(1));
-    // no heartbeat is allowed: it begins anew, and gives up the version
+    // no heartbeat is allowed: it starts over, and gives up the version
     assert_same(&rt, follower.ask(10_000, &mut out), Ok(258));
     follower.hear_all(10_001, &VERSION);
     assert_that(&rt, !follower.in_doubt(), "no doubt");

@@ -1,4 +1,4 @@
-//! Hosts: what they write, and what they make of what they hear.
+//! Hosts: what they write, and how they react to what they hear.
 
 use super::asserting::{assert_same, assert_that};
 use super::fixtures::*;
@@ -6,7 +6,7 @@ use dgt_command::Command;
 use dgt_host::{Host, Kind, SendFault};
 use std::process::Abort;
 
-// It hears all of these bytes, and nobody asked for their message, or somebody did.
+// Asserts that the host hears all of these bytes as one message, unasked or not.
 fn assert_heard(rt: &impl Abort, host: &mut Host, bytes: &[u8], unasked: bool) {
     let heard = host.hear(bytes);
     assert_same(rt, (heard.used, heard.unasked), (bytes.len(), unasked));
@@ -20,7 +20,7 @@ fn a_host_follows_a_board(rt: HostRuntime) {
     assert_same(&rt, out, [0x44, 0x42, 0xff]);
     assert_same(&rt, host.send(&Command::Version, &mut out), Ok(1));
     assert_same(&rt, host.awaited(), [Kind::Dump, Kind::Version].as_slice());
-    // a version before the dump that is awaited first, and a field before the dump
+    // a version before the dump that is awaited first, and a field update before the dump
     assert_heard(&rt, &mut host, &VERSION, true);
     assert_heard(&rt, &mut host, &E4_FIELD, false);
     assert_that(&rt, host.picture().is_none(), "no picture");

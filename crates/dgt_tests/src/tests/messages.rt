@@ -1,4 +1,4 @@
-//! Calls of messages, and the texts of their errors. What bytes say is in `checks/rows`.
+//! Calls of messages, and the texts of their errors. `checks/rows` tests how bytes are read.
 
 use super::asserting::{assert_said, assert_same, assert_that};
 use dgt_message::{
@@ -63,15 +63,15 @@ fn readings_and_the_status_are_reported(rt: HostRuntime) -> Result<(), Fail> {
 #[test]
 fn errors_have_texts(rt: HostRuntime) -> Result<(), Fail> {
     let alloc = rt.alloc();
-    let size = "the body has not the size of its code";
+    let size = "the body has the wrong size for its code";
     assert_said(&rt, alloc, &BodyFault::WrongSize, size)?;
     let piece = BodyFault::BadPiece { at: 5 };
     assert_said(&rt, alloc, &piece, "byte 5 is not a piece")?;
     let square = BodyFault::BadSquare { at: 6 };
     assert_said(&rt, alloc, &square, "byte 6 is not a square")?;
     let reading = BodyFault::BadReading { at: 4 };
-    assert_said(&rt, alloc, &reading, "byte 4 is no part of a reading")?;
-    assert_said(&rt, alloc, &BadDigits, "no clock shows these digits")?;
-    let kind = "this belongs to another kind of clock message";
+    assert_said(&rt, alloc, &reading, "byte 4 is not valid in a clock time")?;
+    assert_said(&rt, alloc, &BadDigits, "not a time from 0:00:00 to 9:59:59")?;
+    let kind = "these bytes are another kind of clock message";
     assert_said(&rt, alloc, &NotThisKind, kind)
 }

@@ -10,14 +10,14 @@ use std::test::Fail;
 #[test]
 fn of_boards_hosts_and_worlds(rt: HostRuntime) -> Result<(), Fail> {
     let alloc = rt.alloc();
-    let busy = "the board owes as many replies as it can";
+    let busy = "the board owes 8 replies: poll it first";
     assert_said(&rt, alloc, &Busy, busy)?;
-    assert_said(&rt, alloc, &TooLong, "a body has more than 64 bytes")?;
+    assert_said(&rt, alloc, &TooLong, "a body is longer than 64 bytes")?;
     let rows = [
-        (SendFault::NoRoom { need: 1 }, "this takes 1 bytes of room"),
+        (SendFault::NoRoom { need: 1 }, "the buffer needs 1 bytes"),
         (
             SendFault::NoRoom { need: 257 },
-            "this takes 257 bytes of room",
+            "the buffer needs 257 bytes",
         ),
         (SendFault::TooMany, "16 replies are awaited already"),
     ];

@@ -1,4 +1,5 @@
-//! Calls of values, and the texts of their errors. `checks/rows` has the tables of the protocol.
+//! Calls of values, and the texts of their errors. `checks/rows` contains the tables of the
+//! protocol.
 
 use super::asserting::{assert_said, assert_same};
 use dgt_values::{
@@ -49,21 +50,21 @@ fn positions(rt: HostRuntime) -> Result<(), Fail> {
 fn errors_have_texts(rt: HostRuntime) -> Result<(), Fail> {
     let alloc = rt.alloc();
     let length = BodyError::Length(TooMuch);
-    assert_said(&rt, alloc, &length, "there are more than 16380 bytes")?;
+    assert_said(&rt, alloc, &length, "the body is longer than 16380 bytes")?;
     let byte = BodyError::Byte(NotSevenBit);
-    assert_said(&rt, alloc, &byte, "a byte has its top bit set")?;
-    assert_said(&rt, alloc, &NotSevenBit, "the top bit is set")?;
-    assert_said(&rt, alloc, &Known, "this has a case of its own")?;
+    assert_said(&rt, alloc, &byte, "a byte of the body has its top bit set")?;
+    assert_said(&rt, alloc, &NotSevenBit, "the byte's top bit is set")?;
+    assert_said(&rt, alloc, &Known, "this has a variant of its own")?;
     assert_said(&rt, alloc, &TooMuch, "too many bytes")?;
     assert_said(&rt, alloc, &NoPiece, "not a piece")?;
     assert_said(&rt, alloc, &NoSquare, "not a square")?;
-    assert_said(&rt, alloc, &NoSegment, "this character has no segments")?;
-    let placement = BadPlacement { at: 17 };
-    assert_said(&rt, alloc, &placement, "no placement, from offset 17 on")?;
+    assert_said(&rt, alloc, &NoSegment, "not a digit, a space or a hyphen")?;
+    let bad = BadPlacement { at: 17 };
+    assert_said(&rt, alloc, &bad, "not a placement: wrong at offset 17")?;
     assert_said(
         &rt,
         alloc,
         &NoRoom { need: 67 },
-        "this takes 67 bytes of room",
+        "the buffer needs 67 bytes",
     )
 }

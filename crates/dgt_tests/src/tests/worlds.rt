@@ -1,4 +1,4 @@
-//! Worlds: memory that is refused, and conversations. `checks/rows` has others, and
+//! Worlds: refused memory, and conversations. `checks/rows` contains others, and
 //! `checks/world_memory` refuses each allocation.
 
 use super::asserting::{assert_same, assert_that};
@@ -33,7 +33,7 @@ fn small_lines_and_refused_memory(rt: HostRuntime) -> Result<(), Fail> {
     Ok(())
 }
 
-// The board and the picture of the host have this placement.
+// Asserts that the board and the host's picture have this placement.
 fn assert_shown(rt: &impl Abort, board: &Board, host: &Host, placement: &str) {
     assert_that(rt, is_at(board.position(), placement), "the board");
     assert_that(rt, is_pictured(host.picture(), placement), "the picture");
@@ -55,7 +55,7 @@ fn a_game_begins(rt: HostRuntime) -> Result<(), Fail> {
     let back = [Change(e2, Piece::Empty), Change(e2, Piece::WhitePawn)];
     assert_same(&rt, world.run(&back), 2);
     assert_same(&rt, world.step(BoardSend), Outcome::Nothing);
-    // each field is sent and heard
+    // each field update is sent and heard
     let moved = [Change(e2, Piece::Empty), Change(e4, Piece::WhitePawn)];
     assert_same(&rt, world.run(&moved), 2);
     assert_same(&rt, world.settle(), 4);
@@ -65,8 +65,8 @@ fn a_game_begins(rt: HostRuntime) -> Result<(), Fail> {
     Ok(())
 }
 
-// The board is in the middle of a long frame, then without power, and in the middle of another
-// frame; the host hears parts of a dump and of a field.
+// The board has received part of a long frame, then loses its power, then receives part of another
+// frame. The host hears parts of a dump and of a field update.
 const FAULTS: [&str; 7] = [
     "change e2 .",
     "garbledown 4260ff01",

@@ -1,4 +1,4 @@
-//! Readers and writers of the standard library that count their calls, under devices.
+//! Standard-library readers and writers that count their calls, wrapped as devices.
 
 use crate::tests::asserting::assert_row;
 use crate::tests::engines::devices::{Counter, Lender, Recorder, Stutterer};
@@ -21,10 +21,10 @@ const KINDS: [ErrorKind; 5] = [
     ErrorKind::BrokenPipe,
 ];
 
-// More reads than a call that is interrupted has tries.
+// More reads than the number of tries for an interrupted call.
 const READS: u64 = (1 << 20) + 16;
 
-// Reads a byte `times` times, and returns how many bytes came before a refusal.
+// Reads one byte `times` times, and returns how many bytes were read before a refusal.
 fn bytes_read(source: &mut impl Source, times: u64) -> u64 {
     let mut buffer = [1];
     let mut came = 0u64;
@@ -62,7 +62,7 @@ fn a_writer_that_takes_none_is_called_once(rt: HostRuntime) {
     let mut counter = Counter::new(0);
     let answer = Device::new(&mut counter).write_some(b"a");
     assert_row(&rt, 0, (answer, counter.writes), (Err(Failed), 1));
-    // to take none of no bytes is no failure
+    // writing no bytes never fails
     assert_row(&rt, 1, Device::new(counter).write_some(b""), Ok(0));
 }
 
@@ -109,7 +109,7 @@ fn a_line_is_one_write_without_a_flush(rt: HostRuntime) -> Result<(), Fail> {
     Ok(())
 }
 
-// These parts, each this number of times.
+// These parts, each repeated this number of times.
 fn repeated(parts: &[(&[u8], u32)]) -> Result<ArrayVec<u8, 8257>, Fail> {
     let mut bytes = ArrayVec::new();
     for (part, times) in parts {
@@ -120,7 +120,7 @@ fn repeated(parts: &[(&[u8], u32)]) -> Result<ArrayVec<u8, 8257>, Fail> {
     Ok(bytes)
 }
 
-// What is run, its bytes, how many of them a read gives, the turns, the writes and the flushes.
+// The engine, its input, the bytes of each read, the turns, the writes and the flushes.
 type Counted = (
     Engine<'static>,
     &'static [(&'static [u8], u32)],
@@ -130,7 +130,7 @@ type Counted = (
     u64,
 );
 
-// A dump of a board with a pawn on each square, which has the longest placement, and fields.
+// A dump of a board with a pawn on each square, which has the longest placement, and field updates.
 const PLACEMENTS: [(&[u8], u32); 3] = [(&[0x86, 0x00, 0x43], 1), (&[0x01], 64), (&E4_FIELD, 1638)];
 
 const COUNTED: [Counted; 12] = [
@@ -138,7 +138,7 @@ const COUNTED: [Counted; 12] = [
     (Engine::Monitor, &[(&E4_FIELD, 1000)], 9000, 3, 2, 2),
     (Engine::Picture(false, false), &PLACEMENTS, 9000, 4, 3, 3),
     (Engine::Commands, &[(&BEEP, 833)], 9000, 3, 2, 2),
-    // a chunk without a line is flushed, too
+    // a chunk without a line is also flushed
     (Engine::Monitor, &[(&E4_FIELD, 1)], 1, 10, 1, 5),
     (Engine::Monitor, &[(&E4_FIELD, 1)], 2, 10, 1, 3),
     (Engine::Monitor, &[(&E4_FIELD, 1)], 64, 10, 1, 1),

@@ -1,4 +1,4 @@
-//! Sources and sinks that record what passes, and fail when a test wants them to.
+//! Sources and sinks that record what passes, and fail on demand.
 
 ghost use Rattle.std.specs.Prelude.{◌≤◌, IfOk, Some};
 
@@ -7,7 +7,7 @@ use dgt_text::{Failed, Sink, Source};
 use std::io;
 use std::io::{Read, Write};
 
-/// A source that gives at most `step` bytes a read, and refuses its read number `fails_at`.
+/// A source that returns at most `step` bytes a read, and refuses its read number `fails_at`.
 #[derive(Drop)]
 pub struct Lender<'a> {
     left: &'a [u8],
@@ -64,7 +64,7 @@ impl Source for Lender<'_> {
     }
 }
 
-/// A sink that takes at most `step` bytes a write and `room` bytes in all, and refuses its write
+/// A sink that takes at most `step` bytes a write and `room` bytes in all. It refuses its write
 /// number `write_fails_at` and its flush number `flush_fails_at`.
 #[derive(Drop)]
 pub struct Recorder {
@@ -140,8 +140,8 @@ impl Sink for Recorder {
     }
 }
 
-/// A reader and writer of the standard library that counts its calls. It fails at each with this
-/// kind of error, or reads zeros and takes bytes for ever, at most `most` at a call.
+/// A standard-library reader and writer that counts its calls. It fails at each with this kind of
+/// error, or reads zeros and takes bytes forever, at most `most` a call.
 #[derive(Drop)]
 pub struct Counter {
     refusal: Option<io::ErrorKind>,
@@ -199,8 +199,8 @@ impl Write for Counter {
     }
 }
 
-/// A reader and writer of the standard library that moves one byte at a call, of which each, each
-/// flush included, is interrupted `times` times before it succeeds.
+/// A standard-library reader and writer that moves one byte a call. Each call, including each
+/// flush, is interrupted `times` times before it succeeds.
 #[derive(Drop)]
 pub struct Trickle<'a> {
     left: &'a [u8],
@@ -258,8 +258,8 @@ impl Write for Trickle<'_> {
     }
 }
 
-/// A reader of the standard library that gives a zero at every second call, for ever, and is
-/// interrupted at the others.
+/// A standard-library reader that returns a zero at every second call, forever, and is interrupted
+/// at the others.
 #[derive(Drop)]
 pub struct Stutterer {
     pub calls: u64,

@@ -1,4 +1,4 @@
-//! The engines, each with what it runs on.
+//! The engines, each with its parameters.
 
 use crate::tests::fixtures::{new_board, world_of};
 use dgt_board::Board;
@@ -10,18 +10,18 @@ use dgt_text::{
 use std::alloc::Global;
 use std::test::Fail;
 
-/// What a run answers.
+/// The result of a run.
 pub type Answer = Result<(), RunFault>;
 
 /// An engine.
 #[derive(Clone, Copy)]
 pub enum Engine<'a> {
     Monitor,
-    /// `picture` with doubts or without, and with the clock or without.
+    /// `picture` with or without doubts, and with or without the clock.
     Picture(bool, bool),
     Log,
     Commands,
-    /// `serve` for a new board that took these bytes before.
+    /// `serve` for a new board that has taken these bytes.
     Serve(&'a [u8]),
     /// `simulate` in a new world.
     Simulate,
@@ -53,7 +53,7 @@ impl<'a> Engine<'a> {
     }
 }
 
-// A new board that took these bytes, and has sent nothing.
+// A new board that has taken these bytes, and has sent nothing.
 fn asked_board(asked: &[u8]) -> Result<Board, Fail> {
     let mut board = new_board();
     for byte in asked {

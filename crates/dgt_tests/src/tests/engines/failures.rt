@@ -1,5 +1,4 @@
-//! Lines that are refused, and readers and writers of the standard library that fail or are
-//! interrupted.
+//! Refused lines, and standard-library readers and writers that fail or are interrupted.
 
 use crate::tests::asserting::{assert_row, assert_that};
 use crate::tests::engines::devices::{Counter, Recorder, Trickle};
@@ -17,7 +16,7 @@ const WRITE_FAILED: Answer = Err(RunFault::WriteFailed);
 
 const READ_FAILED: Answer = Err(RunFault::ReadFailed);
 
-// Whether the sink takes this prefix of the line, and no call comes after its refusal.
+// Whether the sink takes this prefix of the line, and is not called after its refusal.
 fn is_refused(mut sink: Recorder, prefix: &[u8]) -> bool {
     write_event(&mut sink, 123456789, &Event::Stray(0x05)) == WRITE_FAILED
         && sink.taken() == prefix
@@ -32,7 +31,7 @@ fn a_line_that_is_refused_at_each_byte(rt: HostRuntime) {
         let mut full = Recorder::new();
         full.room = at;
         assert_that(&rt, is_refused(full, &line[..at]), "a full sink");
-        // a byte at a write, so that the write after these bytes is the one that fails
+        // one byte a write, so that the write after these bytes is the one that fails
         let mut refusing = Recorder::new();
         refusing.step = 1;
         refusing.write_fails_at = at as u64 + 1;
@@ -40,7 +39,7 @@ fn a_line_that_is_refused_at_each_byte(rt: HostRuntime) {
     }
 }
 
-// What reads and writes of std that fail are tried with.
+// The runs in which reads and writes of std fail.
 const TRIED: [(Engine<'static>, &[u8]); 6] = [
     (Engine::Monitor, &E4_FIELD),
     (Engine::Picture(false, false), &START_DUMP),
@@ -54,7 +53,7 @@ const TRIED: [(Engine<'static>, &[u8]); 6] = [
 fn readers_and_writers_of_std_that_fail(rt: HostRuntime) -> Result<(), Fail> {
     let alloc = rt.alloc();
     for (row, (engine, bytes)) in TRIED.iter().enumerate() {
-        // a writer that takes no byte, and one that fails
+        // a writer that takes no bytes, and one that fails
         let mut full = Device::new(Counter::new(0));
         let answer = engine.run(alloc, &mut Bytes::new(bytes), &mut full, 10)?;
         assert_row(&rt, row, answer, WRITE_FAILED);
@@ -79,9 +78,8 @@ fn a_reader_that_never_ends(rt: HostRuntime) {
     assert_row(&rt, 0, sink.taken(), lines);
 }
 
-// What is run, its bytes and the turns; the answer, what is written, and how many flushes there
-// are, if they are counted. A byte is moved at a call; the turns show that a call that is made
-// again is one read.
+// The engine, its input and the turns; the result, the output, and the number of flushes, if they
+// are counted. A call moves one byte. The turns show that a repeated call counts as one read.
 type Interrupted = (
     Engine<'static>,
     &'static [u8],
@@ -111,7 +109,7 @@ const INTERRUPTED: [Interrupted; 3] = [
     ),
 ];
 
-// These parts, one after the other.
+// The concatenation of these parts.
 fn joined(parts: &[&[u8]]) -> Result<ArrayVec<u8, 512>, Fail> {
     let mut bytes = ArrayVec::new();
     for part in parts {

@@ -1,4 +1,4 @@
-//! Runs in which something fails, at each place where it can.
+//! Runs in which something fails, at each possible place.
 
 use crate::tests::asserting::assert_that;
 use crate::tests::engines::devices::{Lender, Recorder};
@@ -13,8 +13,8 @@ use std::test::Fail;
 // The most bytes in a read and in a write.
 const STEPS: [usize; 2] = [1, 64];
 
-// What fails in a run: a read, a write or a flush by its number, or a sink that is full, or there
-// are too few turns.
+// What fails in a run: the read, write or flush of this number, or a full sink, or the turns run
+// out.
 #[derive(Clone, Copy, PartialEq, Eq)]
 enum Trouble {
     Read,
@@ -42,14 +42,14 @@ impl Trouble {
         }
     }
 
-    // Whether a write is torn by it.
+    // Whether it can cut a write in two.
     fn tears(self) -> bool {
         matches!(self, Trouble::Write | Trouble::Room)
     }
 }
 
-// A run in which something fails: the read, write or flush of number `at`, or a sink with room for
-// `at` bytes alone, or there are `at` turns alone.
+// A run in which something fails: the read, write or flush of number `at`, or the sink has room for
+// only `at` bytes, or there are only `at` turns.
 #[derive(Clone, Copy)]
 struct Trial {
     trouble: Trouble,
@@ -57,7 +57,7 @@ struct Trial {
 }
 
 impl Trial {
-    // The place of this trouble, or a number that no run comes to.
+    // The place of this trouble, or a number beyond the end of any run.
     fn place(self, trouble: Trouble) -> u32 {
         if self.trouble == trouble {
             self.at
@@ -66,7 +66,7 @@ impl Trial {
         }
     }
 
-    // Its source of these bytes and its sink, `step` bytes in a call, and how many turns there are.
+    // Its source of these bytes and its sink, with `step` bytes a call, and the number of turns.
     fn ends(self, bytes: &[u8], step: usize) -> (Lender<'_>, Recorder, u32) {
         let mut source = Lender::new(bytes, step);
         source.fails_at = self.place(Trouble::Read) as u64;
@@ -78,7 +78,7 @@ impl Trial {
         (source, sink, self.place(Trouble::Turns).min(1000))
     }
 
-    // Where the trouble came.
+    // Where the trouble occurred.
     fn came(self, source: &Lender<'_>, sink: &Recorder) -> u64 {
         match self.trouble {
             Trouble::Read | Trouble::Turns => source.reads,
@@ -89,11 +89,11 @@ impl Trial {
     }
 }
 
-// Bytes of the input, and what is written once they have come.
+// Bytes of the input, and the output once they were read.
 type Row = (&'static [u8], &'static [u8]);
 
-// An engine, what it reads and writes, what it writes at the end of the bytes, and what a run
-// answers in which nothing fails.
+// An engine, its input and output, its output at the end of the input, and the result of a run in
+// which nothing fails.
 type Sweep = (Engine<'static>, &'static [Row], &'static [u8], Answer);
 
 fn input_of(rows: &[Row]) -> Result<ArrayVec<u8, 256>, Fail> {
@@ -104,7 +104,7 @@ fn input_of(rows: &[Row]) -> Result<ArrayVec<u8, 256>, Fail> {
     Ok(input)
 }
 
-// What is written of the bytes that came, and then at their end.
+// The output for the bytes that were read, and then at their end.
 fn text_of(rows: &[Row], last: &[u8], source: &Lender<'_>) -> Result<ArrayVec<u8, 1024>, Fail> {
     let mut text = ArrayVec::new();
     let mut end = 0usize;
@@ -120,8 +120,8 @@ fn text_of(rows: &[Row], last: &[u8], source: &Lender<'_>) -> Result<ArrayVec<u8
     Ok(text)
 }
 
-// Makes one run, at most `step` bytes in a read and in a write, and returns whether it met its
-// trouble. After a torn write the sink has a prefix of the text, and else all of it.
+// Makes one run, with at most `step` bytes a read and a write, and returns whether it met its
+// trouble. After a torn write the sink contains a prefix of the text, and otherwise all of it.
 fn meets(
     rt: &(impl Abort + AllocGlobal),
     (engine, rows, last, whole): Sweep,
@@ -149,7 +149,7 @@ fn meets(
     Ok(is_met)
 }
 
-// Makes a run with the trouble at each place in turn, up to one that is after its end.
+// Makes a run with the trouble at each place in turn, until one is after the end of the run.
 fn meets_all(
     rt: &(impl Abort + AllocGlobal),
     sweep: Sweep,
@@ -238,7 +238,7 @@ const SERVED: [Row; 7] = [
     (&[0x2b, 0x04], b""),
 ];
 
-// Of a board that owes two replies; it sends before it reads.
+// Output of a board that owes two replies and sends before it reads.
 const OWED: [Row; 3] = [(b"", &TRADEMARK), (b"", &BATTERY), (&[0x4d], &VERSION)];
 
 const ACTS: [Row; 7] = [
@@ -254,7 +254,7 @@ const ACTS: [Row; 7] = [
 const ACTS_DONE: &[u8] = b"done\nboard rnbqkbnr/pppppppp/8/8/8/8/PPPP1PPP/RNBQKBNR\n\
 host rnbqkbnr/pppppppp/8/8/8/8/PPPPPPPP/RNBQKBNR\nhostclock unknown\nquiet no\n";
 
-// Acts before a bad line are done.
+// The acts before a bad line are done.
 const BAD: [Row; 3] = [
     (b"host 44\n", b"done\n"),
     (b"sned\n", b""),
