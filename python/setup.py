@@ -1,9 +1,9 @@
 """Builds the package `dgt`, with the shared library of `lib/build` in its wheel.
 
 The wheel fits each CPython that the package supports, on one platform: `py3-none-PLATFORM`. Its
-bytes depend on the sources and the library alone: each file has mode 0644 and the same time, which
-SOURCE_DATE_EPOCH may set. DGT_LIBRARY names another library than that of the source tree, as a
-build from a source distribution needs it.
+bytes depend only on the sources and the library: each file has mode 0644 and the same time, which
+SOURCE_DATE_EPOCH may set. DGT_LIBRARY names another library than the source tree's; a build from a
+source distribution needs it.
 """
 
 import os
@@ -38,17 +38,17 @@ class PlatformWheel(bdist_wheel):
 
 
 class BuildWithLibrary(build_py):
-    """Puts the shared library beside the modules. An editable installation leaves it in its place,
-    where the package finds it."""
+    """Copies the shared library next to the modules. An editable installation uses it in place."""
 
     def run(self):
         if self.editable_mode:
             return super().run()
         library = Path(os.environ.get("DGT_LIBRARY") or BUILT)
         if not library.is_file():
-            raise FileError(f"no {library}: run lib/build, or name the library in DGT_LIBRARY")
+            raise FileError(f"{library} is missing: run lib/build, or name the library in "
+                            "DGT_LIBRARY")
         package = Path(self.build_lib, "dgt")
-        shutil.rmtree(package, ignore_errors=True)  # what an earlier build left
+        shutil.rmtree(package, ignore_errors=True)  # left by an earlier build
         super().run()
         shutil.copyfile(library, package / "libdgt.so")
         for path in package.iterdir():

@@ -1,7 +1,7 @@
-"""The host of a DGT electronic chess board, a decoder, a reader of commands, and a board.
+"""Reads and simulates DGT electronic chess boards.
 
-A host reads a board's bytes and keeps a picture of the board. `follow` opens a serial port, and has
-a host ask the board again and again. This program shows the position after each change:
+A host reads a board's bytes and keeps a picture of the board. `follow` opens a serial port, and a
+host then requests the position again and again. This program shows it after each change:
 
     >>> import dgt
     >>> with dgt.follow("/dev/ttyUSB0") as board:
@@ -13,8 +13,8 @@ a host ask the board again and again. This program shows the position after each
     rnbqkbnr/pppppppp/8/8/8/8/PPPP1PPP/RNBQKBNR
     rnbqkbnr/pppppppp/8/8/4P3/8/PPPP1PPP/RNBQKBNR
 
-Nothing else in this package opens a port. A `Host` returns each event in the bytes that it is
-given. With pyserial:
+Nothing else in this package opens a port. A `Host` returns the events in the bytes that you pass to
+it. With pyserial:
 
     >>> import serial
     >>> line = serial.Serial("/dev/ttyUSB0", 9600, timeout=1)
@@ -28,27 +28,27 @@ given. With pyserial:
     Field rnbqkbnr/pppppppp/8/8/8/8/PPPP1PPP/RNBQKBNR
     Field rnbqkbnr/pppppppp/8/8/4P3/8/PPPP1PPP/RNBQKBNR
 
-`read` waits for all the bytes that it is asked for, or until the timeout. The loop therefore asks
-for those that are there (`in_waiting`), or else for one. `hear_each` hears a byte once the event
-before it was taken, so that the picture is the picture after that event; `hear` hears the whole
-chunk first.
+`read` waits until it has the requested number of bytes, or until the timeout. The loop therefore
+reads the bytes that have arrived (`in_waiting`), or else one. `hear_each` hears a byte once you
+have taken the event before it, so the picture is the picture after that event. `hear` hears the
+whole chunk first.
 
-What there is:
+The package contains:
 
     follow, ports   follow the board on a port, and list the ports
     Host            makes commands, takes in a board's bytes, keeps the picture and the clock
     Follower        is a host that repeats its requests, so that its picture becomes right again
     Decoder         turns a board's bytes into events; CommandDecoder a host's into commands
     Board, World    simulate a board, and a board and a host on lines that may fail
-    encode_message  and view_message, encode_command, view_command need no object
-    ClockCommands   are calls of `follow`, Host and Follower for the board's clock
+    encode_message  and view_message, encode_command, view_command convert to bytes and back
+    ClockCommands   are the calls of `follow`, Host and Follower for the board's clock
     MoveRecogniser  finds the moves of a game in the host's pictures; GameState knows the rules
-    Games, PgnFile  make games of a board, and keep them in a file; PgnGame and san write PGN
+    Games, PgnFile  make games from the pictures, and keep them in a file; PgnGame, san write PGN
 
 The objects are those of the library libdgt, in memory that Python owns. The Rattle code of libdgt
 is proved; this layer is tested. Each object has a lock, so that threads may share it: a call waits
-for a call of another thread, and raises `Nested` within a call of its own thread. If a process was
-forked while another thread was in a call of an object, it must not use that object: its calls would
+for a call of another thread, and raises `Nested` within a call of its own thread. A process that
+was forked while another thread was in a call of an object must not use that object: its calls would
 wait for ever.
 """
 

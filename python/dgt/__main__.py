@@ -11,7 +11,7 @@ _PROGRAMS: dict[str, Callable[[list[str]], None]] = {
 _USAGE = """\
 usage: python -m dgt PROGRAM ..
 
-  game PORT         prints the moves made on a board, and keeps a PGN file
+  game PORT         prints the moves made on a board, and writes a PGN file
   uci [PORT]        plays in chess programs, as a UCI engine
   livechess [PORT]  plays on lichess.org and other sites that use LiveChess
   ports             lists the serial ports that may be boards

@@ -1,4 +1,4 @@
-"""What a host and a follower have in common: what they send, and what they know of a board."""
+"""The common part of hosts and followers: their commands, and what they know of a board."""
 
 from __future__ import annotations
 
@@ -16,14 +16,12 @@ from .values import Clock, Position, byte, read_clock
 
 
 class Asker(Handle, ClockCommands[bytes]):
-    """A host, or a follower."""
-
     def __init__(self) -> None:
         super().__init__()
         self._out, self._out_at = writable(max(MAX_ASKING, MAX_WORD))
 
     def _of(self, name: str) -> Callable[..., Any]:
-        """The function of the library by this name, for objects of this kind."""
+        """The library's function with this name for objects of this kind."""
         function: Callable[..., Any] = getattr(dgt, f"{self._prefix}_{name}")
         return function
 
@@ -35,19 +33,18 @@ class Asker(Handle, ClockCommands[bytes]):
         if sent.status == TOO_MANY:
             raise TooManyAwaited("16 replies are awaited already")
         if sent.status != SENT:
-            raise NoSuchCommand("there is no such command")
+            raise NoSuchCommand("no command has this code or payload")
         return bytes(self._out[:sent.bytes])
 
     def send(self, ask: Ask | int) -> bytes:
-        """Returns a command of one byte. `BadValue` if it is no byte, `NoSuchCommand` if it is none
-        of `Ask`, `TooManyAwaited` if it asks for a reply and no further one can be awaited."""
+        """Returns a command of one byte. `BadValue` if it isn't a byte, `NoSuchCommand` if it isn't
+        one of `Ask`, `TooManyAwaited` if it requests a reply and 16 are awaited already."""
         return self._sent("send", byte(ask, "a command"))
 
     def send_clock(self, id: ClockId | int, payload: Bytes = b"") -> bytes:
-        """Returns a message to the clock, with the payload as it is, also if messages of this id
-        have another length: `display`, `text` and the like make whole ones. `BadValue` if the id is
-        no byte, `NoSuchCommand` if the payload has more than 252 bytes, `TypeError` if it is no
-        bytes."""
+        """Returns a message to the clock with this payload, even if it is too short for this id:
+        `display`, `text` and so on make complete ones. `BadValue` if the id isn't a byte,
+        `NoSuchCommand` if the payload has more than 252 bytes, `TypeError` if it isn't bytes."""
         number = byte(id, "an id")
         held, address = readable(payload)
         return self._sent("send_clock", number, address, len(held))
@@ -56,7 +53,7 @@ class Asker(Handle, ClockCommands[bytes]):
         return self.send_clock(id, payload)
 
     def send_leds(self, leds: Bytes) -> bytes:
-        """Returns an LED frame, of at most 255 bytes. `NoSuchCommand` if there are more."""
+        """Returns an LED frame. `NoSuchCommand` if there are more than 255 bytes."""
         held, address = readable(leds)
         return self._sent("send_leds", address, len(held))
 
@@ -76,9 +73,8 @@ class Asker(Handle, ClockCommands[bytes]):
 
     @property
     def clock(self) -> Clock | None:
-        """The last report of the board's clock, or `None` before the first. That of a follower is
-        also `None` from a report without a reading on, until the next: the clock shows no digits,
-        or sends zeros alone."""
+        """The last report of the board's clock, or `None` before the first. In a follower a report
+        without a reading (the clock shows no digits, or sends only zeros) sets it to `None`."""
         told = ClockStruct()
         self._call(self._of("clock"), byref(told))
         return read_clock(told) if told.kind else None

@@ -1,4 +1,4 @@
-"""A board that is followed, and its clock."""
+"""Follows a board, and shows moves on its clock."""
 
 from __future__ import annotations
 
@@ -10,18 +10,18 @@ from .events import Ack, Dump
 from .following import BoardView, Following
 
 _PATIENCE = 30
-"""The board is asked so often that it would begin anew every few seconds by the usual patience."""
+"""Requests are so frequent that the usual patience would start over every few seconds."""
 
 
 class BoardWithClock(Following):
-    """A board that is followed on a port, and whose picture is confirmed soon. `wait` also returns
-    after a dump or an acknowledgement of the clock that changed nothing."""
+    """Follows a board on a port, and confirms its picture soon. `wait` also returns after a dump or
+    an acknowledgement of the clock that changed nothing."""
 
     def __init__(self, port: str, period: float, mode: Mode = Mode.UPDATE_BOARD,
                  identify: bool = False) -> None:
-        """`OSError` if the port is a file that is no serial port."""
+        """`OSError` if the file isn't a serial port."""
         self.asked_at = self.confirmed_at = float("-inf")
-        """When the last dump that confirmed the picture was asked for, and when it came."""
+        """When the last dump that confirmed the picture was requested, and when it arrived."""
         self.shown_move = Display()
         super().__init__(port, period, patience=_PATIENCE, mode=mode, confirm=True,
                          wait_for_port=True, identify=identify)
@@ -42,12 +42,12 @@ class BoardWithClock(Following):
         super()._look(is_first)
 
     def has_confirmed(self, since: float) -> bool:
-        """Whether the board was asked at this time or later, and has confirmed the picture."""
+        """Whether a dump that was requested at this time or later has confirmed the picture."""
         return self.view.confirmed and self.asked_at >= round(since, 3)
 
     def ask_until(self, until: float) -> list[BoardView]:
-        """Asks the board, and hears it until it has confirmed the picture, or until a time. Returns
-        what is known after each change."""
+        """Requests dumps until the board has confirmed the picture, or until a time. Returns the
+        view after each change."""
         begun, views, changes = time.monotonic(), list[BoardView](), self._steps.changes
         while not self.has_confirmed(begun) and time.monotonic() < until:
             self.follower.ask_now()
@@ -58,8 +58,8 @@ class BoardWithClock(Following):
         return views
 
     def tend_clock(self, now: float) -> float | None:
-        """Sends the clock what is due, and returns when there will be something to send. Nothing is
-        due while the board is away."""
+        """Sends the clock's due message, and returns the time of the next one. Nothing is due while
+        the board is away."""
         if self.view.away is not None:
             return None
         if message := self.shown_move.take(now):
@@ -67,7 +67,7 @@ class BoardWithClock(Following):
         return self.shown_move.due
 
     def close(self) -> None:
-        """As `Following.close`. The clock shows its times again."""
+        """Like `Following.close`. The clock shows its times again."""
         self.shown_move.end()
         if message := self.shown_move.take(float("inf")):
             self.write(self.follower.send_clock(*message))

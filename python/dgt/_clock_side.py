@@ -10,7 +10,7 @@ from .values import Time, Times
 SIDES = ("left", "right")
 """The sides of a clock. Left is the one that it reports first."""
 _MOST_COUNTED = 60
-"""By how many seconds a side counts at most, from one reading to the next."""
+"""The most seconds that a side counts from one reading to the next."""
 _MOST_SHOWN = 200
 """How many positions are remembered."""
 
@@ -21,18 +21,18 @@ def _seconds(time: Time) -> int:
 
 @dataclass
 class Learner:
-    """Learns which side of a clock is White's, of the sides that count while the board shows each
-    position of a game. A clock may be pressed late, so that most positions decide, and some with
-    each player's turn have to be seen."""
+    """Learns which side of a clock is White's: it notes the side that counts in each position of a
+    game. A player may press the clock late. So the majority of the positions decides, and there
+    must be positions with each player to move."""
 
     counted: dict[str, int] = field(default_factory=dict)
-    """The number of the side that counts, by what the board showed."""
+    """The number of the side that counts, by the letters on the board."""
     turns: dict[int, tuple[bool, int]] = field(default_factory=dict)
-    """After each number of moves whether it was White's turn, and that side."""
+    """After each number of moves: whether White was to move, and the side that counted."""
     before: Times | None = None
 
     def see(self, letters: str, clock: Times | None) -> None:
-        """Notes what the board shows, and its clock."""
+        """Notes the letters on the board, and its clock."""
         before, self.before = self.before, clock
         if clock is None or before is None:
             return
@@ -44,8 +44,7 @@ class Learner:
                 del self.counted[next(iter(self.counted))]
 
     def look_at(self, game: PgnGame) -> None:
-        """Notes whose turn it was in the last two positions of the game, as far as a side was seen
-        to count there."""
+        """Notes the side to move in the last two positions of the game, if a side counted there."""
         states = [(len(game.moves), game.state)]
         states += [(len(game.moves) - 1, game.moves[-1].before)] if game.moves else []
         self.turns |= {ply: (state.white, self.counted[state.letters]) for ply, state in states

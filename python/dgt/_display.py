@@ -1,4 +1,4 @@
-"""What a DGT clock is sent, so that it shows moves."""
+"""Makes a DGT clock show moves."""
 
 from __future__ import annotations
 
@@ -8,9 +8,9 @@ from .names import ClockVersion, Done
 from .values import segment
 
 _ANSWER_WAIT = 2.0
-"""After how many seconds a message that the clock hasn't acknowledged is sent again."""
+"""After this many seconds without an acknowledgement a message is sent again."""
 _VERSION_WAIT = 10.0
-"""How often a clock that didn't answer is asked for its version again."""
+"""The seconds between two requests for the version of a clock that doesn't answer."""
 _WITH_TEXT = 2
 """The first main version of a clock that shows text."""
 _BEEP = 3
@@ -22,8 +22,7 @@ Message = tuple[ClockId, bytes]
 
 
 def message_of(move: str, version: int) -> Message:
-    """Returns the message that makes a clock of this main version show a move, with a short
-    beep."""
+    """Returns the message that makes a clock with this main version show a move and beep."""
     if version >= _WITH_TEXT:
         return ClockId.TEXT, move.ljust(8)[:8].encode() + bytes([_BEEP])
     a, b, c, d, e, f = (_SEGMENTS.get(each) or segment(each) for each in move.ljust(6)[:6])
@@ -31,9 +30,9 @@ def message_of(move: str, version: int) -> Message:
 
 
 class Display:
-    """Decides what the clock is sent, and when: one message at a time, and again until the clock
-    acknowledges it. A clock has to report its version first. Write what `take` returns to the board
-    at the time `due`, and hand over what the clock acknowledges.
+    """Sends messages to the clock, one at a time, and repeats each until the clock acknowledges it.
+    The clock has to report its version first. At the time `due` write the message of `take` to the
+    board, and pass acknowledgements to `acknowledge`.
 
     >>> from dgt._display import Display
     >>> display = Display()
@@ -49,29 +48,28 @@ class Display:
 
     def __init__(self) -> None:
         self._move: str | None = None
-        # Whether the clock hasn't acknowledged yet what it is to show, and whether it may show a
-        # move.
+        # Whether the clock still has to acknowledge, and whether it may show a move.
         self._is_new = self._is_shown = False
         self._version: int | None = None
         self._sent: Message | None = None
         self._sent_at = self._version_at = float("-inf")
 
     def plug(self) -> None:
-        """Notes that the board was opened: its clock isn't known."""
+        """Notes that the port was opened: another clock may be connected."""
         self._version = self._sent = None
         self._sent_at = self._version_at = float("-inf")
         self._is_new = self._move is not None or self._is_shown
 
     def show(self, move: str) -> None:
-        """Has the clock show a move."""
+        """Makes the clock show a move."""
         self._move, self._is_new = move, True
 
     def end(self) -> None:
-        """Has the clock show its times again, if it may show a move."""
+        """Makes the clock show its times again, if it may show a move."""
         self._move, self._is_new = None, self._is_shown
 
     def acknowledge(self, ack: Ack) -> None:
-        """Notes what the clock acknowledges: what it was sent, or something else, as a button."""
+        """Notes an acknowledgement, which may also be of another message or of a button."""
         signal = ack.signal
         if isinstance(signal, ClockVersion):
             self._version, signal = signal.main, Done(ClockId.VERSION)
@@ -83,21 +81,21 @@ class Display:
 
     @property
     def _message(self) -> Message:
-        """What the clock is to be sent."""
+        """The next message for the clock."""
         if self._version is None:
             return ClockId.VERSION, b""
         return message_of(self._move, self._version) if self._move else (ClockId.END, b"")
 
     @property
     def due(self) -> float | None:
-        """The time from which on `take` returns a message."""
+        """The first time at which `take` returns a message."""
         if not self._is_new:
             return None
         again = self._version_at + _VERSION_WAIT if self._version is None else 0.0
         return max(0.0, self._sent_at + _ANSWER_WAIT, again)
 
     def take(self, time: float) -> Message | None:
-        """Returns the message to send at this time, if any. It counts as sent."""
+        """Returns the message to send at this time, if any. It then counts as sent."""
         if self.due is None or time < self.due:
             return None
         self._sent, self._sent_at = self._message, time

@@ -15,34 +15,34 @@ from .following import _DUMP, _has_input
 from .host import Host
 
 PATIENCE = 4.0
-"""For how many seconds an answer is awaited."""
+"""The seconds to wait for an answer."""
 LATE = 1.0
-"""An answer after this number of seconds is late, as a follower has it."""
+"""An answer after this number of seconds is late, also for a follower."""
 LOOK = 0.5
-"""How often a port that has gone is looked for, in seconds."""
+"""The seconds between two looks for a port that has disappeared."""
 LONGEST = 3600.0
 _DRAUGHTS = 103
 _DONE = 0x10
 
 
 class Stopped(Exception):
-    """The person wants no more."""
+    """The person has stopped the examination."""
 
 
 class Person:
-    """Whoever sits at the board, by standard input and output."""
+    """The person at the board, who reads standard output and types lines."""
 
     def __init__(self) -> None:
         self._rest = b""
 
     def say(self, text: str) -> None:
-        """Prints a line. If nobody reads it, the report has it."""
+        """Prints a line. A closed output is ignored: the report contains the same."""
         with contextlib.suppress(OSError):
             print(text, flush=True)
 
     def typed(self, seconds: float = 0.0) -> str | None:
-        """Returns a line that was typed, or is within this time. `Stopped` for `q`, and at the end
-        of the input."""
+        """Returns the next line that the person types within this time, or `None`. `Stopped` for
+        `q`, and at the end of the input."""
         if b"\n" not in self._rest and _has_input(0, seconds):
             self._rest += os.read(0, 4096) or b"q\n"
         line, end, rest = self._rest.partition(b"\n")
@@ -54,13 +54,13 @@ class Person:
         return line.decode(errors="replace").strip().lower()
 
     def forget(self) -> None:
-        """Forgets what was typed by now."""
+        """Drops all lines typed so far."""
         while self.typed() is not None:
             pass
 
 
 class Examination:
-    """A board on a port, what it has sent, and what was found."""
+    """A board on a port, its messages, and the findings."""
 
     def __init__(self, name: str, recorder: Recorder, person: Person, stop: int) -> None:
         """It raises `Stopped` once the descriptor `stop` has something to read. `OSError` if the
@@ -69,7 +69,7 @@ class Examination:
         self.findings, self.held = dict[str, str](), dict[str, tuple[bool, str]]()
         self.facts, self.delays = dict[str, str](), dict[str, list[float]]()
         self.fields = list[tuple[str, str]]()
-        """The squares that were reported, since it was cleared."""
+        """The reported squares since the list was cleared."""
         self._has_missed = self._has_recovered = False
         self._raw, self._queue = b"", deque[Event]()
         self.recorder, self._stop = recorder, stop
@@ -82,18 +82,18 @@ class Examination:
             self.person.say(f"found: {name}{self.findings[name]}: {FINDINGS[name]}")
 
     def hold(self, statement: str, holds: bool, detail: str = "") -> None:
-        """Notes whether a statement held. One that failed once didn't."""
+        """Notes whether a statement held. One failure outweighs all successes."""
         if self.held.get(statement, (True, ""))[0]:
             self.held[statement] = holds, f" ({detail})" if detail else ""
 
     def miss(self) -> None:
-        """Notes that the board didn't report a change, and asks it for changes again."""
+        """Notes that the board didn't report a change, and requests changes again."""
         self._has_missed = True
         self.set_mode(self.mode)
-        self.dump()  # so that it has taken that
+        self.dump()  # its reply shows that the board has read the mode command
 
     def judge(self) -> None:
-        """Notes what only the end shows."""
+        """Adds the findings that depend on the whole examination."""
         self.hold("faults", True)
         if self._has_missed:
             self.find("mode lost" if self._has_recovered else "no updates")
@@ -103,18 +103,18 @@ class Examination:
     # ---- The line
 
     def write(self, chunk: bytes) -> None:
-        """Sends bytes to the board. If the port has gone, `hear` finds it."""
+        """Sends bytes to the board. If the port has disappeared, `hear` raises the `OSError`."""
         if self._port is not None:
             self._port.write(chunk)
 
     def set_mode(self, mode: Ask) -> None:
-        """Asks the board for changes, or for none."""
+        """Sends a mode command."""
         self.mode = mode
         self.write(self.host.send(mode))
 
     def hear(self, until: float, wakes: int | None = None) -> Event | None:
         """Returns the next event, or `None` if there was none until a time, or until `wakes` has
-        something to read. `OSError` if the port has gone."""
+        something to read. `OSError` if the port has disappeared."""
         while not self._queue:
             if self._port is None:
                 raise OSError("the port has gone")
@@ -136,11 +136,11 @@ class Examination:
 
     @property
     def has_more(self) -> bool:
-        """Whether events have come that `hear` hasn't returned yet."""
+        """Whether there are events that `hear` hasn't returned yet."""
         return bool(self._queue)
 
     def open(self) -> bool:
-        """Opens the port again, if it has gone and is there. Returns whether it is open."""
+        """Reopens a port that had disappeared, if it is back. Returns whether it is open."""
         self._check_stop()
         with contextlib.suppress(OSError):
             if self._port is None:
@@ -154,7 +154,7 @@ class Examination:
             raise Stopped
 
     def _note(self, event: Event) -> None:
-        """Notes what an event says of the board."""
+        """Adds the findings of an event."""
         if isinstance(event, Field):
             self.fields.append((event.square, event.piece))
             self._has_recovered = self._has_missed
@@ -165,7 +165,7 @@ class Examination:
             self.find(*self._fault(event))
 
     def _fault(self, event: Event) -> tuple[str, str]:
-        """Returns the finding that a fault is."""
+        """Returns the finding for a fault."""
         if isinstance(event, Refused) and event.fault == Fault.BAD_READING:
             return "clock unreadable", ""
         if not isinstance(event, Refused) or event.fault != Fault.WRONG_SIZE or event.code != _DUMP:
@@ -187,7 +187,7 @@ class Examination:
         return None
 
     def ask(self, question: bytes, kinds: tuple[type[Event], ...], what: str) -> Event | None:
-        """Asks the board, and returns its answer, or `None` if it has none. The time is noted."""
+        """Sends a request, and returns the answer, or `None`. Notes the delay."""
         self.write(question)
         asked = time.monotonic()
         answer = self.await_event(kinds, PATIENCE)
@@ -201,7 +201,7 @@ class Examination:
         return answer
 
     def dump(self) -> Dump | None:
-        """Asks for all squares, three times if what comes is refused."""
+        """Requests all squares, up to three times if the report is refused."""
         for _ in range(3):
             answer = self.ask(self.host.send(Ask.DUMP), (Dump, Refused), "dump")
             if not isinstance(answer, Refused):
@@ -209,15 +209,15 @@ class Examination:
         return None
 
     def begin_anew(self, unfinished: bytes = b"") -> bool:
-        """Sends the new beginning of a follower, after the bytes of an unfinished command. Returns
-        whether the board then reports all squares."""
+        """Sends what a follower sends to start over, after the bytes of an unfinished command.
+        Returns whether the board then reports all squares."""
         self.host.give_up_awaited()
         begins = unfinished + self.host.restart()
         return self.ask(begins, (Dump, Refused), "new beginning") is not None
 
     def send_clock(self, message: bytes, id: ClockId) -> Ack | None:
-        """Sends a message to the clock, three times at most, until it takes it. Returns what the
-        clock acknowledges then."""
+        """Sends a message to the clock, up to three times until it is acknowledged. Returns the
+        acknowledgement."""
         for _ in range(3):
             ack = self.ask(message, (Ack,), f"clock message {id:02x}")
             if isinstance(ack, Ack) and ack.ack[:2] == bytes([_DONE, id]):

@@ -1,35 +1,35 @@
-"""What dgt-doctor may find, what to do about it, and the statements that it tries."""
+"""The possible findings of dgt-doctor, what to do about each, and the statements that it tries."""
 
 FINDINGS = {
-    "silent board": "it answers nothing. Check its power, its cable and the port's name; try "
+    "silent board": "it doesn't answer. Check its power, its cable and the port's name; try "
     "another USB socket",
-    "bus mode": "it answered nothing until it was switched off and on. So most likely another "
-    "program had left it in bus mode, in which it hears only its bus address. Do the same when a "
-    "program says that the board doesn't answer",
-    "draughts board": "its report of all squares is 103 bytes long, as on a draughts board; that "
-    "of a chess board is 67 bytes long. These programs read only chess boards",
-    "wrong size of dump": "its report of all squares isn't 67 bytes long, so no position is known. "
-    "Attach this report to a bug report: the board may be of another kind",
-    "late answers": "an answer took more than a second. Programs take it for lost, and ask again. "
+    "bus mode": "it answered only after it was switched off and on. Most likely another program "
+    "had left it in bus mode, in which it hears only its bus address. Do the same when a program "
+    "says that the board doesn't answer",
+    "draughts board": "its report of all squares is 103 bytes long, like a draughts board's; a "
+    "chess board's is 67 bytes long. These programs read only chess boards",
+    "wrong size of dump": "its report of all squares isn't 67 bytes long, so the position is "
+    "unknown. Attach this report to a bug report: the board may be of another kind",
+    "late answers": "an answer took more than a second. Programs consider it lost, and ask again. "
     "Try another cable or socket, without a hub; bring a Bluetooth board closer",
-    "mode lost": "it stopped reporting changes by itself, and did so again once it was asked to. "
-    "It may have lost its power for a moment: check cable and battery",
-    "no updates": "it doesn't report changes by itself, though it was asked to. Programs see a "
+    "mode lost": "it stopped reporting changes by itself, and started again on request. It may "
+    "have lost its power for a moment: check cable and battery",
+    "no updates": "it doesn't report changes by itself, though this was requested. Programs see a "
     "move only with the next report of all squares",
-    "clock refused": "a clock is connected, and didn't take a message, tried three times. Switch "
-    "the clock on, and choose its mode for a connected board (see the clock's manual)",
+    "clock refused": "a clock is connected, but rejected a message three times. Switch the clock "
+    "on, and choose its mode for a connected board (see the clock's manual)",
     "clock unreadable": "a reading of the clock has no digits. A clock sends it while it is being "
-    "set: end that, and start again",
+    "set: finish that, and start again",
     "altered bytes": "bytes were lost, altered or inserted on the line. Try another cable or "
     "socket, without a hub; end other programs that may read this port",
-    "another board's code": "it sends a message of a code that docs/PROTOCOL.md doesn't describe, "
-    "as a newer board or one of another maker may. Attach this report to a bug report",
+    "another board's code": "it sends a message with a code that docs/PROTOCOL.md doesn't "
+    "describe. It may be a newer board or another maker's. Attach this report to a bug report",
     "new beginning": "it doesn't answer after zeros that complete a half-sent command. If a byte "
     "is lost, switch it off and on. Attach this report to a bug report",
-    "failed steps": "what the board showed isn't what was done. Each step says what to do",
+    "failed steps": "the board didn't show what was done. Each failed step says what to do",
     "port gone": "the port disappeared during the examination. Check the cable, and start again",
 }
-"""What each finding means, and what to do."""
+"""The meaning of each finding, and what to do."""
 
 STATEMENTS = {
     "dump": "42 is answered by all squares, in 67 bytes",
@@ -51,4 +51,4 @@ STATEMENTS = {
     "buttons": "a press of a button is sent as an acknowledgement",
     "faults": "no byte is stray, and no message is cut or refused",
 }
-"""What docs/PROTOCOL.md says of a board, as far as it is tried."""
+"""The statements of docs/PROTOCOL.md about a board that are tried."""

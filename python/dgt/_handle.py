@@ -1,5 +1,5 @@
-"""What a host, a decoder, a reader of commands and a board have in common: memory for the library,
-and a lock, so that one call runs at a time."""
+"""The base of all objects of the library: their memory, and a lock, so that one call runs at a
+time."""
 
 from __future__ import annotations
 
@@ -18,28 +18,27 @@ _Answer = TypeVar("_Answer")
 
 
 def readable(chunk: Bytes) -> tuple[bytes, int]:
-    """Returns the bytes of a chunk and their address, which holds as long as they are kept.
+    """Returns the bytes of a chunk and their address, which is valid while you keep the bytes.
     `TypeError` if the object has no bytes."""
     held = chunk if type(chunk) is bytes else bytes(memoryview(chunk))
     return held, ctypes.cast(ctypes.c_char_p(held), ctypes.c_void_p).value or 0
 
 
 def writable(size: int) -> tuple[bytearray, int]:
-    """Returns memory of `size` bytes and its address, which holds as long as the memory is kept."""
+    """Returns memory of `size` bytes and its address, which is valid while you keep the memory."""
     room = bytearray(size)
     return room, ctypes.addressof((c_char * size).from_buffer(room))
 
 
 class Uncopied:
-    """An object that can't be copied or pickled: a copy would share a part of it."""
+    """An object that can't be copied or pickled: a copy would share its state."""
 
     def __reduce__(self) -> NoReturn:
         raise TypeError(f"a {type(self).__name__} can't be copied")
 
 
 class Handle(Uncopied):
-    """An object of the library in memory that Python owns. It ends when `close` is called, or when
-    nothing refers to it."""
+    """An object of the library in memory that Python owns, until `close` or its deletion."""
 
     _prefix: str
     _lock: threading.RLock
@@ -57,8 +56,8 @@ class Handle(Uncopied):
         self._at = ctypes.addressof(self._room)
 
     def _call(self, use: Callable[..., _Answer], *arguments: Any) -> _Answer:
-        """Returns what `use` returns for the object's address and these arguments, while no other
-        call runs. `Nested` within a call of the same thread, `Closed` if the object is closed."""
+        """Calls `use` with the object's address and these arguments while no other call runs.
+        `Nested` within a call of the same thread, `Closed` if the object is closed."""
         with self._lock:
             if self._running or not self._at:
                 self._refuse()
@@ -80,8 +79,8 @@ class Handle(Uncopied):
 
     def close(self) -> None:
         """Ends the object. Each later call raises `Closed`, except `close` and `with`, which do
-        nothing then. An earlier iterator that has bytes left to read raises `Closed` too. A call
-        that is under way runs to its end: in another thread `close` waits for it."""
+        nothing. An earlier iterator that has bytes left to read raises `Closed` too. `close` waits
+        for a call in another thread."""
         with self._lock:
             self._at = 0
 

@@ -1,4 +1,4 @@
-"""The shared library, with the calls that dgt.h declares."""
+"""Loads the shared library, and declares the calls of dgt.h."""
 
 from __future__ import annotations
 
@@ -12,8 +12,8 @@ from ._version import SONAME
 
 
 def _place() -> str:
-    """Returns the library's path: what DGT_LIBRARY names, or else the one beside this file, or else
-    the one in the source tree, or else the system's."""
+    """Returns the first of these libraries: the one that DGT_LIBRARY names, the one in this folder,
+    the source tree's, the system's."""
     here = Path(__file__).resolve().parent
     places = [here / "libdgt.so", here.parent.parent / "lib" / "out" / "libdgt.so"]
     found = [str(place) for place in places if place.exists()]
@@ -21,24 +21,24 @@ def _place() -> str:
 
 
 def _load() -> ctypes.CDLL:
-    """Loads the library. `ImportError` if there is none, if it is another library, or if Python is
-    not CPython, on which this package relies for the address of an object's bytes."""
+    """Loads the library. `ImportError` if it is missing or another library, or if Python isn't
+    CPython: the package needs the address of an object's bytes."""
     if sys.implementation.name != "cpython":
         raise ImportError(f"the package dgt needs CPython: this is {sys.implementation.name}")
     place = _place()
     try:
         library = ctypes.CDLL(place)
     except OSError as fault:
-        raise ImportError(f"the library of the package dgt can't be loaded: {fault}. lib/build "
-                          "makes it, and DGT_LIBRARY names one in another place") from fault
-    another = f"{place} is another library than that of the package dgt"
+        raise ImportError(f"the library of the package dgt can't be loaded: {fault}. Make it with "
+                          "lib/build, or name it in DGT_LIBRARY") from fault
+    another = f"{place} is another library, not that of this package dgt"
     try:
         _declare(library)
     except AttributeError as fault:
         raise ImportError(f"{another}: {fault}") from fault
     sizes = {prefix: getattr(library, f"{prefix}_size")() for prefix in SIZES}
     if sizes != SIZES:
-        raise ImportError(f"{another}: its sizes are {sizes}, and not {SIZES}")
+        raise ImportError(f"{another}: its sizes are {sizes} instead of {SIZES}")
     return library
 
 

@@ -1,4 +1,4 @@
-"""The boards of `dgt-livechess`, and the games that are played on them."""
+"""The boards of `dgt-livechess`, and the games on them."""
 
 from __future__ import annotations
 
@@ -18,11 +18,11 @@ from .values import Position, Time, Times
 
 Json = dict[str, Any]
 _MOST_WRONG = 8
-"""How many squares differ at most from what the board should show, so that they are named."""
+"""A hint names at most this number of wrong squares."""
 
 
 class Game:
-    """A game on a board: what a recogniser makes of it, and the moves from now on."""
+    """A game on a board: a recogniser, and the moves from now on."""
 
     def __init__(self, recogniser: MoveRecogniser) -> None:
         self.recogniser = recogniser
@@ -34,22 +34,22 @@ class Game:
         self._texts = [""] * len(self._given)
 
     def set_up(self, state: GameState) -> None:
-        """The game goes on from this state, once the board has shown it."""
+        """Continues the game from this state, once the board has shown it."""
         self._set_up = state
         self.recogniser.go_on(state)
         self._note()
 
     @property
     def moves(self) -> list[str] | None:
-        """The moves since then, in short notation. `None` if the board hasn't shown yet what was
-        set up, or no game has begun, or moves are taken back that were made before."""
+        """The moves since then, in short notation. `None` before the board has shown the position
+        that was set up, before a game, or if earlier moves were taken back."""
         count = len(self._given)
         is_on = self.recogniser.moves[:count] == self._given
         return self._texts[count:] if self.recogniser.state is not None and is_on else None
 
     def hint(self, letters: str) -> str:
-        """Returns what to put where on a board that shows these letters, so that the game goes on.
-        Nothing if it goes on, or the board shows too much else."""
+        """Returns which pieces to put where so that the game goes on. An empty text if it does, or
+        if too many squares differ."""
         recogniser = self.recogniser
         state = self._set_up if self.moves is None else recogniser.state
         if state is None or recogniser.pending or recogniser.unconfirmed or recogniser.due:
@@ -60,14 +60,14 @@ class Game:
         return "" if state.letters in ways else next(filter(None, told), "")
 
     def see(self, view: BoardView, now: float) -> None:
-        """Notes what the board shows."""
+        """Notes a view of the board."""
         if view.in_doubt or view.picture is None:
             self.recogniser.hold()
         else:
             self._take(self.recogniser.see(view.picture, now, view.confirmed))
 
     def wait(self, now: float) -> None:
-        """Notes that the board shows until this time what it showed last."""
+        """Notes that the board hasn't changed until this time."""
         self._take(self.recogniser.wait(now))
 
     def _take(self, events: list[MoveEvent]) -> None:
@@ -85,34 +85,34 @@ class Game:
             self._given = self.recogniser.moves
 
     def _is_set_up(self) -> bool:
-        """Whether the game has come to what was set up, or nothing was."""
+        """Whether the game has reached the state that was set up, if one was."""
         state, given = self._state, self._set_up
         return state is not None and (given is None or (state.letters, state.white) == (
             given.letters, given.white))
 
 
 class Watcher(Protocol):
-    """What looks at a board after each change, and has a game there."""
+    """Watches a board, and has a game on it."""
 
     game: Game
 
     def is_of(self, board: Board) -> bool:
-        """Whether this is still the board that it is to watch."""
+        """Whether it still watches this board."""
 
     def look(self) -> None:
-        """The board has changed, or it may have."""
+        """Called after each possible change of the board."""
 
 
 class Board:
-    """A board that clients may watch. It is for a loop of asyncio."""
+    """A board that clients may watch, in a loop of asyncio."""
 
     def __init__(self, name: str, source: str) -> None:
         self.name, self.source = name, source
         self.rank: tuple[int, str] = (0, "")
-        """Its place in a list of boards; those of equal rank keep their order."""
+        """Sorts the list of boards."""
         self.view = BoardView()
         self.own = Game(MoveRecogniser())
-        """The game that is recognised without a client."""
+        """The game that is recognised for no client."""
         self.watchers: list[Watcher] = []
         self._clock_at, self._doubted_at, self._said = 0.0, float("-inf"), ""
         self._hint_at: float | None = None
@@ -121,37 +121,36 @@ class Board:
 
     @property
     def serial(self) -> str:
-        """The board's own number, or its name."""
+        """The board's serial number, or its name."""
         return self.view.serial or self.name
 
     @property
     def games(self) -> list[Game]:
-        """The games that are recognised on it."""
         return [self.own, *(each.game for each in self.watchers if each.is_of(self))]
 
     @property
     def pending(self) -> tuple[str, bool] | None:
-        """A move that clients have set up and the board hasn't shown yet, and whether the board is
+        """A move that a client has set up and the board hasn't shown yet, and whether the board is
         turned."""
         return next(((move, game.recogniser.turned) for game in self.games
                      if (move := game.recogniser.pending)), None)
 
     def new_game(self) -> Game:
-        """Returns a game for a client, which goes on from what is known of the board."""
+        """Returns a game for a client, which continues the game on the board."""
         return Game(copy.copy(self.own.recogniser))
 
     def set_up(self, game: Game, state: GameState) -> None:
-        """Has a game go on from this state."""
+        """Continues a game from this state."""
         now = time.monotonic()
         self._hint_at = now + _HINT_WAIT
         game.set_up(state)
         if game in self.games:  # else another board is on the port now
             game.see(self.view, now)
 
-    # ---- What is known of it
+    # ---- Its views
 
     def see(self, view: BoardView) -> None:
-        """Notes what is known from now on."""
+        """Notes a view of the board."""
         now = time.monotonic()
         if view.clock != self.view.clock:
             self._clock_at = time.time()
@@ -170,13 +169,13 @@ class Board:
             self._say(view.away or f"following the board {self.serial}")
 
     def _say(self, text: str) -> None:
-        """Prints how it is, if that is new."""
+        """Prints the board's state if it has changed."""
         if text != self._said:
             say(f"{self.source}: {text}")
         self._said = text
 
     def _hint(self) -> None:
-        """Says what to put where for a game of a client to go on, if that is new."""
+        """Prints a new hint for the game of a client."""
         picture, self._hint_at = self.view.picture, None
         hints = [game.hint(picture.letters) for game in self.games[1:]
                  ] if picture is not None and not self.view.in_doubt else []
@@ -186,7 +185,7 @@ class Board:
         self._hinted = hint
 
     def turn(self) -> None:
-        """Does what is due, has each watcher look, and comes back when something will be due."""
+        """Does everything due, makes each watcher look, and schedules the next call."""
         now = time.monotonic()
         for game in self.games:
             game.wait(now)
@@ -197,7 +196,6 @@ class Board:
         self._turn_at(self._dues())
 
     def _dues(self) -> Iterable[float | None]:
-        """Returns the times at which something is due."""
         return [self._hint_at, *(game.recogniser.due for game in self.games)]
 
     def _turn_at(self, dues: Iterable[float | None]) -> None:
@@ -207,13 +205,12 @@ class Board:
         self._timer = None if due is None else asyncio.get_running_loop().call_at(due, self.turn)
 
     def close(self) -> None:
-        """Ends it."""
         self._turn_at([])
 
-    # ---- What clients are sent
+    # ---- Its messages to clients
 
     def shown(self, game: Game) -> str | None:
-        """Returns the placement of the pieces, as White sees the board."""
+        """Returns the placement of the pieces, from White's point of view."""
         if self.view.picture is None:
             return None
         letters = self.view.picture.letters
@@ -221,7 +218,7 @@ class Board:
 
     @property
     def clock(self) -> Json | None:
-        """The clock, if there is one. The side that it reports first is taken for White's."""
+        """The clock, if there is one. Its left side counts as White's."""
         clock = self.view.clock
         if not isinstance(clock, Times):
             return None
@@ -230,7 +227,7 @@ class Board:
                 "time": round(1000 * self._clock_at)}
 
     def listed(self) -> Json:
-        """What the list of boards says of it."""
+        """Its entry in the list of boards."""
         view = self.view
         state = ("NOTRESPONDING" if view.silent else "INACTIVE" if view.away or not view.picture
                  else "DELAYED" if view.in_doubt else "ACTIVE")
@@ -239,7 +236,7 @@ class Board:
                 "clock": self.clock}
 
     def event(self, game: Game) -> Json:
-        """What a feed says of it, and of a game on it."""
+        """The message of a feed about it, with a game on it."""
         shown, state, moves = self.shown(game), game.recogniser.state, game.moves
         match = (state is not None and moves is not None
                  and str(Position.of_letters(state.letters)) == shown)

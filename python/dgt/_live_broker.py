@@ -18,9 +18,9 @@ from .values import Clock, NoClock, Position, Time, Times
 
 _MOST_BOARDS = 1024
 _MOST_BYTES = 500
-"""How long a message may be."""
+"""The greatest length of a message."""
 _TOPICS = [("boards/+/state", 1), ("boards/+/confirmed", 1), ("boards/+", 1), ("boards/+/clock", 1)]
-"""What is subscribed to. A new subscriber gets the last message of each, in this order."""
+"""A new subscriber gets the last message of each topic, in this order."""
 _AWAY = {"silent": following._SILENT, "gone": following._GONE,
          "ended": "nobody publishes the board any more", "unheard": "the broker has gone"}
 _CLOCK = re.compile(r"clock (\d+):(\d+):(\d+) (\d+):(\d+):(\d+) (running|stopped) (\S+)( low)?"
@@ -30,8 +30,8 @@ _TURNS = {"white": 0x10, "black": 0x08}
 
 
 def read_clock(text: str) -> Clock:
-    """Returns what a clock shows, of a text such as `clock 1:30:00 1:29:55 running white`, or else
-    `NoClock`. `BadValue` if a number is too great."""
+    """Reads a text such as `clock 1:30:00 1:29:55 running white`; any other is a `NoClock`.
+    `BadValue` if a number is too great."""
     if not (found := _CLOCK.fullmatch(text)):
         return NoClock()
     words = found[10].split()
@@ -43,7 +43,7 @@ def read_clock(text: str) -> Clock:
 
 
 class BrokerBoard(Board):
-    """A board that is published. Its name there stands for its serial number."""
+    """A published board. Its name replaces the serial number."""
 
     def __init__(self, name: str) -> None:
         super().__init__(name, f"boards/{name}")
@@ -51,8 +51,8 @@ class BrokerBoard(Board):
         self._texts = dict.fromkeys(("", "confirmed", "clock", "state"), "")
 
     def note(self, topic: str, text: str) -> None:
-        """Notes a message of one of its topics, without the count of bytes before it. `BadValue` if
-        it has no meaning there."""
+        """Notes a message of one of its topics, without the number of bytes at its beginning.
+        `BadValue` if it isn't valid for this topic."""
         texts = {**self._texts, topic: text}
         picture = Position.parse(texts[""]) if texts[""] else None
         view = BoardView(picture, read_clock(texts["clock"]), texts["state"] != "following",
@@ -63,8 +63,8 @@ class BrokerBoard(Board):
 
 
 class Broker:
-    """Hears a broker in a thread of its own, and hands the loop what it says. It is connected
-    again if it goes."""
+    """Receives a broker's messages in a separate thread, and passes them to the loop. It reconnects
+    by itself."""
 
     def __init__(self, boards: list[Board], host: str, port: int, user: str | None) -> None:
         """`SystemExit` if a module is missing."""
@@ -76,7 +76,7 @@ class Broker:
         self._place, self._said, call = f"{host} port {port}", "", self._call
         versions = getattr(mqtt, "CallbackAPIVersion", None)
         client = mqtt.Client(*([versions.VERSION2] if versions else []))
-        client.suppress_exceptions = True  # one of a callback would end the thread
+        client.suppress_exceptions = True  # an exception in a callback would end the thread
         client.reconnect_delay_set(1, 2)
         client.on_connect = lambda _client, _data, _flags, refused, *_: call(
             self._connected, client, "" if refused == 0 else str(refused))
@@ -95,7 +95,7 @@ class Broker:
             self._loop.call_soon_threadsafe(function, *words)
 
     def _say(self, text: str) -> None:
-        """Prints how the broker is, if that is new."""
+        """Prints the broker's state if it has changed."""
         if text != self._said:
             say(f"the broker at {self._place} {text}")
         self._said = text
@@ -108,7 +108,7 @@ class Broker:
         if self._said == "is there":
             self._say("has gone; it is tried again until it answers")
         for board in self._known.values():
-            board.note("state", "unheard")  # it says what it is once it is back
+            board.note("state", "unheard")  # until the broker sends the state again
 
     def _hear(self, topic: str, payload: bytes) -> None:
         _, name, *below = topic.split("/")

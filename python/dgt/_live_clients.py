@@ -1,7 +1,8 @@
-"""The clients of `dgt-livechess`, and the messages that they and the server exchange.
+"""The clients of `dgt-livechess`, and the messages between them and the server.
 
 Each text message of the WebSocket ws://localhost:1982/api/v1.0 is one JSON object. A client calls,
-and the server responds; after `subscribe` it also sends a message at once and after each change:
+and the server responds. After `subscribe` the server also sends a message at once and after each
+change:
 
     {"id":1,"call":"eboards"}
     {"response":"call","id":1,"param":[{"serialnr":"12345","state":"ACTIVE",..}],"time":..}
@@ -14,38 +15,40 @@ and the server responds; after `subscribe` it also sends a message at once and a
     {"response":"error","id":..,"param":TEXT,..}
 
 `serialnr` is the board's number, or the name of its port before the number is known; `subscribe`
-also takes the path of the port, as `source` has it. A feed that names a board by its number stays
-with it at another port. `board` is null until the board has reported its squares, and while another
-board is on its port.
+also takes the path of the port, which `source` contains. A feed that names a board by its number
+follows it to another port. `board` is null until the board has reported its squares, and while
+another board is on its port.
 
-Each feed has a game of its own, which begins without moves. `setup` begins a new list of moves:
+Each feed has its own game, which begins without moves. `setup` begins a new list of moves:
 
 - If the game has reached this position, or one a move before it, its moves so far stay known. If
   they are taken back, there is no `san` until the board shows the position again.
-- Else the position is awaited, also on a turned board. Until then there is no `san`.
-- If the board shows for a second what one or two legal moves lead to, the list has these moves:
-  they were made while the page or the program was away. After the program was restarted the second
-  one has to be a capture, a pawn's move or castling: else the board may lack the site's last two.
+- Otherwise the game waits for the position, also on a turned board. Until then there is no `san`.
+- If the board shows for a second a position that one or two legal moves lead to, the list contains
+  these moves: they were made while the page or the program was away. After a restart of the program
+  the second one has to be a capture, a pawn's move or castling: otherwise the site's last two moves
+  may be missing on the board.
 
-The maker's description of the interface was not at hand: this is from knowledge of it, and of the
-code of lichess.org. Sure are:
+The maker's description of the interface was not available: this is from knowledge of it, and of the
+code of lichess.org. These are certain:
 
 - path, port, calls and their parameters, `response`, `id`, and that `serialnr` is a text
-- `board` as White sees it, and `time` in milliseconds since 1970
-- `state` ACTIVE or INACTIVE (the port is away)
-- that `san` has all moves since `setup`, and gets shorter if moves are taken back
+- `board` from White's point of view, and `time` in milliseconds since 1970
+- `state` ACTIVE or INACTIVE (the port is disconnected)
+- that `san` contains all moves since `setup`, and gets shorter if moves are taken back
 
 The names `flipped` (White's pieces began on the ranks 8 and 7), `source`, `battery` and `comment`
-(null) are fairly sure. Not sure are:
+(null) are likely. These are uncertain:
 
 - when `san` is empty and when absent, and whether `board` turns with the board
 - the meaning of `match`: here, that the board shows the position after `san`
 - `state` DELAYED (in doubt) or NOTRESPONDING
 - `clock`: `white` and `black` in seconds, `run`, `time`; lichess.org doesn't read it
-- the form of errors, which other calls, feeds and methods get
+- the form of errors, which are the reply to other calls, feeds and methods
 
-A site that may not connect gets the status 403. A client that is one too many, or doesn't read its
-messages, is closed with the code 1013, and one with too long a message with 1009.
+A site that may not connect gets the status 403. A connection is closed with the code 1013 if there
+are too many clients or the client doesn't read its messages. The code is 1009 after a message that
+is too long.
 """
 
 from __future__ import annotations
@@ -63,17 +66,17 @@ from .rules import GameState
 
 _MOST_FEEDS, _MOST_WAITING = 8, 256
 _MOST_ID = 100
-"""How many characters an id has at most."""
+"""The most characters of an id."""
 TRY_LATER = 1013
-"""The code with which a connection is closed that is one too many, or reads nothing."""
+"""The close code for too many clients, and for a client that reads nothing."""
 
 
 class Refused(Exception):
-    """A call can't be done."""
+    """A call that can't be performed."""
 
 
 class Feed:
-    """What a client is sent of a board."""
+    """Sends a client the changes of a board."""
 
     def __init__(self, client: Client, number: int | str, serial: str, board: Board) -> None:
         self.number, self.serial, self.board = number, serial, board
@@ -84,11 +87,11 @@ class Feed:
         self._last: Json = {}
 
     def is_of(self, board: Board) -> bool:
-        """Whether this is still the board of its number: another one may be on its port."""
+        """Whether this is still the board with its number: another one may be on its port."""
         return not self._is_by_number or board.view.serial == self.serial
 
     def _find(self) -> None:
-        """Goes to the port on which the board is now."""
+        """Follows the board to its present port."""
         boards = self._client.boards_of(self.serial)
         if boards and self.board not in boards:
             [board, *_] = boards
@@ -99,7 +102,7 @@ class Feed:
             asyncio.get_running_loop().call_soon(board.turn)
 
     def look(self) -> None:
-        """Sends what is known of the board, if that is new."""
+        """Sends the state of the board if it has changed."""
         if self._is_by_number and (self.board.view.away or not self.is_of(self.board)):
             self._find()
         known = self.board.event(self.game) if self.is_of(self.board) else {
@@ -110,12 +113,12 @@ class Feed:
             self._client.send("feed", self.number, event)
 
     def set_up(self, state: GameState) -> None:
-        """The game goes on from this state. What is known then is sent in any case."""
+        """Continues the game from this state, and sends the result even if nothing has changed."""
         self.board.set_up(self.game, state)
         self._last = {}
 
     def close(self) -> None:
-        """Nothing more is sent."""
+        """Ends the feed."""
         self.board.watchers.remove(self)
 
 
@@ -129,7 +132,7 @@ class Client:
         self._closing: asyncio.Task[None] | None = None
 
     def send(self, response: str, number: object, param: object) -> None:
-        """Has a message sent. If too many wait already, the client doesn't read, and is left."""
+        """Queues a message. If the queue is full, the client doesn't read: disconnects it."""
         message = {"response": response, "id": number, "param": param,
                    "time": round(1000 * time.time())}
         try:
@@ -141,12 +144,12 @@ class Client:
                     self._socket.close(TRY_LATER, "too many messages wait"))
 
     def close_feeds(self) -> None:
-        """Nothing is sent of boards any more."""
+        """Ends all feeds."""
         while self._feeds:
             self._feeds.popitem()[1].close()
 
     async def serve(self) -> None:
-        """Answers the client until it goes."""
+        """Answers the client until it disconnects."""
         sending = asyncio.create_task(self._send_all())
         try:
             async for text in self._socket:
@@ -163,7 +166,7 @@ class Client:
                 await self._socket.send(await self._waiting.get())
 
     def _hear(self, text: str | bytes) -> None:
-        """Does what a message asks for."""
+        """Performs the call in a message."""
         number = None
         try:
             asked = json.loads(text)
@@ -191,48 +194,48 @@ class Client:
             case "call":
                 self._set_up(self._feed(param), param["method"], param.get("param") or {})
             case _:
-                raise Refused(f"no call {call!r}")
+                raise Refused(f"unknown call: {call!r}")
         return None
 
     def _named(self) -> dict[str, Board]:
-        """Returns the boards by their numbers, first those that are there: clients may take the
-        first. Those of a broker have the order of their names. If two have the same number, the
-        second has its source in place of it."""
+        """Returns the boards by their numbers, connected ones first: clients may take the first.
+        Those of a broker are sorted by name. If two have the same number, the second one is listed
+        by its source."""
         named = dict[str, Board]()
         for board in sorted(self._boards, key=lambda each: (bool(each.view.away), each.rank)):
             named[board.source if board.serial in named else board.serial] = board
         return named
 
     def boards_of(self, serial: str) -> list[Board]:
-        """Returns the boards with this number that are there."""
+        """Returns the connected boards with this number."""
         return [board for board in self._boards
                 if board.view.serial == serial and not board.view.away]
 
     def _subscribe(self, number: int | str | None, feed: object, param: Json) -> None:
         serial, named = param.get("serialnr"), self._named()
         if feed != "eboardevent":
-            raise Refused(f"no feed {feed!r}")
+            raise Refused(f"unknown feed: {feed!r}")
         if number is None:
-            raise Refused("no id")
+            raise Refused("the id is missing")
         if number in self._feeds:
-            raise Refused(f"another feed has the id {number!r}")
+            raise Refused(f"a feed with the id {number!r} exists already")
         if len(self._feeds) >= _MOST_FEEDS:
             raise Refused(f"there are {_MOST_FEEDS} feeds already")
         board = named.get(str(serial)) or next(
             (each for each in self._boards if serial in (each.name, each.source)), None)
         if board is None:
-            raise Refused(f"no board {serial!r}")
+            raise Refused(f"unknown board: {serial!r}")
         self._feeds[number] = Feed(self, number, str(serial), board)
         board.watchers.append(self._feeds[number])
 
     def _feed(self, param: Json) -> Feed:
         if (feed := self._feeds.get(param["id"])) is None:
-            raise Refused(f"no feed of id {param['id']!r}")
+            raise Refused(f"no feed has the id {param['id']!r}")
         return feed
 
     def _set_up(self, feed: Feed, method: object, param: Json) -> None:
         if method != "setup":
-            raise Refused(f"no method {method!r}")
+            raise Refused(f"unknown method: {method!r}")
         try:
             feed.set_up(GameState.parse(param["fen"]))
         except BadFen as wrong:
@@ -240,7 +243,7 @@ class Client:
 
 
 def _read_id(held: object) -> int | str | None:
-    """Returns an id. `Refused` if it is none."""
+    """Returns an id. `Refused` if it isn't one."""
     if held is None or isinstance(held, (int, str)) and len(str(held)) <= _MOST_ID:
         return held
-    raise Refused("an id is a number or a short text")
+    raise Refused("an id must be a number or a short text")

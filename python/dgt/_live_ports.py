@@ -17,20 +17,20 @@ from .serial_ports import SerialPort, ports
 from .values import SQUARES, Position, square_number
 
 _PERIOD = 2.0
-"""How often a board is asked for all squares and its clock, in seconds."""
+"""The seconds between two requests for all squares and the clock."""
 _LOOK = 2.0
-"""How often ports are looked for, in seconds."""
+"""The seconds between two looks for ports."""
 _NUMBER_WAIT = 5.0
-"""For how long a board that comes back may be another one, if it doesn't report its number."""
+"""The seconds for which a board that comes back and reports no number may be another one."""
 _AT_ONCE = 64
-"""How many changes of a board are taken before others have their turn."""
+"""The most changes of a board that are handled before other boards have their turn."""
 
 
 class PortBoard(Board):
     """A board on a serial port. Its clock and its lights may show the other side's move."""
 
     def __init__(self, port: str, has_clock: bool, has_lights: bool) -> None:
-        """`OSError` if the port is a file that is no serial port."""
+        """`OSError` if the file isn't a serial port."""
         super().__init__(os.path.basename(port), port)
         self._has_clock, self._has_lights = has_clock, has_lights
         self._line = BoardWithClock(port, _PERIOD, Mode.UPDATE_NICE, identify=True)
@@ -55,7 +55,7 @@ class PortBoard(Board):
         super().turn()
 
     def _identified(self, view: BoardView, now: float) -> BoardView:
-        """Returns a view, in doubt while the board that has come back may be another one."""
+        """Returns the view, in doubt while the board that has come back may be another one."""
         if view.away is not None:
             self._back_at = now
         is_known = view.serial is None or self._line.follower.serial is not None
@@ -71,7 +71,7 @@ class PortBoard(Board):
         return [*super()._dues(), late, self._line.due_at, self._line.tend_clock(now)]
 
     def _show(self, pending: tuple[str, bool] | None) -> None:
-        """Shows a move, or no move any more."""
+        """Shows a move, or none."""
         move, is_turned = pending or ("", False)
         if self._has_clock and move:
             self._line.shown_move.show(move)
@@ -83,7 +83,7 @@ class PortBoard(Board):
                               for each in squares))
 
     def _watch(self, descriptor: int | None) -> None:
-        """Has the loop call `turn` once the board says something. The port may be another one."""
+        """Makes the loop call `turn` when the board sends something. The port may have changed."""
         loop = asyncio.get_running_loop()
         if self._descriptor is not None and self._descriptor != descriptor:
             loop.remove_reader(self._descriptor)
@@ -98,20 +98,20 @@ class PortBoard(Board):
 
 
 def is_likely(port: SerialPort) -> bool:
-    """Returns whether a port is likely a board's, by its USB device: it names DGT, or is FTDI's
-    converter, as the boards' rule of udev has it."""
+    """Returns whether a port is likely a board's: its USB device names DGT, or is the FTDI
+    converter that the udev rule for boards names."""
     return port.usb_id == "0403:6001" or any(
         "DGT" in name for name in (port.vendor, port.product) if name)
 
 
 async def look_for_ports(boards: list[Board], has_clock: bool, has_lights: bool) -> None:
-    """Follows each port that is likely a board's, also one that comes later."""
+    """Follows each port that is likely a board's, also one that is plugged in later."""
     known, is_said = set[str](), False
     while True:
         for port in ports():
             if port.path not in known and is_likely(port):
                 known.add(port.path)
-                with contextlib.suppress(OSError):  # it is no serial port
+                with contextlib.suppress(OSError):  # it isn't a serial port
                     boards.append(PortBoard(port.path, has_clock, has_lights))
         if not known and not is_said:
             say("no board yet (plug it in, or name its port: `python3 -m dgt ports` lists them)")

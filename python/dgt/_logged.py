@@ -21,48 +21,48 @@ from .values import SQUARES, Position, Time, Times
 _LOG = 0x0F
 """The code of a message with the log."""
 _BEGINS = bytes(255) + b"\x40"
-"""What ends an unfinished command, and has the board report nothing else."""
+"""Ends an unfinished command, and stops all other reports."""
 SILENCE = 5.0
-"""After how many seconds without a byte the board is taken not to send a log, or no more of it."""
+"""After this many seconds without a byte the board sends no log, or has sent all of it."""
 _AFTER = 1.0
-"""The same once a message with a part of the log is whole: another may follow."""
+"""The same once a message with a part of the log is complete: another may follow."""
 _LONGEST = 60.0
-"""For how many seconds a message with the log is awaited at most. The longest one takes 17."""
+"""The most seconds for a message with the log. The longest one takes 17."""
 _LOOK = 0.1
-"""How often it is looked whether the program is to end, in seconds."""
+"""The seconds between two looks for a signal."""
 _TRIES = 3
 _SLID, _STEP, _LONG_STEP, _REST = 0.1, 0.4, 1.0, 4.0
-"""For how many seconds a position is taken to rest before the piece that was just put is lifted
-again, before any other change or a time, the same if moves lead to the position and none is taken
-back, and before the end of what is known of the board."""
+"""The assumed rest of a position, in seconds: before the piece that was put down last is lifted
+again; before any other change or a time; the same if moves lead to the position and none is taken
+back; before the position becomes unknown."""
 _WHY = {Mark.POWER_UP: "broken off: the board was switched on after this",
-        Mark.WATCHDOG: "broken off: the board began anew after this", Mark.END: ""}
-_GAP = "broken off: the log lacks what was moved after this"
-_UNTOLD = "no moves lead to what the log has after this"
+        Mark.WATCHDOG: "broken off: the board restarted after this", Mark.END: ""}
+_GAP = "broken off: the log lacks moves after this"
+_UNTOLD = "no moves lead to the positions in the log after this"
 _MOST_UNKNOWN = 20
 _STARTS = {Mark.BEGIN: Position.start().letters, Mark.TURNED_BEGIN: Position.start().letters[::-1],
            Mark.EMPTY_BOARD: "." * 64}
 _HOMES = frozenset((at, letter) for letters in _STARTS.values()
                    for at, letter in enumerate(letters))
-"""What pieces that are put away leave on squares."""
+"""The pieces of the first positions, by square: put there, they may be set up for another game."""
 
 
-# ---- Asking for it
+# ---- Requesting it
 
 
 class NoLog(Exception):
-    """The board has sent no whole log. The text says what to do."""
+    """The board hasn't sent a complete log. The text says what to do."""
 
 
 class Stopped(Exception):
-    """A signal ended the program meanwhile."""
+    """A signal has stopped the program."""
 
 
 def ask_for_log(name: str, stop: int) -> bytes:
-    """Returns what the board on a port has stored: the bodies of its messages, in their order. If
-    the line alters or loses bytes the board is asked three times. `NoLog` if it sends no log,
+    """Returns the log of the board on a port: the bodies of its messages, in order. If the line
+    alters or loses bytes, the log is requested up to three times. `NoLog` if the board sends none,
     `Stopped` once the descriptor has something to read, `OSError` if the port can't be opened or
-    goes."""
+    disappears."""
     port = Port(name, stop)
     try:
         for _ in range(_TRIES):
@@ -71,12 +71,12 @@ def ask_for_log(name: str, stop: int) -> bytes:
                 return body
     finally:
         port.close()
-    raise NoLog(f"the line altered or lost bytes, in each of {_TRIES} tries: {fault}. Try another "
-                "cable or socket, without a hub")
+    raise NoLog(f"the line altered or lost bytes in each of {_TRIES} attempts: {fault}. Try "
+                "another cable or socket, without a hub")
 
 
 def _heard(port: Port, stop: int) -> tuple[bytes, str]:
-    """Asks for the log. Returns it, and what was seen to be wrong with it."""
+    """Requests the log. Returns it, and the fault that was noticed, if any."""
     decoder, bodies, fault = Decoder(), list[bytes](), ""
     port.write(_BEGINS + STORED_REQUEST)
     begun = heard = now = time.monotonic()
@@ -85,7 +85,7 @@ def _heard(port: Port, stop: int) -> tuple[bytes, str]:
             chunk = port.exchange(_LOOK)
         except OSError:
             if bodies and not decoder.rest:
-                break  # it has gone after all was heard
+                break  # the log was complete
             raise
         if _has_input(stop, 0.0):
             raise Stopped
@@ -103,7 +103,7 @@ def _heard(port: Port, stop: int) -> tuple[bytes, str]:
         fault = fault or f"a message was cut off after {decoder.rest} bytes"
     if not bodies and not fault:
         raise NoLog(f"the board sent no log within {SILENCE:g} seconds. Not every board keeps one. "
-                    "Switch it off and on, and try again; dgt-doctor finds out whether it answers")
+                    "Switch it off and on, and try again; dgt-doctor checks whether it answers")
     return b"".join(bodies), fault
 
 
@@ -111,8 +111,8 @@ def _heard(port: Port, stop: int) -> tuple[bytes, str]:
 
 
 class LoggedGames:
-    """Makes games of what a log says. `tell` gets each line, as of `Games`, and `warn` what one
-    should know. A clock's side is as that of `Games`. `games` has those with a move or a result."""
+    """Makes games from a log. `tell`, `warn` and `white_clock` are those of `Games`. `games` lists
+    the games with a move or a result."""
 
     def __init__(self, tell: Callable[[str], None], warn: Callable[[str], None],
                  tags: dict[str, str], white_clock: str) -> None:
@@ -121,17 +121,17 @@ class LoggedGames:
         self._tags = {"Date": "????.??.??", **tags}
         self._keeper: Games | None = None
         self._game: PgnGame | None = None
-        self._letters = ""  # what stands on the squares, if that is known
-        self._put = -1  # the square on which a piece was put last
+        self._letters = ""  # the pieces on the squares, or "" if unknown
+        self._put = -1  # the square where a piece was put down last
         self._is_put = self._is_untold = False
         self._now = self._shown_at = 0.0
-        self._left = list[Time | None]([None, None])  # of each side of the clock, if it is known
+        self._left = list[Time | None]([None, None])  # the time of each side of the clock
         self._begun_with: Sequence[Time | None] = self._left[:]
         self._learner = Learner()
         self._outside, self._unknown = list[int](), list[str]()
 
     def read(self, body: bytes) -> None:
-        """Makes the games of a whole log."""
+        """Makes the games of a complete log."""
         place = 0
         for stored in read_stored(body):
             if isinstance(stored, StoredPiece):
@@ -151,28 +151,28 @@ class LoggedGames:
         self._report(place)
 
     def _report(self, size: int) -> None:
-        """Says what of the log is in no game."""
+        """Warns of the parts of the log that are in no game."""
         if not size:
             self._warn("the log is empty")
         if self._unknown:
             more = len(self._unknown) - _MOST_UNKNOWN
             listed = ", ".join(self._unknown[:_MOST_UNKNOWN])
-            self._warn(f"bytes of the log that are unknown were passed over: {listed}"
+            self._warn(f"unknown bytes in the log were ignored: {listed}"
                        + (f" and {more} more" if more > 0 else ""))
         if self._outside:
-            self._warn(f"{len(self._outside)} changes of squares are of no game, from byte "
-                       f"{self._outside[0]} of the log on: what stood on the board is unknown")
+            self._warn(f"{len(self._outside)} changes of squares belong to no game, from byte "
+                       f"{self._outside[0]} of the log on: the position is unknown there")
 
     def _begin(self, letters: str) -> None:
-        """The board shows this, whatever it showed before."""
-        # No other position than that of all games may begin one.
+        """The board shows this position, whatever it showed before."""
+        # Only the usual starting position may begin a game.
         self._keeper = Games(self._tell, lambda _: None, None, self._tags, self._side, START_FEN)
         self._letters, self._put = letters, -1
         self._now += _REST
         self._show()
 
     def _show(self) -> None:
-        """What is known of the board from now on."""
+        """Passes the position and the clock to the keeper."""
         assert self._keeper is not None
         first, second = self._left
         clock = Times(first, second) if first and second else None
@@ -201,7 +201,7 @@ class LoggedGames:
             self._rest()
 
     def _wait(self, until: float) -> None:
-        """Nothing changes until this time."""
+        """Handles that nothing changes until this time."""
         keeper = self._keeper
         while keeper is not None and keeper.due is not None and keeper.due <= until:
             keeper.wait(keeper.due)
@@ -209,19 +209,19 @@ class LoggedGames:
         self._now = max(self._now, until)
 
     def _step(self) -> None:
-        """The position has rested: for longer if moves lead to it, none is taken back, and a piece
-        was put last. Pieces that were lifted may look as if one had taken another."""
+        """Lets the position rest: for longer if moves lead to it, none is taken back, and a piece
+        was put down last. Lifted pieces may look as if one had taken another."""
         rest, recogniser = _STEP, self._keeper.recogniser if self._keeper else None
         if recogniser and self._is_put and (reading := recogniser._reading):
             rest = _LONG_STEP if reading.kept == len(recogniser.moves) else _STEP
         self._wait(self._shown_at + rest)
 
     def _rest(self) -> None:
-        """The position has rested for long, unless pieces are in the hand."""
+        """Lets the position rest for a long time, unless a piece is in the hand."""
         self._wait(self._shown_at + (_REST if self._is_put else _STEP))
 
     def _look(self) -> None:
-        """Notes which game is under way."""
+        """Notes the game in progress."""
         assert self._keeper is not None
         if self._keeper.game is not self._game:
             self._finish("")
@@ -229,8 +229,8 @@ class LoggedGames:
             self._learner = Learner()
 
     def _note_time(self, left: Time) -> None:
-        """The position has rested a little, and this is what one side of the clock shows. The side
-        whose time is another one after a move is that of its player."""
+        """Lets the position rest, and notes the time of one side of the clock. If a side's time has
+        changed after a move, it is the side of the move's player."""
         self._step()
         side, left = left.flags - 6, replace(left, flags=0)
         if left == self._left[side]:
@@ -250,13 +250,13 @@ class LoggedGames:
         return self._learner.side or SIDES[0] if is_learned else self._white_clock
 
     def _end(self, why: str) -> None:
-        """What the board shows from now on isn't known."""
+        """Notes that the position is unknown from here on."""
         self._rest()
         self._finish(why)
         self._keeper, self._game, self._letters = None, None, ""
 
     def _finish(self, why: str) -> None:
-        """The game is over. If it has no result, it says why."""
+        """Ends the game. Without a result, a comment says why."""
         game, is_untold, self._is_untold = self._game, self._is_untold, False
         if game is None:
             return
@@ -269,8 +269,8 @@ class LoggedGames:
             self.games.append(game)
 
     def _set_clocks(self, game: PgnGame) -> None:
-        """Each move has the time of its player, but only if that was stored after the move before
-        it: then it is another object."""
+        """Sets each move's clock to its player's time, if that was stored after the move before:
+        then it is another object."""
         before = self._begun_with
         for made in game.moves:
             of = int(made.before.white != (self._side == SIDES[0]))

@@ -16,25 +16,24 @@ from .values import checked
 
 _TRIES = 200
 _TRY_EACH = 0.01
-"""How often, and after how many seconds, the lock of a folder that another program has is asked
-for again: for two seconds, in which a port keeps what the board sends."""
+"""The attempts to lock a folder that another program has locked, and the seconds between them. In
+these two seconds the port buffers the board's bytes."""
 _MODE = 0o666
-"""The mode of a new file, but for what the umask takes away."""
+"""The mode of a new file, before the umask."""
 _NEW = os.O_WRONLY | os.O_CREAT | os.O_EXCL | os.O_CLOEXEC
 
 
 @dataclass(slots=True, eq=False)
 class KeptGame:
-    """A game: its text now, and the one that the file has. Neither has the line feeds at its
-    end."""
+    """A game: its present text, and its text in the file, both without line feeds at the end."""
 
     text: bytes = b""
     written: bytes = b""
-    is_listed: bool = False  # it is one of those that the file gets
+    is_listed: bool = False  # it is in the list of games for the file
 
     def put_into(self, content: bytes, text: bytes) -> bytes:
-        """Returns the content of a file with this text of the game in the place of the earlier one,
-        or else at the end."""
+        """Replaces the game's earlier text in the content of a file, or appends the text. Returns
+        the new content."""
         at = content.rfind(self.written) if self.written else -1
         if at >= 0:
             return content[:at] + text + content[at + len(self.written):]
@@ -43,20 +42,19 @@ class KeptGame:
 
 
 class PgnFile(Uncopied):
-    """A file to which games are appended, and in which a game is replaced as it grows. What else
-    the file has stays, also if another program writes it meanwhile. A file that has gone gets all
-    games of this object again.
+    """Appends games to a file, and replaces each game's text as it grows. The rest of the file
+    stays, also if another program writes to it. A file that was deleted gets all games again.
 
-    The file is whole at any time: a new one takes its place once it is on the disk. One thread may
+    The file is complete at any time: a new one replaces it once it is on the disk. One thread may
     call `save` while others call `begin` and `put`."""
 
     def __init__(self, name: str) -> None:
-        """`OSError` if there is no such folder, no file can be made there, or the name is that of
+        """`OSError` if the folder doesn't exist, no file can be made there, or the name is that of
         something else than a file."""
         if "\0" in os.fspath(name):
-            raise OSError(errno.ENOENT, "there is no such file", name)
+            raise OSError(errno.ENOENT, "the name contains a zero byte", name)
         self.name = name
-        self._games: list[KeptGame] = []  # a game is one of them once it has a text
+        self._games: list[KeptGame] = []  # those that have a text
         self._last = KeptGame()
         with self._locked() as folder:
             self._read()
@@ -64,12 +62,12 @@ class PgnFile(Uncopied):
                 os.unlink(path)
 
     def begin(self) -> KeptGame:
-        """A game begins, which is returned. `put` is about this one from now on."""
+        """Begins and returns a game. From now on `put` sets the text of this one."""
         self._last = KeptGame()
         return self._last
 
     def put(self, text: str, game: KeptGame | None = None) -> None:
-        """Sets the text of a game, or else of the last one, for `save` to write."""
+        """Sets the text of a game, by default the last one, for `save` to write."""
         game = checked(game or self._last, KeptGame)
         game.text = str.rstrip(text, "\n").encode(errors="replace")
         if not game.is_listed:
@@ -78,12 +76,12 @@ class PgnFile(Uncopied):
 
     @property
     def unsaved(self) -> str:
-        """The games that the file doesn't have as they are."""
+        """The games that have changed since `save`."""
         texts = [each.text for each in list(self._games) if each.text != each.written]
         return b"\n\n".join(texts).decode()
 
     def save(self) -> None:
-        """Writes the games that have changed. `OSError` if that fails: then the file is as it was,
+        """Writes the games that have changed. `OSError` if that fails: then the file is unchanged,
         and the next call tries again."""
         if not any(each.text != each.written for each in list(self._games)):
             return
@@ -104,23 +102,23 @@ class PgnFile(Uncopied):
 
     @contextlib.contextmanager
     def _locked(self) -> Iterator[str]:
-        """Locks the folder of the file while the file is read and replaced, and yields its name. At
-        the end the folder is on the disk."""
+        """Locks the file's folder while the file is read and replaced, and yields the folder's
+        name. At the end the folder is synced to the disk."""
         folder = os.path.dirname(self._path)
         try:
             number = os.open(folder, os.O_RDONLY | os.O_DIRECTORY)
         except FileNotFoundError as fault:
-            raise OSError(fault.errno, "there is no such folder") from None
+            raise OSError(fault.errno, "the folder doesn't exist") from None
         try:
             _lock(number)
             yield folder
-            with contextlib.suppress(OSError):  # not each file system can do it
+            with contextlib.suppress(OSError):  # not every file system supports it
                 os.fsync(number)
         finally:
             os.close(number)
 
     def _read(self) -> bytes | None:
-        """Returns what the file has, or `None` if there is none."""
+        """Returns the file's content, or `None` if there is no file."""
         with contextlib.suppress(FileNotFoundError):
             number = os.open(self._path, os.O_RDWR | os.O_NONBLOCK | os.O_NOCTTY)
             with open(number, "rb") as opened:
@@ -131,11 +129,11 @@ class PgnFile(Uncopied):
 
     @contextlib.contextmanager
     def _new(self, folder: str) -> Iterator[tuple[int, str]]:
-        """Makes a file beside this one, and yields its descriptor and its path. It is removed if
-        that ends with an exception."""
+        """Makes a file in the same folder, and yields its descriptor and its path. After an
+        exception the file is removed."""
         name = os.path.basename(self._path)[:200]
         path = os.path.join(folder, f".{name}.{os.getpid()}.new")
-        with contextlib.suppress(FileNotFoundError):  # a process that was killed has left it
+        with contextlib.suppress(FileNotFoundError):  # of a killed process
             os.unlink(path)
         number = os.open(path, _NEW, _MODE)
         try:
@@ -148,14 +146,13 @@ class PgnFile(Uncopied):
             os.close(number)
 
     def _replace(self, folder: str, content: bytes) -> None:
-        """Puts a new file in the place of the old one, with its mode, and its owner if that may
-        be."""
+        """Replaces the file with a new one with the same mode, and the same owner if permitted."""
         with self._new(folder) as (number, path):
             with open(number, "wb", closefd=False) as opened:
                 opened.write(content)
             with contextlib.suppress(FileNotFoundError):
                 old, new = os.stat(self._path), os.fstat(number)
-                # A unit of systemd may forbid the call.
+                # A systemd unit may forbid the call.
                 if (old.st_uid, old.st_gid) != (new.st_uid, new.st_gid):
                     with contextlib.suppress(PermissionError):
                         os.fchown(number, old.st_uid, old.st_gid)
@@ -165,7 +162,8 @@ class PgnFile(Uncopied):
 
 
 def _lock(number: int) -> None:
-    """Locks a folder, if its file system can. `OSError` if others hold its lock for two seconds."""
+    """Locks a folder, if its file system supports that. `OSError` if it stays locked for two
+    seconds."""
     for left in range(_TRIES, -1, -1):
         try:
             return fcntl.flock(number, fcntl.LOCK_EX | fcntl.LOCK_NB)

@@ -1,4 +1,4 @@
-"""A serial port, which one process at a time may have."""
+"""A serial port, which only one process at a time may open."""
 
 from __future__ import annotations
 
@@ -9,7 +9,7 @@ import os
 import select
 import termios
 
-# What to do about a port that can't be opened.
+# Why a port can't be opened, and what to do.
 _ADVICE = {
     errno.ENOENT: "no such port (plug the board in; /dev/serial/by-id lists the ports)",
     errno.EACCES: "permission denied (join the group dialout)",
@@ -20,16 +20,16 @@ _ADVICE = {
 _LEAST = 64
 """The lowest number of a descriptor of this package."""
 _CHUNK = 256
-"""How many bytes one call returns at most: the package hears as many in some 8 ms at worst."""
+"""The most bytes that one call returns: the package hears this number in about 8 ms at worst."""
 _COUNTS, _FAULTS = 80, slice(24, 44)
-"""How many bytes Linux counts a port's events in, and which of them count faults."""
+"""The size of Linux' counters of a port's events, and the part that counts faults."""
 _LATE = 0.1
 """For how many seconds after a fault was counted bytes may come that the port got before it."""
 
 
 def raised(descriptor: int) -> int:
-    """Moves a descriptor to a higher number. The low ones are left to those who wait for theirs by
-    `select`, which takes no number above 1023: so does the module paho."""
+    """Moves a descriptor to a higher number: `select`, which the module paho uses, needs numbers
+    below 1024."""
     try:
         return fcntl.fcntl(descriptor, fcntl.F_DUPFD_CLOEXEC, _LEAST)
     finally:
@@ -59,14 +59,14 @@ def _open(name: str) -> int:
 
 
 class Port:
-    """A serial port that this process alone has. No call but `exchange` waits."""
+    """A serial port that only this process has opened. Only `exchange` waits."""
 
     def __init__(self, name: str, closing: int) -> None:
         """`exchange` also returns if the descriptor `closing` has something to read. `OSError` if
-        it can't be opened. Its text says why, and what to do."""
+        the port can't be opened, with a text that says why, and what to do."""
         try:
             line = _open(name)
-        except ValueError:  # it has a zero in it
+        except ValueError:  # the name contains a zero byte
             raise OSError(errno.ENOENT, _ADVICE[errno.ENOENT], name) from None
         except (OSError, termios.error) as fault:
             number, text = fault.args[:2]
@@ -79,39 +79,38 @@ class Port:
         self._counted, self._late_until = self._count(), float("-inf")
 
     def _count(self) -> bytes:
-        """How often bytes overran, and a byte was framed wrongly, had a wrong parity or was a
-        break, as the system counts. A pseudo-terminal counts nothing."""
+        """The system's counters of overruns, framing errors, parity errors and breaks. A
+        pseudo-terminal has none."""
         try:
             return fcntl.ioctl(self._line, termios.TIOCGICOUNT, bytes(_COUNTS))[_FAULTS]
         except OSError:
             return b""
 
     def is_disturbed(self, now: float) -> bool:
-        """Whether bytes were lost or altered, of those that `exchange` has returned until this
-        time."""
+        """Whether bytes may have been lost or altered among the latest that `exchange` returned."""
         counted = self._count()
         if counted != self._counted:
             self._counted, self._late_until = counted, now + _LATE
         return now < self._late_until
 
     def ask(self, chunk: bytes) -> None:
-        """Has a chunk sent. What the port hasn't taken of earlier ones is dropped."""
+        """Sends a chunk, and drops the unsent rest of earlier ones."""
         self._unsent = b""
         self.write(chunk)
 
     def write(self, chunk: bytes) -> None:
-        """Has a chunk sent, after the earlier ones."""
+        """Sends a chunk after the earlier ones."""
         self._unsent += chunk
-        with contextlib.suppress(OSError):  # `exchange` finds that the port has gone
+        with contextlib.suppress(OSError):  # `exchange` will find that the port has disappeared
             self._send()
 
     def _send(self) -> None:
         self._unsent = self._unsent[self._file.write(self._unsent) or 0:]
 
     def exchange(self, seconds: float, wakes: int | None = None) -> bytes:
-        """Sends what the port takes, and returns the bytes that come. Returns nothing after this
-        time in seconds, once the port took something, or if the descriptor `wakes` has something
-        to read. `OSError` if the port has gone."""
+        """Sends as much as the port takes, and returns the bytes that arrive. Returns nothing after
+        this time in seconds, once the port took something, or if the descriptor `wakes` has
+        something to read. `OSError` if the port has disappeared."""
         self._poll.register(self._line, select.POLLIN | (select.POLLOUT if self._unsent else 0))
         if wakes is not None:
             self._poll.register(wakes, select.POLLIN)
@@ -127,8 +126,8 @@ class Port:
         return chunk or b""
 
     def close(self) -> None:
-        """Closes the port, for others to open."""
-        with contextlib.suppress(OSError, ValueError):  # it may have gone, or be closed already
+        """Closes the port, so that others may open it."""
+        with contextlib.suppress(OSError, ValueError):  # it disappeared, or is closed already
             fcntl.ioctl(self._file, termios.TIOCNXCL)
         with contextlib.suppress(OSError):
             self._file.close()

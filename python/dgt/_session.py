@@ -16,12 +16,12 @@ from .host import Host
 
 HEAD = "# dgt session 1"
 FAULTS = (Refused, Cut, BadLength, Stray)
-"""The events that a session has to name."""
+"""The events that a session notes."""
 _LINE = re.compile(r"(\d+\.\d{3}) (?:([<>])((?: [0-9a-f]{2})+)|(open|gone))")
 
 
 class BadSession(BadValue):
-    """A text is no session. It says which line is at fault."""
+    """A text isn't a session. The message names the line at fault."""
 
 
 @dataclass(frozen=True, slots=True)
@@ -32,18 +32,18 @@ class Entry:
     """`<` for bytes of the board, `>` for bytes of the host, `open` or `gone` for the port, `#` for
     a note."""
     seconds: float = 0.0
-    """When it was, since the session began. 0 for a note."""
+    """The time since the session began. 0 for a note."""
     chunk: bytes = b""
     text: str = ""
-    """What a note says."""
+    """The text of a note."""
 
 
 class Recorder:
-    """Writes a session, line by line. After a chunk of the board it notes the faults in it, and a
-    new position, if the chunk had a report of all squares. Another thread may add notes."""
+    """Writes a session, line by line. After a chunk of the board it notes the chunk's faults, and a
+    new position if the chunk contained a report of all squares. Another thread may add notes."""
 
     def __init__(self, write: Callable[[str], object]) -> None:
-        """`write` gets each line, with its end."""
+        """`write` gets each line, with its line feed."""
         self._write, self._begun, self._count = write, time.monotonic(), 0
         self._lock, self._is_over = threading.RLock(), False
         self._host, self._shown = Host(), ""
@@ -62,24 +62,23 @@ class Recorder:
 
     @property
     def is_empty(self) -> bool:
-        """Whether it has notes alone."""
+        """Whether it contains only notes."""
         return not self._count
 
     def opened(self) -> None:
-        """The port was opened."""
         self._host.line_lost()
         self._add("open")
 
     def gone(self) -> None:
-        """The port has gone."""
+        """Notes that the port has disappeared."""
         self._add("gone")
 
     def sent(self, chunk: bytes) -> None:
-        """The port took bytes of the host."""
+        """Notes bytes of the host that the port took."""
         self._add(f"> {chunk.hex(' ')}")
 
     def heard(self, chunk: bytes) -> None:
-        """Bytes of the board came."""
+        """Notes bytes of the board."""
         with self._lock:
             self._add(f"< {chunk.hex(' ')}")
             events = self._host.hear(chunk)
@@ -92,17 +91,16 @@ class Recorder:
                 self.note(f"picture {shown}")
 
     def end(self) -> None:
-        """The session is over. What comes later isn't written."""
+        """Ends the session. Nothing is written afterwards."""
         with self._lock:
             self.note(f"end of {self._count} lines")
             self._is_over = True
 
 
 class RecordedPort(Port):
-    """A serial port, whose bytes are written into a session."""
+    """A serial port that writes its bytes to a session."""
 
     def __init__(self, name: str, closing: int, recorder: Recorder) -> None:
-        """As of `Port`."""
         super().__init__(name, closing)
         self._recorder = recorder
         recorder.opened()
@@ -114,7 +112,6 @@ class RecordedPort(Port):
             self._recorder.sent(taken)
 
     def exchange(self, seconds: float, wakes: int | None = None) -> bytes:
-        """As of `Port`."""
         try:
             chunk = super().exchange(seconds, wakes)
         except OSError:
@@ -126,7 +123,7 @@ class RecordedPort(Port):
 
 
 def _read_line(line: str) -> Entry | None:
-    """Returns what a line says, or `None` if it is neither a chunk nor a note."""
+    """Returns the entry of a line, or `None` if the line isn't valid."""
     if not line or line.startswith("#"):
         return Entry("#", text=line[1:].strip())
     read = _LINE.fullmatch(line)
@@ -137,18 +134,19 @@ def _read_line(line: str) -> Entry | None:
 
 
 def read_session(text: str) -> tuple[list[Entry], bool]:
-    """Returns the lines of a session, and whether it is whole: else its end is missing, or a line
-    in its middle. `BadSession` if it is none."""
+    """Returns the entries of a session, and whether it is complete: its end or a line in the middle
+    may be missing. `BadSession` if the text isn't a session."""
     first, *lines = [line.rstrip() for line in text.splitlines()] or [""]
     if first != HEAD:
-        raise BadSession(f"line 1: not a session, which begins with {HEAD!r}")
+        raise BadSession(f"line 1: not a session: it must begin with {HEAD!r}")
     entries, last = list[Entry](), 0.0
     for number, line in enumerate(lines, 2):
         entry = _read_line(line)
         if entry is None and number == len(lines) + 1:
-            break  # it was cut off there
+            break  # cut off
         if entry is None or entry.mark != "#" and entry.seconds < last:
-            raise BadSession(f"line {number}: not a session's line, or out of order: {line[:60]!r}")
+            raise BadSession(f"line {number}: not a line of a session, or its time is less than "
+                             f"the one before: {line[:60]!r}")
         last = max(last, entry.seconds)
         entries.append(entry)
     count = sum(entry.mark != "#" for entry in entries)

@@ -1,4 +1,4 @@
-"""The twelve things that a person does for dgt-doctor, and how each is checked."""
+"""The twelve steps of dgt-doctor, and how each is checked."""
 
 from __future__ import annotations
 
@@ -13,42 +13,42 @@ from .events import Ack, Event, Field
 from .values import SQUARES, Position, Times
 
 _PRESSED = (0x08, 0x88)
-"""The second byte of an acknowledgement that a button causes."""
+"""The second byte of an acknowledgement after a button was pressed."""
 _WITH_TEXT = 2
 """The first main version of a clock that shows text."""
 _NAMED = 6
-"""How many squares are named at most."""
+"""The most squares that a text names."""
 _NO_ANSWER = "the board doesn't answer"
 
 
 class Skipped(Exception):
-    """The person leaves a step out."""
+    """The person skips a step."""
 
 
 @dataclass(frozen=True, slots=True)
 class Step:
-    """A thing to do."""
+    """What the person does."""
 
     name: str
     text: str
     advice: str
     """What to do if it fails."""
     do: Callable[[Examination, Step, Position], str]
-    """Has it done, from this position. Returns what failed, or nothing."""
+    """Runs the step from this position. Returns what failed, or an empty text."""
     changes: str = ""
-    """The changes of squares that have to be reported, as in `e2. e4P`."""
+    """The changes of squares that have to be reported, such as `e2. e4P`."""
     needs: str = ""
-    """What has to be on some squares before."""
+    """The pieces that have to be on some squares before."""
     has_clock: bool = False
     """Whether it needs a clock."""
     note: Callable[[Event], str] = str
-    """What an event says of it, if anything."""
+    """Returns what an event reports about the step, or an empty text."""
     is_typed: bool = False
-    """Whether the person says when it is done."""
+    """Whether the person presses Enter when it is done."""
 
 
 def _watch(board: Examination, is_done: Callable[[Event], bool]) -> bool:
-    """Shows what comes, until it is done, or a line is typed. Returns whether it is done."""
+    """Prints events until the step is done or a line is typed. Returns whether it is done."""
     has_seen = False
     while True:
         event = board.hear(time.monotonic() + LONGEST, 0)
@@ -68,16 +68,16 @@ def _pairs(text: str) -> list[tuple[str, str]]:
 
 
 def _differences(shown: Position, right: Position) -> str:
-    """Which squares are wrong, if any."""
+    """Returns the wrong squares as text."""
     if shown.letters == right.letters[::-1]:
-        return "the board is turned: turn it round, and put the pieces as before"
+        return "the board is turned: turn it round, and put the pieces where they were"
     named = [f"{square} shows {shown[square]} instead of {letter}"
              for square, letter in shown.changes(right).items()]
     return ", ".join(named[:_NAMED] + ["and so on"] * (len(named) > _NAMED))
 
 
 def _on_board(board: Examination, step: Step, before: Position) -> str:
-    """Pieces are moved. Both the changes and the report of all squares have to show it."""
+    """Pieces are moved. The changes and the report of all squares have to agree."""
     after = dict(zip(SQUARES, before)) | dict(_pairs(step.changes))
     goal = Position.of_letters("".join(after.values())) if step.changes else Position.start()
     if not step.changes and before == goal:
@@ -85,20 +85,21 @@ def _on_board(board: Examination, step: Step, before: Position) -> str:
     why = _move(board, step, goal)
     if why:
         board.person.forget()
-        board.person.say(f"  {why}. Once more: {step.text}. Press Enter if nothing happens")
+        board.person.say(f"  {why}. Try again: {step.text}. Press Enter if nothing happens")
         why = _move(board, step, goal)
     return why
 
 
 def _move(board: Examination, step: Step, goal: Position) -> str:
-    """Waits until the board shows what was to be done. Returns what is wrong."""
+    """Waits until the board shows the result of the step. Returns what is wrong."""
     must = set(_pairs(step.changes))
     is_noticed = _watch(board, lambda _: board.host.picture == goal and must <= {*board.fields})
     dump = board.dump()
     if dump is None:
         return _NO_ANSWER
     if dump.position != goal and is_noticed:
-        board.find("altered bytes", f"changes and report of all squares differ in {step.name}")
+        board.find("altered bytes", f"the changes and the report of all squares differ in "
+                   f"{step.name}")
     if dump.position == goal and must:
         board.hold("fields", is_noticed, "" if is_noticed else step.name)
         if not is_noticed:
@@ -108,10 +109,10 @@ def _move(board: Examination, step: Step, goal: Position) -> str:
 
 
 def _in_idle_mode(board: Examination, step: Step, before: Position) -> str:
-    """A knight is lifted while the board was asked to report nothing."""
+    """A knight is lifted in idle mode."""
     mode, [(square, _)] = board.mode, _pairs(step.needs)
     board.set_mode(Ask.RESET)
-    board.dump()  # so that it has taken that
+    board.dump()  # its reply shows that the board has read the mode command
     board.person.say(f"  now lift the knight from {square}, and press Enter")
     has_come = _watch(board, lambda event: isinstance(event, Field))
     board.set_mode(mode)
@@ -132,12 +133,12 @@ def _in_idle_mode(board: Examination, step: Step, before: Position) -> str:
 
 
 def _on_clock(board: Examination, step: Step, before: Position) -> str:
-    """The clock shows a text. The person says whether it does."""
+    """The clock shows a text. The person confirms it."""
     has_text = int(board.facts.get("clock version", "1").partition(".")[0]) >= _WITH_TEXT
     shown = "hello" if has_text else "12-34"
     message = board.host.text(shown, 3) if has_text else board.host.display(shown, 0, 3)
     if board.send_clock(message, ClockId.TEXT if has_text else ClockId.DISPLAY) is None:
-        return "the clock didn't take it"
+        return "the clock rejected it"
     board.person.say(f"  does it show {shown}? (Enter: yes, n and Enter: no)")
     while (line := board.person.typed()) is None:
         board.hear(time.monotonic() + LONGEST, 0)
@@ -148,7 +149,7 @@ def _on_clock(board: Examination, step: Step, before: Position) -> str:
 
 
 def _reported(board: Examination, step: Step, before: Position) -> str:
-    """The clock reports two different things, or else what it reports until a line is typed."""
+    """Waits for two different reports of the clock, or for any until a line is typed."""
     noted = dict[str, None]()
 
     def is_done(event: Event) -> bool:
@@ -159,7 +160,7 @@ def _reported(board: Examination, step: Step, before: Position) -> str:
     if board.host.clock:
         is_done(board.host.clock)
     if not _watch(board, is_done) and not (noted and step.is_typed):
-        return "nothing of it was reported"
+        return "the clock reported nothing"
     board.hold(step.name, True, ", ".join(noted))
     return ""
 
@@ -180,7 +181,7 @@ def _button(event: Event) -> str:
 
 
 def _away(board: Examination, step: Step, before: Position) -> str:
-    """The board goes, and comes back with the same pieces."""
+    """The board is disconnected, and comes back with the same pieces."""
     with contextlib.suppress(OSError):
         while board.dump():
             board.await_event((), LOOK)
@@ -188,7 +189,7 @@ def _away(board: Examination, step: Step, before: Position) -> str:
                 if line == "s":
                     raise Skipped
                 return "it still answers"
-    board.person.say("  it has gone. Now have it back: plug it in, or switch it on")
+    board.person.say("  it is disconnected. Now plug it in again, or switch it on")
     while not (board.open() and _is_back(board)):
         if board.person.typed(LOOK) == "s":
             raise Skipped
@@ -204,28 +205,28 @@ def _is_back(board: Examination) -> bool:
 _SEND = "attach the report to a bug report"
 _CHOOSE = "switch the clock on, and choose its mode for a connected board"
 STEPS = [
-    Step("set up", "set up all pieces for a game", "each piece has its own code: look at the "
-         "squares that are named", _on_board),
+    Step("set up", "set up all pieces for a game", "each piece has its own code: check the pieces "
+         "on these squares", _on_board),
     Step("e4", "play 1. e4", _SEND, _on_board, "e2. e4P", "e2P e4."),
     Step("lift", "lift the knight from g1, and put it back", _SEND, _on_board, "g1. g1N", "g1N"),
     Step("slide", "slide the bishop from f1 to c4, without lifting it", _SEND, _on_board,
          "f1. c4B", "f1B e2. d3. c4."),
     Step("take", "take the pawn on f7 with the bishop", _SEND, _on_board, "c4. f7B", "c4B f7p"),
-    Step("idle", "wait until the board is asked to report nothing", _SEND, _in_idle_mode,
+    Step("idle", "wait until the board is in idle mode", _SEND, _in_idle_mode,
          needs="b1N"),
-    Step("text", "look at the clock, which is sent a text", _CHOOSE, _on_clock, has_clock=True),
+    Step("text", "watch the clock, which gets a text", _CHOOSE, _on_clock, has_clock=True),
     Step("start", "start the clock", _CHOOSE, _reported, has_clock=True, note=_running),
     Step("lever", "press the lever of the clock", _CHOOSE, _reported, has_clock=True, note=_lever),
     Step("buttons", "press each button of the clock, and then Enter", "older clocks report none",
          _reported, has_clock=True, note=_button, is_typed=True),
-    Step("cable", "pull the cable out of the computer", "skip it for a board of Bluetooth", _away),
+    Step("cable", "pull the cable out of the computer", "skip it for a Bluetooth board", _away),
     Step("power", "switch the board off", "skip it if the board has no switch", _away),
 ]
-"""What a person does, in this order."""
+"""The steps in order."""
 
 
 def do_step(board: Examination, step: Step, prompt: str) -> str:
-    """Has a thing done, once the board is ready for it. Returns what came of it."""
+    """Runs a step, once the board is ready for it. Returns the result as text."""
     if step.has_clock and "clock" not in board.facts:
         return "left out: no clock is connected"
     if step.has_clock:
@@ -234,7 +235,7 @@ def do_step(board: Examination, step: Step, prompt: str) -> str:
     if dump is None:
         return f"left out: {_NO_ANSWER}"
     if any(dump.position[square] != piece for square, piece in _pairs(step.needs)):
-        return f"left out: the pieces don't stand for it ({step.needs})"
+        return f"left out: it needs other pieces on some squares ({step.needs})"
     board.fields.clear()
     board.person.forget()
     board.person.say(prompt)

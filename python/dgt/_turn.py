@@ -1,4 +1,4 @@
-"""One turn of a game on a board: the position from which a move is to be made, and the move."""
+"""One turn of a game on a board: a position, and the move to make from it."""
 
 from __future__ import annotations
 
@@ -9,29 +9,29 @@ from .rules import GameState
 from .values import SQUARES
 
 _PAWN_WAIT = 2.0
-"""For how long a pawn rests on its last rank before it is taken for a queen, in seconds."""
+"""The seconds after which a pawn on its last rank counts as a queen."""
 _SET_UP_WAIT = 0.7
-"""For how long a position rests that isn't set up yet, before the hint names what is missing."""
+"""The seconds before a hint names what is missing in a position that isn't set up yet."""
 _ILLEGAL_WAIT = 1.0
-"""For how long a position rests that no legal move leads to, before it is named."""
+"""The seconds before a hint about a position that no legal move leads to."""
 _HALF_WAIT = 2.0
-"""For how long a move rests of which a part is missing, before the hint names that part."""
+"""The seconds before a hint names the missing part of a move."""
 _LIFTED_WAIT = 5.0
-"""For how long pieces may be lifted before the hint names them."""
+"""The seconds before a hint names lifted pieces."""
 _MOST = 6
-"""How many things to do a hint names at most."""
+"""The most things to do that a hint names."""
 _NAMES = {"P": "pawn", "R": "rook", "N": "knight", "B": "bishop", "K": "king", "Q": "queen"}
 
 
 def _name(letter: str) -> str:
-    """Returns what a piece is called, such as `white pawn`."""
+    """Returns the name of a piece, such as `white pawn`."""
     kind = _NAMES.get(letter.upper())
     return f"{'white' if letter.isupper() else 'black'} {kind}" if kind else "other piece"
 
 
 def to_put(shown: str, right: str) -> str:
-    """Returns what has to be put where, so that the board shows the letters `right`, such as `put
-    the black pawn from e7 on e5`."""
+    """Returns what to do so that the board shows the letters `right`, such as `put the black pawn
+    from e7 on e5`."""
     wrong = [square for square in range(64) if shown[square] != right[square]]
     extra = [square for square in wrong if shown[square] != "."]
     puts = []
@@ -49,8 +49,8 @@ def to_put(shown: str, right: str) -> str:
 
 
 def _is_on_the_way(shown: str, befores: tuple[str, ...], after: str) -> bool:
-    """Returns whether the board shows a part of a move and nothing else: a piece stands where it
-    goes, and each other square is as before, as after, or empty."""
+    """Returns whether the board shows a part of a move and nothing else: a piece has arrived, and
+    each other square is as before the move, as after it, or empty."""
     has_arrived = False
     for square, letter in enumerate(shown):
         if letter == after[square]:
@@ -62,15 +62,15 @@ def _is_on_the_way(shown: str, befores: tuple[str, ...], after: str) -> bool:
 
 @dataclass(frozen=True, slots=True)
 class _Made:
-    """A move that a board shows, and for how long it has to rest at least."""
+    """A move that a board shows, and its least rest in seconds."""
 
     move: str
     rest: float = 0.0
 
 
 class Turn:
-    """The move that is awaited on a board. Feed it what the board shows with `see`. `made` returns
-    the move once it has rested, and `hint` what the player has to do.
+    """Waits for a move on a board. Pass it the letters on the board with `see`. `made` returns the
+    move once it has rested, and `hint` what the player has to do.
 
     >>> from dgt._turn import Turn
     >>> turn = Turn(GameState.start(), settle=0.3)
@@ -79,12 +79,13 @@ class Turn:
     >>> turn.made(2.2), turn.made(2.3)
     (None, 'e2e4')
 
-    A move is what makes the board show the position after it, whatever it has shown meanwhile. The
-    position itself has to be shown before. If it answers the last move of this player, he may also
-    move before he puts the answer: `before` has the letters of the position that was answered.
+    A move is made if the board shows the position after it, whatever it has shown in between. The
+    board has to show the position before the move first. If that contains the other side's answer,
+    the player may also move before making that answer on the board: `before` is the position that
+    was answered.
 
     The letters are those of a board with White's pieces on the ranks 1 and 2. Times are in seconds,
-    and never fall from one call to the next.
+    and never decrease from one call to the next.
     """
 
     def __init__(self, state: GameState, settle: float, before: str | None = None) -> None:
@@ -101,7 +102,7 @@ class Turn:
         self.await_moves(())
 
     def await_moves(self, only: tuple[str, ...]) -> None:
-        """Awaits these moves alone, or each legal move if none of these is legal."""
+        """Waits only for these moves, or for each legal move if none of them is legal."""
         legal = self.state.moves()
         self.legal = {move: legal[move] for move in only if move in legal} or legal
         self._made, self._pawns = {}, {}
@@ -114,15 +115,16 @@ class Turn:
                 self._pawns[letters[:to] + pawn + letters[to + 1:]] = _Made(move, _PAWN_WAIT)
 
     def see(self, letters: str | None, time: float, is_sure: bool = True) -> None:
-        """Notes what the board shows from this time on, if that is known. No move is made while it
-        isn't sure."""
+        """Notes the letters on the board from this time on, or `None`. No move is made while they
+        aren't sure."""
         self.is_set_up |= letters == self.state.letters
         shown = letters if is_sure else None
         if shown != self._shown:
             self._shown, self._since, self._hint_from = shown, time, time
 
     def ask(self, time: float) -> None:
-        """Notes that the move is asked for. The next hint names at once what isn't set up."""
+        """Notes that the chess program requests a move. The next hint comes at once if the position
+        isn't set up."""
         self._hinted = None
         if not self.is_set_up:
             self._hint_from = time - _SET_UP_WAIT
@@ -153,7 +155,7 @@ class Turn:
         return self.shown if self.due is not None and time >= self.due else None
 
     def hint(self, time: float) -> tuple[str | None, float | None]:
-        """Returns what to say to the player now, if anything, and when to look again."""
+        """Returns the hint for the player now, if any, and when to call again."""
         if self._shown is None or self.shown:
             return None, None
         text, wait = self._advice(self._shown)
@@ -165,7 +167,7 @@ class Turn:
         return text, None
 
     def _advice(self, shown: str) -> tuple[str, float]:
-        """Returns what to say about what the board shows, and for how long it rests before."""
+        """Returns the advice about the letters on the board, and the seconds to wait before it."""
         right = self.state.letters
         if shown == right:
             return f"{'white' if self.state.white else 'black'} is to move", 0.0
@@ -179,8 +181,8 @@ class Turn:
         return f"illegal: {to_put(shown, right)}", max(_ILLEGAL_WAIT, self.settle)
 
     def _goal(self, shown: str) -> tuple[str | None, str]:
-        """Returns the move of which a part is shown, if it is the only one, and what it leads to.
-        Else returns the position itself."""
+        """Returns the only move of which a part is shown, and the letters after it. Otherwise
+        returns the position itself."""
         found = [(made.move, letters) for letters, made in self._made.items()
                  if self._has_begun and _is_on_the_way(shown, self._befores, letters)]
         return found[0] if len(found) == 1 else (None, self.state.letters)

@@ -1,4 +1,4 @@
-"""The version of the package, which is that of the library that it needs."""
+"""The version of the package and of the library that it needs."""
 
 from __future__ import annotations
 
@@ -6,4 +6,4 @@ from pathlib import Path
 
 VERSION = Path(__file__).with_name("VERSION").read_text(encoding="ascii").strip()
 SONAME = f"libdgt.so.{VERSION.partition('.')[0]}"
-"""The name of the system's library. It has the first number of the version."""
+"""The name of the system's library, with the first number of the version."""

@@ -1,4 +1,4 @@
-"""A board, as a host finds it on the line."""
+"""A simulated board."""
 
 from __future__ import annotations
 
@@ -23,10 +23,10 @@ Mode = _c.Mode
 class Identity:
     """What a board reports about itself.
 
-    `serial` has five bytes, and `trademark`, `battery` and `long_serial` have at most 64 each. Each
-    of these bytes is from 0 to 127, as are `main` and `sub`, the version of the board's program.
+    `serial` is five bytes; `trademark`, `battery` and `long_serial` are at most 64 bytes each. Each
+    of these bytes is from 0 to 127. So are `main` and `sub`, the version of the board's firmware.
     `clock_version` is from 0 to 255: the clock's main number in the high four bits, and its sub
-    number in the low four. `BadValue` if one of them is not.
+    number in the low four. `BadValue` if a value is out of range.
     """
 
     serial: bytes = b"00001"
@@ -51,8 +51,8 @@ class Identity:
 
 
 def _seven_bit(held: object, least: int, most: int, what: str) -> bytes:
-    """Returns the bytes, from `least` to `most` of them, each from 0 to 127. `BadValue` that names
-    `what` they are, if they are none."""
+    """Returns these bytes, from `least` to `most` of them, each from 0 to 127. Otherwise a
+    `BadValue` names `what` they are."""
     plain = plain_bytes(held)
     if plain is None or not least <= len(plain) <= most or max(plain, default=0) > 127:
         count = f"{most}" if least == most else f"at most {most}"
@@ -65,8 +65,8 @@ def _body(body: bytes) -> BodyStruct:
 
 
 class Board(Handle):
-    r"""A board: what stands on its squares, its clock, and what it has still to send. It owns no
-    line: hand it what comes from the host, and write the messages that it returns to the line.
+    r"""A simulated board with its pieces, its clock and the messages that it has to send. Pass it
+    the bytes of the host, and write the messages that it returns to the line.
 
     >>> board = Board()
     >>> list(board.answers(b"\x44"))       # the host asks for changes from now on
@@ -98,20 +98,20 @@ class Board(Handle):
             raise BadValue(f"the {what} of a board is out of its range")
 
     def change(self, square: str, piece: str) -> None:
-        """Puts the piece with this letter on a square. A dot empties the square. `BadValue` if
-        there is no such square or piece."""
+        """Puts the piece with this letter on a square. A dot empties the square. `BadValue` if it
+        isn't a square or a piece."""
         self._call(dgt.dgt_board_change, square_number(square), piece_code(piece))
 
     def hand_clock(self, clock: Clock) -> None:
-        """Sets what the clock shows. `TypeError` if it is no clock."""
+        """Sets the times of the clock. `TypeError` if it isn't a clock."""
         shown = clock_struct(clock)
         if not self._call(dgt.dgt_board_hand_clock, byref(shown)):
             raise BadValue(f"no clock shows this: {clock!r}")
 
     def take(self, chunk: Bytes) -> tuple[int, Word | None]:
         """Takes bytes of the host, up to and including the first that completes a command or shows
-        a fault, or else all. Returns how many it took, and the command or fault. `Busy` if the
-        board owes eight replies."""
+        a fault, or else all. Returns their number, and the command or fault. `Busy` if the board
+        owes eight replies."""
         held, address = readable(chunk)
         return self._call(self._taken, address, len(held))
 
@@ -122,8 +122,7 @@ class Board(Handle):
         return taken.used, read_word(self._told, self._word) if self._told.kind else None
 
     def poll(self) -> bytes | None:
-        """Returns the next message to send, which then counts as sent, or `None` if there is
-        none."""
+        """Returns the next message to send, or `None`. The message then counts as sent."""
         return self._call(self._polled)
 
     def _polled(self, at: int) -> bytes | None:
@@ -136,9 +135,9 @@ class Board(Handle):
         return iter(self.poll, None)
 
     def answers(self, chunk: Bytes) -> Iterator[bytes]:
-        """Takes all of a host's bytes, and yields the messages to send: first those that were to be
-        sent already, and then the replies to each command. A command is taken once each message
-        before it was, so that a command that ends updates withholds none of them."""
+        """Takes all of a host's bytes, and yields the messages to send: first the waiting ones, and
+        then the replies to each command. It takes a command once you have taken each message before
+        it, so a command that ends updates suppresses none of them."""
         held, _ = readable(chunk)
         self._check_open()
         return self._answered(held)
@@ -150,7 +149,7 @@ class Board(Handle):
             try:
                 at += self.take(held[at:at + MAX_WORD])[0]
             except Busy:
-                pass  # until the messages that are owed were sent
+                pass  # until the owed messages are sent
             yield from self.messages()
 
     @property
@@ -165,12 +164,12 @@ class Board(Handle):
 
     @property
     def partial(self) -> int:
-        """The number of bytes that have come of an unfinished command."""
+        """The number of bytes received of an unfinished command."""
         return int(self._call(dgt.dgt_board_partial))
 
     @property
     def mode(self) -> Mode:
-        """Which changes the board reports unasked."""
+        """Which changes the board reports without a request."""
         return Mode(self._call(dgt.dgt_board_mode))
 
     @property
@@ -188,6 +187,6 @@ class Board(Handle):
         return read_clock(shown)
 
     def line_lost(self) -> None:
-        """The line was lost. The board keeps its squares, its clock and its identity, and is
-        otherwise as new."""
+        """Call it when the line was lost. The board keeps its squares, clock and identity, and
+        resets everything else."""
         self._call(dgt.dgt_board_line_lost)

@@ -36,9 +36,9 @@ class Leds:
 
     @classmethod
     def lighting(cls, *squares: str) -> Leds:
-        """Returns the frame that lights two squares, as those of a move, or no square if none is
-        named. Boards with lights are said to read it so, and none was tried. `BadValue` if there is
-        another number of them, or one is no square.
+        """Returns the frame that lights two squares, such as those of a move, or none. Other
+        programs encode it this way; no board with lights was tried. `BadValue` for another number
+        of squares, or if one isn't a square.
 
         >>> Leds.lighting("e2", "e4").leds.hex(" ")
         '01 34 24 00'
@@ -51,22 +51,22 @@ class Leds:
 
 @dataclass(frozen=True, slots=True)
 class BadSize:
-    """A clock message whose second byte, its size, is below 3."""
+    """A clock message with a size (the second byte) below 3."""
 
 
 @dataclass(frozen=True, slots=True)
 class BadStart:
-    """A clock message whose third byte isn't 03."""
+    """A clock message with a third byte other than 03."""
 
 
 @dataclass(frozen=True, slots=True)
 class BadEnd:
-    """A clock message whose last byte isn't 00."""
+    """A clock message with a last byte other than 00."""
 
 
 @dataclass(frozen=True, slots=True)
 class StrayByte:
-    """A byte that begins no command. So is a command that only a later version of the library
+    """A byte that doesn't begin a command, or a command that only a later version of the library
     knows."""
 
     byte: int

@@ -1,4 +1,4 @@
-"""Readers of what a board sends, and of what a host sends."""
+"""Readers of a board's bytes and of a host's."""
 
 from __future__ import annotations
 
@@ -31,9 +31,8 @@ class EventReader(Handle):
 
     @property
     def offset(self) -> int:
-        """The number of bytes that were read since the object was made, or made as new. In a loop
-        over the events of a chunk, each of which is read when it is taken, it is the offset of the
-        event, as `dgt monitor` prints it."""
+        """The number of bytes read since the object was made or reset. In a loop over `feed_each`
+        or `hear_each` it is the offset that `dgt monitor` prints for the event."""
         return self._call(lambda at: self._offset)
 
     def _all(self, chunk: Bytes) -> list[Event]:
@@ -60,7 +59,7 @@ class EventReader(Handle):
         return events
 
     def _made_new(self, at: int, make: Callable[[int], Any]) -> Any:
-        """Returns what `make` returns, which makes the object as new."""
+        """Calls `make`, which resets the object, and returns its result."""
         made = make(at)
         self._offset = 0
         return made
@@ -74,7 +73,7 @@ class EventReader(Handle):
         end = address + len(held)
         feed, told, told_at, body_at = self._feed, self._told, self._events_at, self._body_at
         while address < end:
-            # As `_call` does it; to call that for each event would take half as long again.
+            # The body of `_call`: calling it for each event would take 50 % longer.
             with self._lock:
                 if self._running or not self._at:
                     self._refuse()
@@ -110,8 +109,8 @@ class Decoder(EventReader):
         return self._all(chunk)
 
     def feed_placed(self, chunk: Bytes) -> list[tuple[int, Event]]:
-        r"""Returns the same events, each after its offset: how many bytes had been fed by then,
-        since the decoder was made or reset.
+        r"""Returns the same events, each with its offset: the number of bytes fed since the decoder
+        was made or reset.
 
         >>> Decoder().feed_placed(b"\x8e\x00\x05\x34\x00\x8e\x00\x05\x24\x01")
         [(5, Field(square='e2', piece='.')), (10, Field(square='e4', piece='P'))]
@@ -119,12 +118,12 @@ class Decoder(EventReader):
         return self._placed(chunk)
 
     def feed_each(self, chunk: Bytes) -> Iterator[Event]:
-        """Yields the same events. A byte is read once the event before it was taken."""
+        """Yields the same events. A byte is read once you have taken the event before it."""
         return self._each(chunk)
 
     @property
     def rest(self) -> int:
-        """The number of bytes that have come of an unfinished message."""
+        """The number of bytes received of an unfinished message."""
         return int(self._call(dgt.dgt_decoder_rest))
 
     def finish(self) -> int:
@@ -132,7 +131,7 @@ class Decoder(EventReader):
         return int(self._call(self._made_new, dgt.dgt_decoder_finish))
 
     def reset(self) -> None:
-        """Makes the decoder as new."""
+        """Drops an unfinished message, and sets the offset to 0."""
         self._call(self._made_new, dgt.dgt_decoder_reset)
 
 
@@ -165,7 +164,8 @@ class CommandDecoder(Handle):
         return words
 
     def feed_each(self, chunk: Bytes) -> Iterator[Word]:
-        """Yields the same commands and faults. A byte is read once the one before it was taken."""
+        """Yields the same commands and faults. A byte is read once you have taken the one before
+        it."""
         held = readable(chunk)
         self._check_open()
         return self._steps(*held)
@@ -185,7 +185,7 @@ class CommandDecoder(Handle):
 
     @property
     def rest(self) -> int:
-        """The number of bytes that have come of an unfinished command."""
+        """The number of bytes received of an unfinished command."""
         return int(self._call(dgt.dgt_command_decoder_rest))
 
     def finish(self) -> int:
@@ -193,5 +193,5 @@ class CommandDecoder(Handle):
         return int(self._call(dgt.dgt_command_decoder_finish))
 
     def reset(self) -> None:
-        """Makes the reader as new."""
+        """Drops an unfinished command, and sets the offset to 0."""
         self._call(dgt.dgt_command_decoder_reset)

@@ -1,14 +1,13 @@
-"""Examines a board: requests everything from it, and has you do twelve things.
+"""Examines a board: it requests everything, and asks you to do twelve things.
 
 Set up the pieces, play a move, press the clock, pull the cable, and so on: each
-step says what to do, and is checked as it happens. Press s and Enter to skip
-one, and q and Enter to end early. Steps with the clock are left out if there is
-none.
+step says what to do, and is checked as it happens. Press s and Enter to skip a
+step, and q and Enter to end early. Without a clock, its steps are left out.
 
 The report is a text file for a bug report. It contains the board's model and
-versions, what was found and what to do about it, which statements of
-docs/PROTOCOL.md held, and the whole session, byte by byte. So it contains the
-board's serial numbers, too.
+versions, what was found and what to do about it, the statements of
+docs/PROTOCOL.md that held, and the whole session, byte by byte. So it also
+contains the board's serial numbers.
 
 Exit status: 0 if nothing was found, and 1 if something was, or if the port
 can't be opened.
@@ -50,16 +49,16 @@ _QUESTIONS: list[tuple[str, Ask, tuple[type[Event], ...]]] = [
 _UNFINISHED = bytes([0x2B, 4, 3, ClockId.BEEP])
 """A beep without its duration, which zeros give, and without its end."""
 _QUIET = 1.0
-"""For how many seconds an answer that shouldn't come is awaited."""
+"""The seconds to wait for an answer that shouldn't come."""
 _HOLDS = {True: "held", False: "did not hold", None: "not tried"}
 _BUSY = (errno.EWOULDBLOCK, errno.EBUSY)
 
 
-# ---- What needs no hands
+# ---- Without the person
 
 
 def _is_there(board: Examination) -> bool:
-    """Whether the board answers, at once, after a new beginning, or once it was switched."""
+    """Whether the board answers: at once, after zeros, or once it was switched off and on."""
     if board.dump() or board.findings or board.begin_anew():
         return True
     board.person.say("The board doesn't answer. Switch it off and on, or pull its cable and plug "
@@ -76,7 +75,7 @@ def _is_there(board: Examination) -> bool:
 
 
 def _ask_all(board: Examination) -> None:
-    """Asks each question of the protocol, by itself and then all at once."""
+    """Sends each request of the protocol, one by one and then all at once."""
     for what, question, kinds in _QUESTIONS:
         answer = board.ask(board.host.send(question), kinds, what)
         board.hold(what, answer is not None)
@@ -94,8 +93,7 @@ def _ask_all(board: Examination) -> None:
 
 
 def _shown(answer: Event | None) -> str:
-    """An answer as text: that of its body, if all of that can be printed, and what a battery
-    says."""
+    """An answer as text: its body as text if that is printable, and the battery's charge."""
     if isinstance(answer, (Trademark, LongSerial, Serial)) and answer.text is not None:
         return answer.text
     if isinstance(answer, Battery) and answer.state is not None:
@@ -112,7 +110,7 @@ def _charge(state: BatteryState) -> str:
 
 
 def _examine(board: Examination) -> None:
-    """Does all, up to the end or until the person stops."""
+    """Runs the whole examination."""
     if not _is_there(board):
         return
     _ask_all(board)
@@ -163,7 +161,8 @@ def _write(file: TextIO, lines: list[str]) -> bool:
         with file:
             file.write(text)
     except OSError as refused:
-        print(f"dgt-doctor: {file.name}: {refused.strerror}; so here it is\n{text}", flush=True)
+        print(f"dgt-doctor: {file.name}: {refused.strerror}. This is the report:\n{text}",
+              flush=True)
         return False
     return True
 

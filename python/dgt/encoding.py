@@ -1,4 +1,4 @@
-"""Messages and commands as bytes, without a host, a board or a reader."""
+"""Encodes messages and commands, and decodes single ones."""
 
 from __future__ import annotations
 
@@ -19,9 +19,9 @@ from .values import (Clock, NoClock, Position, Times, clock_struct, number, piec
 
 
 def encode_message(message: Message) -> bytes:
-    r"""Returns the bytes of a message, as a board sends them. `BadValue` if a part of it is out of
-    its range, or the code of an `Other` is that of another case; `TypeError` if it is no message,
-    or its body is no bytes.
+    r"""Returns the bytes of a message that a board would send. `BadValue` if a member is out of its
+    range, or an `Other` has the code of another class; `TypeError` if it isn't a message, or its
+    body isn't bytes.
 
     >>> encode_message(Field("e2", ".")).hex(" ")
     '8e 00 05 34 00'
@@ -30,7 +30,7 @@ def encode_message(message: Message) -> bytes:
     """
     write = _WRITERS.get(type(message))
     if write is None:
-        raise TypeError(f"{message!r} is no message")
+        raise TypeError(f"not a message: {message!r}")
     told = EventStruct()
     body, address = readable(write(message, told))
     return _encoded(dgt.dgt_encode_message, MAX_BODY + 3, message, byref(told), address, len(body))
@@ -38,9 +38,9 @@ def encode_message(message: Message) -> bytes:
 
 def view_message(code: int, body: Bytes) -> Message | Refused:
     r"""Returns the message with this code and this body, or a `Refused` with the fault of the body.
-    The code is the first byte of the message without its top bit, and the body is what follows the
-    third. `BadValue` if no message has such a code or such a body: each byte of a body is from 0 to
-    127, and there are at most 16380.
+    The code is the first byte of the message without its top bit, and the body begins after the
+    third byte. `BadValue` if the code or a byte of the body is above 127, or the body has more than
+    16380 bytes.
 
     >>> view_message(0x0e, b"\x34\x00")
     Field(square='e2', piece='.')
@@ -55,9 +55,9 @@ def view_message(code: int, body: Bytes) -> Message | Refused:
 
 
 def encode_command(command: Command) -> bytes:
-    """Returns the bytes of a command, as a host sends them. No reply is awaited: a `Host` has
-    calls that do that. `BadValue` if it carries too many bytes, or its id is no byte; `TypeError`
-    if it is no command.
+    """Returns the bytes of a command. Unlike the calls of a `Host`, it doesn't await a reply.
+    `BadValue` if the command carries too many bytes, or its id isn't a byte; `TypeError` if it
+    isn't a command.
 
     >>> encode_command(ClockMessage(0x0b, b"\\x03")).hex(" ")
     '2b 04 03 0b 03 00'
@@ -70,13 +70,13 @@ def encode_command(command: Command) -> bytes:
     elif isinstance(command, Leds):
         code, id, carried = _c.SEND_LEDS, 0, command.leds
     else:
-        raise TypeError(f"{command!r} is no command")
+        raise TypeError(f"not a command: {command!r}")
     held, address = readable(carried)
     return _encoded(dgt.dgt_encode_command, MAX_WORD, command, code, id, address, len(held))
 
 
 def view_command(word: Bytes) -> Command | None:
-    r"""Returns the command whose bytes are exactly these, or `None` if there is none.
+    r"""Returns the command with exactly these bytes, or `None`.
 
     >>> view_command(b"\x42"), view_command(b"\x42\x42")
     (Asked(ask=<Ask.DUMP: 66>), None)
@@ -93,16 +93,15 @@ def _encoded(encode: Callable[..., EncodedStruct], room: int, what: object,
     out, out_at = writable(room)
     encoded = encode(*arguments, out_at, room)
     if encoded.status != _c.ENCODED:
-        raise BadValue(f"this can't be encoded: {what!r}")
+        raise BadValue(f"a member is out of its range: {what!r}")
     return bytes(out[:encoded.bytes])
 
 
-# ---- What the library is handed of each message, and its body.
+# ---- The library's struct for each message, and its body.
 
 
 def _array(held: object, count: int, what: str) -> Any:
-    """Returns an array of `count` bytes. `BadValue` that names `what` they are, if they are
-    none."""
+    """Returns an array of `count` bytes. Otherwise a `BadValue` names `what` they are."""
     plain = plain_bytes(held)
     if plain is None or len(plain) != count:
         raise BadValue(f"{what} must be {count} bytes: {held!r}")

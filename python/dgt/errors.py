@@ -4,12 +4,12 @@ from typing import Any
 
 
 class DgtError(Exception):
-    """Something was refused. A call that raises it has changed nothing. If a step of an iterator
-    raises it, what the iterator yielded before stands, and the bytes after that are not read.
+    """A call was refused, and has changed nothing. If a step of an iterator raises it, the earlier
+    results are valid, and the bytes after them aren't read.
 
-    Another exception that breaks off a call, such as `KeyboardInterrupt`, may come after the
-    library has read bytes or handed out a message. What the call would have returned is then lost.
-    The object is whole, and may be used further."""
+    Another exception that interrupts a call, such as `KeyboardInterrupt`, may come after the
+    library has read bytes or taken a message from its queue. The call's result is then lost. The
+    object remains usable."""
 
 
 class Closed(DgtError):
@@ -26,7 +26,7 @@ class TooManyAwaited(DgtError):
 
 
 class NoSuchCommand(DgtError):
-    """There is no command of these bytes."""
+    """No command has these bytes."""
 
 
 class Busy(DgtError):
@@ -34,15 +34,15 @@ class Busy(DgtError):
 
 
 class BadValue(DgtError, ValueError):
-    """An argument is no square, piece, number, byte or text of its kind, or out of its range."""
+    """An argument isn't a valid square, piece, number, byte or text, or is out of its range."""
 
 
 class BadPlacement(BadValue):
-    """A text is no placement. What is before the offset `at` begins one, and what comes there does
-    not continue it."""
+    """A text isn't a placement. `at` is the offset of the first character that doesn't continue
+    one, or the text's length."""
 
     def __init__(self, at: int) -> None:
-        super().__init__(f"no placement, from offset {at} on")
+        super().__init__(f"not a placement: wrong at offset {at}")
         self.at = at
 
     def __reduce__(self) -> Any:
@@ -50,8 +50,8 @@ class BadPlacement(BadValue):
 
 
 class BadFen(BadValue):
-    """A text is no FEN, or gives a position that no game has."""
+    """A text isn't a FEN, or its position can't occur in a game."""
 
 
 class IllegalMove(BadValue):
-    """The rules of chess don't allow a move, or a text is no move."""
+    """The rules of chess don't allow a move, or a text isn't a move."""

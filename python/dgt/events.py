@@ -1,7 +1,7 @@
 """The events in a board's bytes: messages and faults. The text of an event (`str`) is its line of
 `dgt monitor`, without the offset.
 
-In a later version a message that is an `Other` now may have a class of its own."""
+A later version may introduce new classes for messages that are an `Other` today."""
 
 from __future__ import annotations
 
@@ -39,7 +39,7 @@ class Dump:
 
 @dataclass(frozen=True, slots=True)
 class Field:
-    """The board reported one square: its name, and the letter of what stands there now."""
+    """The board reported one square: its name, and the letter of its piece."""
 
     square: str
     piece: str
@@ -51,7 +51,7 @@ class Field:
 @dataclass(frozen=True, slots=True)
 class Ack:
     """The reply to a clock message. A first byte of hexadecimal 10 is success. A clock also sends
-    one if a button is pressed.
+    one when a button is pressed.
 
     >>> Ack(b"\\x10\\x88\\x02\\x33", 0).signal
     Pressed(button=<Button.RUN: 51>)
@@ -62,7 +62,7 @@ class Ack:
 
     @property
     def signal(self) -> Signal | None:
-        """What other programs read in these bytes, or `None` if that is unknown."""
+        """The meaning that other programs give these bytes, or `None` if that is unknown."""
         return read_signal(self.ack)
 
     def __str__(self) -> str:
@@ -122,7 +122,7 @@ class Battery:
 
     @property
     def state(self) -> BatteryState | None:
-        """What other programs read in the body, or `None` if it hasn't nine bytes."""
+        """The meaning that other programs give the body, or `None` unless it has nine bytes."""
         return read_battery(self.body)
 
     def __str__(self) -> str:
@@ -147,8 +147,8 @@ class LongSerial:
 
 @dataclass(frozen=True, slots=True)
 class Other:
-    """A message of another code, with its body as it came. So is an event of a kind that only a
-    later version of the library knows."""
+    """A message with another code and its unchanged body, or an event of a kind that only a later
+    version of the library knows."""
 
     code: int
     body: bytes
@@ -159,7 +159,7 @@ class Other:
 
 @dataclass(frozen=True, slots=True)
 class Refused:
-    """A whole message whose body has a fault. `at` is the offset in the body of a byte at fault."""
+    """A complete message with a fault in its body. `at` is the offset of a wrong byte there."""
 
     code: int
     fault: Fault
@@ -173,7 +173,7 @@ class Refused:
 
 @dataclass(frozen=True, slots=True)
 class Cut:
-    """The next message cut off a message, of which `have` bytes had come."""
+    """A message was cut off by the next one after `have` bytes."""
 
     have: int
 
@@ -183,7 +183,7 @@ class Cut:
 
 @dataclass(frozen=True, slots=True)
 class BadLength:
-    """The header of a message gives a length that is shorter than the header."""
+    """The header of a message gives a length that is less than the header's."""
 
     def __str__(self) -> str:
         return "badlength"
@@ -222,7 +222,7 @@ def _other(told: EventStruct, body: bytearray) -> Other:
     return Other(told.code, bytes(body[:told.body_len]))
 
 
-# The event of each kind, from 1 on. A later version of the library may have more kinds.
+# The class of each kind of event, from 1 on. A later version of the library may have more kinds.
 _MAKERS: tuple[_Maker, ...] = (
     lambda told, body: Dump(Position(bytes(told.pieces)), bool(told.unasked)),
     _field,
@@ -249,8 +249,8 @@ def read_event(told: EventStruct, body: bytearray) -> Event:
 
 
 def read_offsets(told: bytearray, count: int, before: int) -> list[int]:
-    """Returns the offsets of the events that the library has reported, `count` structs in a row,
-    after this many bytes."""
+    """Returns the offsets of the events that the library has reported in `count` structs, after
+    this number of bytes."""
     size = ctypes.sizeof(EventStruct)
     return [before + EventStruct.from_buffer(told, index * size).place for index in range(count)]
 

@@ -1,4 +1,4 @@
-"""A host that keeps its picture of a board right."""
+"""A host that repeats its requests."""
 
 from __future__ import annotations
 
@@ -16,22 +16,22 @@ from .events import Event
 from .values import checked, number, seconds
 
 _LEAST = LEAST_PERIOD / 1000
-"""The least period, in seconds: an asking and its answer take a third of that on the line."""
+"""The least period, in seconds: a request and its answer take a third of it on the line."""
 
 
 def _milliseconds(time: float, what: str = "a time", least: float = 0.0) -> int:
     """Returns a time or a period in milliseconds. `BadValue` if it is less than `least`, too great,
-    or no number."""
+    or not a number."""
     if not seconds(time, what, least) * 1000 < 2**64:
         raise BadValue(f"{what} must be below 2**64 milliseconds: {time!r}")
     return round(time * 1000)
 
 
 class Follower(EventReader, Asker):
-    """A host that asks for the whole board again and again, so that its picture becomes right again
-    whatever the line lost or altered. It owns neither a line nor a clock. Hand it the time, in
-    seconds of a clock that doesn't go back, such as `time.monotonic`. Write what `ask` returns to
-    the line, and have it hear what comes from there.
+    """A host that requests the whole position again and again, so that its picture becomes right
+    again whatever the line lost or altered. It owns neither a line nor a clock. Pass it the time in
+    seconds, of a clock that never goes back, such as `time.monotonic`. Write the bytes of `ask` to
+    the line, and pass it the bytes from there.
 
     >>> follower, board = Follower(period=10.0), dgt.Board()
     >>> for message in board.answers(follower.ask(0.0)):
@@ -45,31 +45,31 @@ class Follower(EventReader, Asker):
     ...         print(type(event).__name__, follower.confirmed)
     Dump True
 
-    In each period it asks once, by the mode's command and a dump request. In the modes that report
-    the clock, `UPDATE` and `UPDATE_NICE`, it also requests a reading of the clock. It begins anew
-    if the last dump didn't come, after a disturbance, or after `patience` askings in a row that
-    didn't. The 258 bytes of that (259 in these modes) also end whatever command the board is in the
-    middle of.
+    It sends one request in each period: the mode's command and a dump request. In the modes that
+    report the clock, `UPDATE` and `UPDATE_NICE`, it also requests a reading of the clock. It starts
+    over if the last dump didn't arrive, after a disturbance, or after `patience` plain requests in
+    a row. Then it sends 258 bytes (259 in these modes), which also complete any command that the
+    board has in part.
 
-    Disturbances are bytes that were lost or altered and are noticed, an answer that nobody asked
-    for, and a dump that isn't the picture that was known. So is a message that stays unfinished for
-    a second after its last byte. A clock that shows no digits is none.
+    These are disturbances: lost or altered bytes that are noticed, an answer without a request, a
+    dump that contradicts the picture, and a message that stays unfinished for a second after its
+    last byte. A clock without digits isn't one.
     """
 
     _prefix, _feed_name, _most = "dgt_follower", "hear", 1
 
     def __init__(self, period: float = 10.0, patience: int = 6, mode: Mode = Mode.UPDATE_BOARD, *,
                  confirm: bool = False, identify: bool = False) -> None:
-        """`period` is in seconds, from one asking to the next. With a patience of 0 each asking
-        begins anew. `confirm` and `identify` are the properties. `BadValue` if the period is less
-        than a second, the patience isn't from 0 to 2**32 - 1, or the mode is `IDLE` or none."""
+        """`period` is in seconds, from one request to the next. With a patience of 0 each request
+        starts over. `confirm` and `identify` are the properties. `BadValue` if the period is less
+        than a second, the patience isn't from 0 to 2**32 - 1, or the mode is `IDLE` or invalid."""
         super().__init__()
         held = number(patience, 2**32 - 1, "patience")
         self._call(dgt.dgt_follower_start, _milliseconds(period, "period", _LEAST), held)
         self.mode, self.confirm, self.identify = mode, confirm, identify
 
     def hear(self, chunk: Bytes, now: float) -> None:
-        """Hears a whole chunk of bytes that came at this time."""
+        """Hears a chunk of bytes that arrived at this time."""
         time = _milliseconds(now)
         held, address = readable(chunk)
         self._call(self._hear, time, address, len(held))
@@ -79,20 +79,20 @@ class Follower(EventReader, Asker):
         self._offset += count
 
     def hear_each(self, chunk: Bytes, now: float) -> Iterator[Event]:
-        """Yields the events of a chunk of bytes that came at this time. A byte is heard once the
-        event before it was taken, so that the picture, and whether it is confirmed or in doubt, are
-        those after that event."""
+        """Yields the events of a chunk of bytes that arrived at this time. A byte is heard once you
+        have taken the event before it. So the picture, `confirmed` and `in_doubt` are those after
+        that event."""
         return self._each(chunk, _milliseconds(now))
 
     def ask(self, now: float) -> bytes:
-        """Returns what to ask the board at this time: nothing if that isn't due. An answer that is
-        a second late by then is a doubt, whatever is returned. A message that has stayed unfinished
-        for a second by then is a disturbance; its rest is heard if it comes later."""
+        """Returns the request to send at this time, or nothing if none is due. In any case, an
+        answer that is a second late by then starts a doubt. A message that has stayed unfinished
+        for a second is a disturbance; its rest is still heard if it arrives later."""
         return self._sent("ask", _milliseconds(now))
 
     def ask_now(self) -> None:
-        """Has an asking be due at once, or once the last one is answered. Its answer is no older
-        than this call."""
+        """Makes a request due at once, or as soon as the last one is answered. Its answer isn't
+        older than this call."""
         self._call(dgt.dgt_follower_ask_now)
 
     def _time(self, name: str) -> float | None:
@@ -102,43 +102,43 @@ class Follower(EventReader, Asker):
     @property
     def due_at(self) -> float | None:
         """The first time at which `ask` returns bytes, or finds an answer or the rest of a message
-        overdue, if nothing is heard before: 0 if it asks at once. `None` if that is later than any
-        time.
+        overdue, if nothing is heard before. It is 0 if a request is due at once, and `None` if the
+        time is too great.
 
-        After a disturbance an asking is due a quarter of the period after the last one. So it is
-        without an answer, but no less than a second after the last one."""
+        After a disturbance, or without an answer, a request is due a quarter of the period after
+        the last one; without an answer it is due at least a second after it."""
         return self._time("due_at")
 
     @property
     def last_heard(self) -> float | None:
-        """The time of the last whole message, or `None` before the first."""
+        """The time of the last complete message, or `None` before the first."""
         return self._time("last_heard")
 
     @property
     def unread(self) -> int:
-        """The number of bytes that were heard of an unfinished message."""
+        """The number of bytes heard of an unfinished message."""
         return int(self._call(dgt.dgt_follower_unread))
 
     @property
     def in_doubt(self) -> bool:
-        """Whether the picture may be wrong: since the last dump that was awaited there was a
-        disturbance, or an answer was a second late."""
+        """Whether the picture may be wrong: since the last awaited dump there was a disturbance, or
+        an answer was a second late."""
         return bool(self._call(dgt.dgt_follower_in_doubt))
 
     @property
     def confirmed(self) -> bool:
-        """Whether a dump that was awaited repeated the picture. Since then nothing changed it,
-        nothing came that nobody asked for, nothing disturbed, and no answer was late. The
-        picture was right when that dump was sent, if at most one message was altered, lost or
-        inserted since the last whole one. A change that is lost later shows with the next dump. The
-        first awaited dump after a new beginning confirms nothing: it may be a late answer to an
-        earlier asking."""
+        """Whether an awaited dump repeated the picture. Since then nothing has changed it, nothing
+        arrived without a request, there was no disturbance, and no answer was late. The picture is
+        then what the board had reported, up to that dump or including it, if at most one message
+        was altered, lost or inserted since the dump before it. A change that is lost later shows
+        with the next dump. The first awaited dump after starting over confirms nothing: it may be a
+        late answer to an earlier request."""
         return bool(self._call(dgt.dgt_follower_confirmed))
 
     @property
     def confirm(self) -> bool:
-        """Whether a picture that isn't confirmed is asked for again: a second after it last
-        changed, and a second after the last asking."""
+        """Whether an unconfirmed picture is requested again: a second after its last change, and a
+        second after the last request."""
         return bool(self._call(lambda at: self._confirm))
 
     @confirm.setter
@@ -155,8 +155,8 @@ class Follower(EventReader, Asker):
 
     @property
     def identify(self) -> bool:
-        """Whether the serial number is requested while it is unknown: once after each asking that
-        was answered, and three times at most."""
+        """Whether an unknown serial number is requested: once after each answered request, and at
+        most three times."""
         return bool(self._call(lambda at: self._identify))
 
     @identify.setter
@@ -166,27 +166,27 @@ class Follower(EventReader, Asker):
 
     @property
     def mode(self) -> Mode:
-        """What the board is asked to report by itself, from the next asking on. `BadValue` if it is
-        set to `IDLE`, or to no mode."""
+        """The mode that each request sets. A new one applies from the next request on. `BadValue`
+        if it is `IDLE` or invalid."""
         return Mode(self._call(dgt.dgt_follower_mode))
 
     @mode.setter
     def mode(self, mode: Mode) -> None:
         if not self._call(dgt.dgt_follower_set_mode, number(mode, max(Mode), "mode")):
-            raise BadValue("a follower has no mode in which a board reports nothing")
+            raise BadValue("a follower needs a mode in which the board reports changes, not IDLE")
 
     @property
     def heartbeats_left(self) -> int:
-        """How many askings may still follow one another before one begins anew."""
+        """The number of plain requests that may follow before one starts over."""
         return int(self._call(dgt.dgt_follower_heartbeats_left))
 
     def line_disturbed(self) -> None:
-        """Bytes of the board were lost or altered, as whoever reads the line has found out: serial
-        ports count overruns and framing errors. It is a disturbance. Have the follower hear the
-        bytes before the fault first."""
+        """Call it when the reader of the line has found that bytes were lost or altered: serial
+        ports count overruns and framing errors. It is a disturbance. First pass the bytes before
+        the fault."""
         self._call(dgt.dgt_follower_line_disturbed)
 
     def line_lost(self) -> None:
-        """The line was lost, with what was under way on it. The follower is then as new, with its
-        period, its patience and its mode, and with whether it confirms and identifies."""
+        """Call it when the line was lost, with everything in transit. It resets everything but the
+        period, the patience, the mode, `confirm` and `identify`."""
         self._call(self._made_new, dgt.dgt_follower_line_lost)

@@ -1,5 +1,5 @@
-"""Follows a board on a line, and asks it again and again, so that its picture becomes right again
-after any fault of the line."""
+"""Follows a board on a line, with repeated requests, so that the picture becomes right again after
+any fault of the line."""
 
 from __future__ import annotations
 
@@ -29,79 +29,79 @@ if TYPE_CHECKING:
 
 _linux: Any = os  # mypy 1.0 knows no eventfd
 _LOOK = 2.0
-"""How many seconds pass between two looks for a port that has gone."""
+"""The seconds between two looks for a port that has disappeared."""
 _LONGEST = 3600.0
-"""For how many seconds one call sleeps at most."""
+"""The most seconds that one call sleeps."""
 _GONE = "the port has gone; it is looked for every two seconds"
 _SILENT = "the board doesn't answer (switch it off and on; dgt-doctor finds out more)"
 _OTHER_SIZE = "the board doesn't report 64 squares (is it for draughts? dgt-doctor finds out more)"
 _CLOSED = "the line was closed"
 _GOES = (errno.ENOENT, errno.ENXIO, errno.ENODEV, errno.EIO)
-"""The faults of a port that was there and has gone."""
+"""The errors of a port that has disappeared."""
 _LATE = 1.0
-"""How many seconds an asking without an answer is older at least than the next that finds none."""
+"""The least seconds between two unanswered requests of a silent board."""
 _CHUNK = 4096
 _DUMP = 0x06
 """The code of a report of all squares."""
 _STALE = 1.0
-"""A view that has waited for longer is left out if there is a newer one, in seconds."""
+"""The seconds after which a waiting view is dropped if there is a newer one."""
 _MOST_UNSENT = 1000
-"""An asking is left out if a stream has more bytes to send: those of a second."""
+"""No request is made while a stream has more bytes to send: those of a second."""
 
 
 @dataclass(frozen=True, slots=True)
 class BoardView:
-    """What is known of a board that is followed."""
+    """The state of a board that is followed."""
 
     picture: Position | None = None
-    """What stands on the squares, or `None` before the first report of it."""
+    """The position, or `None` before the board has reported it."""
     clock: Clock | None = None
-    """The last report of the board's clock, or `None` before the first, and while the clock has no
-    reading: it shows no digits, as while it is set, or sends zeros."""
+    """The last report of the board's clock. `None` before the first, and while the clock has no
+    reading: it shows no digits, for instance while it is being set, or sends zeros."""
     in_doubt: bool = False
-    """Whether the picture may be wrong: the line lost or altered bytes, or the board is away. It
-    may be wrong until the board reports all squares again."""
+    """Whether the picture may be wrong: the line lost or altered bytes, or the board is away. The
+    doubt ends when the board reports all squares again."""
     away: str | None = None
-    """Why nothing is heard of the board: its port has gone, or it doesn't answer. `None` if the
-    board is heard."""
+    """Why the board can't be heard: its port has disappeared, or it doesn't answer. Otherwise
+    `None`."""
     confirmed: bool = False
-    """Whether a second report of all squares has shown the same picture. It was right then, if at
-    most one message was altered, lost or inserted since the report before. It isn't confirmed yet
-    when it has just changed. With `confirm` it is soon."""
+    """Whether a second report of all squares has shown the same picture. The picture is then what
+    the board had reported, up to that report or including it, if at most one message was altered,
+    lost or inserted since the report before. A change makes it unconfirmed; with `confirm` it is
+    confirmed again soon."""
     bytes_heard: int = field(default=0, compare=False)
-    """How many bytes of the board had come by then, since its port was opened."""
+    """The number of bytes received from the board since its port was opened."""
     serial: str | None = None
-    """The last serial number that the board has reported, or `None` before the first. It is asked
-    for if `follow` is called with `identify`."""
+    """The last serial number that the board has reported, or `None`. It is requested if `follow` is
+    called with `identify`."""
 
     @property
     def silent(self) -> bool:
-        """Whether the port is there, and the board doesn't answer as a chess board does."""
+        """Whether the port is open, but the board doesn't answer, or not like a chess board."""
         return self.away in (_SILENT, _OTHER_SIZE)
 
 
 class SerialLine(Protocol):
-    """What `follow` needs of a serial port that was opened by other means, as by pyserial. It sets
-    `timeout`, in seconds, before each `read`, and reads what waits in the port, or else one byte.
-    Once `is_open` is false, it ends."""
+    """The interface that `follow` needs of a serial port that you have opened, for instance with
+    pyserial. `follow` sets `timeout`, in seconds, before each `read`, and reads the bytes that wait
+    in the port, or else one. It ends once `is_open` is false."""
 
     timeout: float | None
     is_open: bool
 
     @property
     def in_waiting(self) -> int:
-        """How many bytes can be read without waiting."""
+        """The number of bytes that can be read without waiting."""
 
     def read(self, size: int, /) -> bytes:
-        """Returns as many bytes, or fewer if the timeout is over."""
+        """Returns this number of bytes, or fewer after the timeout."""
 
     def write(self, chunk: bytes, /) -> object:
-        """Sends a chunk of bytes."""
+        """Sends bytes."""
 
 
 class _Steps:
-    """What following a board comes to, without a line and without a clock. What has changed is
-    added to `changes`."""
+    """Follows a board without a line and without a clock. It adds each new view to `changes`."""
 
     def __init__(self, period: float, patience: int, mode: Mode, confirm: bool,
                  identify: bool = False) -> None:
@@ -111,11 +111,11 @@ class _Steps:
         self._missing: str | None = None
         self._refusals = 0  # reports of all squares that had another size, one after another
         self.is_disturbed = False
-        """Whether the line has just lost or altered bytes, as whoever reads it has found out."""
+        """Whether the reader of the line has found that it has just lost or altered bytes."""
         self.asked_at = self._unanswered_at = float("-inf")
 
     def ask(self, now: float) -> bytes:
-        """Returns what to ask the board at this time."""
+        """Returns the request to send at this time."""
         asked = self.follower.ask(now)
         if asked:
             self.asked_at = round(now, 3)
@@ -125,7 +125,7 @@ class _Steps:
         return asked
 
     def hear(self, chunk: bytes, now: float) -> list[Event]:
-        """Hears a chunk of bytes that came at this time, and returns its events. If the line is
+        """Hears a chunk of bytes that arrived at this time, and returns its events. If the line is
         disturbed, a dump in the chunk may be older than the fault."""
         events = []
         if self.is_disturbed:
@@ -144,13 +144,12 @@ class _Steps:
         return events
 
     def seconds_left(self, now: float, until: float | None) -> float:
-        """Returns for how long to wait for bytes: until the board has to be asked, or until a
-        time."""
+        """Returns the seconds to wait for bytes: until the next request, or until a time."""
         times = (self.follower.due_at, until, now + _LONGEST)
         return max(0.0, min(each for each in times if each is not None) - now)
 
     def lose(self, why: str) -> None:
-        """Notes that the line is away. What is known stays known, and is in doubt."""
+        """Notes that the line is away. The picture stays, in doubt."""
         self.follower.line_lost()
         self._refusals = 0
         self._missing, self.asked_at, self._unanswered_at = why, float("-inf"), float("-inf")
@@ -162,17 +161,17 @@ class _Steps:
         self._note()
 
     def _is_unanswered(self) -> bool:
-        """Whether nothing was heard since an asking."""
+        """Whether nothing was heard since a request."""
         heard = self.follower.last_heard
         return self._unanswered_at > (float("-inf") if heard is None else heard)
 
     def _is_silent(self) -> bool:
-        """Whether an asking a second later than one found nothing that was heard since that."""
+        """Whether nothing was heard between a request and another one a second later."""
         return self._is_unanswered() and round(self.asked_at - self._unanswered_at, 3) >= _LATE
 
     def _note(self, has_no_reading: bool = False) -> None:
-        """Notes what has changed. The last clock stays known while the line is away, but not once
-        the board has a clock without a reading."""
+        """Notes changes. The last clock stays known while the line is away, but not after a report
+        without a reading."""
         old, picture, clock = self.view, self.follower.picture, self.follower.clock
         clock = clock or (None if has_no_reading else old.clock)
         away = self._missing or (_OTHER_SIZE if self._refusals > 1 and picture is None
@@ -189,8 +188,8 @@ class _Steps:
 
 
 def _has_input(descriptor: int | None, seconds: float, other: int | None = None) -> bool:
-    """Waits until a descriptor or another one has something to read, at most for this time in
-    seconds, and returns whether it has."""
+    """Waits until one of the descriptors has something to read, at most for this time in seconds.
+    Returns whether one has."""
     poll = select.poll()
     for each in (descriptor, other):
         if each is not None:
@@ -205,21 +204,20 @@ class _Given:
         self._line = line
 
     def write(self, chunk: bytes) -> None:
-        """Sends a chunk."""
         with contextlib.suppress(OSError), self._until_closed():
-            self._line.write(chunk)  # else `exchange` finds that the line has ended
+            self._line.write(chunk)  # on failure `exchange` finds that the line has ended
 
     ask = write
 
     def is_disturbed(self, _: float) -> bool:
-        """It reports no faults."""
+        """Always false: such a line reports no faults."""
         return False
 
     def exchange(self, seconds: float, wakes: int | None = None) -> bytes:
-        """Returns bytes once they come, or nothing after `seconds`. `OSError` if the line has
+        """Returns bytes once they arrive, or nothing after `seconds`. `OSError` if the line has
         ended. `BadValue` with `wakes`."""
         if wakes is not None:
-            raise BadValue("a line that was handed over can't wait for another descriptor")
+            raise BadValue("a line that you have opened can't wait for another descriptor")
         with self._until_closed():
             self._line.timeout = seconds
             chunk = self._line.read(self._line.in_waiting or 1) if self._line.is_open else b""
@@ -229,7 +227,7 @@ class _Given:
 
     @contextlib.contextmanager
     def _until_closed(self) -> Iterator[None]:
-        """A port of pyserial that is closed meanwhile fails by any exception."""
+        """Handles a port of pyserial that is closed during a call, which may raise anything."""
         try:
             yield
         except Exception:
@@ -238,14 +236,14 @@ class _Given:
             raise OSError(_CLOSED) from None
 
     def close(self) -> None:
-        """It stays as it is."""
+        """Does nothing: the caller closes the line."""
 
 
 class Following(Uncopied, ClockCommands[None]):
-    """A board on a serial port that is followed, as `follow` returns it. It is an iterator of
-    `BoardView`s, and its `wait` waits no longer than until a time. The calls of `ClockCommands`
-    send a command to the board's clock. It is for one thread; any other may `close` it. It is also
-    closed once nothing refers to it, as after a loop over `dgt.follow(..)` that was left.
+    """Follows a board on a serial port: the result of `follow`. It is an iterator of `BoardView`s;
+    `wait` returns one until a time. The calls of `ClockCommands` send a command to the board's
+    clock. Use it in one thread; any other may `close` it. It is also closed when nothing refers to
+    it any more, for instance after a `break` out of a loop over `dgt.follow(..)`.
 
     >>> with dgt.follow("/dev/ttyUSB0") as board:
     ...     board.text("hello")
@@ -257,12 +255,12 @@ class Following(Uncopied, ClockCommands[None]):
     def __init__(self, port: str | os.PathLike[str] | SerialLine, period: float = 10.0, *,
                  patience: int = 6, mode: Mode = Mode.UPDATE_BOARD, confirm: bool = False,
                  wait_for_port: bool = False, identify: bool = False) -> None:
-        """As `follow`."""
+        """Like `follow`."""
         self._steps = _Steps(period, patience, mode, confirm, identify)
         self._waits, self._was_there, self._look_at = wait_for_port, False, 0.0
         self._is_given = False
         self._is_closed, self._line, self._name = False, None, ""
-        self._lock = threading.RLock()  # of a `wait` under way, which has the port
+        self._lock = threading.RLock()  # held during `wait`, which uses the port
         # Has something to read once `close` is called.
         self._closing = raised(_linux.eventfd(0, _linux.EFD_CLOEXEC))
         if isinstance(port, (str, os.PathLike)):
@@ -271,7 +269,7 @@ class Following(Uncopied, ClockCommands[None]):
         elif all(hasattr(port, name) for name in ("is_open", "read", "write")):
             self._line, self._is_given = _Given(port), True
         else:
-            raise TypeError(f"port must be a port's name, or an open port as of pyserial: {port!r}")
+            raise TypeError(f"port must be a port's name, or an open port of pyserial: {port!r}")
 
     def __del__(self) -> None:
         if self._closing >= 0:
@@ -280,49 +278,48 @@ class Following(Uncopied, ClockCommands[None]):
 
     @property
     def view(self) -> BoardView:
-        """What is known now."""
+        """The present view."""
         return self._steps.view
 
     @property
     def follower(self) -> Follower:
-        """What makes commands for the board, for `write`, as in
-        `following.write(following.follower.send(Ask.CLOCK))`."""
+        """Makes commands for `write`: `following.write(following.follower.send(Ask.CLOCK))`."""
         return self._steps.follower
 
     @property
     def descriptor(self) -> int | None:
-        """What has something to read once the board has said something, for a loop that follows
-        many boards: call `wait(time.monotonic())` then, and at `due_at`. `None` while the port is
-        away, or of a line that was handed over."""
+        """A descriptor for a loop that follows many boards: call `wait(time.monotonic())` when it
+        has something to read, and at `due_at`. `None` while the port is away, and for a line that
+        you have opened."""
         return self._line.descriptor if isinstance(self._line, Port) else None
 
     @property
     def due_at(self) -> float:
-        """The time at which `wait` has something to do though nothing came."""
+        """The time at which to call `wait` even if nothing has arrived."""
         due = self._look_at if self._line is None else self.follower.due_at
         return time.monotonic() + _LONGEST if due is None else due
 
     def write(self, chunk: Bytes) -> None:
-        """Has a chunk of bytes sent to the board. It is lost if the port is away, or takes nothing
-        for a period. `Closed` if this is closed."""
+        """Sends a chunk of bytes to the board. The chunk is lost if the port is away, or takes
+        nothing for a period. `Closed` after `close`."""
         self._check_open()
         if self._line is not None:
             self._line.write(readable(chunk)[0])
 
     def leds(self, *squares: str) -> None:
-        """Lights two squares of a board with lights, or no square if none is named. The frame is
-        that of `Leds.lighting`. `Follower.send_leds` makes any other one, for `write`. `BadValue`
-        as of `lighting`, and `Closed` if this is closed."""
+        """Lights two squares of a board with lights, or none, with the frame of `Leds.lighting`.
+        For other frames, `write` the bytes of `Follower.send_leds`. `BadValue` as in `lighting`,
+        and `Closed` after `close`."""
         self.write(self.follower.send_leds(Leds.lighting(*squares).leds))
 
     def _clock_message(self, id: ClockId, payload: bytes) -> None:
         self.write(self.follower.send_clock(id, payload))
 
     def wait(self, until: float | None = None, wakes: int | None = None) -> BoardView | None:
-        """Returns what is known after the next change, or `None` if there was none until a time of
-        `time.monotonic`, or until the descriptor `wakes` has something to read. `Closed` if this is
-        closed. A line that it was handed may end: then a view is in doubt, and `away` says why, and
-        the next call raises `Closed`. `BadValue` for `wakes` with such a line."""
+        """Returns the view after the next change, or `None` if there was none until a time of
+        `time.monotonic`, or until the descriptor `wakes` has something to read. `Closed` after
+        `close`. When a line that you have opened ends, it returns a view in doubt with the reason
+        in `away`, and the next call raises `Closed`. `BadValue` for `wakes` with such a line."""
         changes = self._steps.changes
         with self._lock:
             self._check_open()
@@ -335,7 +332,7 @@ class Following(Uncopied, ClockCommands[None]):
             return changes.popleft()
 
     def _turn(self, until: float | None, wakes: int | None) -> None:
-        """Asks what is due, and hears what comes, or else waits until something is due."""
+        """Sends the due request, and hears bytes that arrive, or waits until something is due."""
         now = time.monotonic()
         if self._line is None and self._is_given:
             raise Closed(_CLOSED)
@@ -370,7 +367,7 @@ class Following(Uncopied, ClockCommands[None]):
         return Port(self._name, self._closing)
 
     def _look(self, is_first: bool = False) -> None:
-        """Opens the port if it is there. At the first time this may be an `OSError`."""
+        """Opens the port if it exists. The first time this may raise an `OSError`."""
         self._look_at = time.monotonic() + _LOOK
         try:
             self._line = self._open()
@@ -389,7 +386,7 @@ class Following(Uncopied, ClockCommands[None]):
 
     def close(self) -> None:
         """Ends it, and closes the port if it has opened it. Each later `wait` raises `Closed`. So
-        does a `wait` of another thread, at once, or once a `read` of a line that it was handed
+        does a `wait` of another thread: at once, or when a `read` of a line that you have opened
         returns."""
         if not self._is_closed:
             self._is_closed = True
@@ -417,14 +414,14 @@ class Following(Uncopied, ClockCommands[None]):
         except KeyboardInterrupt as stop:
             del self  # a traceback that is kept, as at a prompt, would keep the port
             raise stop.with_traceback(None)
-        assert view is not None  # there is no time at which it gives up
+        assert view is not None  # without a time it never gives up
         return view
 
 
 def follow(port: str | os.PathLike[str] | SerialLine, period: float = 10.0, *, patience: int = 6,
            mode: Mode = Mode.UPDATE_BOARD, confirm: bool = False, wait_for_port: bool = False,
            identify: bool = False) -> Following:
-    """Follows a board on a serial port, and yields what is known of it after each change.
+    """Follows a board on a serial port, and yields a `BoardView` after each change.
 
     >>> with dgt.follow("/dev/ttyUSB0") as board:
     ...     for view in board:
@@ -436,25 +433,26 @@ def follow(port: str | os.PathLike[str] | SerialLine, period: float = 10.0, *, p
     rnbqkbnr/pppppppp/8/8/4P3/8/PPPP1PPP/RNBQKBNR False
 
     `port` is the port's name, or an object like a port of pyserial. A port that is named is opened
-    at once, set to 9600 baud, and locked: a board has one reader. `OSError` if that fails, with a
-    text that says what to do. If it goes later, it is looked for every two seconds. Meanwhile the
-    picture stays as it was, in doubt, and `BoardView.away` says why. With `wait_for_port` a port
-    that can't be opened at first is looked for, too, unless it is a file that is no serial port. A
-    port that comes back may have another number: its name in /dev/serial/by-id stays. A line that
-    is handed over as an object ends it once the line is closed or fails, after a view that says so.
+    at once, set to 9600 baud, and locked: only one program may read a board. `OSError` if that
+    fails, with a text that says what to do. If the port disappears later, `follow` looks for it
+    every two seconds. Meanwhile the picture stays, in doubt, and `BoardView.away` says why. With
+    `wait_for_port` it also looks for a port that can't be opened at first, unless the file isn't a
+    serial port. A port that comes back may have another number, but its name in /dev/serial/by-id
+    stays. If you pass an object, `follow` ends once that line is closed or fails, after a view that
+    says so.
 
-    All squares are asked for every `period` seconds, so that a change that was lost becomes known.
-    `patience` and `mode` are those of `Follower`. A board reports its clock in the modes `UPDATE`
-    and `UPDATE_NICE`, and is then asked for a reading of it in each period, too. With `confirm` a
-    picture is also asked for a second after it changed, until it is `BoardView.confirmed`. With
-    `identify` the board is asked for its serial number (`BoardView.serial`). `BadValue` and
-    `TypeError` as of `Follower`, and `TypeError` if `port` is no port."""
+    All squares are requested every `period` seconds, so that a lost change becomes known.
+    `patience` and `mode` are those of `Follower`. In the modes `UPDATE` and `UPDATE_NICE` a board
+    reports its clock, and a reading of it is also requested in each period. With `confirm` a
+    changed picture is also requested after a second, until it is `BoardView.confirmed`. With
+    `identify` the serial number is requested (`BoardView.serial`). `BadValue` and `TypeError` as in
+    `Follower`, and `TypeError` if `port` isn't a port."""
     return Following(port, period, patience=patience, mode=mode, confirm=confirm,
                      wait_for_port=wait_for_port, identify=identify)
 
 
 class _Streams:
-    """A board on a pair of streams of asyncio, for `follow_async`."""
+    """Follows a board on a pair of asyncio streams, for `follow_async`."""
 
     def __init__(self, steps: _Steps, reader: StreamReader, writer: StreamWriter) -> None:
         import asyncio
@@ -465,7 +463,7 @@ class _Streams:
         self._news = asyncio.Event()
 
     async def serve(self) -> None:
-        """Asks and hears the board until the reader is at its end."""
+        """Serves the board until the end of the reader."""
         try:
             while (fault := await self._exchange()) is None:
                 self._note()
@@ -474,8 +472,8 @@ class _Streams:
             self._note()
 
     async def _exchange(self) -> str | None:
-        """Asks what is due, and hears what comes. Returns why nothing comes any more, if so. It
-        never waits until the writer takes what is sent."""
+        """Sends the due request, and hears bytes that arrive. Returns why the line has ended, if it
+        has. It never waits for the writer."""
         asked = self._steps.ask(self._clock())
         if asked and self._writer.transport.get_write_buffer_size() <= _MOST_UNSENT:
             self._writer.write(asked)
@@ -490,7 +488,7 @@ class _Streams:
         return None if chunk else _CLOSED
 
     def _note(self) -> None:
-        """Has the newest views wait."""
+        """Queues the newest views."""
         now, changes = self._clock(), self._steps.changes
         self._views.extend((now, view) for view in changes)
         changes.clear()
@@ -499,7 +497,7 @@ class _Streams:
             self._views.popleft()
 
     async def next_view(self, serving: Task[None]) -> BoardView | None:
-        """Returns the next view, or `None` once nothing serves the board and no view waits."""
+        """Returns the next view, or `None` after the last one."""
         self._note()
         while not self._views and not serving.done():
             self._news.clear()
@@ -510,9 +508,8 @@ class _Streams:
 async def follow_async(reader: StreamReader, writer: StreamWriter, period: float = 10.0, *,
                        patience: int = 6, mode: Mode = Mode.UPDATE_BOARD, confirm: bool = False
                        ) -> AsyncGenerator[BoardView, None]:
-    """Follows a board on a pair of streams of asyncio, as `follow` does on a port. Both stay the
-    caller's. It ends when the reader is at its end or fails, after a view that says so in `away`
-    and is in doubt.
+    """Follows a board on a pair of asyncio streams, like `follow` on a port. The caller closes the
+    streams. It ends when the reader ends or fails, after a view in doubt that says so in `away`.
 
     >>> import asyncio, serial_asyncio
     >>> async def show():
@@ -525,10 +522,10 @@ async def follow_async(reader: StreamReader, writer: StreamWriter, period: float
     rnbqkbnr/pppppppp/8/8/4P3/8/PPPP1PPP/RNBQKBNR
     the line was closed
 
-    A task of its own asks and hears the board, also while the loop over the views waits for
-    something else. Views come in their order. One that has waited for more than a second is left
-    out if there is a newer one, so that a slow loop gets what is known now. `aclose`, as by
-    `contextlib.aclosing`, ends the task.
+    A separate task serves the board, also while the loop over the views waits for something else.
+    Views come in order. One that has waited for more than a second is dropped if there is a newer
+    one, so that a slow loop gets recent views. `aclose` ends the task; `contextlib.aclosing` calls
+    it.
     """
     import asyncio
 

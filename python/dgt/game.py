@@ -6,18 +6,18 @@ Standard output gets a line for each event:
     1. e4 e2e4 1:30:00 1:30:00  a move: its number, short and long notation, and
                                 the times of White and Black, if the board has a
                                 clock
-    undo 1. e4 e2e4             a move was taken back, or is replaced by that of
-                                the next line
+    undo 1. e4 e2e4             a move was taken back, or is replaced by the one
+                                in the next line
     result 1-0 kings            the result, by the kings, mate or stalemate
-    broken off                  the board was away, and came back with other
-                                pieces
+    broken off                  the board was away, and came back with another
+                                position
 
-A game begins when all pieces stand on their first squares, on either side of
-the board. So does any other position that stands for five seconds at the start,
-or after it was set up with the kings placed last. A move is printed once it has
-rested for 0.3 seconds and the board has confirmed it by a report of all
-squares, or once it was answered. Pieces may be lifted in any order, slid, and
-put right. Moves may be taken back.
+A game begins when all pieces are on their starting squares, on either side of
+the board. Any other position begins one if it rests for a second at the start,
+or later for five seconds after both kings were taken off and put on last. A
+move is printed once it has rested for 0.3 seconds and the board has confirmed
+it with a report of all squares, or once it was answered. Pieces may be lifted
+in any order, slid, and put right. Moves may be taken back.
 
 The players give the result with their kings. They lift both, and put them for a
 second on
@@ -27,38 +27,38 @@ second on
     e4 and e5, or d4, d5  a draw
 
 Either king may be on either square, and the other pieces don't matter. Mate and
-stalemate end a game by themselves. After the end no moves are kept until a new
-game begins.
+stalemate end a game by themselves. After the end no moves are recorded until a
+new game begins.
 
 The PGN file is written after each move. Its other contents stay, and games are
-added at its end. If it can't be written, standard error says so, the game goes
-on, and each move tries again.
+appended. If it can't be written, standard error says so, the game goes on, and
+each move tries again.
 
-If the port disappears, it is looked for every two seconds. The game then goes
-on with up to two moves that were made meanwhile. If the board shows another
-position for five seconds, the game is broken off, and another begins there.
+If the port disappears, dgt-game looks for it every two seconds. The game then
+goes on with up to two moves that were made meanwhile. If the board shows
+another position for five seconds, the game is broken off, and another begins
+with that position.
 
-A flag of the clock that falls is named on standard error, once. It is no result
-by itself.
+When a flag of the clock falls, standard error says so once. The flag alone is
+not a result.
 
-With --log the games are those that the board has kept while no host listened,
-if it keeps a log (the command 49). Such a log says what was put on which
-square, in order, and now and then the time of a side of the clock. So:
+With --log dgt-game reads the games that the board stored while no host
+listened, if it keeps a log (the command 49). Such a log lists the pieces put on
+squares, in order, and sometimes the time of a side of the clock. So:
 
-- A game begins where the pieces stand on their first squares, either way round.
-- What stood on the board before the log begins, or after it was switched on or
-  began anew by itself, is unknown until then. What was moved there is in no
-  game, and standard error counts it.
-- A game ends before the next one, without a result where the log ends, or the
-  board was switched on or began anew. If changes are missing, or no moves lead
-  to what was moved, it has the moves until then, and a comment that says so.
-- A time is that of the player whose move came before it. One whose byte of the
-  hours begins with 6 is taken for the clock's left side, and with 7 for the
-  right one.
-- Unknown bytes are passed over, and standard error names them.
+- A game begins when the pieces are on their starting squares, on either side.
+- The position is unknown before that: at the log's beginning, and after the
+  board was switched on or restarted. Moves made there are in no game; standard
+  error gives their number.
+- A game ends before the next one. It has no result if the log ends, or the
+  board was switched on or restarted. If changes are missing, or no moves lead
+  to the next positions, it has the moves up to there, with a comment.
+- A time belongs to the player who made the move before it. If its hours byte
+  begins with 6, it is that of the clock's left side; with 7, of the right one.
+- Unknown bytes are ignored, and standard error names them.
 
-The date of these games isn't known. A game that was kept before is kept again.
-If no byte comes for five seconds, that is said, and the status is 1.
+The date of these games is unknown. Reading a log twice adds its games twice. If
+no byte arrives for five seconds, dgt-game says so and ends with status 1.
 """
 
 from __future__ import annotations
@@ -82,14 +82,14 @@ from .uci import _period
 from .values import Position
 
 _PERIOD = 2.0
-"""How often the board is asked for all squares, in seconds."""
+"""The seconds between two requests for all squares."""
 _OUTPUT_WAIT = 0.5
-"""How often an output that takes nothing is tried, in seconds."""
+"""The seconds between two attempts to write to a blocked output."""
 _TAGS = ("event", "site", "date", "round", "white", "black")
 
 
 class _Output:
-    """A file that gets lines as soon as it takes them. No call waits for that, or fails."""
+    """Writes lines to a file as soon as it takes them. No call waits for that, or fails."""
 
     def __init__(self, descriptor: int) -> None:
         self._descriptor, self._unsent = descriptor, b""
@@ -98,14 +98,13 @@ class _Output:
         self._poll.register(descriptor, select.POLLOUT)
 
     def say(self, line: str) -> None:
-        """Adds a line."""
         self._unsent += f"{line}\n".encode(errors="replace")
         self.send()
 
     def send(self, seconds: float = 0.0) -> bool:
-        """Writes what the file takes now, or what it takes within this number of seconds.
-        Returns whether nothing is left to be written. `fault` says why not, if that is known, and
-        `is_broken` whether nobody reads the file any more."""
+        """Writes as much as the file takes within this number of seconds. Returns whether
+        everything is written. If not, `fault` may say why; `is_broken` is true once nobody reads
+        the file any more."""
         try:
             while self._unsent and self._poll.poll(1000 * seconds):
                 count = os.write(self._descriptor, self._unsent[:select.PIPE_BUF])
@@ -118,7 +117,7 @@ class _Output:
 
 
 def _stopping() -> int:
-    """Returns a descriptor that has something to read once a signal ends the program."""
+    """Returns a descriptor that has something to read once a signal stops the program."""
     readable, writable = os.pipe2(os.O_NONBLOCK | os.O_CLOEXEC)
     signal.set_wakeup_fd(writable, warn_on_full_buffer=False)
     for number in (signal.SIGINT, signal.SIGTERM, signal.SIGHUP):
@@ -128,7 +127,7 @@ def _stopping() -> int:
 
 
 def _record(board: Following, games: Games, output: _Output, notes: _Output) -> None:
-    """Keeps the games on a board, until a signal ends that or nobody reads the output."""
+    """Records the games on a board until a signal, or until nobody reads the output."""
     stop = _stopping()
     asked: Position | None = None
     while not output.is_broken and not _has_input(stop, 0.0):
@@ -157,12 +156,12 @@ def _read_words(arguments: list[str] | None) -> argparse.Namespace:
         parser.add_argument(f"--{name}", metavar="TEXT", help=f"a tag of each game{said}")
     parser.add_argument("--white-clock", choices=(*SIDES, "learn"), default="learn",
                         help="the side of the clock that has White's time (%(default)s). Left is "
-                        "the side that the clock reports first. With learn that is White's until "
-                        "the other side is seen to count on White's turns")
-    parser.add_argument("--fen", help="the game begins with this position")
+                        "the side that the clock reports first. learn begins with left, and "
+                        "changes if the right side counts when White is to move")
+    parser.add_argument("--fen", help="the position with which the game begins")
     parser.add_argument("--period", type=_period, metavar="SECONDS",
-                        help=f"how often the board is asked for all squares ({_PERIOD})")
-    parser.add_argument("--log", action="store_true", help="keep the games of the board's log, "
+                        help=f"the time between two requests for all squares ({_PERIOD})")
+    parser.add_argument("--log", action="store_true", help="read the games in the board's log, "
                         "without following the board")
     words = parser.parse_args(arguments)
     if words.log and (words.fen or words.period):
@@ -172,7 +171,7 @@ def _read_words(arguments: list[str] | None) -> argparse.Namespace:
 
 def _follow(words: argparse.Namespace, file: PgnFile | None, tags: dict[str, str],
             output: _Output, notes: _Output) -> bool:
-    """Keeps the games on the board. Returns whether the file has all of them."""
+    """Records the games on the board. Returns whether the file contains all of them."""
     games = Games(output.say, lambda text: notes.say(f"dgt-game: {text}"), file, tags,
                   words.white_clock, words.fen, words.port)
     try:
@@ -186,7 +185,7 @@ def _follow(words: argparse.Namespace, file: PgnFile | None, tags: dict[str, str
 
 def _read_log(words: argparse.Namespace, file: PgnFile | None, tags: dict[str, str],
               output: _Output, notes: _Output) -> bool:
-    """Keeps the games of the board's log. Returns whether the file has all of them."""
+    """Reads the games of the board's log. Returns whether the file contains all of them."""
     stop = _stopping()
     log = ask_for_log(words.port, stop)
     logged = LoggedGames(output.say, lambda text: notes.say(f"dgt-game: {text}"), tags,

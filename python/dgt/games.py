@@ -1,4 +1,4 @@
-"""The games on a board, made of what is known of the board: its positions and its clock."""
+"""Makes games from the positions and the clock of a board."""
 
 from __future__ import annotations
 
@@ -19,52 +19,51 @@ from .rules import GameState
 from .values import SQUARES, Clock, Time, Times, checked
 
 _SET_UP_WAIT = 5.0
-"""For how long a position rests that is set up after a game, before another begins with it."""
+"""The seconds after which a position that was set up after a game begins another one."""
 _KINGS_WAIT = 1.0
-"""For how long the kings rest in the centre before they give the result, in seconds."""
+"""The seconds after which kings in the centre give the result."""
 _FINAL_WAIT = 10.0
-"""For how long the moves before mate or stalemate may be taken back."""
+"""The seconds in which a mate or stalemate may be taken back."""
 _LONG_DOUBT = 5.0
-"""After how many seconds in doubt more moves may have been made than can be found."""
+"""After this many seconds in doubt, more moves may have been made than can be recognised."""
 _CLOCK_WAIT = 2.0
-"""For how long the time of the last move rests before the file is written with it."""
+"""The seconds after which the last move's time is written to the file."""
 _HINT_WAIT = 3.0
-"""For how long a position rests that no move leads to, before it is named."""
+"""The seconds before a hint about a position that no move leads to."""
 _MOST_WRONG = 4
-"""How many squares of it differ at most: more is pieces that are set up."""
+"""The most wrong squares in a hint: with more, somebody is setting up pieces."""
 _MOST_SEEN = 256
 _CENTRE = {frozenset(("e4", "d5")): "1-0", frozenset(("e5", "d4")): "0-1",
            frozenset(("e4", "e5")): "1/2-1/2", frozenset(("d4", "d5")): "1/2-1/2"}
-"""The result by the squares of both kings: side by side, as in no legal position."""
+"""The result by the squares of both kings, which are adjacent: no legal position."""
 _BROKEN_OFF = "broken off: the board was away, and came back with another position"
 
 
 class GameStore(Protocol):
-    """What keeps the texts of a board's games: a `PgnFile`, or an object like it."""
+    """Stores the texts of a board's games: a `PgnFile`, or a similar object."""
 
     @property
     def name(self) -> str:
-        """What it is called in a warning."""
+        """Its name in warnings."""
 
     @property
     def unsaved(self) -> str:
-        """The games that aren't kept as they are."""
+        """The games that have changed since `save`."""
 
     def begin(self) -> object:
-        """A game begins. `put` is about this one from now on."""
+        """Begins a game. From now on `put` sets the text of this one."""
 
     def put(self, text: str) -> None:
         """Sets the text of the game."""
 
     def save(self) -> None:
-        """Keeps what was put. `OSError` if that fails; it is called again after the next move."""
+        """Stores the texts. `OSError` if that fails; the next move calls it again."""
 
 
 class Games(Uncopied):
-    """The games on a board. Hand it what is known of the board with `see`, from `follow` or from
-    any other source, and call `wait` when `due` is reached. What isn't confirmed is reported later:
-    see `unconfirmed`. `tell` gets each line of what happens, as `dgt-game` prints it, and `warn`
-    what one should know.
+    """The games on a board. Pass each view of the board to `see`, from `follow` or another source,
+    and call `wait` at the time `due`. Unconfirmed moves are reported later: see `unconfirmed`.
+    `tell` gets the lines that `dgt-game` prints, and `warn` gets warnings.
 
     >>> lines = []
     >>> games = Games(lines.append, print)
@@ -77,15 +76,15 @@ class Games(Uncopied):
     >>> lines[1:], games.game.moves[-1].san
     (['1. e4 e2e4'], 'e4')
 
-    The time is in seconds, as that of `time.monotonic`."""
+    Times are in seconds, for instance of `time.monotonic`."""
 
     def __init__(self, tell: Callable[[str], None], warn: Callable[[str], None],
                  file: GameStore | None = None, tags: dict[str, str] | None = None,
                  white_clock: str = "left", fen: str | None = None, port: str = "") -> None:
         """`file` gets each game as PGN, with these tags. `white_clock` is the side of the clock
-        that has White's time, `left` or `right`, or `learn`: then it is found for each game, and
-        left until then. `fen` is that of `MoveRecogniser`, and `port` what the board is called in a
-        warning. `BadFen` if the FEN is none, `BadValue` if the side is."""
+        that has White's time, `left` or `right`; with `learn` it is found for each game, and is
+        left until then. `fen` is that of `MoveRecogniser`, and `port` names the board in warnings.
+        `BadFen` if the FEN is invalid, `BadValue` if the side is."""
         self._is_white_left, self._learns = _is_left(white_clock), white_clock == "learn"
         self._learner, self._fallen = Learner(), set[str]()
         self.recogniser = MoveRecogniser(fen, set_up=_SET_UP_WAIT)
@@ -95,10 +94,10 @@ class Games(Uncopied):
         self._tell, self._warn, self._file, self._tags = tell, warn, file, tags or {}
         self._letters, self._lifted, self._away = "", set[str](), ""
         self._clock: Times | None = None
-        # What the board has shown since the last move, with the clock of that time.
+        # The positions since the last move, with the clock of that time.
         self._seen: deque[tuple[str, Times | None]] = deque(maxlen=_MOST_SEEN)
-        self._settled = 0  # how many moves have a clock
-        self._fixed = 0  # of how many it no longer changes, whatever is taken back
+        self._settled = 0  # the number of moves with a clock
+        self._fixed = 0  # the number of moves with a final clock, whatever is taken back
         self._doubted_at: float | None = None
         self._is_new = True
         self._is_over, self._is_end_told, self._final_at = False, False, 0.0
@@ -111,21 +110,19 @@ class Games(Uncopied):
 
     @property
     def due(self) -> float | None:
-        """The time at which `wait` has something to do."""
+        """The time at which to call `wait`."""
         times = (self.recogniser.due, self._hint_at, self._save_at,
                  self._result_at if self._result and self._is_confirmed else None)
         return min((each for each in times if each is not None), default=None)
 
     @property
     def unconfirmed(self) -> bool:
-        """Whether something has happened that is reported once the board has confirmed what it
-        shows. `Follower.ask_now` has it asked at once. A source that confirms nothing says of each
-        view that it is sure of that it is confirmed."""
+        """Whether something waits for a confirmation of the picture. `Follower.ask_now` requests
+        one at once. A source without confirmations has to mark each sure view as confirmed."""
         return self.recogniser.unconfirmed or bool(self._result) and not self._is_confirmed
 
     def see(self, view: BoardView, now: float) -> None:
-        """Notes what is known of the board from this time on. `TypeError` if that is no
-        `BoardView`."""
+        """Notes the view from this time on. `TypeError` if it isn't a `BoardView`."""
         self._note_away(checked(view, BoardView))
         self._note_clock(view.clock, now)
         self._is_confirmed = view.confirmed
@@ -147,7 +144,7 @@ class Games(Uncopied):
         self._learn()
 
     def wait(self, now: float) -> None:
-        """Notes that the board shows until this time what it showed last."""
+        """Notes that the board hasn't changed until this time."""
         is_lost = self.recogniser.lost
         self._take(self.recogniser.wait(now), is_lost, now)
         self._learn()
@@ -160,8 +157,8 @@ class Games(Uncopied):
             self._save()
 
     def set_tags(self, tags: dict[str, str], is_for_this: bool) -> None:
-        """Sets tags of the games that begin from now on, and also of the game that is under way if
-        `is_for_this`."""
+        """Sets tags of the games that begin from now on, and with `is_for_this` also of the present
+        game."""
         self._tags = {**self._tags, **tags}
         if is_for_this and self.game is not None:
             self.game.tags.update(tags)
@@ -169,8 +166,9 @@ class Games(Uncopied):
 
     @property
     def white_clock(self) -> str:
-        """The side of the clock that has White's time, `left` or `right`. Set it at any time, also
-        to `learn`: the clocks of all moves of the game follow. `BadValue` if the side is none."""
+        """The side of the clock that has White's time, `left` or `right`. You may set it at any
+        time, also to `learn`: it changes the clocks of all moves of the game. `BadValue` if it
+        isn't a side."""
         return SIDES[not self._is_white_left]
 
     @white_clock.setter
@@ -188,9 +186,9 @@ class Games(Uncopied):
         self._save()
 
     def replace(self, ply: int, count: int, moves: Sequence[str], now: float) -> None:
-        """Puts other moves in the place of some, as `PgnGame.replace` does, with its errors, and
-        `BadValue` if there is no game. What the board shows is looked at with the next `see`; if
-        moves are only taken back, once it changes."""
+        """Replaces moves like `PgnGame.replace`, with its errors, and `BadValue` if there is no
+        game. The board's position counts again from the next `see`; if moves are only deleted, once
+        it changes."""
         game = self._under_way()
         was_final = not game.state.moves()
         game.replace(ply, count, moves)
@@ -202,8 +200,8 @@ class Games(Uncopied):
         self._save()
 
     def end(self, result: str, now: float) -> None:
-        """Ends the game with a result that the board doesn't show. With `*` it goes on. `BadValue`
-        if the result is none, or there is no game."""
+        """Ends the game with a result that the board doesn't show. With `*` the game goes on.
+        `BadValue` if it isn't a result, or there is no game."""
         game = self._under_way()
         if result not in RESULTS:
             raise BadValue(f"result must be one of {', '.join(RESULTS)}: {result!r}")
@@ -215,19 +213,19 @@ class Games(Uncopied):
         self._save()
 
     def close(self) -> bool:
-        """Writes what isn't in the file yet. Returns whether the file has everything; what it
-        lacks is a warning."""
+        """Writes what isn't in the file yet. Returns whether the file is complete; a warning
+        contains what it lacks."""
         self._save()
         if self._file is None or not self._fault:
             return True
         self._warn(f"{self._file.name} lacks this:\n{self._file.unsaved}")
         return False
 
-    # ---- What is known of the board
+    # ---- The view of the board
 
     @property
     def _shown(self) -> str:
-        """What the board shows, as White sees it."""
+        """The letters on the board, from White's point of view."""
         return self._letters[::-1] if self.recogniser.turned else self._letters
 
     @property
@@ -242,7 +240,7 @@ class Games(Uncopied):
         self._away, self._is_new = away, self._is_new or bool(away)
 
     def _doubt(self, view: BoardView, now: float) -> None:
-        """What the board shows isn't sure."""
+        """Notes that the picture isn't sure."""
         self.recogniser.hold()
         if self._doubted_at is None:
             self._doubted_at = now
@@ -252,7 +250,7 @@ class Games(Uncopied):
         self._hint_at = None
 
     def _trust(self, now: float) -> None:
-        """What the board shows is sure again, if it wasn't."""
+        """Notes that the picture is sure."""
         if self._doubted_at is not None and now >= self._doubted_at + _LONG_DOUBT:
             self.recogniser.lose_track()
         self._doubted_at = None
@@ -273,18 +271,18 @@ class Games(Uncopied):
             self._text.change(len(self.game.moves) - 1)
 
     def _note_flags(self) -> None:
-        """Says once that a flag has fallen. That is no result: the arbiter gives it."""
+        """Warns once of a fallen flag. It isn't a result: the arbiter gives that."""
         if self._clock is None:
             return
         times = zip(SIDES, (self._clock.first, self._clock.second))
         fallen = {side for side, time in times if time.blocked or time.fallen}
         for side in sorted(fallen - self._fallen) if self.game and not self._is_over else ():
             colour = "White" if side == self.white_clock else "Black"
-            self._warn(f"{colour}'s flag has fallen, which is no result by itself")
+            self._warn(f"{colour}'s flag has fallen (that alone is not a result)")
         self._fallen = fallen
 
     def _learn(self) -> None:
-        """White's side of the clock is that which was learned."""
+        """Uses the learned side of the clock."""
         if self.game is None or not self._learns:
             return
         self._learner.look_at(self.game)
@@ -295,21 +293,21 @@ class Games(Uncopied):
 
     def _runs_for(self, made: PgnMove) -> bool:
         """Whether the clock of the player who has made a move still runs. It does if the clock
-        doesn't report whose turn it is."""
+        doesn't report the side to move."""
         clock = self._clock
         return clock is not None and clock.running and not (
             clock.black_turn if made.before.white else clock.white_turn)
 
     def _left(self, clock: Times | None, made: PgnMove) -> Time | None:
-        """Returns the time that is left to the player who has made a move."""
+        """Returns the remaining time of the player who has made a move."""
         if clock is None:
             return None
         side = clock.first if made.before.white == self._is_white_left else clock.second
         return replace(side, flags=0)
 
     def _settle(self, after: str) -> None:
-        """The clock of the last move is known, now that the next one leads to the position `after`:
-        it stood still until the pieces of that move were put."""
+        """Finds the clock of the last move, now that the next one leads to the position `after`: it
+        didn't change until the pieces of that next move were put down."""
         assert self.game is not None
         before, clock = self.game.state.letters, None
         changed = [square for square in range(64) if before[square] != after[square]]
@@ -344,16 +342,16 @@ class Games(Uncopied):
                 self._warn("the game is over, and no moves are kept until another begins")
                 self._is_end_told = True
         if events and isinstance(events[-1], MoveTakenBack):
-            self._seen.clear()  # these positions led to what was taken back
+            self._seen.clear()  # these positions led to the moves that were taken back
         if self._is_over and not self.recogniser._moves and self._is_as_told:
             state = self.recogniser.state
             assert state is not None
             self._begin(GameBegun(state, self.recogniser.turned), False)
 
     def _is_kept(self, event: MoveMade | MoveTakenBack, now: float) -> bool:
-        """Returns whether a move is one of the game, and not made after its end."""
+        """Returns whether a move belongs to the game, or was made after its end."""
         if self._is_over and isinstance(event, MoveTakenBack) and now < self._final_at:
-            self._is_over = False  # the mate was none: its piece goes on
+            self._is_over = False  # it wasn't mate: its piece has moved on
         return not self._is_over
 
     def _begin(self, event: GameBegun, is_lost: bool) -> None:
@@ -388,9 +386,9 @@ class Games(Uncopied):
             self._end_by_rules(now)
 
     def _take_back(self, is_replaced: bool) -> None:
-        """The last move is taken back. If another was put in its place, it was on its way, and the
-        clock of the move before may have been pressed meanwhile. Else that clock stays: both clocks
-        may have run since then."""
+        """Takes back the last move. If another replaces it, the piece was still moving, and the
+        clock of the move before may have been pressed meanwhile. Otherwise that clock stays: both
+        clocks may have run since then."""
         assert self.game is not None
         made = self.game.moves.pop()
         count = len(self.game.moves)
@@ -401,7 +399,7 @@ class Games(Uncopied):
         self._report(f"undo {numbered(made.before, made.san)} {made.move}")
 
     def _end_by_rules(self, now: float) -> None:
-        """The side whose turn it is has no move."""
+        """Ends the game by mate or stalemate."""
         assert self.game is not None
         state = self.game.state
         winner = "0-1" if state.white else "1-0"
@@ -415,7 +413,7 @@ class Games(Uncopied):
             self.recogniser.end_game()
         self._report(f"result {result} {why}")
 
-    # ---- What somebody corrects
+    # ---- Corrections
 
     def _under_way(self) -> PgnGame:
         if self.game is None:
@@ -423,7 +421,7 @@ class Games(Uncopied):
         return self.game
 
     def _go_on(self, ply: int, is_new: bool) -> None:
-        """The game goes on by its moves, of which those after `ply` may be others."""
+        """Continues the game after its moves, which may have changed after `ply`."""
         assert self.game is not None
         self._text.change(ply)
         self._settled = self._fixed = len(self.game.moves)
@@ -435,7 +433,7 @@ class Games(Uncopied):
     # ---- The kings, and other positions
 
     def _look_at_kings(self, now: float) -> None:
-        """Looks for the result that the kings give. Both have to be lifted after the last move."""
+        """Looks for a result by the kings. Both have to be lifted after the last move."""
         state, shown = self.recogniser.state, self._shown
         if self.game is None or self._is_over or state is None:
             self._result = ""
@@ -450,14 +448,14 @@ class Games(Uncopied):
             self._result, self._result_at = result, now + _KINGS_WAIT
 
     def _in_centre(self) -> str:
-        """Returns the result that the squares of the kings mean, if they mean one."""
+        """Returns the result for the squares of the kings, if there is one."""
         shown = self._shown
         if (shown.count("K"), shown.count("k")) != (1, 1):
             return ""
         return _CENTRE.get(frozenset(SQUARES[shown.index(king)] for king in "Kk"), "")
 
     def _hint(self) -> None:
-        """Says what to put on which square, if no move puts a few of the pieces there."""
+        """Prints a hint if a few pieces are on squares that no move leads to."""
         state, shown = self.recogniser.state, self._shown
         if state is None or self._is_over or self.recogniser.due is not None or not shown:
             return
@@ -472,12 +470,12 @@ class Games(Uncopied):
     # ---- The file
 
     def _report(self, line: str) -> None:
-        """Reports what has happened, once the file has it."""
+        """Reports what has happened, once the file contains it."""
         self._save()
         self._tell(line)
 
     def _save(self) -> None:
-        """Writes the file, if it can be. A game without moves isn't written."""
+        """Writes the file if possible. A game without moves isn't written."""
         self._save_at = None
         if self._file is None or self.game is None:
             return
@@ -498,7 +496,7 @@ class Games(Uncopied):
 
 
 def _is_left(side: str) -> bool:
-    """Returns whether White's time is the first one, as far as this says it. `BadValue` if it is no
+    """Returns whether White's time is the first one, also for `learn`. `BadValue` if it isn't a
     side."""
     if side not in (*SIDES, "learn"):
         raise BadValue(f"white_clock must be left, right or learn: {side!r}")
@@ -506,8 +504,8 @@ def _is_left(side: str) -> bool:
 
 
 def _misplaced(shown: str, state: GameState, most: int) -> str:
-    """Returns what to put on which squares so that the board shows a state, or nothing if it shows
-    it, more than `most` squares differ, or pieces are only lifted."""
+    """Returns what to put on which squares so that the board shows a state. An empty text if it
+    does, if more than `most` squares differ, or if pieces are only lifted."""
     wrong = [square for square in range(64) if shown[square] != state.letters[square]]
     if (1 <= len(wrong) <= most and any(shown[square] != "." for square in wrong)
             and "K" in shown and "k" in shown):
@@ -516,8 +514,7 @@ def _misplaced(shown: str, state: GameState, most: int) -> str:
 
 
 def _root(begun: GameState, first: MoveMade) -> GameState:
-    """Returns the state in which a game has begun, once the first move has decided whose turn it
-    was."""
+    """Returns the state in which a game began, once the first move has decided the side to move."""
     if begun.moves().get(first.move) == first.state:
         return begun
     return GameState.place(begun.letters, not begun.white)

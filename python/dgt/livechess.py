@@ -1,22 +1,22 @@
 """Serves boards to lichess.org and other sites that use the program LiveChess.
 
-It takes the place of LiveChess, the program of the boards' maker, and opens the
-same WebSocket on this machine: ws://localhost:1982/api/v1.0. A site such as
+It replaces LiveChess, the program of the boards' maker, and opens the same
+WebSocket on this machine: ws://localhost:1982/api/v1.0. A site such as
 https://lichess.org/dgt connects to it, and gets each move that is made on the
 board. The section "Play on Lichess" of GUIDE.md is for players.
 
-Without a PORT it follows each serial port whose USB device is likely a board,
-also one that is plugged in later. With --broker it gets the boards that
-dgt-broadcast publishes, so that dgt-page and others can show them, too.
+Without a PORT it follows each serial port with a USB device that is likely a
+board, even one that is plugged in later. With --broker it gets the boards that
+dgt-broadcast publishes, so that dgt-page and other programs can show them, too.
 
 A move is sent once it has rested and the board has confirmed it. If it is taken
-back, the list of moves gets shorter. A position that a site sets up goes on
-from the moves so far, or begins a game once the board shows it.
+back, the list of moves gets shorter. A position that a site sets up continues
+the moves so far, or begins a game once the board shows it.
 
-Only pages of https://lichess.org may connect, and programs that aren't pages.
+Of web pages only those of https://lichess.org may connect (but see --origin).
 
-There are at most 32 clients with 8 feeds each, and 256 messages that wait for a
-client to read them. A message of a client is at most 65536 bytes long.
+Limits: 32 clients, 8 feeds for each, 256 messages that wait for a client to
+read them, and 65536 bytes for a message of a client.
 """
 
 from __future__ import annotations
@@ -40,23 +40,23 @@ from ._live_ports import PortBoard, look_for_ports
 
 _PATH, _PORT = "/api/v1.0", 1982
 _ORIGINS = ("https://lichess.org", None)
-"""The sites that may connect: a page of any site could. `None` is a program that names none."""
+"""The sites that may connect; the others are refused. `None` is a program that names no site."""
 _DEFAULT_PORTS = {"https": 443, "http": 80}
 _MOST_CLIENTS, _MOST_BYTES, _MOST_SENT = 32, 1 << 16, 16
 _NO_SUCH_PATH = 1008
 _MOST_OPENING, _OPEN_WAIT = 64, 5.0
-"""How many connections may be without a handshake, and for how many seconds."""
+"""The most connections without a handshake, and the seconds that each may last."""
 _SAID_AGAIN = 60.0
-"""After how many seconds a lack of files is printed again."""
+"""The seconds after which a lack of file descriptors is printed again."""
 _LAST_WAIT = 3.0
-"""For how many seconds clients may take leave at the end."""
+"""The seconds to wait for clients at the end."""
 
 
 class Server:
     """The WebSocket, and the boards."""
 
     def __init__(self, words: argparse.Namespace) -> None:
-        """`SystemExit` if something is missing or wrong."""
+        """`SystemExit` if a module is missing."""
         self._words, self._boards, self._count = words, list[Board](), 0
         self._opening, self._lacked_at = list[Any](), float("-inf")
         try:
@@ -65,7 +65,7 @@ class Server:
             sys.exit("dgt-livechess: no module websockets (install Debian's python3-websockets)")
 
     async def run(self) -> None:
-        """Serves until a signal comes. `SystemExit` if the port can't be had."""
+        """Serves until a signal arrives. `SystemExit` if the port can't be opened."""
         words, stop, loop = self._words, asyncio.Event(), asyncio.get_running_loop()
         for number in (signal.SIGINT, signal.SIGTERM, signal.SIGHUP):
             if signal.getsignal(number) is not signal.SIG_IGN:
@@ -75,8 +75,8 @@ class Server:
             server = await self._serve()
         except OSError as fault:
             sys.exit(f"dgt-livechess: port {words.port}: {fault} (end LiveChess and other programs "
-                     "that have it, or see --port)")
-        say(f"ws://localhost:{words.port}{_PATH} (Ctrl-C ends it)")
+                     "that use it, or see --port)")
+        say(f"ws://localhost:{words.port}{_PATH} (stop with Ctrl-C)")
         looking = self._follow()
         await stop.wait()
         if looking is not None:
@@ -99,8 +99,8 @@ class Server:
                            close_timeout=2, **how)
 
     def _open(self, *words: Any, **names: Any) -> Any:
-        """Makes what serves a connection. One that stays without a handshake is left: versions of
-        the module up to 13 wait for it without an end."""
+        """Makes the object that serves a connection, and drops one without a handshake: versions of
+        the module up to 13 wait for it for ever."""
         made = self._websockets.WebSocketServerProtocol(*words, **names)
         self._opening.append(made)
         asyncio.get_running_loop().call_later(_OPEN_WAIT, self._leave, made)
@@ -110,7 +110,7 @@ class Server:
 
     def _leave(self, made: Any) -> None:
         """Ends a connection that is still without a handshake."""
-        if made in self._opening and not hasattr(made, "transport"):  # it has just come
+        if made in self._opening and not hasattr(made, "transport"):  # not connected yet
             asyncio.get_running_loop().call_soon(self._leave, made)
         elif made in self._opening:
             self._opening.remove(made)
@@ -118,7 +118,7 @@ class Server:
                 made.transport.abort()
 
     async def _leave_all(self) -> None:
-        """Ends all of them. The module fails if it is closed while one of them ends."""
+        """Ends all of them, and waits: the module fails if it is closed while one of them ends."""
         ending = [made.handler_task for made in self._opening
                   if hasattr(made, "handler_task") and not made.open]
         for made in self._opening.copy():
@@ -127,17 +127,17 @@ class Server:
             await asyncio.wait(ending, timeout=_LAST_WAIT)
 
     def _note_fault(self, loop: asyncio.AbstractEventLoop, context: dict[str, Any]) -> None:
-        """Prints a fault that nobody has caught. One to accept a connection is tried again each
-        second, and is printed once."""
+        """Prints an exception that nobody has caught. A failure to accept a connection is tried
+        again each second, and printed once."""
         fault, now = context.get("exception"), loop.time()
         if not isinstance(fault, OSError) or "accept" not in context["message"]:
             loop.default_exception_handler(context)
         elif now > self._lacked_at + _SAID_AGAIN:
-            say(f"no more connections now: {fault.strerror} (it is tried again)")
+            say(f"can't accept more connections now: {fault.strerror} (trying again)")
             self._lacked_at = now
 
     def _follow(self) -> asyncio.Task[None] | None:
-        """Begins to follow the boards. Returns what looks for more of them."""
+        """Begins to follow the boards. Returns the task that looks for more of them."""
         words, shows = self._words, (self._words.clock, self._words.leds)
         if words.broker:
             Broker(self._boards, words.broker, words.broker_port, words.user)
@@ -151,13 +151,12 @@ class Server:
         return None
 
     async def _visit(self, socket: Any) -> None:
-        """Serves a client."""
-        request = getattr(socket, "request", socket)  # of the module from version 13 on
+        request = getattr(socket, "request", socket)  # since version 13 of the module
         headers = getattr(request, "headers", None) or socket.request_headers
         if request.path.rstrip("/") != _PATH:
-            await socket.close(_NO_SUCH_PATH, f"the path is {_PATH}")
+            await socket.close(_NO_SUCH_PATH, f"the path must be {_PATH}")
         elif self._count >= _MOST_CLIENTS:
-            await socket.close(TRY_LATER, f"{_MOST_CLIENTS} clients are connected")
+            await socket.close(TRY_LATER, f"{_MOST_CLIENTS} clients are connected already")
         else:
             who = headers.get("Origin") or "a program"
             say(f"{who} is connected")
@@ -199,7 +198,7 @@ def _read_words(arguments: Sequence[str] | None) -> argparse.Namespace:
     parser.add_argument("--broker", metavar="HOST",
                         help="the broker to which dgt-broadcast publishes the boards")
     parser.add_argument("--broker-port", type=_a_port, default=1883, metavar="PORT",
-                        help="its port (%(default)s)")
+                        help="the broker's port (%(default)s)")
     parser.add_argument("--user", help="a user of the broker; MQTT_PASSWORD contains the password")
     parser.add_argument("--port", type=_a_port, default=_PORT, metavar="PORT",
                         help="the port of the WebSocket (%(default)s)")
@@ -218,5 +217,5 @@ def _read_words(arguments: Sequence[str] | None) -> argparse.Namespace:
 def main(arguments: Sequence[str] | None = None) -> None:
     """Runs the program `dgt-livechess` with these arguments, or those of the process."""
     server = Server(_read_words(arguments))
-    logging.getLogger("websockets").setLevel(logging.CRITICAL)  # what clients do wrong
+    logging.getLogger("websockets").setLevel(logging.CRITICAL)  # ignore faults of clients
     asyncio.run(server.run())

@@ -23,7 +23,8 @@ def _packed(number: int) -> int:
 
 
 class LoggingBoard(Board):
-    r"""A `Board` that also keeps a log, as boards are said to do, and sends it after the byte 49.
+    r"""A `Board` that also keeps a log, as real boards are said to do, and sends it after the byte
+    49.
 
     >>> board = LoggingBoard()
     >>> board.change("e2", "."), board.change("e4", "P")
@@ -33,24 +34,24 @@ class LoggingBoard(Board):
 
     What it logs is a choice of this project; no board was tried:
 
-    - It logs in the mode `IDLE`: no host has asked for updates since it was switched on (made, or
-      `line_lost`), or one has sent 40. What changes in another mode is in no log.
-    - Of a change of a square it logs what stands there now, and a mark if the pieces then stand as
-      a game begins, on four ranks, or nowhere. When it is switched on, it logs that, and such a
-      mark.
-    - Of a clock that is handed in it logs each side whose time is another than it logged last. It
-      logs none of a clock that only counts: it runs, and its status is as before.
-    - The log has at most `room` bytes. The oldest things in it are dropped, each whole.
-    - What is sent ends with a mark of the end. It is one message, or several if one has no room for
-      it, each with whole things. Then the log gets a mark that it was sent, and keeps the rest.
+    - It logs only in the mode `IDLE`: no host has requested updates since it was switched on (made,
+      or `line_lost`), or one has sent 40. Changes in other modes aren't logged.
+    - For a change of a square it logs the new piece. It adds a mark if the pieces are in the
+      starting position, only on four ranks, or all off the board. When the board is switched on, it
+      logs that, and such a mark.
+    - For a reading of the clock it logs each side with another time than it logged last. It ignores
+      a clock that only counts: it runs, and its status hasn't changed.
+    - The log has at most `room` bytes. The oldest entries are dropped.
+    - It sends the log with a mark at the end, in one message, or in several with complete entries
+      if it is too long. Then it adds a mark that the log was sent, and keeps the entries.
     """
 
     def __init__(self, position: Position | None = None, clock: Clock | None = None,
                  identity: Identity | None = None, room: int = 8192) -> None:
-        """As of `Board`. `BadValue` if the room is no number from 3 to 65536."""
+        """Like `Board`. `BadValue` if the room isn't a number from 3 to 65536."""
         self._log_room = number(room, 1 << 16, "room")
         if room < _HEAD:
-            raise BadValue(f"room must be 3 or more: {room!r}")
+            raise BadValue(f"room must be a number from 3 to 65536: {room!r}")
         super().__init__(position, clock, identity)
         self._log, self._log_size = deque[bytes](), 0
         self._unsent = deque[bytes]()
@@ -82,23 +83,23 @@ class LoggingBoard(Board):
                                  _packed(shown.seconds)]))
 
     def take(self, chunk: Bytes) -> tuple[int, Word | None]:
-        """As of `Board`, and the byte 49 asks for the log. It stays a `StrayByte`."""
+        """Like `Board`, and the byte 49 requests the log. It is still returned as a `StrayByte`."""
         used, word = super().take(chunk)
         if word == StrayByte(STORED_REQUEST[0]):
             self._send_log()
         return used, word
 
     def poll(self) -> bytes | None:
-        """As of `Board`, and then the next message with the log."""
+        """Like `Board`, and then the next message with the log."""
         return super().poll() or (self._unsent.popleft() if self._unsent else None)
 
     @property
     def owes(self) -> bool:
-        """As of `Board`, with the log."""
+        """Like `Board`, with the log."""
         return super().owes or bool(self._unsent)
 
     def line_lost(self) -> None:
-        """As of `Board`: it is switched off and on, which it logs."""
+        """Like `Board`: it is switched off and on, which it logs."""
         super().line_lost()
         self._unsent.clear()
         self._switch_on()

@@ -1,4 +1,4 @@
-"""Which moves are made on a board, from the positions that it shows."""
+"""Recognises moves in the positions of a board."""
 
 from __future__ import annotations
 
@@ -15,27 +15,27 @@ from .rules import START_FEN, GameState
 from .values import Position, checked, seconds, square_number
 
 _CASTLING_WAIT = 2.0
-"""For how long a rook's move rests that may be the first half of castling."""
+"""The rest of a rook's move that may be the first half of castling, in seconds."""
 _LONG_WAIT = 1.0
-"""For how long a position rests that was set up, or that two moves lead to."""
+"""The rest of a position that was set up, or that two moves lead to."""
 _REPLACED_WAIT = 3.0
-"""For how long a position rests that replaces more than the last move."""
+"""The rest of a position that replaces more than the last move."""
 _LOST_WAIT = 5.0
-"""For how long a position rests that no move leads to, once moves may have been missed."""
+"""The rest of a position that no move leads to, once moves may have been missed."""
 _REPLACED = 4
-"""How many moves at most a single new one replaces."""
+"""The most moves that a single new one replaces."""
 _REMEMBERED = 16
-"""How many readings are remembered that were shown since the last report."""
+"""The number of remembered readings since the last report."""
 _PUT = 16
-"""How many pieces are remembered that were put on squares."""
+"""The number of remembered pieces that were put on squares."""
 _HALVES = {"h1f1": "e1g1", "a1d1": "e1c1", "h8f8": "e8g8", "a8d8": "e8c8"}
-"""The move of a rook that castling may begin with, and the castling."""
+"""Each castling by the rook's move that may begin it."""
 
 
 @dataclass(frozen=True, slots=True)
 class GameBegun:
-    """A game begins with this state. `turned` is true if White's pieces begin on the ranks 8 and 7
-    of the board."""
+    """A game has begun with this state. `turned` is true if White's pieces began on the board's
+    ranks 8 and 7."""
 
     state: GameState
     turned: bool
@@ -51,8 +51,8 @@ class MoveMade:
 
 @dataclass(frozen=True, slots=True)
 class MoveTakenBack:
-    """The last move was taken back, or is replaced by the `MoveMade` that comes next. `state` is
-    the state before the move."""
+    """The last move was taken back, or is replaced by the next `MoveMade`. `state` is the state
+    before the move."""
 
     move: str
     state: GameState
@@ -65,7 +65,8 @@ _Moves = tuple[tuple[str, GameState], ...]
 
 @dataclass(frozen=True, slots=True)
 class _Reading:
-    """What a position means: how many of the game's moves are kept, and which come after them."""
+    """The meaning of a position: the number of the game's moves that stay, and the moves after
+    them."""
 
     kept: int
     root: GameState
@@ -78,7 +79,7 @@ class _Reading:
 
 @lru_cache(1024)
 def _replies(state: GameState) -> dict[str, tuple[str, GameState]]:
-    """Returns each legal move with the state after it, by the letters that the board then shows."""
+    """Returns each legal move with the state after it, by the letters of that state."""
     return {after.letters: (move, after) for move, after in state.moves().items()}
 
 
@@ -87,15 +88,15 @@ def _differing(one: str, other: str) -> list[int]:
 
 
 def _one_move(state: GameState, shown: str) -> _Moves:
-    """Returns the move that leads from a state to what is shown, or nothing."""
+    """Returns the move that leads from a state to these letters, or nothing."""
     reply = _replies(state).get(shown)
     return (reply,) if reply else ()
 
 
 def _two_moves(state: GameState, shown: str, put: Collection[tuple[int, str]]) -> _Moves:
-    """Returns two moves that lead from a state to what is shown, or nothing. Each changes two to
-    four squares, and leaves one. Of several first moves it is one whose piece was put where the
-    move leads, if there is one: a pawn that is taken in passing was seen."""
+    """Returns two moves that lead from a state to these letters, or nothing. Each changes two to
+    four squares, and leaves one. If there are several first moves, it prefers one with a piece that
+    was seen on its last square, such as a pawn that is then taken in passing."""
     changed = _differing(state.letters, shown)
     left = "".join(state.letters[square] for square in changed).replace(".", "")
     if not 2 <= len(changed) <= 8 or left in (left.upper(), left.lower()):
@@ -112,14 +113,14 @@ def _two_moves(state: GameState, shown: str, put: Collection[tuple[int, str]]) -
 
 
 def _is_final(moves: _Moves) -> bool:
-    """Returns whether the last of two moves or more can't be undone by another move."""
+    """Returns whether the last of at least two moves can't be undone by another move."""
     (_, before), (_, after) = moves[-2:]
     return after.halfmoves == 0 or after.castlings != before.castlings
 
 
 class MoveRecogniser:
-    """Recognises the moves of a game from what stands on a board. Feed it each position of the
-    board with `see`, and call `wait` when `due` is reached.
+    """Recognises the moves of a game in the positions of a board. Pass each position to `see`, and
+    call `wait` at the time `due`.
 
     >>> recogniser, host, board = MoveRecogniser(), Host(), Board()
     >>> def hear(messages, time):
@@ -138,33 +139,32 @@ class MoveRecogniser:
     >>> made.move, made.state.white
     ('e2e4', False)
 
-    It follows the rules of chess. Pieces may be lifted in any order, slid, put on wrong squares and
-    put right. Nothing is reported while the board shows what no legal move explains, however long
-    that takes.
+    It applies the rules of chess. Pieces may be lifted in any order, slid, put on wrong squares and
+    corrected. Nothing is reported while no legal move explains the position, however long that
+    takes.
 
     - A position that is one legal move away is that move, once it has rested (`settle`) or was
-      answered. What isn't confirmed has not rested yet. One that is two moves away rests for a
-      second, if the position between them was never shown.
-    - A rook's move that may begin castling rests for two seconds.
-    - A promotion is to the piece that is put on the last rank, once it is there.
-    - A position before one of the last moves takes back what was made since then.
-    - A move that leads from there to what is shown replaces what was made. It rests for three
+      answered. An unconfirmed position hasn't rested yet. A position that is two moves away has to
+      rest for a second, if the one between them was never seen.
+    - A rook's move that may begin castling has to rest for two seconds.
+    - A pawn is promoted to the piece that is put on the last rank, once it is there.
+    - A position before one of the last moves takes back the moves since then.
+    - A move from there to the present position replaces these moves. It has to rest for three
       seconds if it replaces more than the last move.
-    - The position in which a game begins, also on a turned board, begins a new game, unless one of
-      the first two moves is taken back.
-    - Any other position begins a game when the board is first seen, once it has rested for a
-      second. It also does when both kings were taken off and are back, once it has rested for
-      `set_up`. The first move decides whose turn it was.
-    - So does a position that no move leads to after `lose_track`, once it has rested for five
-      seconds.
-    - After `go_on` only the position that it names begins a game, or what leads on from it.
+    - The starting position, also on a turned board, begins a new game, unless one of the first two
+      moves is taken back.
+    - Any other position begins a game if it rests for a second when the board is first seen. It
+      also does if both kings were taken off and are back, and it rests for `set_up`. The first move
+      decides which side was to move.
+    - So does a position that no move leads to after `lose_track`, if it rests for five seconds.
+    - After `go_on` only the position that it names begins a game, or one that follows it.
     """
 
     def __init__(self, fen: str | None = None, settle: float = 0.3, set_up: float = _LONG_WAIT
                  ) -> None:
-        """With a FEN, the game begins when the board shows its position, also turned, and other
-        positions begin none before. `settle` and `set_up` are in the unit of all times here,
-        seconds. `BadFen` if the text is none, `BadValue` if one of them is no number from 0 on."""
+        """With a FEN, the game begins when the board shows its position, also turned; no other
+        position begins a game before. `settle` and `set_up` are in seconds, like all times here.
+        `BadFen` if the text is invalid, `BadValue` if a time isn't a number from 0 on."""
         self._start = GameState.parse(START_FEN)
         self._first = None if fen is None else GameState.parse(fen)
         self._settle = seconds(settle, "settle")
@@ -172,7 +172,7 @@ class MoveRecogniser:
         self._turned = False
         self._roots: tuple[GameState, ...] = ()
         self._moves: list[tuple[str, GameState]] = []
-        self._numbers: dict[str, list[int]] = {}  # after how many moves the board showed this
+        self._numbers: dict[str, list[int]] = {}  # the numbers of moves after which it was shown
         self._set_up = self._first is None
         self._is_given = self._is_ahead = self._is_lost = self._was_shown = False
         self._shown = ""
@@ -203,17 +203,17 @@ class MoveRecogniser:
 
     @property
     def due(self) -> float | None:
-        """The time at which `wait` reports what the board shows now, if it shows it until then."""
+        """The time at which `wait` reports the present position, if it doesn't change before."""
         return self._due if self._is_confirmed else None
 
     @property
     def _reading(self) -> _Reading | None:
-        """What is due, if it is no beginning."""
+        """The reading that is due, unless it begins a game."""
         return self._next if self.due is not None and isinstance(self._next, _Reading) else None
 
     @property
     def unconfirmed(self) -> bool:
-        """Whether what the board shows now is to be reported once it is confirmed."""
+        """Whether the present position is reported once it is confirmed."""
         return self._due is not None and not self._is_confirmed
 
     @property
@@ -222,9 +222,10 @@ class MoveRecogniser:
         return self._moves[-1][0] if self._is_ahead else None
 
     def see(self, position: Position, time: float, confirmed: bool = True) -> list[MoveEvent]:
-        """Returns what has happened in the game, now that the board shows a position. What isn't
-        `confirmed` is reported once it was answered, or once this is called with it confirmed.
-        Times never fall from one call to the next. `TypeError` if it is no position."""
+        """Returns the events of the game, now that the board shows a position. A position that
+        isn't `confirmed` is reported once it was answered, or once this is called with it
+        confirmed. Times never decrease from one call to the next. `TypeError` if it isn't a
+        position."""
         letters = checked(position, Position).letters
         if self._as_white(letters) == self._shown:
             self._is_confirmed = confirmed
@@ -239,12 +240,12 @@ class MoveRecogniser:
         return events + self._look(time)
 
     def _as_white(self, letters: str) -> str:
-        """The letters of the board as White sees it."""
+        """The letters on the board from White's point of view."""
         return letters[::-1] if self._turned else letters
 
     def wait(self, time: float) -> list[MoveEvent]:
-        """Returns what has happened in the game, if the board shows until this time what it showed
-        last. At the end of a line, `wait(math.inf)` reports a move that hasn't rested."""
+        """Returns the events of the game if the board hasn't changed until this time. At the end of
+        a line, `wait(math.inf)` reports a move that hasn't rested."""
         if self._due is None or time < self._due or not self._is_confirmed:
             return []
         self._due, due = None, self._next
@@ -254,26 +255,25 @@ class MoveRecogniser:
         return begun + self._take(due)
 
     def hold(self) -> None:
-        """Drops what is due. Call it when the picture is in doubt; the next `see` looks anew."""
+        """Drops a due move. Call it when the picture is in doubt; the next `see` looks again."""
         self._shown, self._due = "", None
 
     @property
     def lost(self) -> bool:
-        """Whether moves may have been missed: `lose_track` was called, and nothing has been
-        reported since, nor has the board shown again what it should."""
+        """Whether moves may have been missed: `lose_track` was called, and since then nothing was
+        reported, and the board hasn't shown the position of the game."""
         return self._is_lost
 
     def lose_track(self) -> None:
-        """As `hold`, where moves may have been missed: the board was away. If it then shows a
-        position that no move of the game leads to, with more than lifted pieces, that begins a
-        game."""
+        """Like `hold`, if moves may have been missed because the board was away. A position that no
+        move of the game leads to, with more than lifted pieces, then begins a game."""
         self.hold()
         self._is_lost = bool(self._roots)
 
     def replace(self, start: GameState, moves: Iterable[str]) -> None:
-        """Sets how the game has begun and which moves were made, as somebody corrects them. What
-        the board shows is looked at once it changes; after `hold` with the next `see`.
-        `IllegalMove` if one is none: then nothing is changed."""
+        """Corrects the beginning and the moves of the game. The board's position counts again once
+        it changes; after `hold` with the next `see`. `IllegalMove` if a move isn't legal: then
+        nothing is changed."""
         made, state = [], checked(start, GameState)
         for move in moves:
             state = state.after(move)
@@ -284,17 +284,17 @@ class MoveRecogniser:
         self._forget()
 
     def go_on(self, state: GameState) -> bool:
-        """Has the game go on from a state that somebody else knows, as the server on which it is
-        played. No other position begins a game from then on. Returns whether the game goes on with
-        its moves so far:
+        """Continues the game from a state that another program names, such as the server on which
+        it is played. No other position begins a game from then on. Returns whether the moves so far
+        stay:
 
-        - If it has come to this state, all its moves stay, and may be taken back.
+        - If the game has reached this state, all its moves stay, and may be taken back.
         - If the state is one move later, that move is added (`pending`). The board shows it later,
           or together with the answer.
-        - Else its moves are dropped, and a game begins once the board shows the state, also turned,
-          or for a second what one or two moves from there lead to: they were made meanwhile.
+        - Otherwise the moves are dropped. A game begins once the board shows the state, also
+          turned, or for a second a position one or two moves later: they were made meanwhile.
 
-        What the board shows is looked at with the next `see`. `TypeError` if it is no state.
+        The board's position counts again from the next `see`. `TypeError` if it isn't a state.
 
         >>> recogniser, state = MoveRecogniser(), GameState.start()
         >>> [begun] = recogniser.see(Position.of_letters(state.letters), 0.0)
@@ -327,12 +327,12 @@ class MoveRecogniser:
         return False
 
     def end_game(self) -> None:
-        """Notes that the game is over, as the players have shown by their kings. Before another
-        position is set up, both kings have to be taken off again."""
+        """Notes that the players have ended the game with their kings. Both kings have to be taken
+        off again before another position is set up."""
         self._set_up = False
 
     def _look(self, time: float) -> list[MoveEvent]:
-        """Reads the position that is shown, and decides for how long it must rest."""
+        """Reads the present position, and decides how long it has to rest."""
         self._due = None
         base, reading = next(iter(self._readings()), (None, None))
         if root := self._new_game(reading):
@@ -350,7 +350,7 @@ class MoveRecogniser:
         if base in self._seen and len(reading.moves) == len(base.moves) + 1:  # it was answered
             events = self._take(base)
             reading = _Reading(len(self._moves), base.state, reading.moves[len(base.moves):])
-        # The latest stands last, and first what the last change has nothing to do with.
+        # The latest is last; readings without a relation to the last change are first.
         likely = reading in self._seen or self._has_changed_last(reading)
         others = [each for each in self._seen if each != reading]
         self._seen = [*others, reading][-_REMEMBERED:] if likely else [reading, *others]
@@ -358,14 +358,14 @@ class MoveRecogniser:
         return events
 
     def _bases(self, kept: Iterable[int]) -> list[_Reading]:
-        """Returns the states after each number of moves: two before the first, if the turn is
-        unknown."""
+        """Returns the states after each number of moves: two before the first move, if the side to
+        move is unknown."""
         return [_Reading(each, state) for each in kept
                 for state in ([self._moves[each - 1][1]] if each else self._roots)]
 
     def _readings(self) -> list[tuple[_Reading, _Reading]]:
-        """Returns what the shown position may mean, the likeliest first, each with the reading that
-        it goes on from. Nothing if it is what was reported last, or lacks a king."""
+        """Returns the readings of the present position, the likeliest first, each with the one that
+        it continues. Nothing if it is the last reported position, or lacks a king."""
         count, shown = len(self._moves), self._shown
         told, seen = self._bases([count]), list(reversed(self._seen))
         if any(base.state.letters == shown for base in told):
@@ -378,7 +378,7 @@ class MoveRecogniser:
         earlier = self._bases(range(count - 1, max(count - 1 - _REPLACED, -1), -1))
         near = earlier[:0 if self._set_up else 1 if self._is_early() else _REPLACED]
         back = self._bases(self._numbers.get(shown, [])[-1:])
-        if self._is_ahead:  # the board may still show what was before
+        if self._is_ahead:  # the board may still show an earlier position
             near, back = [], []
         one = [*_extended(told + seen, shown, _one_move), *((base, base) for base in back)]
         find_two = partial(_two_moves, put=self._put)
@@ -390,19 +390,19 @@ class MoveRecogniser:
         return likely + one + unseen + other
 
     def _is_early(self) -> bool:
-        """Returns whether the side that moved last has made another move, before the answer."""
+        """Returns whether the side that moved last has moved again, before the answer."""
         return any(_one_move(replace(base.state, white=not base.state.white, passed=None),
                              self._shown) for base in self._bases([len(self._moves)]))
 
     def _has_changed_last(self, reading: _Reading) -> bool:
         """Returns whether the last change on the board belongs to the last move of a reading. A
-        reading without moves takes some back, which may be in any order."""
+        reading without moves takes moves back, in any order."""
         states = [reading.root, *(state for _, state in reading.moves)]
         return len(states) == 1 or not self._changed.isdisjoint(
             _differing(states[-2].letters, states[-1].letters))
 
     def _new_game(self, reading: _Reading | None) -> GameState | None:
-        """Returns the state in which a game begins, if what is shown begins one."""
+        """Returns the state in which a game begins, if the present position begins one."""
         told = self.state
         for state in filter(None, (self._first, None if self._is_given else self._start)):
             if told and told.letters == self._shown == state.letters:
@@ -416,8 +416,8 @@ class MoveRecogniser:
         return None
 
     def _wait_for_game(self) -> float | None:
-        """Returns for how long a position must rest to begin a game, if no move leads to it. `None`
-        if it begins none."""
+        """Returns the rest after which a position that no move leads to begins a game, or `None` if
+        it doesn't."""
         if self._is_given:
             return None
         if self._set_up and not self._is_early():
@@ -428,9 +428,10 @@ class MoveRecogniser:
         return max(self._settle, _LOST_WAIT) if self._is_lost and is_other else None
 
     def _gone_on(self) -> _Reading | None:
-        """Returns the one or two moves that lead from the state that `go_on` waits for to what is
-        shown, also turned. If the game hasn't come to that state, the second may be a piece that
-        was not moved yet rather than one that has gone back: then it is none."""
+        """Returns the one or two moves that lead from the state that `go_on` waits for to the
+        present position, also turned. If the game hasn't reached that state, the second may be a
+        piece that hasn't been moved yet instead of one that has moved back: then it doesn't count.
+        """
         if self._first is None or not self._is_given or self._roots:
             return None
         for step in (1, -1):
@@ -442,8 +443,8 @@ class MoveRecogniser:
         return None
 
     def _roots_shown(self) -> tuple[GameState, ...]:
-        """Returns the states of what is shown, with each side's turn that is possible. Before the
-        first game, White has the half in which more of its pieces stand."""
+        """Returns the states of the present position, with each side to move if possible. Before
+        the first game, White's half is the one with more of White's pieces."""
         letters = self._shown
         if not self._roots:
             half = [letter.isupper() - letter.islower() for letter in letters]
@@ -455,7 +456,7 @@ class MoveRecogniser:
         return tuple(roots)
 
     def _rest(self, reading: _Reading) -> float:
-        """Returns for how long a reading must rest."""
+        """Returns the rest of a reading."""
         if not reading.moves:
             return self._settle
         *before, (move, _) = reading.moves
@@ -468,7 +469,7 @@ class MoveRecogniser:
         return max(self._settle, _LONG_WAIT) if before else self._settle
 
     def _take(self, reading: _Reading) -> list[MoveEvent]:
-        """The game goes on by a reading."""
+        """Continues the game with a reading."""
         events: list[MoveEvent] = []
         while len(self._moves) > reading.kept:
             move, state = self._moves.pop()
@@ -486,7 +487,7 @@ class MoveRecogniser:
         return events + [MoveMade(move, state) for move, state in reading.moves]
 
     def _begin(self, roots: tuple[GameState, ...]) -> list[MoveEvent]:
-        """A game begins, on a board that may have been turned."""
+        """Begins a game, on a board that may be turned."""
         if self._shown != roots[0].letters == self._shown[::-1]:
             self._turned, self._shown = not self._turned, self._shown[::-1]
         self._roots, self._moves = roots, []
@@ -495,7 +496,7 @@ class MoveRecogniser:
         return [GameBegun(roots[0], self._turned)]
 
     def _forget(self) -> None:
-        """What the board shows is what was reported."""
+        """Notes that the present position is the reported one."""
         self._seen.clear()
         self._set_up = self._is_ahead = self._is_lost = False
         self._due = None
@@ -503,7 +504,7 @@ class MoveRecogniser:
 
 def _extended(bases: Iterable[_Reading], shown: str, find: Callable[[GameState, str], _Moves]
               ) -> Iterator[tuple[_Reading, _Reading]]:
-    """Yields each reading from which moves lead to what is shown, and the reading after them."""
+    """Yields each reading from which moves lead to these letters, and the reading after them."""
     for base in bases:
         if moves := find(base.state, shown):
             yield base, _Reading(base.kept, base.root, base.moves + moves)

@@ -1,7 +1,7 @@
-"""Names of bytes that a board's messages carry unread.
+"""The meanings of bytes that a board's messages carry.
 
-The published protocol leaves these bytes open. What is said here of them is what other programs
-read in them: no clock and no board was tried."""
+The published protocol doesn't define these bytes. These meanings are those of other programs: no
+clock and no board was tried."""
 
 from __future__ import annotations
 
@@ -20,7 +20,7 @@ Button = _c.Button
 
 @dataclass(frozen=True, slots=True)
 class Done:
-    """The clock has done what the message with this id asks for."""
+    """The clock has performed the message with this id."""
 
     id: ClockId
 
@@ -35,7 +35,7 @@ class ClockVersion:
 
 @dataclass(frozen=True, slots=True)
 class Pressed:
-    """This button was pressed, asked for or not."""
+    """This button was pressed. The clock may send this without a request."""
 
     button: Button
 
@@ -62,7 +62,7 @@ _SIGNALS: dict[int, Callable[[SignalStruct], Signal]] = {
 
 
 def read_signal(ack: Bytes) -> Signal | None:
-    """Returns what the four bytes of an acknowledgement say, or `None` if that is unknown."""
+    """Returns the meaning of an acknowledgement's four bytes, or `None` if that is unknown."""
     held, address = readable(ack)
     told = SignalStruct()
     if len(held) != 4 or not dgt.dgt_signal_of(address, byref(told)):
@@ -72,14 +72,14 @@ def read_signal(ack: Bytes) -> Signal | None:
 
 @dataclass(frozen=True, slots=True)
 class BatteryState:
-    """What a battery says of itself. A number that it doesn't know is `None`."""
+    """The state of a battery. `None` is unknown."""
 
     percent: int | None
-    """What is left of its charge, in percent."""
+    """The remaining charge, in percent."""
     hours_left: int | None
-    """The hours for which that lasts, or after which it is charged."""
+    """The hours until it is empty or, while it charges, full."""
     minutes_left: int | None
-    """The minutes beside these hours."""
+    """The minutes in addition to these hours."""
     hours_on: int
     """How long the board has been on."""
     minutes_on: int
@@ -96,7 +96,7 @@ def _known(number: int) -> int | None:
 
 
 def read_battery(body: Bytes) -> BatteryState | None:
-    """Returns what the body of a battery message says, or `None` if it hasn't nine bytes."""
+    """Returns the meaning of a battery message's body, or `None` unless it has nine bytes."""
     held, address = readable(body)
     told = BatteryStruct()
     if not dgt.dgt_battery_of(address, len(held), byref(told)):
@@ -107,7 +107,7 @@ def read_battery(body: Bytes) -> BatteryState | None:
 
 
 def read_text(carried: Bytes) -> str | None:
-    """Returns the text that bytes are, or `None` if they are none: no bytes, or a byte that doesn't
-    print as a character of ASCII."""
+    """Returns these bytes as text, or `None` if there are none or one isn't a printable ASCII
+    character."""
     held, address = readable(carried)
     return held.decode("ascii") if dgt.dgt_is_text(address, len(held)) else None

@@ -1,5 +1,4 @@
-"""Games as text: moves in short algebraic notation (SAN), and whole games in the export format of
-PGN."""
+"""Games as text: moves in short algebraic notation (SAN), and games in PGN's export format."""
 
 from __future__ import annotations
 
@@ -11,19 +10,18 @@ from .rules import START_FEN, GameState
 from .values import Time, Times, checked, square_number
 
 RESULTS = ("1-0", "0-1", "1/2-1/2", "*")
-"""What a game may end with. `*` is a game that goes on, or was broken off."""
+"""The results of a game. `*` is a game that goes on, or was broken off."""
 
 _WIDTH = 79
-"""How many columns a line of moves has at most: PGN asks for fewer than 80."""
+"""The most columns of a line of moves: PGN requires fewer than 80."""
 _PART = 4096
-"""How long a part of a text is that no longer grows."""
+"""The size of a finished part of a text."""
 _TAGS = {"Event": "?", "Site": "?", "Date": "????.??.??", "Round": "?", "White": "?", "Black": "?"}
-"""The tags that each game has, with what stands for a value that isn't known. `Result` is the
-seventh."""
+"""The required tags and their texts for an unknown value. `Result` is the seventh."""
 
 
 def _origin(state: GameState, move: str) -> str:
-    """Returns what distinguishes a move's piece from others of its kind that may go there."""
+    """Returns what distinguishes a move's piece from others of its kind that can move there."""
     letter = state.letters[square_number(move[:2])]
     others = [other for other in state.moves() if other[2:] == move[2:] and other != move
               and state.letters[square_number(other[:2])] == letter]
@@ -35,8 +33,8 @@ def _origin(state: GameState, move: str) -> str:
 
 
 def san(state: GameState, move: str) -> str:
-    """Returns a legal move in short algebraic notation. `IllegalMove` if it is none, `TypeError` if
-    the state is none.
+    """Returns a legal move in short algebraic notation. `IllegalMove` if it isn't legal,
+    `TypeError` if the state isn't one.
 
     >>> san(GameState.start(), "g1f3")
     'Nf3'
@@ -73,15 +71,15 @@ class PgnMove:
     before: GameState
     after: GameState
     clock: Time | None = None
-    """The time that is left to the player who has made it, if that is known."""
+    """The remaining time of the player who has made it, or `None`."""
     times: Times | None = None
-    """What the clock showed of both players then, if that is known."""
+    """The clock after the move, or `None`."""
 
 
 @dataclass(slots=True)
 class PgnGame:
-    """A game that is written as PGN. `tags` are in the order in which they are written; the seven
-    tags of each game needn't be named, and `Result`, `FEN` and `SetUp` are made.
+    """A game to be written as PGN. `tags` are written in their order. You may omit the seven
+    required tags; `Result`, `FEN` and `SetUp` are written automatically.
 
     >>> game = PgnGame({"White": "Ann", "Round": "3"})
     >>> game.add("e2e4", Time(1, 30)).san, game.add("e7e5").san
@@ -100,11 +98,11 @@ class PgnGame:
 
     tags: dict[str, str] = field(default_factory=dict)
     start: GameState = field(default_factory=GameState.start)
-    """The position in which it begins. Another one than that of all games is written as `FEN`."""
+    """The position in which it begins. Any other than the usual one is written as `FEN`."""
     moves: list[PgnMove] = field(default_factory=list)
     result: str = "*"
     comment: str = ""
-    """What is said after the last move."""
+    """The comment after the last move."""
 
     @property
     def state(self) -> GameState:
@@ -112,7 +110,7 @@ class PgnGame:
         return self.moves[-1].after if self.moves else self.start
 
     def add(self, move: str, clock: Time | None = None) -> PgnMove:
-        """Adds a move. `IllegalMove` if it is none, `TypeError` if the clock is no `Time`."""
+        """Adds a move. `IllegalMove` if it isn't legal, `TypeError` if the clock isn't a `Time`."""
         before = self.state
         clock = None if clock is None else checked(clock, Time)
         added = PgnMove(move, san(before, move), before, before.after(move), clock)
@@ -120,10 +118,9 @@ class PgnGame:
         return added
 
     def replace(self, ply: int, count: int, moves: Iterable[str]) -> None:
-        """Puts other moves in the place of `count` moves, the first of which has `ply` moves before
-        it. The moves after them stay. If as many are put, they keep the clocks. `IllegalMove` if
-        one of all these moves is none then, `BadValue` if there are fewer moves: the game stays as
-        it was.
+        """Replaces `count` moves after the first `ply` moves. The moves after them stay. If the
+        number is the same, the new moves keep the clocks. `IllegalMove` if one of the moves is then
+        illegal, `BadValue` if there are fewer moves; the game is unchanged in both cases.
 
         >>> game = PgnGame()
         >>> for move in ("e2e4", "e7e5", "g1f3"):
@@ -133,7 +130,8 @@ class PgnGame:
         ['e4', 'c5', 'Nf3']
         """
         if not 0 <= ply <= ply + count <= len(self.moves):
-            raise BadValue(f"{count} moves after {ply} of {len(self.moves)}")
+            raise BadValue(f"there are no {count} moves after the first {ply}: the game has "
+                           f"{len(self.moves)}")
         old = self.moves[ply:]
         state, kept, made = old[0].before if old else self.state, old[count:], list[PgnMove]()
         for name in [*moves, *(each.move for each in kept)]:
@@ -146,11 +144,10 @@ class PgnGame:
 
     def text(self) -> str:
         """Returns the game in the export format: its tags, an empty line, and its moves in lines of
-        fewer than 80 columns. `BadValue` if a tag has no name or no text, or the result is none."""
+        fewer than 80 columns. `BadValue` if a tag's name or text, or the result, is invalid."""
         return _GameText(self).text()
 
     def _heads(self) -> list[str]:
-        """Returns the lines of the tags."""
         if self.result not in RESULTS:
             raise BadValue(f"result must be one of {', '.join(RESULTS)}: {self.result!r}")
         given = {name: value for name, value in {**self.tags}.items()
@@ -162,7 +159,7 @@ class PgnGame:
         return [_head(name, value) for name, value in tags.items()]
 
     def _words(self, at: int) -> Iterator[str]:
-        """Yields what a move is written as. None of it is divided."""
+        """Yields the words of a move. None of them is divided."""
         made = self.moves[at]
         if made.before.white or not at or self.moves[at - 1].clock is not None:
             yield from numbered(made.before, made.san).split()
@@ -172,33 +169,32 @@ class PgnGame:
             yield f"{{[%clk {made.clock}]}}"
 
     def _last_words(self) -> Iterator[str]:
-        """Yields what stands after the moves."""
+        """Yields the words after the moves."""
         if self.comment:
             yield from f"{{{self.comment.replace('}', ')')}}}".split()
         yield self.result
 
 
 class _GameText:
-    """The text of a game that grows. Each call of `text` adds the moves that have come since the
-    call before, and copies the text once. `change` has to be called once moves were taken back or
-    have other clocks."""
+    """The text of a growing game. Each call of `text` adds the moves since the last call, and
+    copies the text once. Call `change` if moves were taken back or have other clocks."""
 
     def __init__(self, game: PgnGame) -> None:
         self._game = game
-        self._parts, self._column = [""], 0  # the last part alone grows
+        self._parts, self._column = [""], 0  # only the last part grows
         # Of each move that is written: how many parts there were before it, how long the last one
         # was, and how many columns of a line it had filled.
         self._marks: list[tuple[int, int, int]] = []
 
     def change(self, count: int) -> None:
-        """Notes that this number of moves are as they were, and no more."""
+        """Notes that only this number of moves is unchanged."""
         if count < len(self._marks):
             parts, length, self._column = self._marks[count]
             self._parts[parts - 1:] = [self._parts[parts - 1][:length]]
             del self._marks[count:]
 
     def text(self) -> str:
-        """Returns what `PgnGame.text` does."""
+        """Returns the same as `PgnGame.text`."""
         game = self._game
         heads = "".join(f"{head}\n" for head in game._heads())
         for at in range(len(self._marks), len(game.moves)):
@@ -212,11 +208,11 @@ class _GameText:
 
 
 def _head(name: str, value: str) -> str:
-    """Returns the line of a tag. In its value a backslash stands before each quote and backslash,
-    and a space in place of what can't be printed."""
+    """Returns the line of a tag. Its value has a backslash before each quote and backslash, and a
+    space instead of each unprintable character."""
     letters = name.replace("_", "") if isinstance(name, str) else ""
     if not letters.isalnum() or not letters.isascii():
-        raise BadValue(f"a tag is named by letters, digits and underscores: {name!r}")
+        raise BadValue(f"a tag's name must be letters, digits and underscores: {name!r}")
     if not isinstance(value, str):
         raise BadValue(f"the tag {name} must be a text: {value!r}")
     plain = "".join(each if each.isprintable() else " " for each in value)
@@ -225,8 +221,8 @@ def _head(name: str, value: str) -> str:
 
 
 def _filled(words: Iterable[str], column: int) -> tuple[str, int]:
-    """Returns the words in lines that are as long as may be, the first of which has this number of
-    columns already, and how many the last one has then."""
+    """Fills lines with these words; the first line has this number of columns already. Returns the
+    lines, and the columns of the last one."""
     text = ""
     for word in words:
         if column == 0:

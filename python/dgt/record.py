@@ -1,13 +1,13 @@
 """Records the bytes between a host and a board, with their times.
 
 The file is a session: each chunk of bytes is a line, with its time and its
-direction. Each line that you type becomes a note, such as what you do on the
-board. Each new position and each fault of the line is noted, too. Ctrl-C ends
-it. docs/SESSIONS.md describes the file, and dgt-replay plays it.
+direction. Each line that you type is added as a note: type what you do on the
+board. Each new position and each fault of the line is noted, too. Press Ctrl-C
+to stop. docs/SESSIONS.md describes the file, and dgt-replay plays it.
 
 It follows the board by itself. With --pass it prints the name of a
-pseudo-terminal instead. Have a program open that in place of the board's port:
-the bytes of both are passed on, and recorded.
+pseudo-terminal instead. Let a program open that instead of the board's port:
+the bytes in both directions are passed on and recorded.
 """
 
 from __future__ import annotations
@@ -31,13 +31,13 @@ from .following import Following, _has_input
 from .game import _stopping
 
 _PERIOD = 2.0
-"""How often the board is asked for all squares, in seconds."""
+"""The seconds between two requests for all squares."""
 _LONGEST = 3600.0
 _CHUNK = 4096
 
 
 class _Recorded(Following):
-    """A board that is followed, and its session recorded."""
+    """Follows a board, and records the session."""
 
     def __init__(self, port: str, recorder: Recorder) -> None:
         self._recorder = recorder
@@ -52,7 +52,7 @@ def _warn(text: str) -> None:
 
 
 def _follow(port: str, recorder: Recorder, stop: int) -> None:
-    """Follows the board until a signal ends that."""
+    """Follows the board until a signal."""
     away: str | None = None
     with _Recorded(port, recorder) as board:
         while not _has_input(stop, 0.0):
@@ -63,10 +63,10 @@ def _follow(port: str, recorder: Recorder, stop: int) -> None:
 
 
 def _pass_on(port: str, recorder: Recorder, stop: int) -> None:
-    """Passes on what the board and a program on a pseudo-terminal say, until a signal ends that.
-    `OSError` once the port has gone."""
+    """Passes bytes between the board and a program on a pseudo-terminal, until a signal. `OSError`
+    once the port has disappeared."""
     program, terminal = pty.openpty()
-    tty.setraw(terminal)  # as a line is: what is sent isn't sent back
+    tty.setraw(terminal)  # like a serial line: without echo
     os.set_blocking(program, False)
     line = RecordedPort(port, stop, recorder)
     print(os.ttyname(terminal), flush=True)
@@ -76,14 +76,14 @@ def _pass_on(port: str, recorder: Recorder, stop: int) -> None:
         with contextlib.suppress(BlockingIOError):
             taken = os.write(program, chunk)
         if taken < len(chunk):
-            recorder.note(f"{len(chunk) - taken} bytes are lost, as no program reads them")
+            recorder.note(f"{len(chunk) - taken} bytes are lost: no program reads them")
         with contextlib.suppress(BlockingIOError):
             line.write(os.read(program, _CHUNK))
 
 
 def _note_lines(recorder: Recorder) -> None:
-    """Notes each line that is typed. It reads no buffered file: the program may end meanwhile. In
-    the background of a shell nothing can be typed, which is an `OSError`."""
+    """Notes each typed line. It reads without a buffer, since the program may end meanwhile. In the
+    background of a shell nothing can be typed, which is an `OSError`."""
     rest = b""
     with contextlib.suppress(OSError):
         while chunk := os.read(0, _CHUNK):
@@ -119,14 +119,14 @@ def main(arguments: list[str] | None = None) -> None:
     parser.add_argument("port", help="the board's serial port, such as /dev/ttyUSB0")
     parser.add_argument("file", help="the file for the session; it must not exist yet")
     parser.add_argument("--pass", dest="passes", action="store_true",
-                        help="pass the port on to a program")
+                        help="let a program use the board through a pseudo-terminal")
     words = parser.parse_args(arguments)
     signal.signal(signal.SIGTTIN, signal.SIG_IGN)  # or a read in the background stops the program
     what = words.file
     try:
         with open(words.file, "x", encoding="utf-8", errors="backslashreplace") as file:
             what = words.port
-            _warn(f"{words.file} gets the session of {words.port} (Ctrl-C ends it)")
+            _warn(f"recording {words.port} to {words.file} (stop with Ctrl-C)")
             _record(words, file)
     except OSError as refused:
         raise SystemExit(f"dgt-record: {what}: {refused.strerror}") from None

@@ -1,15 +1,14 @@
 """Plays a session that dgt-record or dgt-doctor has written.
 
-It prints the name of a pseudo-terminal, for a program to open in place of a
-board's port. The session begins once the program has sent its first bytes. Then
-the program gets what the board sent, byte for byte and at the same times. A
-report of all squares waits until the program has requested it, for a second at
-most. So a program that asks as the recorded one did gets each answer after its
-request.
+It prints the name of a pseudo-terminal, which a program opens instead of a
+board's port. The session begins once the program has sent its first bytes. The
+program then gets the board's bytes at the recorded times. A report of all
+squares waits until the program has requested it, for a second at most. So a
+program that makes the same requests gets each answer after its request.
 
 It ends once the program has read everything.
 
-Exit status: 0, or 1 if the file is not a session, or one that was cut off.
+Exit status: 0, or 1 if the file is not a whole session, or wasn't all read.
 """
 
 from __future__ import annotations
@@ -29,9 +28,9 @@ from .decoder import CommandDecoder, Decoder
 from .events import Dump
 
 _PATIENCE = 1.0
-"""For how many seconds a report of all squares waits for the program's question."""
+"""The most seconds that a report of all squares waits for the program's request."""
 _READ_WAIT = 10.0
-"""For how many seconds the program may leave the last bytes unread."""
+"""The seconds that the program has to read the last bytes."""
 
 
 class _Player:
@@ -43,7 +42,7 @@ class _Player:
         self._events, self._answered = Decoder(), 0
 
     def _turn(self, seconds: float) -> None:
-        """Reads what the program sends, and sends what it takes, within this time."""
+        """Reads the program's bytes, and sends as much as it takes, within this time."""
         poll = select.poll()
         poll.register(self._line, select.POLLIN | (select.POLLOUT if self._unsent else 0))
         poll.poll(1000 * max(0.0, seconds))
@@ -54,12 +53,12 @@ class _Player:
             self._unsent = self._unsent[os.write(self._line, self._unsent):]
 
     def wait_until(self, until: float, count: int = 0) -> None:
-        """Waits until a time, or until the program has asked for all squares this often."""
+        """Waits until a time, or until the program has requested all squares this often."""
         while (now := time.monotonic()) < until and not 0 < count <= self._asked:
             self._turn(until - now)
 
     def play(self, entries: list[Entry], speed: float) -> None:
-        """Plays what the board said, at the recorded times divided by `speed`."""
+        """Plays the board's bytes, at the recorded times divided by `speed`."""
         first = next((each.seconds for each in entries if each.mark == ">"), 0.0)
         poll = select.poll()
         poll.register(self._line, select.POLLIN)
@@ -77,7 +76,7 @@ class _Player:
             self._turn(0.0)
 
     def finish(self, terminal: int) -> bool:
-        """Waits until the program has read all. Returns whether it has."""
+        """Waits until the program has read everything. Returns whether it has."""
         end = time.monotonic() + _READ_WAIT
         while self._unsent or select.select([terminal], [], [], 0.0)[0]:
             if time.monotonic() > end:
@@ -100,7 +99,7 @@ def main(arguments: list[str] | None = None) -> None:
         formatter_class=argparse.RawDescriptionHelpFormatter)
     parser.add_argument("file", help="the session")
     parser.add_argument("--speed", type=_speed, default=1.0, metavar="TIMES",
-                        help="how many times as fast as it was recorded (%(default)s)")
+                        help="the speed, as a multiple of the recorded one (%(default)s)")
     words = parser.parse_args(arguments)
     try:
         with open(words.file, encoding="utf-8", errors="replace") as file:
@@ -109,7 +108,7 @@ def main(arguments: list[str] | None = None) -> None:
         why = wrong.strerror if isinstance(wrong, OSError) else wrong
         raise SystemExit(f"dgt-replay: {words.file}: {why}") from None
     line, terminal = pty.openpty()
-    tty.setraw(terminal)  # as a line is: what is sent isn't sent back
+    tty.setraw(terminal)  # like a serial line: without echo
     os.set_blocking(line, False)
     print(os.ttyname(terminal), flush=True)
     player = _Player(line)

@@ -1,7 +1,7 @@
-"""The rules of chess: the legal moves of a position, and what stands on the board after each.
+"""The rules of chess: the legal moves of a position, and the position after each.
 
-Squares have the numbers of `SQUARES`, from 0 for a8 to 63 for h1; pieces have the letters of
-`LETTERS`; moves are named as in UCI, such as `e2e4`, `e1g1` and `h7g8q`.
+Squares have the numbers of `SQUARES`, from 0 for a8 to 63 for h1. Pieces have the letters of
+`LETTERS`. Moves have the form of UCI, such as `e2e4`, `e1g1` and `h7g8q`.
 """
 
 from __future__ import annotations
@@ -59,11 +59,11 @@ _CASTLINGS = {
     "k": _Castling(4, 6, 7, 5, (5, 6)), "q": _Castling(4, 2, 0, 3, (1, 2, 3)),
 }
 _ENDED = {60: "KQ", 63: "K", 56: "Q", 4: "kq", 7: "k", 0: "q"}
-"""The castlings that end with a move from or to a square."""
+"""The castlings that a move from or to a square rules out."""
 
 
 def _attacks(letters: str, white: bool, square: int) -> bool:
-    """Returns whether a piece of White, or else of Black, attacks a square."""
+    """Returns whether White, or else Black, attacks a square."""
     pawn, rook, knight, bishop, king, queen = tuple("PRNBKQ" if white else "prnbkq")
     for kind, slider in (("R", rook), ("B", bishop)):
         for ray in _RAYS[kind][square]:
@@ -82,7 +82,7 @@ def _attacks(letters: str, white: bool, square: int) -> bool:
 
 @dataclass(frozen=True, slots=True)
 class GameState:
-    """A position with whose turn it is, and what the rules remember of the moves before.
+    """A position with the side to move, and with what the rules remember of earlier moves.
 
     >>> state = GameState.start()
     >>> len(state.moves()), state.after("e2e4").fen
@@ -94,11 +94,11 @@ class GameState:
     white: bool
     """Whether it is White's turn."""
     castlings: str = ""
-    """The castlings that no move of king or rook has ended, some of KQkq."""
+    """The castlings that no move of king or rook has ruled out, some of KQkq."""
     passed: int | None = None
     """The square that a pawn has just passed over."""
     halfmoves: int = 0
-    """The moves since the last one that took a piece or moved a pawn, of either side."""
+    """The number of moves of both sides since the last capture or pawn's move."""
     number: int = 1
     """The number of the move, from 1; it rises after each of Black's."""
 
@@ -109,17 +109,17 @@ class GameState:
 
     @classmethod
     def place(cls, letters: str, white: bool) -> GameState:
-        """Returns the state of 64 letters when nothing is known of the moves before. Each castling
-        is possible whose king and rook stand on their first squares. `BadFen` if there isn't one
-        king of each side, a pawn stands on its first or last rank, a piece is nobody's, or the side
-        whose turn it isn't is in check."""
+        """Returns the state of 64 letters if the moves before are unknown. Castling is possible if
+        king and rook are on their first squares. `BadFen` unless each side has one king, and if a
+        pawn is on the first or last rank, a letter isn't a chess piece, or the side that isn't to
+        move is in check."""
         is_text = isinstance(letters, str) and len(letters) == 64
         if not is_text or set(letters) - set(".PRNBKQprnbkq"):
             raise BadFen(f"not 64 letters of pieces: {letters!r}")
         if (letters.count("K"), letters.count("k")) != (1, 1):
-            raise BadFen("not one king of each side")
+            raise BadFen("there must be one king of each side")
         if set(letters[:8] + letters[56:]) & set("Pp"):
-            raise BadFen("a pawn on the first or last rank")
+            raise BadFen("a pawn is on the first or last rank")
         castlings = "".join(
             right for right, castling in _CASTLINGS.items()
             if letters[castling.king] == ("K" if right.isupper() else "k")
@@ -131,9 +131,9 @@ class GameState:
 
     @classmethod
     def parse(cls, fen: str) -> GameState:
-        """Returns the state that a FEN gives; fields that are left out at its end are `w - - 0 1`.
-        A castling without its king and rook is left out. `BadFen` if the text is none, or for the
-        reasons of `place`."""
+        """Returns the state of a FEN; missing fields at its end are `w - - 0 1`. A castling without
+        its king and rook is dropped. `BadFen` if the text isn't a FEN, or for the reasons of
+        `place`."""
         if not isinstance(fen, str):
             raise BadFen(f"not a text: {fen!r}")
         fields = fen.split()
@@ -164,7 +164,7 @@ class GameState:
 
     @property
     def check(self) -> bool:
-        """Whether the side whose turn it is is in check. Without a legal move it is mate."""
+        """Whether the side to move is in check. Without a legal move that is mate."""
         return self._in_check(self.letters, self.white)
 
     def moves(self) -> dict[str, GameState]:
@@ -173,7 +173,7 @@ class GameState:
         return {name: state for name, state in made if state}
 
     def after(self, move: str) -> GameState:
-        """Returns the state after a legal move. `IllegalMove` if it is none."""
+        """Returns the state after a legal move. `IllegalMove` if it isn't legal."""
         for candidate in self._candidates():
             if _name(self, *candidate) == move and (state := self._made(*candidate)):
                 return state
@@ -191,7 +191,7 @@ class GameState:
         return letter != "." and letter.isupper() == self.white
 
     def _candidates(self) -> Iterator[tuple[int, int, str]]:
-        """Yields from where, where to and the letter there of each move, also into check."""
+        """Yields the two squares of each move and its last letter, also for moves into check."""
         for at, letter in enumerate(self.letters):
             if not self._is_own(letter):
                 continue

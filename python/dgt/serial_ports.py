@@ -14,9 +14,9 @@ _KINDS = ("rfcomm", "ttyACM", "ttyUSB")
 
 @dataclass(frozen=True, slots=True)
 class SerialPort:
-    """A serial port that may be a board's, and what the system knows of its USB device: the names
-    of vendor and product, the serial number, and the numbers of both, as in `"1234:abcd"`. Each is
-    `None` if it is not known. All are if the port is one of Bluetooth."""
+    """A serial port that may be a board's, with its USB device: the names of vendor and product,
+    the serial number, and the numbers of vendor and product, such as `"1234:abcd"`. Each is `None`
+    if unknown. All are `None` for a Bluetooth port."""
 
     path: str
     """The name to open it by, as in `follow(port.path)`."""
@@ -26,13 +26,13 @@ class SerialPort:
     usb_id: str | None = None
 
     def __str__(self) -> str:
-        """One line: the path, and after it what is known."""
+        """One line: the path, and the known names and numbers."""
         return " ".join(filter(None, (self.path, self.vendor, self.product, self.serial,
                                       self.usb_id)))
 
 
 def _names(folder: str) -> list[str]:
-    """The names in a folder, in order. Those with a dot are links that are being made."""
+    """The sorted names in a folder. A name with a dot is a link that is being made."""
     try:
         return sorted(name for name in os.listdir(folder) if not name.startswith("."))
     except OSError:
@@ -40,7 +40,7 @@ def _names(folder: str) -> list[str]:
 
 
 def _text(path: Path) -> str | None:
-    """The line of a file. It is the device's own text: what can't be printed becomes ?."""
+    """The line of a file, which is the device's own text. ? replaces unprintable characters."""
     try:
         line = path.read_bytes().decode(errors="replace").strip()
     except OSError:
@@ -49,7 +49,7 @@ def _text(path: Path) -> str | None:
 
 
 def _usb_device(name: str, sysfs: str) -> Path | None:
-    """The folder of the USB device of the port that the kernel gives this name."""
+    """The folder of the USB device of the port with this name of the kernel."""
     if name.startswith("rfcomm"):  # the device above it is this machine's, not the board's
         return None
     device = Path(sysfs, "class", "tty", name, "device").resolve()
@@ -65,12 +65,11 @@ def _described(path: str, usb: Path | None) -> SerialPort:
 
 
 def ports(*, dev: str = "/dev", sysfs: str = "/sys") -> list[SerialPort]:
-    """Returns the serial ports that may be boards: those of USB and Bluetooth. None is opened, so
-    the list doesn't say which ones are boards.
+    """Returns the serial ports of USB and Bluetooth, which may be boards. It opens none, so it
+    doesn't know which ones are boards.
 
-    A port has its name in `/dev/serial/by-id`, which stays, or else the one in `/dev`. Those in
-    `by-id` come first; both are in the order of their names. Other folders may stand for `/dev` and
-    `/sys`."""
+    A port has its name in `/dev/serial/by-id`, which stays the same, or else the one in `/dev`.
+    Those in `by-id` are first; both lists are sorted. `dev` and `sysfs` may be other folders."""
     links = f"{dev}/serial/by-id"
     paths = [f"{links}/{name}" for name in _names(links)]
     paths += [f"{dev}/{name}" for name in _names(dev) if name.startswith(_KINDS)]
@@ -84,8 +83,8 @@ def ports(*, dev: str = "/dev", sysfs: str = "/sys") -> list[SerialPort]:
 def main(words: Sequence[str], *, dev: str = "/dev", sysfs: str = "/sys") -> None:
     """Prints each port as a line. Ends with 1 if there is none."""
     argparse.ArgumentParser(prog="python -m dgt ports", description=(
-        "Lists the serial ports of USB and Bluetooth, which may be boards: one a line, by the name "
-        "to open it by. None is opened.")).parse_args(words)
+        "Lists the serial ports of USB and Bluetooth, which may be boards, one per line. It opens "
+        "none of them.")).parse_args(words)
     found = ports(dev=dev, sysfs=sysfs)
     if not found:
         sys.exit("no serial port of USB or Bluetooth (plug the board in)")

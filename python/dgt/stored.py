@@ -1,9 +1,8 @@
 """What a board stores while no host listens.
 
-A board writes its pieces and its clock into a memory of its own. It sends all of that after the
-byte of `STORED_REQUEST`, as an `Other` with the code 0f, whose body `read_stored` reads. The names
-of the bytes are those of the published header, and what follows them is known from other programs:
-no board was tried."""
+A board stores its pieces and its clock. It sends all of that after the byte `STORED_REQUEST`, as an
+`Other` with the code 0f; `read_stored` reads its body. The names of the bytes are those of the
+published header, and the bytes after them are known from other programs: no board was tried."""
 
 from __future__ import annotations
 
@@ -20,13 +19,13 @@ from .values import LETTERS, SQUARES, Time, read_time
 Mark = _c.Mark
 
 STORED_REQUEST = b"\x49"
-"""The byte that asks a board for what it has stored, to write to the line. No reply is awaited."""
+"""The byte that requests a board's stored data, to write to the line. No reply is awaited."""
 
 
 @dataclass(frozen=True, slots=True)
 class StoredPiece:
-    """This piece stood on this square then: its letter, and the square's name. `bit` is the bit D4
-    of its byte, carried."""
+    """This piece was on this square: its letter, and the square's name. `bit` is the unread bit D4
+    of its byte."""
 
     square: str
     piece: str
@@ -42,7 +41,7 @@ class StoredTime:
 
 @dataclass(frozen=True, slots=True)
 class UnknownByte:
-    """A byte that is none of these, or begins one that isn't whole."""
+    """Another byte, or the first byte of an incomplete piece or time."""
 
     byte: int
 
@@ -59,8 +58,8 @@ _MAKERS: dict[int, Callable[[StoredStruct], Stored]] = {
 
 
 def read_stored(body: Bytes) -> list[Stored]:
-    r"""Returns what the body of a message with the code 0f says, in its order. Each byte is read
-    once. `TypeError` if the body is no bytes.
+    r"""Reads the body of a message with the code 0f, in order. Each byte is read once. `TypeError`
+    if the body isn't bytes.
 
     >>> for each in read_stored(b"\x6f\x40\x34\x41\x24\x61\x30\x05"):
     ...     print(each)

@@ -1,10 +1,10 @@
 """Plays the moves that you make on a board, as a UCI engine.
 
 A chess program starts it like any engine: `dgt-uci /dev/ttyUSB0`, or
-`python -m dgt uci /dev/ttyUSB0`. It opens the port when the chess program sends
-the first position, and closes it at the end. What you have to do on the board
-appears as `info string` and on standard error. The clock of the board shows the
-move of the other side.
+`python3 -m dgt uci /dev/ttyUSB0`. It opens the port when the chess program
+sends the first position, and closes it at the end. Instructions appear as
+`info string` and on standard error. The board's clock shows the other side's
+moves.
 
 To promote, put the new piece on the last rank. A rook counts as a rook even
 upside down. For a queen you may also leave the pawn there for two seconds.
@@ -12,10 +12,10 @@ upside down. For a queen you may also leave the pawn there for two seconds.
 Options that the chess program shows in its engine settings:
 
     Port     the board's serial port
-    Turned   whether White's pieces begin on the ranks 8 and 7 of the board: no,
-             yes, or auto, which is decided by what the board shows
-    Settle   for how many milliseconds a move has to rest
-    Clock    whether the clock shows the moves of the other side
+    Turned   whether White's pieces begin on the board's ranks 8 and 7: no, yes,
+             or auto, which decides by the position on the board
+    Settle   the milliseconds that a move has to rest
+    Clock    whether the clock shows the other side's moves
 """
 
 from __future__ import annotations
@@ -37,13 +37,13 @@ from .following import BoardView
 from .rules import START_FEN, GameState
 
 _PERIOD = 2.0
-"""How often the board is asked for all squares, in seconds."""
+"""The seconds between two requests for all squares."""
 _ASK_AGAIN = 0.2
-"""How often the board is asked while it shows a legal move, since `stop` may come, in seconds."""
+"""The same while the board shows a legal move, since `stop` may arrive."""
 _CONFIRMED = 0.25
-"""For how many seconds a dump confirms what it shows, if `stop` comes."""
+"""The seconds for which a dump confirms a position when `stop` arrives."""
 _STOP_WAIT = 0.04
-"""For how many seconds `stop` waits for a dump at most."""
+"""The most seconds that `stop` waits for a dump."""
 _LONGEST_LINE = 1 << 20
 _EMPTY = "<empty>"
 _TURNED = ("auto", "no", "yes")
@@ -57,8 +57,8 @@ _OWN_WORDS = {
     **{text: text for text in (following._GONE, following._SILENT, following._OTHER_SIZE)},
     **{text: text for number, text in _port._ADVICE.items() if number != errno.EACCES},
 }
-"""What is said of a board that is away. xboard ends an engine that prints a text of the system such
-as `Permission denied`, so no such text is passed on."""
+"""The texts for a board that is away. xboard ends an engine that prints a text of the system such
+as `Permission denied`, so none of these is printed."""
 
 
 def _why(away: str) -> str:
@@ -75,8 +75,8 @@ def _print(line: str) -> None:
 
 
 def _warn(text: str) -> None:
-    """Prints a text on standard error, if that is another file than standard output and takes it
-    without waiting."""
+    """Prints a text on standard error, unless that is the same file as standard output or would
+    block."""
     with contextlib.suppress(OSError):
         poll = select.poll()
         poll.register(2, select.POLLOUT)
@@ -95,7 +95,7 @@ def _is_number(word: str) -> bool:
 
 
 class Game:
-    """The position that the chess program has set, and how it came about."""
+    """The position that the chess program has set, and the move before it."""
 
     def __init__(self) -> None:
         self.state: GameState | None = None
@@ -107,8 +107,8 @@ class Game:
         self._fen, self._moves = "", list[str]()
 
     def set(self, words: list[str]) -> None:
-        """Sets what the words after `position` say. `BadFen` or `IllegalMove` if they say no
-        position: then there is none."""
+        """Sets the position from the words after `position`. `BadFen` or `IllegalMove` if they
+        aren't valid: then there is no position."""
         at = words.index("moves") if "moves" in words else len(words)
         where, moves = words[:at], words[at + 1:]
         fen = START_FEN if where[:1] == ["startpos"] else " ".join(where[1:])
@@ -125,12 +125,11 @@ class Game:
         self.state, self._moves = state, moves
 
     def forget(self) -> None:
-        """Forgets the position."""
         self.state = None
 
 
 class Engine:
-    """Takes the lines of a chess program, and prints the answers. Times are those of
+    """Obeys the lines of a chess program, and prints the answers. Times are those of
     `time.monotonic`."""
 
     def __init__(self, port: str = "", period: float = _PERIOD,
@@ -151,15 +150,15 @@ class Engine:
     _turn: Turn | None
 
     def _begin(self) -> None:
-        """No move is asked for."""
+        """Ends the search for a move."""
         self._goes = self._is_held = False
         self._asked_at = self._hit_at = float("-inf")
         self._told = ""
 
-    # ---- What the chess program says
+    # ---- Lines of the chess program
 
     def obey(self, text: str, now: float) -> None:
-        """Obeys a line. Words before a known one are ignored, and so is a line without one."""
+        """Obeys a line. Words before a known one are ignored, and a line without one is, too."""
         words = text.split()
         while words and words[0] not in _WORDS:
             words.pop(0)
@@ -215,7 +214,7 @@ class Engine:
         elif name == "clock" and value.lower() in ("true", "false"):
             self._shows_moves = value.lower() == "true"
         else:
-            self._inform(f"there is no option {name!r} with the value {value!r}")
+            self._inform(f"unknown option {name!r}, or wrong value {value!r}")
 
     def _set_port(self, port: str) -> None:
         if port != self.port:
@@ -235,7 +234,7 @@ class Engine:
             return
         state, before, self._other = self._game.state, None, self._game.last_move
         assert state is not None
-        # A program may send a FEN alone: the other side's move is found by what it changes.
+        # A program may send only a FEN: the changes then show the other side's move.
         if self._answered is not None:
             for move, after in self._answered.moves().items():
                 if (after.letters, after.white) == (state.letters, state.white):
@@ -248,7 +247,7 @@ class Engine:
     def _go(self, words: list[str], now: float) -> None:
         self._begin()
         if self._turn is None:
-            self._inform("no move can be made: there is no position")
+            self._inform("the chess program has requested a move, but has set no position")
             self._end(_NO_MOVE)
             return
         only = words[words.index("searchmoves") + 1:] if "searchmoves" in words else []
@@ -261,17 +260,17 @@ class Engine:
         self.work(now)
 
     def _tell_times(self, words: list[str]) -> None:
-        """Says which move the other side has made, and what time is left to each."""
+        """Prints the other side's move, and the remaining times."""
         pairs = dict(zip(words, words[1:]))
         times = [f"{side} {_time_text(pairs[word])}" for side, word in
                  (("white", "wtime"), ("black", "btime"), ("this move", "movetime"))
                  if _is_number(pairs.get(word, ""))]
-        moved = f"the other side has moved {self._other}" if self._other else "a move is asked for"
+        moved = f"the other side has moved {self._other}" if self._other else "make a move"
         if self._other or times:
             self._inform(f"{moved}{' (' + ', '.join(times) + ')' if times else ''}")
 
     def _stop(self) -> None:
-        """Ends with the move that the board shows, if the board has just confirmed it."""
+        """Plays the move on the board, if the board has just confirmed it."""
         if not self._goes or self._turn is None:
             return
         if self._turn.shown and self.line is not None:
@@ -281,23 +280,23 @@ class Engine:
         if move is None:
             self._inform("no move was made on the board")
         elif not self._is_confirmed(time.monotonic()):
-            self._inform(f"{move} isn't confirmed by the board")
+            self._inform(f"the board hasn't confirmed {move}")
             move = None
         self._end(move or _NO_MOVE)
 
     def _is_confirmed(self, now: float) -> bool:
-        """Whether a dump has just confirmed what the board shows."""
+        """Whether a dump has just confirmed the position."""
         line = self.line
         return bool(line and line.view.confirmed and now <= line.confirmed_at + _CONFIRMED)
 
     def _hit(self, now: float) -> None:
-        """The move that was pondered over is asked for. If it was made, it is confirmed anew."""
+        """Requests the move that the program pondered. If it was made, it is confirmed again."""
         self._is_held, self._told, self._hit_at = False, "", now
 
-    # ---- What is said
+    # ---- Messages
 
     def _inform(self, text: str) -> None:
-        """Says something to the player. Nothing is said before `uciok`."""
+        """Prints a message for the player, but nothing before `uciok`."""
         if not self._is_greeted:
             self._kept.append(text)
             return
@@ -306,7 +305,7 @@ class Engine:
         _warn(line)
 
     def _end(self, move: str) -> None:
-        """Ends what `go` has begun."""
+        """Answers `go`."""
         self._begin()
         legal = self._turn.legal if self._turn else {}
         self._answered = legal.get(move)
@@ -318,7 +317,7 @@ class Engine:
     # ---- The board
 
     def open(self) -> None:
-        """Opens the port, or has it looked for. What is at fault is said once."""
+        """Opens the port, or looks for it. Prints a fault once."""
         if self.line is not None:
             return
         fault = "no port is set (start dgt-uci with it, or set the option Port)"
@@ -328,19 +327,18 @@ class Engine:
         except OSError as refused:
             fault = f"{self.port}: {_why(refused.strerror or '')}"
         except ValueError:
-            fault = f"{self.port!r} is no name of a port"
+            fault = f"not the name of a port: {self.port!r}"
         if fault and fault != self._faulty:
             self._inform(fault)
         self._faulty, self._away = fault, ""
 
     def close(self) -> None:
-        """Closes the port."""
         if self.line is not None:
             self.line.close()
             self.line = None
 
     def see(self, view: BoardView, now: float) -> None:
-        """Notes what is known of the board."""
+        """Notes a view of the board."""
         away = view.away or ""
         if away != self._away:
             self._inform(f"{self.port}: {_why(away) if away else 'the board is back'}")
@@ -358,8 +356,8 @@ class Engine:
         self._turn.see(letters, now, not view.in_doubt)
 
     def _orient(self, letters: str) -> None:
-        """Decides whether the board is turned: it is if it shows, turned, exactly what it has to
-        show, what it had to show before the last move, or how the game began."""
+        """Decides whether the board is turned: it is if it shows, turned, exactly the position, the
+        one before the last move, or the first one of the game."""
         game = self._game
         known = [each.letters for each in (game.state, game.before, game.first) if each]
         if letters in known:
@@ -367,10 +365,10 @@ class Engine:
         elif letters[::-1] in known:
             self._is_turned = True
 
-    # ---- What is due
+    # ---- Due actions
 
     def work(self, now: float) -> float | None:
-        """Does what is due, and returns when something will be."""
+        """Does everything due, and returns the time of the next call."""
         due = self._await_move(now) if self._goes else None
         clock = self.line.tend_clock(now) if self.line is not None else None
         return min((each for each in (due, clock) if each is not None), default=None)
@@ -391,9 +389,9 @@ class Engine:
         return due
 
     def _confirm(self, turn: Turn, rested_at: float, now: float) -> float | None:
-        """Ends with the move that the board shows, once it has rested, and the board was asked then
-        and has confirmed it: the last messages may have been lost. A move that is held is only
-        named. The board is asked all the time, since `stop` may come."""
+        """Plays the move on the board once it has rested and a later dump has confirmed it: the
+        last messages may have been lost. While the program ponders, the move is only named. Dumps
+        are requested all the time, since `stop` may arrive."""
         move, line, since = turn.shown, self.line, max(rested_at, self._hit_at)
         if move is None or line is None:
             return None
@@ -410,7 +408,7 @@ class Engine:
 
 
 def _serve(engine: Engine) -> None:
-    """Obeys the lines of standard input, and attends to the board meanwhile."""
+    """Obeys the lines of standard input, and serves the board meanwhile."""
     rest = b""
     while not engine.is_over:
         due = engine.work(time.monotonic())
@@ -447,7 +445,7 @@ def main(arguments: list[str] | None = None) -> None:
     parser.add_argument("port", nargs="?", default="",
                         help="the board's serial port, such as /dev/ttyUSB0")
     parser.add_argument("--period", type=_period, default=_PERIOD, metavar="SECONDS",
-                        help="how often the board is asked for all squares (%(default)s)")
+                        help="the time between two requests for all squares (%(default)s)")
     words = parser.parse_args(arguments)
     signal.signal(signal.SIGINT, signal.SIG_DFL)
     engine = Engine(words.port, words.period)

@@ -52,20 +52,20 @@ def segment(character: str) -> int:
 
 
 def plain_bytes(held: object) -> bytes | None:
-    """Returns the bytes of a `bytes`, whatever methods its own class has, or else `None`."""
+    """Returns the bytes of a `bytes` or a subclass as plain `bytes`, or `None`."""
     return bytes.__getitem__(held, slice(None)) if isinstance(held, bytes) else None
 
 
 def checked(held: object, kind: type[_Kind]) -> _Kind:
-    """Returns the object. `TypeError` if it is none of this class."""
+    """Returns the object. `TypeError` unless it is of this class."""
     if not isinstance(held, kind):
-        raise TypeError(f"this must be a {kind.__name__}: {held!r}")
+        raise TypeError(f"not a {kind.__name__}: {held!r}")
     return held
 
 
 @dataclass(frozen=True, slots=True)
 class Position(Sequence[str]):
-    """What stands on the 64 squares. `position["e4"]` is the letter of a piece.
+    """The pieces on the 64 squares. `position["e4"]` is the letter of a piece.
 
     >>> start = Position.start()
     >>> start["e2"], start["e4"]
@@ -73,14 +73,14 @@ class Position(Sequence[str]):
     >>> start.changes(Position.parse("rnbqkbnr/pppppppp/8/8/4P3/8/PPPP1PPP/RNBQKBNR"))
     {'e4': 'P', 'e2': '.'}
 
-    It is an immutable sequence of 64 letters, from a8 to h1, and a number is the index of a square:
+    It is an immutable sequence of 64 letters, from a8 to h1. A number is the index of a square:
 
     >>> start[0], start[-1], len(start), start.count("p"), "X" in start
     ('r', 'R', 64, 8, False)
     >>> start[:8], [SQUARES[number] for number, piece in enumerate(start) if piece == "N"]
     ('rnbqkbnr', ['b1', 'g1'])
 
-    A name that is no square is a `BadValue`, and a number out of range is an `IndexError`.
+    A name that isn't a square is a `BadValue`, and a number out of range is an `IndexError`.
     """
 
     codes: bytes
@@ -94,8 +94,8 @@ class Position(Sequence[str]):
 
     @classmethod
     def parse(cls, placement: str) -> Position:
-        """Returns the position that the first field of a FEN gives. `BadPlacement` if the text is
-        none, and `TypeError` if it is no text."""
+        """Returns the position of a FEN's first field. `BadPlacement` if the text isn't one, and
+        `TypeError` if it isn't a text."""
         text = str.encode(checked(placement, str), errors="replace")
         codes = (c_uint8 * 64)()
         parsed = dgt.dgt_parse_placement(text, len(text), codes)
@@ -105,12 +105,12 @@ class Position(Sequence[str]):
 
     @classmethod
     def of_letters(cls, letters: str) -> Position:
-        """Returns the position of 64 letters, from a8 to h1. `BadValue` if they are none."""
+        """Returns the position of 64 letters, from a8 to h1. `BadValue` if they aren't valid."""
         return cls(bytes(piece_code(letter) for letter in letters))
 
     @classmethod
     def start(cls) -> Position:
-        """Returns the position in which a game begins."""
+        """Returns the starting position."""
         return cls.parse("rnbqkbnr/pppppppp/8/8/8/8/PPPPPPPP/RNBQKBNR")
 
     @property
@@ -138,14 +138,14 @@ class Position(Sequence[str]):
         return iter(self.letters)
 
     def changes(self, newer: Position) -> dict[str, str]:
-        """Returns the squares on which a newer position differs, each with its letter there.
-        `TypeError` if it is no position."""
+        """Returns the squares on which a newer position differs, with their letters there.
+        `TypeError` if it isn't a position."""
         pairs = zip(SQUARES, self.codes, checked(newer, Position).codes)
         return {square: LETTERS[new] for square, old, new in pairs if old != new}
 
     def differ(self, other: Position) -> int:
         """Returns the squares on which another position differs, as a number of 64 bits: bit n is
-        set exactly if square n differs. `TypeError` if it is no position.
+        set exactly if square n differs. `TypeError` if it isn't a position.
 
         >>> hex(Position.start().differ(Position.parse("8/8/8/8/8/8/8/8")))
         '0xffff00000000ffff'
@@ -161,7 +161,7 @@ class Position(Sequence[str]):
 
 
 def number(held: object, most: int, what: str) -> int:
-    """Returns the number, from 0 to `most`. `BadValue` that names `what` it is, if it is none."""
+    """Returns the number, from 0 to `most`. Otherwise a `BadValue` names `what` it is."""
     plain = int.__index__(held) if isinstance(held, int) else -1
     if not 0 <= plain <= most:
         raise BadValue(f"{what} must be a number from 0 to {most}: {held!r}")
@@ -169,8 +169,7 @@ def number(held: object, most: int, what: str) -> int:
 
 
 def seconds(held: float, what: str, least: float = 0.0) -> float:
-    """Returns the number of seconds, `least` or more. `BadValue` that names `what` it is, if it is
-    none."""
+    """Returns the number of seconds, `least` or more. Otherwise a `BadValue` names `what` it is."""
     with contextlib.suppress(TypeError):
         if held >= least:
             return held
@@ -182,10 +181,10 @@ _TIME_FIELDS = (("hours", 9), ("minutes", 59), ("seconds", 59), ("flags", 7))
 
 @dataclass(frozen=True, slots=True)
 class Time:
-    """The time of one side of a clock, and three flags as they came.
+    """The time of one side of a clock, and its three flags.
 
-    `hours` are from 0 to 9, `minutes` and `seconds` from 0 to 59, and `flags` from 0 to 7.
-    `BadValue` if one of them is not.
+    `hours` is from 0 to 9, `minutes` and `seconds` are from 0 to 59, and `flags` is from 0 to 7.
+    `BadValue` if one of them is out of range.
 
     >>> str(Time(1, 29, 55))
     '1:29:55'
@@ -202,8 +201,8 @@ class Time:
 
     @property
     def blocked(self) -> bool:
-        """Whether the flag has fallen, and the clock stays at zero. It is what other programs read
-        in `flags`, as are `per_move` and `fallen`: no clock was tried."""
+        """Whether the flag has fallen, and the clock stays at zero. `blocked`, `per_move` and
+        `fallen` are the meanings that other programs give `flags`: no clock was tried."""
         return bool(self.flags & _c.FLAG_BLOCKED)
 
     @property
@@ -221,7 +220,7 @@ class Time:
 
 
 def _status(held: object, is_absent: bool) -> int:
-    """Returns the status of a clock. `BadValue` if it is none, or its bit 20 says otherwise."""
+    """Returns the status of a clock. `BadValue` if it is out of range, or its bit 20 is wrong."""
     plain = number(held, 127, "status")
     if bool(plain & STATUS_ABSENT) != is_absent:
         side = "with" if is_absent else "without"
@@ -233,10 +232,10 @@ def _status(held: object, is_absent: bool) -> int:
 class Times:
     """A clock, and the times that it shows.
 
-    `first` and `second` are the times of the clock's two sides, in the order of the message. They
-    say nothing of colours. `status` is from 0 to 127, without the bit 20 (hexadecimal), which says
-    that no clock is connected. `BadValue` if one of them is not. The text is that of `dgt monitor`:
-    each side's time and flags, and the status in hexadecimal.
+    `first` and `second` are the times of the clock's two sides, in the order of the message. Either
+    may be White's. `status` is from 0 to 127, without the bit 20 (hexadecimal), which means that no
+    clock is connected. `BadValue` if one of them is out of range. The text is that of `dgt
+    monitor`: each side's time and flags, and the status in hexadecimal.
 
     >>> print(Times(Time(1, 30), Time(1, 29, 55), 0x11))
     times 1:30:00 0 1:29:55 0 11
@@ -254,7 +253,6 @@ class Times:
 
     @property
     def running(self) -> bool:
-        """Whether the clock runs."""
         return bool(self.status & _c.STATUS_RUNNING)
 
     @property
@@ -269,12 +267,12 @@ class Times:
 
     @property
     def black_turn(self) -> bool:
-        """Whether it is black's turn."""
+        """Whether it is Black's turn."""
         return bool(self.status & _c.STATUS_BLACK_TURN)
 
     @property
     def white_turn(self) -> bool:
-        """Whether it is white's turn."""
+        """Whether it is White's turn."""
         return bool(self.status & _c.STATUS_WHITE_TURN)
 
     def __str__(self) -> str:
@@ -286,9 +284,9 @@ class Times:
 class NoClock:
     """No clock is connected.
 
-    `raw` has the six bytes of the report as they came, each from 0 to 127. The low half of the
-    first and of the fourth is not `a` (hexadecimal), which marks an acknowledgement. `status` is
-    from 0 to 127, with the bit 20. `BadValue` if one of them is not.
+    `raw` is the six bytes of the report, each from 0 to 127. The low half of the first and of the
+    fourth isn't `a` (hexadecimal), which marks an acknowledgement. `status` is from 0 to 127, with
+    the bit 20. `BadValue` if one of them is invalid.
     """
 
     raw: bytes = bytes(6)
@@ -324,7 +322,7 @@ def read_clock(told: ClockStruct) -> Clock:
 
 
 def byte(held: int, what: str) -> int:
-    """Returns the number, from 0 to 255. `BadValue` that names `what` it is, if it is none."""
+    """Returns the number, from 0 to 255. Otherwise a `BadValue` names `what` it is."""
     return number(held, 255, what)
 
 
@@ -333,10 +331,10 @@ def _time_struct(time: Time) -> TimeStruct:
 
 
 def clock_struct(clock: Clock) -> ClockStruct:
-    """Returns the clock for the library. `TypeError` if it is no clock."""
+    """Returns the clock for the library. `TypeError` if it isn't a clock."""
     if isinstance(clock, Times):
         return ClockStruct(_c.CLOCK_TIMES, clock.status, (c_uint8 * 6)(),
                            _time_struct(clock.first), _time_struct(clock.second))
     if isinstance(clock, NoClock):
         return ClockStruct(_c.CLOCK_NONE, clock.status, (c_uint8 * 6)(*clock.raw))
-    raise TypeError(f"no clock: {clock!r}")
+    raise TypeError(f"not a clock: {clock!r}")

@@ -1,4 +1,4 @@
-"""A board and a host joined by two lines of bytes, to test a program without any line."""
+"""A board and a host connected with two lines of bytes, for tests."""
 
 from __future__ import annotations
 
@@ -18,7 +18,7 @@ from .values import Clock, Position, byte, number
 
 
 class Outcome(StrEnum):
-    """What came of an act. One that is not `DONE` changed nothing."""
+    """The outcome of an act. Only `DONE` has changed anything."""
 
     DONE = "done"
     NOTHING = "nothing"
@@ -32,16 +32,16 @@ _POLLING = {_c.NOTHING: Outcome.NOTHING, _c.WROTE: Outcome.DONE, _c.NEED_ROOM: O
 
 
 class World(Uncopied):
-    """A board and a host, with a line of bytes each way between them. Nothing moves by itself: each
-    call is one act, and returns its `Outcome`. The lines hold as many bytes as `up` (from the
-    board, at least 67) and `down` (from the host, at least 257) say.
+    """A board and a host, with a line of bytes each way. Nothing happens by itself: each call is
+    one act, and returns its `Outcome`. The lines hold at most `up` bytes (from the board, at least
+    67) and `down` bytes (from the host, at least 257).
 
     >>> world = World()
     >>> for ask in Ask.UPDATE_BOARD, Ask.DUMP:
     ...     outcome = world.host_sends(ask)
     >>> world.to_board(2), world.board_sends(), world.to_host(30)
     (<Outcome.DONE: 'done'>, <Outcome.DONE: 'done'>, <Outcome.DONE: 'done'>)
-    >>> world.change("e2", ".")             # while the dump is under way
+    >>> world.change("e2", ".")             # while the dump is in transit
     <Outcome.DONE: 'done'>
     >>> world.settle(), world.quiet
     (3, True)
@@ -73,22 +73,22 @@ class World(Uncopied):
 
     @property
     def up(self) -> bytes:
-        """The bytes that are under way to the host."""
+        """The bytes in transit to the host."""
         return bytes(self._up)
 
     @property
     def down(self) -> bytes:
-        """The bytes that are under way to the board."""
+        """The bytes in transit to the board."""
         return bytes(self._down)
 
     @property
     def quiet(self) -> bool:
-        """Whether nothing is under way: both lines are empty, neither side holds a part of a
-        message or command, and the board has nothing to send."""
+        """Whether nothing is in transit or left to send: both lines are empty, neither side has a
+        part of a message or command, and the board has nothing to send."""
         held = self._up or self._down or self._board.partial or self._host.unread
         return not held and not self._board.owes
 
-    # ---- What happens on the board, and what both sides send
+    # ---- Changes on the board, and what both sides send
 
     def change(self, square: str, piece: str) -> Outcome:
         """Puts the piece with this letter on a square of the board. A dot empties the square."""
@@ -96,14 +96,14 @@ class World(Uncopied):
         return Outcome.DONE
 
     def hand_clock(self, clock: Clock) -> Outcome:
-        """Sets what the board's clock shows."""
+        """Sets the times of the board's clock."""
         self._board.hand_clock(clock)
         return Outcome.DONE
 
     def host_sends(self, command: Ask | Command) -> Outcome:
-        """The host sends a command. `TOO_MANY` if it asks for a reply and 16 are awaited already,
-        `NO_ROOM` if the line has no room for all its bytes. `NoSuchCommand` if it is none of
-        `Ask`, or has more bytes than a command may have."""
+        """The host sends a command. `TOO_MANY` if it requests a reply and 16 are awaited already,
+        `NO_ROOM` if the line has no room for all its bytes. `NoSuchCommand` if it isn't one of
+        `Ask`, or is too long for a command."""
         if isinstance(command, ClockMessage):
             held, address = readable(command.payload)
             id = byte(command.id, "an id")
@@ -118,7 +118,7 @@ class World(Uncopied):
         room = min(self._down_room - len(self._down), len(self._out))
         sent = self._host._call(send, *what, self._out_at, room)
         if sent.status == _c.NO_COMMAND:
-            raise NoSuchCommand("there is no such command")
+            raise NoSuchCommand("no command has this code or payload")
         self._down += self._out[:sent.bytes] if sent.status == _c.SENT else b""
         return _SENDING[sent.status]
 
@@ -130,11 +130,11 @@ class World(Uncopied):
         self._up += self._out[:polled.bytes] if polled.status == _c.WROTE else b""
         return _POLLING[polled.status]
 
-    # ---- What the lines deliver
+    # ---- Deliveries
 
     def to_board(self, count: int) -> Outcome:
         """The board takes up to `count` bytes from the line, and stops when it owes eight replies.
-        `NOTHING` if there is no byte to take, `BUSY` if it owes eight replies already."""
+        `NOTHING` if the line is empty, `BUSY` if the board owes eight replies already."""
         left = min(number(count, self._most, "count"), len(self._down))
         if left == 0:
             return Outcome.NOTHING
@@ -150,7 +150,7 @@ class World(Uncopied):
         return self._board.owed_len == MAX_OWED
 
     def to_host(self, count: int) -> Outcome:
-        """The host hears up to `count` bytes from the line. `NOTHING` if there is none."""
+        """The host hears up to `count` bytes from the line. `NOTHING` if the line is empty."""
         heard = bytes(self._up[:number(count, self._most, "count")])
         if not heard:
             return Outcome.NOTHING
@@ -159,8 +159,8 @@ class World(Uncopied):
         return Outcome.DONE
 
     def settle(self) -> int:
-        """Delivers what is under way and has the board send what it has to send, until there is
-        nothing more. Returns the number of acts."""
+        """Delivers all bytes, and makes the board send everything that it has to send. Returns the
+        number of acts."""
         acts = 0
         while True:
             if self._up:
@@ -176,8 +176,7 @@ class World(Uncopied):
     # ---- Breaks and faults
 
     def both_disconnect(self) -> Outcome:
-        """Both sides see the line break: all bytes on it are lost, and both are as after
-        `line_lost`."""
+        """Both sides see the line break: all bytes on it are lost, and both do `line_lost`."""
         self._up.clear()
         self._down.clear()
         self._host.line_lost()
@@ -185,21 +184,19 @@ class World(Uncopied):
         return Outcome.DONE
 
     def host_disconnects(self) -> Outcome:
-        """Only the host sees the line break: all bytes on it are lost, the host is as after
-        `line_lost`, and then sends what `restart` returns."""
+        """Only the host sees the line break: all bytes on it are lost, and the host does
+        `line_lost` and `restart`."""
         self._up.clear()
         self._host.line_lost()
         self._down[:] = self._host.restart()
         return Outcome.DONE
 
     def garble_up(self, chunk: Bytes) -> Outcome:
-        """The line to the host loses its bytes and has these instead. `NO_ROOM` if they are too
-        many."""
+        """Replaces the bytes in transit to the host. `NO_ROOM` if there are too many."""
         return self._garbled(self._up, self._up_room, chunk)
 
     def garble_down(self, chunk: Bytes) -> Outcome:
-        """The line to the board loses its bytes and has these instead. `NO_ROOM` if they are too
-        many."""
+        """Replaces the bytes in transit to the board. `NO_ROOM` if there are too many."""
         return self._garbled(self._down, self._down_room, chunk)
 
     def _garbled(self, line: bytearray, room: int, chunk: Bytes) -> Outcome:
@@ -210,14 +207,14 @@ class World(Uncopied):
         return Outcome.DONE
 
     def board_loses_power(self) -> Outcome:
-        """The board loses its power and gets it back: it is as after `line_lost`. The lines keep
-        their bytes."""
+        """The board loses its power and gets it back: it does `line_lost`. The lines keep their
+        bytes."""
         self._board.line_lost()
         return Outcome.DONE
 
     def host_restarts(self) -> Outcome:
-        """The host gives up the replies that it awaits, and sends what `restart` returns. `NO_ROOM`
-        if the line has no room for its 257 bytes."""
+        """The host gives up its awaited replies, and does `restart`. `NO_ROOM` if the line has no
+        room for the 257 bytes."""
         if self._down_room - len(self._down) < _c.RESTART_LENGTH:
             return Outcome.NO_ROOM
         self._host.give_up_awaited()
@@ -225,6 +222,6 @@ class World(Uncopied):
         return Outcome.DONE
 
     def host_gives_up(self) -> Outcome:
-        """The host gives up the replies that it awaits, which may be lost. Nothing else changes."""
+        """The host gives up its awaited replies, which may be lost. Nothing else changes."""
         self._host.give_up_awaited()
         return Outcome.DONE
