@@ -4,15 +4,15 @@
  *     import { load, Follower } from "./dgt.js";
  *     const dgt = await load();
  *     const follower = new Follower(dgt);
- *     // Again and again: write follower.ask(now) to the line if it isn't null, wait for bytes
- *     // until follower.dueAt, and hand them in by follower.hear(now, bytes).
+ *     // In a loop: write follower.ask(now) to the line if it isn't null, wait for bytes until
+ *     // follower.dueAt, and pass them to follower.hear(now, bytes).
  *
- * Nothing here opens a line, waits, or makes a request, but for `load` without an argument. Each
- * value that is returned is a copy: no view of the module's memory leaves this file. What each call
- * does is said in include/dgt.h.
+ * Nothing here opens a line, waits, or makes a request, except `load` with a URL or without an
+ * argument. Each returned value is a copy: no view of the module's memory leaves this file.
+ * include/dgt.h documents each call.
  *
- * Squares are numbered from a8, 0, to h1, 63. White pawn, rook, knight, bishop, king and queen are
- * 1 to 6, the black ones 7 to 12, and no piece is 0. Times are milliseconds.
+ * Squares are numbered from a8 (0) to h1 (63). White's pawn, rook, knight, bishop, king and queen
+ * are 1 to 6, Black's are 7 to 12, and 0 is an empty square. Times are in milliseconds.
  */
 
 import { ASK, BATTERY_UNKNOWN, BUTTONS, CALLS, CLOCKS, EVENTS, FAULTS, FLAGS, IDS, MARKS, MAX_BODY,
@@ -21,7 +21,7 @@ import { ASK, BATTERY_UNKNOWN, BUTTONS, CALLS, CLOCKS, EVENTS, FAULTS, FLAGS, ID
 
 export { ASK, FLAGS, IDS, MODES, STATUS };
 
-/** What is wrong with a call. Nothing was done if one is thrown. */
+/** A call that was refused. It has changed nothing. */
 export class DgtError extends Error {
   /** @param {string} text */
   constructor(text) {
@@ -35,11 +35,11 @@ export class TooManyAwaited extends DgtError {}
 export class Closed extends DgtError {}
 /** An argument is out of its range. */
 export class BadValue extends DgtError {}
-/** A text is no placement from its character `at` on. */
+/** A text is not a placement. The first wrong character, or the text's end, is at `at`. */
 export class BadPlacement extends DgtError {
   /** @param {number} at */
   constructor(at) {
-    super(`no placement from character ${at} on`);
+    super(`not a placement: wrong at character ${at}`);
     this.at = at;
   }
 }
@@ -65,8 +65,8 @@ export class BadPlacement extends DgtError {
  *   {type: "badLength"} |
  *   {type: "stray", byte: number}
  * )} Message  of a board, or a fault of its bytes
- * @typedef {Message & {offset: number, unasked: boolean}} Event  `offset` is how many bytes had
- *   come since the handle was made
+ * @typedef {Message & {offset: number, unasked: boolean}} Event  `offset` is the number of bytes
+ *   received since the handle was made
  *
  * @typedef {(
  *   {type: "command", code: number, id: number, word: Uint8Array} |
@@ -79,8 +79,8 @@ export class BadPlacement extends DgtError {
  *   {type: "time", time: Time} |
  *   {type: "mark", mark: keyof typeof MARKS} |
  *   {type: "unknown", byte: number}
- * )} Stored  by a board while no host listens: this piece, or none, stands on this square; the time
- *   of one player, whose flags are 6 or 7, one for each; or a byte
+ * )} Stored  by a board while no host listens: a square and its piece or 0, a player's time (with
+ *   flags 6 or 7, one for each player), or a byte
  * @typedef {(
  *   {type: "done", id: number} |
  *   {type: "version", mainNumber: number, subNumber: number} |
@@ -96,13 +96,12 @@ export class BadPlacement extends DgtError {
  *   longSerial: ArrayLike<number>}} Identity
  *
  * @typedef {typeof ASK[keyof typeof ASK]} CommandCode
- * @typedef {Exclude<CommandCode, typeof ASK.clockMessage | typeof ASK.leds>} ByteCommand  it
- *   carries nothing
+ * @typedef {Exclude<CommandCode, typeof ASK.clockMessage | typeof ASK.leds>} ByteCommand  one byte
  * @typedef {typeof MODES[keyof typeof MODES]} Mode
  * @typedef {Exclude<Mode, typeof MODES.idle>} ReportingMode
  */
 
-// The types of calls and structs, from the words of header.js.
+// The types of calls and structs, derived from header.js.
 /** @typedef {typeof CALLS} Calls @typedef {typeof STRUCTS} Structs */
 /**
  * @template S
@@ -128,24 +127,24 @@ export class BadPlacement extends DgtError {
  */
 /** @typedef {"host" | "follower" | "decoder" | "command_decoder" | "board"} Kind  of a handle */
 /**
- * The names of the calls of handles of a kind.
+ * The calls of a kind of handle, without the kind's prefix.
  * @template {Kind} K
  * @typedef {{[N in keyof Named]: N extends `${K}_${infer M}` ? M : never}[keyof Named]} NameOf
  */
 /**
- * What a call of a handle takes after it, and what it returns.
+ * The parameters of a handle's call after the handle, and its result.
  * @template {string} N
  * @typedef {N extends keyof Named ?
  *   Named[N] extends (at: number, ...more: infer M) => infer R ? [M, R] : never : never} OfHandle
  */
 
-const CHUNK = 4096; // as many bytes are handed in at once
-const MOST_EVENTS = 64; // as many are read at once
-const ROOM = 2 * MAX_BODY + 80; // for what a call writes: the longest text of an event
+const CHUNK = 4096; // bytes passed to a call at once
+const MOST_EVENTS = 64; // events read from a call at once
+const ROOM = 2 * MAX_BODY + 80; // bytes of the longest text of an event
 const PAGE = 65536;
 
 const CARRIED = ["code", "body"];
-/** @type {Record<string, string[]>} which members of an event or a command each type sets */
+/** @type {Record<string, string[]>} the members that each type of event or command sets */
 const MEMBERS = {
   dump: ["pieces"], field: ["square", "piece"], times: ["clock"], noClock: ["clock"],
   ack: ["ack", "ackStatus"], serial: ["serial"], version: ["mainNumber", "subNumber"],
@@ -153,10 +152,10 @@ const MEMBERS = {
   refused: ["code", "fault", "at"], cut: ["have"], badLength: [], stray: ["byte"],
   command: ["code", "id"], badSize: [], badStart: [], badEnd: [], strayByte: ["byte"],
 };
-/** @type {Record<string, string[]>} the same of a clock */
+/** @type {Record<string, string[]>} the members of each kind of clock */
 const OF_CLOCKS = { unknown: [], times: ["status", "first", "second"], none: ["status", "raw"] };
 const OF_ALL = ["kind", "unasked", "place", "bodyLen"];
-/** @type {Record<string, Map<string, [number, any]>>} the members of each struct by their names */
+/** @type {Record<string, Map<string, [number, any]>>} each struct's members by name */
 const PLACES = Object.fromEntries(Object.entries(STRUCTS).map(([struct, { members }]) =>
   [struct, new Map(members.map(([name, ...how]) => [name, how]))]));
 /** @type {<N extends string>(object: Readonly<Record<N, number>>) => Record<number, N>} */
@@ -167,27 +166,26 @@ const MARK_NAMES = names(MARKS), BUTTON_NAMES = names(BUTTONS);
 
 /** @param {number} value */
 function byte(value) {
-  if (!Number.isInteger(value) || value < 0 || value > 255) throw new BadValue(`no byte: ${value}`);
+  if (!Number.isInteger(value) || value < 0 || value > 255) {
+    throw new BadValue(`not a byte: ${value}`);
+  }
   return value;
 }
 
 /**
- * Bytes that are handed in: `length` of them.
+ * Checks that these are bytes, and `length` of them.
  * @param {ArrayLike<number>} values
  */
 function checked(values, length = values?.length) {
-  if (!Number.isInteger(length)) throw new BadValue("no bytes");
-  if (values.length !== length) throw new BadValue(`${values.length} bytes, not ${length}`);
+  if (!Number.isInteger(length)) throw new BadValue(`not bytes: ${values}`);
+  if (values.length !== length) throw new BadValue(`${values.length} bytes instead of ${length}`);
   if (!(values instanceof Uint8Array)) Array.from(values, byte);
   return values;
 }
 
-/**
- * A chunk of a line, as a stream hands it on.
- * @param {Uint8Array} bytes
- */
+/** @param {Uint8Array} bytes */
 function chunk(bytes) {
-  if (!(bytes instanceof Uint8Array)) throw new BadValue("a chunk is an Uint8Array");
+  if (!(bytes instanceof Uint8Array)) throw new BadValue(`not a Uint8Array: ${bytes}`);
   return bytes;
 }
 
@@ -196,12 +194,14 @@ function chunk(bytes) {
  * @param {number} time
  */
 function whole(time) {
-  if (!(time >= 0 && time <= Number.MAX_SAFE_INTEGER)) throw new BadValue(`no time: ${time}`);
+  if (!(time >= 0 && time <= Number.MAX_SAFE_INTEGER)) {
+    throw new BadValue(`not a time in milliseconds: ${time}`);
+  }
   return Math.floor(time);
 }
 
 /**
- * The bytes of a text, one for each character, and spaces after it up to `length`.
+ * The bytes of a text, one for each character, padded with spaces to `length`.
  * @param {string} text
  */
 function latin(text, length = 0) {
@@ -211,8 +211,8 @@ function latin(text, length = 0) {
 }
 
 /**
- * The module's calls and its memory, in which all handles are. It grows by this class alone: the
- * module has no instruction for that.
+ * The module's calls, and its memory, which contains all handles. Only this class grows the memory:
+ * the module has no instruction for that.
  */
 export class Library {
   /** @type {{buffer: ArrayBuffer, grow(pages: number | bigint): unknown}} */
@@ -220,7 +220,7 @@ export class Library {
   #top;
   #bytes;
   #view;
-  /** @type {Map<number, number[]>} places that were given back, by their size */
+  /** @type {Map<number, number[]>} released places by size */
   #free = new Map();
 
   /** @param {WebAssembly.Instance} instance */
@@ -230,7 +230,7 @@ export class Library {
     this.#top = Number(exports.__heap_base.value);
     this.#bytes = new Uint8Array(this.#memory.buffer);
     this.#view = new DataView(this.#memory.buffer);
-    /** @type {Named} by their names without `dgt_` */
+    /** @type {Named} named without `dgt_` */
     this.calls = /** @type {any} */ (Object.fromEntries(
       Object.entries(CALLS).map(([name, words]) => {
         const [gives, ...takes] = words.split(",");
@@ -238,9 +238,9 @@ export class Library {
       })));
     this.version = this.calls.version();
     if (this.version < VERSION || Math.trunc(this.version / 1e6) !== Math.trunc(VERSION / 1e6)) {
-      throw new DgtError(`the module has version ${this.version}, and dgt.js is for ${VERSION}`);
+      throw new DgtError(`the module has version ${this.version}, but dgt.js needs ${VERSION}`);
     }
-    // What calls read and write beside handles: a place for each purpose.
+    // Besides handles, calls read and write these places.
     this.in = this.take(CHUNK);
     this.other = this.take(512);
     this.out = this.take(ROOM);
@@ -251,7 +251,8 @@ export class Library {
   }
 
   /**
-   * A call with the numbers of JavaScript. A struct is written to a place that is handed in first.
+   * Makes a call that takes numbers of JavaScript. A returned struct is written to a place that is
+   * passed first.
    * @param {(...values: (number | bigint)[]) => any} call @param {string} gives
    * @param {string[]} takes
    * @returns {(...values: number[]) => unknown}
@@ -273,7 +274,7 @@ export class Library {
   }
 
   /**
-   * A place of `size` bytes, aligned to 16.
+   * Returns a place of `size` bytes, aligned to 16.
    * @param {number} size
    * @returns {number}
    */
@@ -283,7 +284,7 @@ export class Library {
     const at = Math.ceil(this.#top / 16) * 16, end = at + size;
     const lacking = end - this.#memory.buffer.byteLength;
     if (end > 2 ** 31) throw new RangeError("no more memory"); // places are below 2 GB
-    if (lacking > 0) this.#grow(Math.ceil(lacking / PAGE)); // a RangeError if there is no more
+    if (lacking > 0) this.#grow(Math.ceil(lacking / PAGE)); // may throw a RangeError
     this.#top = end;
     return at;
   }
@@ -306,7 +307,7 @@ export class Library {
     this.#free.set(size, [...this.#free.get(size) ?? [], at]);
   }
 
-  /** How many bytes the module's memory has. */
+  /** The size of the module's memory in bytes. */
   get memorySize() {
     return this.#memory.buffer.byteLength;
   }
@@ -320,7 +321,7 @@ export class Library {
   }
 
   /**
-   * Writes bytes, and returns where.
+   * Writes bytes, and returns their place.
    * @param {number} at @param {ArrayLike<number>} values
    */
   put(at, values) {
@@ -329,7 +330,7 @@ export class Library {
   }
 
   /**
-   * The text up to its zero.
+   * The text up to the first zero byte.
    * @param {number} at
    */
   text(at) {
@@ -351,7 +352,7 @@ export class Library {
   }
 
   /**
-   * Those of these names.
+   * The members with these names.
    * @param {keyof Structs} struct @param {number} at @param {Iterable<string>} wanted
    */
   #members(struct, at, wanted) {
@@ -379,7 +380,7 @@ export class Library {
   }
 
   /**
-   * Writes these members of a struct, with zeros in the others, and returns where.
+   * Writes these members of a struct, zeros for the rest, and returns the place.
    * @param {keyof Structs} struct @param {number} at @param {Record<string, unknown>} values
    */
   write(struct, at, values) {
@@ -400,7 +401,7 @@ export class Library {
       case "wide": this.#view.setBigUint64(at, BigInt(whole(value)), true); break;
       case "clock": this.writeClock(at, value); break;
       case "body":
-        if (value.length > 64) throw new BadValue("a body of more than 64 bytes");
+        if (value.length > 64) throw new BadValue(`a body of ${value.length} bytes, not 0 to 64`);
         this.write("body", at, { len: value.length });
         this.put(at + 8, checked(value));
         break;
@@ -423,15 +424,15 @@ export class Library {
   writeClock(at, clock) {
     /** @type {Record<string, any>} */
     const given = clock, members = OF_CLOCKS[clock.kind];
-    if (!members) throw new BadValue(`no kind of clock: ${clock.kind}`);
+    if (!members) throw new BadValue(`not a kind of clock: '${clock.kind}'`);
     const said = Object.fromEntries(members.map(name => [name, given[name]]));
     return this.write("clock", at, { kind: CLOCKS[clock.kind], ...said });
   }
 
   /**
-   * The event at a place, whose body is at `body`, or null if there is none.
+   * The event at a place, or null if there is none. Its body is at `this.body`.
    * @param {number} at
-   * @param {number} before  how many bytes had come before the call
+   * @param {number} before  the number of bytes received before the call
    * @returns {Event | null}
    */
   event(at, before) {
@@ -447,16 +448,17 @@ export class Library {
   }
 
   /**
-   * Writes a message, and its body to `body`. Returns what a call takes for both.
+   * Writes a message to `events`, and its body to `body`. Returns a call's arguments for both.
    * @param {Message} message
    * @returns {[number, number, number]}
    */
   #writeMessage(message) {
     /** @type {Record<string, any>} */
     const given = message, { type } = message, members = MEMBERS[type] ?? [];
-    if (!(type in EVENTS)) throw new BadValue(`no message: ${type}`);
+    if (!(type in EVENTS)) throw new BadValue(`not a type of message: '${type}'`);
+    const lacking = members.filter(name => given[name] === undefined);
+    if (lacking.length) throw new BadValue(`a ${type} lacks its ${lacking.join(" and ")}`);
     const said = Object.fromEntries(members.map(name => [name, given[name]]));
-    if (Object.values(said).includes(undefined)) throw new BadValue(`a ${type} lacks a part`);
     if ("fault" in message) said.fault = FAULTS[message.fault];
     const body = "body" in message ? checked(message.body) : [];
     if (body.length > MAX_BODY) throw new BadValue(`a body of more than ${MAX_BODY} bytes`);
@@ -465,11 +467,11 @@ export class Library {
   }
 
   /**
-   * What a call has written to `out`.
+   * The bytes that a call has written to `out`.
    * @param {Struct<"encoded">} encoded
    */
   #encoded({ status, bytes }) {
-    if (status === NOT_ENCODED) throw new BadValue("a part is out of its range");
+    if (status === NOT_ENCODED) throw new BadValue("a member is out of its range");
     return this.bytes(this.out, bytes);
   }
 
@@ -482,7 +484,7 @@ export class Library {
   }
 
   /**
-   * An event as `dgt monitor` prints it, without its offset.
+   * The line that `dgt monitor` prints for an event, without the offset.
    * @param {Message} event
    */
   eventText(event) {
@@ -491,7 +493,7 @@ export class Library {
   }
 
   /**
-   * The message with this code and this body, or what is wrong with the body.
+   * The message with this code and this body, or a "refused" that names the body's fault.
    * @param {number} code @param {ArrayLike<number>} body
    * @returns {Message}
    */
@@ -499,26 +501,26 @@ export class Library {
     const { length } = checked(body);
     if (length > MAX_BODY || !this.calls.view_message(
       byte(code), this.put(this.body, body), length, this.events)) {
-      throw new BadValue("no message has such a code and body");
+      throw new BadValue(`the code ${code} or a byte is above 127, or the body is too long`);
     }
     const { offset, unasked, ...message } = /** @type {Event} */ (this.event(this.events, 0));
     return message;
   }
 
   /**
-   * The bytes of a command, and what it carries.
+   * The bytes of a command.
    * @param {CommandCode} code
    * @param {number} id  of a clock message, one of IDS
    * @param {ArrayLike<number>} carried
    */
   encodeCommand(code, id = 0, carried = []) {
-    if (checked(carried).length > 255) throw new BadValue("more bytes than a command carries");
+    if (checked(carried).length > 255) throw new BadValue("a command carries at most 255 bytes");
     return this.#encoded(this.calls.encode_command(
       byte(code), byte(id), this.put(this.other, carried), carried.length, this.out, ROOM));
   }
 
   /**
-   * The command that these bytes are, or null.
+   * The command with exactly these bytes, or null.
    * @param {ArrayLike<number>} word
    */
   viewCommand(word) {
@@ -528,7 +530,7 @@ export class Library {
   }
 
   /**
-   * What a call that reads a host's bytes has reported at `small`, or null.
+   * The command that a call has reported at `small`, or null.
    * @param {number} word
    * @returns {Command | null}
    */
@@ -542,10 +544,10 @@ export class Library {
     return command;
   }
 
-  // Names of bytes that messages carry: what other programs read in them. No board was tried.
+  // The meanings of carried bytes that other programs give them. No board was tried.
 
   /**
-   * Writes a body to `body`, and returns what a call takes for it.
+   * Writes a body to `body`, and returns a call's arguments for it.
    * @param {ArrayLike<number>} body
    * @returns {[number, number]}
    */
@@ -555,8 +557,8 @@ export class Library {
   }
 
   /**
-   * What the body of a message with the code 0f says, in its order. A board sends that after the
-   * byte 49, of which no call makes a command.
+   * Reads the body of a message with the code 0f: what a board has stored, in order. A board sends
+   * it after the byte 49, which no call here encodes.
    * @param {ArrayLike<number>} body
    */
   readStored(body) {
@@ -575,7 +577,7 @@ export class Library {
   }
 
   /**
-   * What the four bytes of an acknowledgement say, or null if that is unknown.
+   * The meaning of an acknowledgement's four bytes, or null if that is unknown.
    * @param {ArrayLike<number>} ack
    * @returns {Signal | null}
    */
@@ -591,7 +593,7 @@ export class Library {
   }
 
   /**
-   * What the body of a battery message says, or null if it hasn't nine bytes.
+   * The meaning of a battery message's body, or null unless it has nine bytes.
    * @param {ArrayLike<number>} body
    * @returns {BatteryState | null}
    */
@@ -605,7 +607,7 @@ export class Library {
   }
 
   /**
-   * The text that bytes are, or null if there are none, or one is no character that prints.
+   * These bytes as text, or null if there are none or one isn't a printable character.
    * @param {ArrayLike<number>} bytes
    */
   textOf(bytes) {
@@ -649,12 +651,12 @@ export class Library {
   }
 
   /**
-   * The letter of a piece, as in a FEN; "." for none.
+   * The letter of a piece in a FEN, or "." for 0.
    * @param {number} piece
    */
   pieceLetter(piece) {
     const letter = this.calls.piece_letter(byte(piece));
-    if (!letter) throw new BadValue(`no piece: ${piece}`);
+    if (!letter) throw new BadValue(`not a piece from 0 to 15: ${piece}`);
     return String.fromCharCode(letter);
   }
 
@@ -667,11 +669,13 @@ export class Library {
   }
 
   /**
-   * The name of a square, as "e4".
+   * The name of a square, such as "e4".
    * @param {number} square
    */
   squareName(square) {
-    if (!this.calls.square_name(byte(square), this.small)) throw new BadValue("no square");
+    if (!this.calls.square_name(byte(square), this.small)) {
+      throw new BadValue(`not a square from 0 to 63: ${square}`);
+    }
     return this.text(this.small);
   }
 
@@ -698,40 +702,43 @@ export class Library {
   #such(name, text, length) {
     /** @type {(...values: number[]) => number} */
     const call = this.calls[name], found = text.length === length ? call(...latin(text)) : NO_SUCH;
-    if (found === NO_SUCH) throw new BadValue(`no such ${name.split("_")[0]}: ${text}`);
+    if (found === NO_SUCH) throw new BadValue(`not a ${name.split("_")[0]}: '${text}'`);
     return found;
   }
 }
 
 /**
- * Makes the library of a module: without an argument of one beside this file, dgt64.wasm where
- * memories of 64 bits are known, and else dgt.wasm.
- * @param {BufferSource | WebAssembly.Module | URL | string} [source]  its bytes, the module, or
- *   where to fetch it
+ * Loads the module. Without an argument it fetches one from this file's folder: dgt64.wasm if
+ * 64-bit memories are supported, or dgt.wasm.
+ * @param {BufferSource | WebAssembly.Module | URL | string} [source]  the module, its bytes, or its
+ *   URL
  */
 export async function load(source) {
   const name = isWide() ? "dgt64.wasm" : "dgt.wasm";
   let taken = source ?? new URL(name, import.meta.url);
   if (typeof taken === "string" || taken instanceof URL) {
     const answer = await fetch(taken);
-    if (!answer.ok) throw new DgtError(`${taken} was not fetched: ${answer.status}`);
-    taken = await answer.arrayBuffer(); // whatever type the server says that it has
+    if (!answer.ok) throw new DgtError(`${taken} can't be fetched: status ${answer.status}`);
+    taken = await answer.arrayBuffer(); // whatever content type the server sends
   }
   const module = taken instanceof WebAssembly.Module ? taken : await WebAssembly.compile(taken);
   return new Library(await WebAssembly.instantiate(module, {}));
 }
 
-/** Whether memories of 64 bits are known here: validates a module that has only such a memory. */
+/** Whether 64-bit memories are supported: validates a module that has only such a memory. */
 export function isWide() {
   return WebAssembly.validate(Uint8Array.of(0, 97, 115, 109, 1, 0, 0, 0, 5, 3, 1, 4, 1));
 }
 
-/** The bytes of an LED frame for two squares, or for none: what `sendLeds` takes.
+/**
+ * The bytes for `sendLeds` that light two squares, or none.
  * @param {number[]} squares
  */
 export function lighting(...squares) {
   if (squares.length === 0) return Uint8Array.of(0, 64, 64, 0);
-  if (squares.length !== 2 || squares.some(n => byte(n) > 63)) throw new BadValue("no two squares");
+  if (squares.length !== 2 || squares.some(n => byte(n) > 63)) {
+    throw new BadValue(`not two squares from 0 to 63: ${squares.join(", ")}`);
+  }
   return Uint8Array.of(1, ...squares, 0);
 }
 
@@ -739,7 +746,7 @@ export function lighting(...squares) {
 const forgotten = new FinalizationRegistry(({ dgt, at, size }) => dgt.giveBack(at, size));
 
 /**
- * What all handles have. Their memory is given back by `close`, or once nobody has them.
+ * The base of all handles. `close` releases their memory, and so does the garbage collector.
  * @template {Kind} K
  */
 class Handle {
@@ -768,7 +775,6 @@ class Handle {
     return calls[`${this.kind}_${name}`](this.#at, ...values);
   }
 
-  /** Ends its use. */
   close() {
     if (!this.#at) return;
     forgotten.unregister(this);
@@ -782,7 +788,7 @@ class Handle {
  * @extends {Handle<"host" | "follower" | "decoder">}
  */
 class Reader extends Handle {
-  /** How many bytes were used since it was made. */
+  /** The number of bytes used since it was made. */
   total = 0;
 
   /**
@@ -808,9 +814,9 @@ class Reader extends Handle {
   }
 
   /**
-   * The same, one after another: a byte is used once the event before it was taken.
+   * The same, one by one: a byte is used once you have taken the event before it.
    * @param {"feed" | "hear"} name @param {Uint8Array} bytes
-   * @param {[] | [number]} before  what the call takes before the bytes
+   * @param {[] | [number]} before  the call's arguments before the bytes
    * @returns {Generator<Event, void, undefined>}
    */
   *each(name, bytes, ...before) {
@@ -828,7 +834,7 @@ class Reader extends Handle {
   }
 }
 
-/** Reports the events of a board's bytes, and keeps no picture. */
+/** Reports the events of a board's bytes, without keeping a picture. */
 export class Decoder extends Reader {
   /** @param {Library} dgt */
   constructor(dgt) {
@@ -845,46 +851,46 @@ export class Decoder extends Reader {
     return this.each("feed", bytes);
   }
 
-  /** How many bytes have come of an unfinished message. */
+  /** The number of bytes received of an unfinished message. */
   get rest() {
     return this.call("rest");
   }
 
-  /** The same, at the end of the bytes. The decoder is as new then. */
+  /** Returns the same at the end of the bytes, and resets the decoder. */
   finish() {
     return this.call("finish");
   }
 
-  /** Makes it as new; `offset` goes on. */
+  /** Returns to the first state, but `offset` isn't reset. */
   reset() {
     this.call("reset");
   }
 }
 
 /**
- * The commands that a host and a follower send. Each call returns the bytes to write to the line. A
- * text or a payload that no command carries is a BadValue.
+ * The commands of hosts and followers. Each call returns the bytes to write to the line. It throws
+ * a BadValue if no command carries such a text or payload.
  */
 class Sender extends Reader {
   /**
    * @template {NameOf<"host" | "follower">} N @param {N} name
    * @param {OfHandle<`${"host" | "follower"}_${N}`>[0] extends [...infer M, number, number] ? M :
-   *   never} values  all but where to write, and the room there
+   *   never} values  all but the place to write to, and its size
    */
   sent(name, ...values) {
     const { dgt } = this, given = /** @type {any} */ ([...values, dgt.out, ROOM]);
     const { status, bytes } = /** @type {Struct<"sent">} */ (this.call(name, ...given));
     if (status === TOO_MANY) throw new TooManyAwaited("16 replies are awaited already");
-    if (status === NO_COMMAND) throw new BadValue("there is no such command");
+    if (status === NO_COMMAND) throw new BadValue("no command has this code, text or payload");
     return dgt.bytes(dgt.out, bytes);
   }
 
   /**
    * @param {ArrayLike<number>} bytes
-   * @returns {[number, number]} where they are now, and how many there are
+   * @returns {[number, number]} their place and their number
    */
   #carried(bytes) {
-    if (checked(bytes).length > 255) throw new BadValue("more bytes than a command carries");
+    if (checked(bytes).length > 255) throw new BadValue("a command carries at most 255 bytes");
     return [this.dgt.put(this.dgt.in, bytes), bytes.length];
   }
 
@@ -941,12 +947,12 @@ class Sender extends Reader {
     return this.sent("send_icons", ...this.#carried(icons));
   }
 
-  /** The clock shows its times again. */
+  /** Makes the clock show its times again. */
   sendEnd() {
     return this.sent("send_end");
   }
 
-  /** Asks for the state of the clock's buttons. */
+  /** Requests the state of the clock's buttons. */
   sendButton() {
     return this.sent("send_button");
   }
@@ -956,44 +962,44 @@ class Sender extends Reader {
   }
 
   /**
-   * An LED frame: what `lighting` makes, or other bytes.
+   * Lights LEDs: pass the result of `lighting`, or other bytes.
    * @param {ArrayLike<number>} leds
    */
   sendLeds(leds) {
     return this.sent("send_leds", ...this.#carried(leds));
   }
 
-  /** The pieces on the squares, or null until a dump was heard. */
+  /** The pieces on the squares, or null before the first dump. */
   get picture() {
     const { dgt } = this;
     return this.call("picture", dgt.small) ? dgt.bytes(dgt.small, 64) : null;
   }
 
-  /** The same as the placement of a FEN. */
+  /** The same as text, the placement of a FEN. */
   get placement() {
     const { dgt } = this;
     return this.call("placement", dgt.small) ? dgt.text(dgt.small) : null;
   }
 
-  /** What the board reported last of its clock. */
+  /** The board's last report of its clock. */
   get clock() {
     const { dgt } = this;
     this.call("clock", dgt.small);
     return dgt.clock(dgt.small);
   }
 
-  /** How many bytes were heard of an unfinished message. */
+  /** The number of bytes received of an unfinished message. */
   get unread() {
     return this.call("unread");
   }
 
-  /** The line is lost, and what was under way on it. */
+  /** Call it when the line was lost, with everything in transit. */
   lineLost() {
     this.call("line_lost");
   }
 }
 
-/** Asks a board when you say so, and keeps a picture of it from what it hears. */
+/** Sends requests when you call it, and keeps a picture from the board's bytes. */
 export class Host extends Sender {
   /** @param {Library} dgt */
   constructor(dgt) {
@@ -1010,17 +1016,17 @@ export class Host extends Sender {
     return this.each("hear", bytes);
   }
 
-  /** Asks for each change, and for all squares. */
+  /** Requests each change, and all squares. */
   follow() {
     return this.sent("follow");
   }
 
-  /** The same after 255 zeros, which end whatever command the board is in the middle of. */
+  /** The same after 255 zeros, which complete any command that the board has in part. */
   restart() {
     return this.sent("restart");
   }
 
-  /** The codes of the commands whose replies are awaited, the next one first. */
+  /** The codes of the commands that await replies, the next one first. */
   get awaited() {
     const { dgt } = this;
     const count = this.call("awaited", dgt.small);
@@ -1032,7 +1038,7 @@ export class Host extends Sender {
   }
 }
 
-/** A host that keeps its picture right by asking for the whole board again. */
+/** A host that keeps its picture right: it requests the whole position again and again. */
 export class Follower extends Sender {
   /**
    * @param {Library} dgt
@@ -1042,7 +1048,9 @@ export class Follower extends Sender {
   constructor(dgt, options = {}) {
     const { period = 10000, patience = 6, mode = MODES.updateBoard } = options;
     const wanted = whole(period);
-    if (!(patience >>> 0 === patience)) throw new BadValue(`no patience: ${patience}`);
+    if (!(patience >>> 0 === patience)) {
+      throw new BadValue(`not a patience from 0 to 4294967295: ${patience}`);
+    }
     super(dgt, "follower");
     this.call("start", wanted, patience);
     this.mode = mode;
@@ -1051,7 +1059,7 @@ export class Follower extends Sender {
   }
 
   /**
-   * The bytes with which the board is to be asked now, or null if that isn't due.
+   * The request to send now, or null if none is due.
    * @param {number} now
    */
   ask(now) {
@@ -1059,7 +1067,7 @@ export class Follower extends Sender {
     return asked.length ? asked : null;
   }
 
-  /** The first time at which `ask` has something to do if nothing is heard before, or Infinity. */
+  /** The first time at which `ask` returns a request unless bytes arrive before, or Infinity. */
   get dueAt() {
     return this.#time("due_at") ?? Infinity;
   }
@@ -1074,13 +1082,13 @@ export class Follower extends Sender {
     return this.call(name, this.dgt.small) ? this.dgt.wide(this.dgt.small) : null;
   }
 
-  /** Has an asking be due at once, or once the last one is answered. */
+  /** Makes a request due at once, or as soon as the last one is answered. */
   askNow() {
     this.call("ask_now");
   }
 
   /**
-   * Hears bytes that came at this time.
+   * Hears bytes that arrived at this time.
    * @param {number} now @param {Uint8Array} bytes
    */
   hear(now, bytes) {
@@ -1093,20 +1101,21 @@ export class Follower extends Sender {
   }
 
   /**
-   * The events of bytes that came at this time. A byte is heard once the event before it was taken.
+   * The events of bytes that arrived at this time. A byte is heard once you have taken the event
+   * before it.
    * @param {number} now @param {Uint8Array} bytes
    */
   hearEach(now, bytes) {
     return this.each("hear", bytes, whole(now));
   }
 
-  /** What each asking asks the board to report by itself. */
+  /** The mode that each request sets: what the board reports by itself. */
   get mode() {
     return /** @type {ReportingMode} */ (this.call("mode"));
   }
 
   set mode(mode) {
-    if (!this.call("set_mode", byte(mode))) throw new BadValue(`no mode: ${mode}`);
+    if (!this.call("set_mode", byte(mode))) throw new BadValue(`not a reporting mode: ${mode}`);
   }
 
   /** Whether the picture may be wrong. */
@@ -1129,7 +1138,7 @@ export class Follower extends Sender {
     return this.call("heartbeats_left");
   }
 
-  /** Bytes of the board were lost or altered, as whoever reads the line has found out. */
+  /** Call it when the reader of the line has found that bytes were lost or altered. */
   lineDisturbed() {
     this.call("line_disturbed");
   }
@@ -1157,12 +1166,12 @@ export class CommandDecoder extends Handle {
     return found;
   }
 
-  /** How many bytes have come of an unfinished command. */
+  /** The number of bytes received of an unfinished command. */
   get rest() {
     return this.call("rest");
   }
 
-  /** The same, at the end of the bytes. It is as new then. */
+  /** Returns the same at the end of the bytes, and resets the decoder. */
   finish() {
     return this.call("finish");
   }
@@ -1173,7 +1182,7 @@ export class CommandDecoder extends Handle {
 }
 
 /**
- * A board, as a host meets it on the line.
+ * A simulated board.
  * @extends {Handle<"board">}
  */
 export class Board extends Handle {
@@ -1183,7 +1192,7 @@ export class Board extends Handle {
   }
 
   /**
-   * Makes the board anew, idle.
+   * Starts the board again, idle.
    * @param {ArrayLike<number>} pieces @param {Clock} clock @param {Identity} identity
    */
   start(pieces, clock, identity) {
@@ -1191,29 +1200,33 @@ export class Board extends Handle {
     const wrong = this.call("start", dgt.put(dgt.in, checked(pieces, 64)),
                             dgt.writeClock(dgt.other, clock),
                             dgt.write("identity", dgt.small, identity));
-    if (wrong) throw new BadValue(["", "no pieces", "no such clock", "no such identity"][wrong]);
+    if (wrong) throw new BadValue(`not ${["", "64 pieces", "a clock", "an identity"][wrong]}`);
   }
 
   /**
-   * Puts a piece, or 0 for none, on a square.
+   * Puts a piece on a square, or empties it with 0.
    * @param {number} square @param {number} piece
    */
   change(square, piece) {
-    if (!this.call("change", byte(square), byte(piece))) throw new BadValue("no square or piece");
+    if (!this.call("change", byte(square), byte(piece))) {
+      throw new BadValue(`square ${square} is above 63, or piece ${piece} is above 15`);
+    }
   }
 
   /**
-   * Sets what the clock shows.
+   * Sets the times of the clock.
    * @param {Times | NoClock} clock
    */
   handClock(clock) {
     const { dgt } = this;
-    if (!this.call("hand_clock", dgt.writeClock(dgt.other, clock))) throw new BadValue("no clock");
+    if (!this.call("hand_clock", dgt.writeClock(dgt.other, clock))) {
+      throw new BadValue("a time or a status of the clock is out of its range");
+    }
   }
 
   /**
-   * Takes a host's bytes up to the first for which eight replies are owed already: poll then, and
-   * hand in the rest.
+   * Takes a host's bytes, and stops before one if eight replies are owed: then poll, and pass the
+   * rest.
    * @param {Uint8Array} bytes
    */
   take(bytes) {
@@ -1231,7 +1244,7 @@ export class Board extends Handle {
     return { used, commands };
   }
 
-  /** The next message that is to be sent, or null. It counts as sent. */
+  /** The next message to send, or null. It then counts as sent. */
   poll() {
     const { dgt } = this;
     const { status, bytes } = this.call("poll", dgt.out, ROOM);
@@ -1243,12 +1256,12 @@ export class Board extends Handle {
     return this.call("owes");
   }
 
-  /** How many replies are owed. */
+  /** The number of owed replies. */
   get owedLength() {
     return this.call("owed_len");
   }
 
-  /** How many bytes have come of an unfinished command. */
+  /** The number of bytes received of an unfinished command. */
   get partial() {
     return this.call("partial");
   }

@@ -2,7 +2,7 @@
 
 const SVG = "http://www.w3.org/2000/svg";
 /** @type {Record<string, string>} */
-const SHAPES = { // of each piece: its path in a square of 100 by 100
+const SHAPES = { // the path of each piece in a square of 100 by 100
   p: "M50 22a13 13 0 0 1 8 23q10 12 11 30h6v11H25V75h6q1-18 11-30a13 13 0 0 1 8-23z",
   r: "M24 86V75h8l3-31-9-8V16h12v8h7v-8h10v8h7v-8h12v20l-9 8 3 31h8v11z",
   n: "M30 86V76q0-14 15-26-14 2-20 12l-9-7q4-18 16-26l3-13 9 7q30-2 34 32 1 12-2 31z",
@@ -57,7 +57,7 @@ export class Drawing {
   }
 
   /**
-   * Draws the pieces that have changed; the label is for who doesn't see them.
+   * Draws the pieces that have changed. The label describes them to a screen reader.
    * @param {string} letters @param {string} label
    */
   draw(letters, label) {
@@ -66,17 +66,14 @@ export class Drawing {
     if (this.svg.getAttribute("aria-label") !== label) this.svg.setAttribute("aria-label", label);
   }
 
-  /**
-   * Frames these squares.
-   * @param {number[]} squares
-   */
+  /** @param {number[]} squares */
   frame(squares) {
     const d = squares.map(n => `M${n % 8}04 ${n >> 3}04h92v92h-92z`).join("");
     if (this.frames.getAttribute("d") !== d) this.frames.setAttribute("d", d);
   }
 
   /**
-   * The square and the place under a pointer; null beside the board.
+   * The square and the place under a pointer. The square is null outside the board.
    * @param {PointerEvent} event
    */
   at(event) {
@@ -88,8 +85,8 @@ export class Drawing {
   }
 
   /**
-   * Shows a piece under a pointer, or none.
-   * @param {string} letter
+   * Shows a piece under a pointer.
+   * @param {string} letter  or "" for none
    */
   hold(letter, { x, y } = { x: 0, y: 0 }) {
     shape(this.held, letter);

@@ -1,8 +1,8 @@
 /**
- * The rules of chess, as far as the moves of a game are to be read off a board, and the PGN of it.
+ * The rules of chess, as far as recognising the moves on a board needs them, and the game's PGN.
  * This file is tested, not proved.
  *
- * A position's `letters` are 64, from a8 to h1, as in a FEN, with a "." for no piece.
+ * A position has 64 `letters`, from a8 to h1, those of a FEN, with "." for an empty square.
  *
  * @typedef {{letters: string, isWhite: boolean, castles: string, passant: number}} Position
  * @typedef {{from: number, to: number, piece: string, promotes: string, takes: boolean,
@@ -14,7 +14,7 @@ const STEPS = /** @type {Record<string, number[][]>} */ ({
   n: [[1, 2], [2, 1], [-1, 2], [-2, 1], [1, -2], [2, -1], [-1, -2], [-2, -1]],
   b: BISHOP, r: ROOK, q: [...BISHOP, ...ROOK], k: [...BISHOP, ...ROOK],
 });
-// Of each corner and king's square: the castlings that end if something moves from or to it.
+// The castlings that a move from or to a corner or a king's square rules out.
 const CORNERS = /** @type {Record<number, string>} */ (
   { 0: "q", 4: "kq", 7: "k", 56: "Q", 60: "KQ", 63: "K" });
 
@@ -25,8 +25,8 @@ export const BEGIN = Object.freeze({
 });
 
 /**
- * Whether a piece is one of the other side.
- * @param {string} letter @param {boolean} isWhite  the side
+ * Whether a piece belongs to the other side.
+ * @param {string} letter @param {boolean} isWhite  this side
  */
 const isTheirs = (letter, isWhite) => letter !== "." && isWhite !== (letter <= "Z");
 
@@ -68,7 +68,7 @@ export function isInCheck({ letters, isWhite }) {
 /** @typedef {{to: number, promotes?: string, castles?: string, jumped?: number}} Step */
 
 /**
- * The squares to which a pawn may go, whatever becomes of its king.
+ * The moves of a pawn, also those that leave its king attacked.
  * @param {Position} position @param {number} from
  * @returns {Generator<Step, void>}
  */
@@ -86,7 +86,7 @@ function* pawnSteps({ letters, isWhite, passant }, from) {
 }
 
 /**
- * The same of another piece.
+ * The same for another piece.
  * @param {Position} position @param {number} from @param {string} kind
  * @returns {Generator<Step, void>}
  */
@@ -198,16 +198,16 @@ function resultAt(position) {
   return !isInCheck(position) ? "1/2-1/2" : position.isWhite ? "0-1" : "1-0";
 }
 
-/** Reads the moves of a game off the pictures of a board. */
+/** Recognises the moves of a game in the pictures of a board. */
 export class Game {
   /** @type {{position: Position, text: string}[]} the first one has no text */
   line = [];
-  /** @type {{of: Position | undefined, is: string}} the result that was found last */
+  /** @type {{of: Position | undefined, is: string}} the result found last */
   #found = { of: undefined, is: "*" };
 
   /**
-   * Takes the next picture. What is no position of the game, as while a piece is in a hand, is
-   * passed over. Returns whether the moves have changed.
+   * Takes the next picture. It ignores a picture that isn't a position of the game, for instance
+   * while a hand holds a piece. Returns whether the moves have changed.
    * @param {string} letters
    */
   see(letters) {
@@ -224,13 +224,14 @@ export class Game {
       return isNew;
     }
     if (last && this.#moved(last.position, letters)) return true;
-    // A piece that went on: Rf2 was Rf3, or the rook of a castling.
+    // The last move went further: Rf2 became Rf3, or was half of a castling.
     if (before) {
       const taken = this.line.pop();
       if (this.#moved(before.position, letters)) return true;
       if (taken) this.line.push(taken);
     }
-    // Two moves between two pictures, if there is only one way. They change three squares or more.
+    // Two moves between two pictures, if no other pair leads there. They change at least three
+    // squares.
     if (!last || differ(last.position.letters, letters) < 3) return false;
     const ways = legalMoves(last.position)
       .filter(({ from }) => last.position.letters[from] !== letters[from])
@@ -253,8 +254,7 @@ export class Game {
     this.line.push({ position: move.after, text: san(position, move) });
   }
 
-  /** The moves, with their numbers. */
-  get moves() {
+  get moves() { // with their numbers
     return this.line.slice(1).map(({ text }, n) => n % 2 ? text : `${n / 2 + 1}. ${text}`);
   }
 
@@ -264,7 +264,7 @@ export class Game {
     return this.#found.is;
   }
 
-  /** The result, or nothing while the game goes on. */
+  /** The result, or "" while the game goes on. */
   get ended() {
     return this.result === "*" ? "" : this.result;
   }

@@ -1,6 +1,6 @@
 // The page: shows a board that is followed, and one that is simulated.
 
-import { DgtError, STATUS, isWide, lighting, load } from "./dgt.js";
+import { DgtError, FLAGS, STATUS, isWide, lighting, load } from "./dgt.js";
 import { Drawing } from "./drawing.js";
 import { Session, lettersOf } from "./session.js";
 import { SimulatedPort } from "./simulated.js";
@@ -16,7 +16,7 @@ const PERIODS = { serial: Number(asked.get("period")) || 10000, simulated: 2000 
 const START = "rnbqkbnr/pppppppp/8/8/8/8/PPPPPPPP/RNBQKBNR";
 const NO_PIECES = ".".repeat(64);
 const STATES = {
-  none: "no board", gone: "no port: waiting for it", silent: "the board doesn't answer",
+  none: "no board", gone: "disconnected: waiting for the port", silent: "the board doesn't answer",
   asking: "asking the board", doubt: "in doubt: asking again", known: "not confirmed yet",
   confirmed: "confirmed",
 };
@@ -44,7 +44,7 @@ function press(button, isPressed, text, other) {
 
 /* What is shown. */
 
-// The page is drawn once, after all that comes together.
+// Draws the page once after several changes.
 function draw() {
   if (!isDrawing) queueMicrotask(drawNow);
   isDrawing = true;
@@ -68,7 +68,7 @@ function drawNow() {
 }
 
 /**
- * Each in a node of its own: a screen reader says those that are new.
+ * Each move has its own node, so that a screen reader says only new ones.
  * @param {string[]} moves
  */
 function drawMoves(moves) {
@@ -103,44 +103,55 @@ function drawTable({ pieces, lit, shown, carried, altered, isPlugged, isOn, nois
     `${carried} bytes, ${altered} altered`);
   press(find("cable"), !isPlugged, "Pull the cable", "Plug it in");
   press(find("power"), !isOn, "Switch it off", "Switch it on");
-  press(find("noise"), noise > 0, "Noise", "End the noise");
+  press(find("noise"), noise > 0, "Noise", "Stop the noise");
 }
 
 const timeText = (/** @type {import("./dgt.js").Time} */ { hours, minutes, seconds }) =>
   `${hours}:${String(minutes).padStart(2, "0")}:${String(seconds).padStart(2, "0")}`;
 
 /**
- * The sides of the clock, not the colours: a board doesn't say whose is which.
+ * The clock's left side and its right one: a board doesn't report which player has which.
  * @param {import("./dgt.js").Clock | null | undefined} clock @param {keyof STATES} state
  */
 function drawClock(clock, state) {
   const node = find("clock"), times = clock?.kind === "times" ? clock : null;
-  const key = JSON.stringify([clock, state === "confirmed"]);
+  const status = times && ["confirmed", "known"].includes(state) ? times.status : 0;
+  const key = JSON.stringify([clock, status]);
   node.hidden = !clock;
   if (!clock || node.dataset.key === key) return;
   node.dataset.key = key;
-  const status = times && ["confirmed", "known"].includes(state) ? times.status : 0;
+  const sides = times ? [times.first, times.second] : [null];
   const turns = [STATUS.whiteTurn, STATUS.blackTurn];
-  node.replaceChildren(...(times ? [times.first, times.second] : [null]).map((time, side) => {
+  find("times").replaceChildren(...sides.map((time, n) => {
     const made = document.createElement("span");
     made.textContent = time ? timeText(time) : "no clock is connected";
-    const runs = status & STATUS.running && status & turns[side];
+    const runs = status & STATUS.running && status & turns[n];
     made.className = !time ? "absent" : runs ? "runs" : "";
     return made;
   }));
+  ["left", "right"].forEach((side, n) =>
+    write(find("flags").children[n], flagsText(side, sides[n]?.flags ?? 0)));
+}
+
+/** @param {string} side @param {number} flags */
+function flagsText(side, flags) {
+  const set = [];
+  if (flags & FLAGS.perMove) set.push("time per move");
+  if (flags & (FLAGS.blocked | FLAGS.fallen)) set.push("flag fallen");
+  return set.length ? `${side}: ${set.join(", ")}` : "";
 }
 
 /* The messages. */
 
 const KEPT = 300; // lines
-/** @type {string[]} all lines, for a test and for the console */
+/** @type {string[]} all lines, for tests and the console */
 const log = [];
 
 /** @param {string} kind @param {string} text */
 function note(kind, text, key = "") {
   const lines = find("lines"), last = lines.querySelector("li");
   showLines(true);
-  const same = key && last?.dataset.key === key ? last : null; // a clock that runs is one line
+  const same = key && last?.dataset.key === key ? last : null; // a running clock has one line
   const made = same ?? document.createElement("li");
   made.className = kind;
   made.textContent = text;
@@ -152,7 +163,7 @@ function note(kind, text, key = "") {
 }
 
 /**
- * The messages, or how to begin.
+ * Shows the messages, or how to begin.
  * @param {boolean} isShown
  */
 function showLines(isShown) {
@@ -174,7 +185,7 @@ function begin(port, ports, period) {
   say("");
   find("lines").replaceChildren();
   session = new Session(library, port, ports, period, { note, changed: draw });
-  session.run().catch(error => say(`This should not happen: ${error}`));
+  session.run().catch(error => say(`Internal error: ${error}`));
   draw();
 }
 
@@ -184,7 +195,7 @@ async function connect() {
     if (serial) begin(await serial.requestPort(), serial, PERIODS.serial);
   } catch (error) {
     const { name, message } = /** @type {Error} */ (error);
-    if (name !== "NotFoundError") say(`The port was not chosen: ${message}`);
+    if (name !== "NotFoundError") say(`No port was chosen: ${message}`);
   }
 }
 
@@ -234,7 +245,7 @@ const clock = {
   hand() {
     const [first, second] = this.left.map(all => ({
       hours: Math.floor(all / 3600), minutes: Math.floor(all / 60) % 60, seconds: all % 60,
-      flags: 0,
+      flags: all ? 0 : FLAGS.fallen,
     }));
     const turn = this.turn ? STATUS.blackTurn : STATUS.whiteTurn;
     const status = (this.isRunning ? STATUS.running : 0) | turn;
@@ -256,7 +267,7 @@ function squaresOf(text) {
 
 /** @param {number} square @param {number} piece */
 function put(square, piece) {
-  const isLast = square < 8 || square > 55; // a pawn that comes to the other end is a queen then
+  const isLast = square < 8 || square > 55; // a pawn is promoted to a queen
   const isPawn = piece === 1 || piece === 7;
   simulated?.change(square, isLast && isPawn ? piece + 5 : piece);
 }
@@ -302,7 +313,7 @@ async function move([from, to], pause = 0) {
 const GAME = ("e2e4 e7e5 g1f3 d7d6 d2d4 c8g4 d4e5 g4f3 d1f3 d6e5 f1c4 g8f6 f3b3 d8e7 b1c3 c7c6 " +
   "c1g5 b7b5 c3b5 c6b5 c4b5 b8d7 e1c1,a1d1 a8d8 d1d7 d8d7 h1d1 e7e6 b5d7 f6d7 b3b8 d7b8 d1d8")
   .split(" ");
-/** @type {{} | null} the one that is played */
+/** @type {{} | null} the game in progress */
 let game = null;
 
 function setUp() {
@@ -312,13 +323,13 @@ function setUp() {
 
 function stopGame() {
   game = null;
-  press(find("play"), false, "Play a game", "End the game");
+  press(find("play"), false, "Play a game", "Stop the game");
 }
 
 async function play() {
   if (game) return stopGame();
   const mine = game = {};
-  press(find("play"), true, "Play a game", "End the game");
+  press(find("play"), true, "Play a game", "Stop the game");
   setUp();
   for (const ply of GAME) {
     await wait(900);
@@ -335,7 +346,7 @@ async function play() {
 /* What the user does. */
 
 /**
- * Sends what a call of the follower returns.
+ * Sends a command that a call of the follower returns.
  * @param {string} text @param {(follower: import("./dgt.js").Follower) => Uint8Array} command
  */
 async function send(text, command) {
@@ -368,7 +379,7 @@ function on(id, act) {
 }
 
 /**
- * A form with one field; `act` gets its text, and returns false if it makes no sense.
+ * Handles a form with one field: `act` gets its text, and returns false if it is invalid.
  * @param {string} id @param {(text: string) => false | void} act
  */
 function onText(id, act) {
@@ -394,7 +405,7 @@ on("power", () => {
 });
 on("press", () => clock.press());
 on("play", play);
-on("anew", () => {
+on("pieces", () => {
   stopGame();
   setUp();
 });
@@ -421,17 +432,17 @@ dragging(table.svg);
 async function openAllowed() {
   if (!navigator.serial) {
     say(isSecureContext ?
-      "This browser gives no page a serial port. On a computer, Chrome, Edge and new versions of " +
-      "Firefox do. Here you can try the page without a board." :
-      "A browser gives serial ports only to pages from https, localhost or a disk.");
+      "This browser can't open a serial port from a page. Chrome, Edge and new versions of " +
+      "Firefox on a computer can. Here you can try the page without a board." :
+      "Serial ports work only on pages from https, localhost or a disk: open this page there.");
     return;
   }
   find("connect").removeAttribute("disabled");
-  const ports = await navigator.serial.getPorts(); // those that this page was allowed before
+  const ports = await navigator.serial.getPorts(); // those that the user chose before
   if (ports.length === 1) begin(ports[0], navigator.serial, PERIODS.serial);
 }
 
-// From a server the page can be installed, and opens without a network afterwards.
+// A page from a server can be installed, and then opens offline.
 function keep() {
   if (!location.protocol.startsWith("http") || !("serviceWorker" in navigator)) return;
   const link = document.createElement("link");
@@ -442,7 +453,7 @@ function keep() {
 
 async function start() {
   const isNarrow = asked.has("narrow") || !isWide();
-  const text = atob(isNarrow ? DGT : DGT64); // web/build puts both modules here
+  const text = atob(isNarrow ? DGT : DGT64); // web/build defines both
   library = await load(Uint8Array.from(text, letter => letter.charCodeAt(0)));
   const parts = [1e6, 1e3, 1].map(n => Math.trunc(library.version / n) % 1000);
   write(find("version"), `version ${parts.join(".")}, ${isNarrow ? 32 : 64} bits`);
@@ -462,5 +473,6 @@ keep();
 draw();
 globalThis.page = { // for tests and the console
   get session() { return session; }, get simulated() { return simulated; },
-  get library() { return library; }, get theorem() { return theorem; }, log, seen, squaresOf, move,
+  get library() { return library; }, get theorem() { return theorem; }, clock, log, seen, squaresOf,
+  move,
 };

@@ -1,5 +1,4 @@
-// What the page's scripts have besides: Web Serial as far as they use it, and what web/build writes
-// before them.
+// The part of Web Serial that the page's scripts use, and the names that web/build defines.
 
 interface SerialPort extends EventTarget {
   readonly readable: ReadableStream<Uint8Array> | null;
@@ -19,5 +18,5 @@ interface Navigator {
   readonly serial?: Serial;
 }
 
-declare const DGT: string, DGT64: string; // both modules in base 64
+declare const DGT: string, DGT64: string; // the modules in base64
 declare var page: unknown; // for tests and the console

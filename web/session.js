@@ -1,4 +1,4 @@
-// Follows a board on a port, which is opened again and again.
+// Follows a board on a port, and reopens the port if it disappears.
 
 import { Follower, MODES } from "./dgt.js";
 import { Game } from "./moves.js";
@@ -6,15 +6,15 @@ import { Game } from "./moves.js";
 const SERIAL = { baudRate: 9600, dataBits: 8, stopBits: 1, parity: "none", flowControl: "none",
                  bufferSize: 4096 };
 const PATIENCE = 6;
-const LATE = 100; // milliseconds after a fault of the line in which bytes may be older than it
+const LATE = 100; // milliseconds in which bytes from before a fault of the line may still arrive
 
 export class Session {
   isOpen = false;
-  wasTried = false; // whether the port was there at first is known
+  wasTried = false; // the port was opened once, or failed to open
   hasEnded = false;
-  /** @type {Uint8Array | null} the last one that was known */
+  /** @type {Uint8Array | null} the last known picture */
   picture = null;
-  /** @type {import("./dgt.js").Clock | null} the same */
+  /** @type {import("./dgt.js").Clock | null} the last known clock */
   clock = null;
   confirmedAt = 0;
   game = new Game();
@@ -32,9 +32,9 @@ export class Session {
 
   /**
    * @param {import("./dgt.js").Library} dgt
-   * @param {SerialPort} port  or one that is simulated
-   * @param {EventTarget & Partial<Serial>} ports  says that a port has come; of a simulated one it
-   *   is the port
+   * @param {SerialPort} port  or a simulated port
+   * @param {EventTarget & Partial<Serial>} ports  reports that a port was plugged in; a simulated
+   *   port reports it itself
    * @param {number} period  milliseconds
    * @param {{note: (kind: string, text: string, key?: string) => void, changed: () => void}} page
    */
@@ -64,17 +64,17 @@ export class Session {
     this.#wake();
     try {
       await this.#reader?.cancel();
-    } catch { /* it has gone by itself */ }
+    } catch { /* the port has disappeared already */ }
   }
 
-  // Why an open failed is said once.
+  // Notes once why the port can't be opened.
   async #open() {
     try {
       await this.port.open(SERIAL);
     } catch (error) {
       const { name, message } = /** @type {Error} */ (error);
-      if (name !== "InvalidStateError") { // else it is open
-        const why = `the port does not open: ${message}`;
+      if (name !== "InvalidStateError") { // that means: it is open already
+        const why = `the port can't be opened: ${message}`;
         if (this.#why !== why) this.page.note("fault", why);
         this.#why = why;
         return false;
@@ -100,12 +100,12 @@ export class Session {
       this.#reader = null;
       this.#writer?.releaseLock();
       await this.port.close();
-    } catch { /* it has gone already */ }
-    if (!this.hasEnded) this.page.note("fault", "the port has gone");
+    } catch { /* the port has disappeared */ }
+    if (!this.hasEnded) this.page.note("fault", "the port was disconnected");
   }
 
-  // The next chunk, or null once the port has gone. Each fault of the line, as a break or a wrong
-  // frame, ends a stream, and the port has a new one.
+  // Returns the next chunk, or null once the port has disappeared. A fault of the line, such as a
+  // framing error, ends the stream; the port then has a new one.
   async #next() {
     for (let stream; this.port.readable && this.port.readable !== stream && !this.hasEnded;) {
       stream = this.port.readable;
@@ -122,7 +122,7 @@ export class Session {
   }
 
   /**
-   * A dump that is heard a short time later may be older, so that it ends no doubt.
+   * A dump that arrives soon after a fault may be older than it, and must not end the doubt.
    * @param {string} fault  FramingError, BufferOverrunError, ParityError or BreakError
    */
   #disturbed(fault) {
@@ -138,7 +138,7 @@ export class Session {
     const now = performance.now();
     for (const event of this.follower.hearEach(now, chunk)) this.#note(event, now);
     if (now < this.#disturbedUntil) this.follower.lineDisturbed();
-    this.#drive(); // a hidden page's timers are late, its bytes aren't
+    this.#drive(); // timers of a hidden page are late; bytes aren't
     this.page.changed();
   }
 
@@ -149,7 +149,7 @@ export class Session {
                    `${String(event.offset).padStart(8, "0")} ${dgt.eventText(event)}`,
                    event.type === "times" ? "times" : "");
     if ("clock" in event) this.clock = event.clock;
-    // It shows no digits, as while it is set.
+    // The clock shows no digits, for instance while somebody sets it.
     if ("fault" in event && event.fault === "badReading") this.clock = null;
     if (event.type === "dump" && follower.confirmed) this.confirmedAt = now;
     const { picture } = follower;
@@ -158,7 +158,7 @@ export class Session {
     if (!follower.inDoubt) this.game.see(lettersOf(dgt, picture));
   }
 
-  // Asks if it is due. Nothing is asked while what was written before is not out.
+  // Sends a request if one is due and the line has taken the one before.
   #drive() {
     if (!this.isOpen || this.hasEnded) return;
     clearTimeout(this.#timer);
@@ -167,7 +167,7 @@ export class Session {
       this.#askedBefore = this.#askedAt;
       this.#askedAt = Math.floor(now);
       this.page.note("sent", bytes.length < 4 ? `ask ${hex(bytes)}` :
-        `begin anew: 255 zeros, ${hex(bytes.subarray(255))}`);
+        `start over: 255 zeros, ${hex(bytes.subarray(255))}`);
       this.send(bytes);
     }
     this.#timer = setTimeout(() => {
@@ -176,19 +176,16 @@ export class Session {
     }, Math.min(500, Math.max(10, Math.ceil(this.follower.dueAt - now))));
   }
 
-  /**
-   * Writes bytes, as of a call of `follower`.
-   * @param {Uint8Array} bytes
-   */
+  /** @param {Uint8Array} bytes */
   async send(bytes) {
     this.#isWriting = true;
     try {
       await this.#writer?.write(bytes);
-    } catch { /* it has gone: the reader says so */ }
+    } catch { /* the port has disappeared: #next finds that out */ }
     this.#isWriting = false;
   }
 
-  // Waits until a port like this one may be there again: it is tried then.
+  // Waits until the port may be back.
   async #comesBack() {
     this.page.changed();
     const over = new AbortController();
@@ -203,7 +200,7 @@ export class Session {
     if (alike.length && !alike.includes(this.port)) this.port = alike[0];
   }
 
-  /** What is to be said of the picture. The board is silent after two askings without a reply. */
+  /** The state of the picture. The board is silent after two requests without a reply. */
   get state() {
     const { follower } = this;
     if (!this.isOpen) return this.wasTried ? "gone" : "asking";

@@ -1,4 +1,4 @@
-// A simulated board on a port of its own. It has what Session needs of a SerialPort.
+// A simulated board on a port, with the part of a SerialPort's interface that Session uses.
 
 import { ASK, Board, IDS } from "./dgt.js";
 
@@ -14,7 +14,7 @@ export class SimulatedPort extends EventTarget {
   isPlugged = true;
   isOn = true;
   noise = 0;
-  shown = ""; // on the clock
+  shown = ""; // the clock's text
   /** @type {number[]} squares */
   lit = [];
   carried = 0; // bytes, both ways
@@ -69,8 +69,8 @@ export class SimulatedPort extends EventTarget {
     this.#garbled += GARBLED;
   }
 
-  // A byte has come without its stop bit. It and what follows it at once are lost, and the port
-  // has a new stream.
+  // A byte has arrived without its stop bit. It is lost with the bytes right after it, and the port
+  // gets a new stream.
   frame() {
     this.#toHost = [];
     const out = this.#out;
@@ -99,7 +99,7 @@ export class SimulatedPort extends EventTarget {
   }
 
   /**
-   * The line stays, as with a serial adapter, but nobody replies while the board is off.
+   * The port stays, as with a serial adapter, but nothing replies while the board is off.
    * @param {boolean} isOn
    */
   power(isOn) {
@@ -115,7 +115,7 @@ export class SimulatedPort extends EventTarget {
     this.board.lineLost();
   }
 
-  // Moves the bytes whose time has come.
+  // Moves the bytes that are due.
   #pass() {
     const now = performance.now(), count = Math.floor((now - this.#since) * BYTES_A_MS);
     if (count === 0) return;
@@ -154,7 +154,7 @@ export class SimulatedPort extends EventTarget {
   }
 
   /**
-   * What comes of these bytes: one of them is lost, altered or doubled here and there.
+   * Returns these bytes after noise: a byte here and there is lost, altered or doubled.
    * @param {number[]} bytes
    */
   #disturb(bytes) {

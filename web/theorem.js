@@ -1,4 +1,4 @@
-// The theorem to play with: the acts of `dgt simulate`, and what is promised after each.
+// Performs the acts of `dgt simulate`, and shows what is promised after each.
 
 import { Drawing } from "./drawing.js";
 import { lettersOf } from "./session.js";
@@ -16,7 +16,7 @@ export class Theorem {
   #board;
   /** @type {Drawing} */
   #host;
-  /** @type {string[]} all lines, for `dgt simulate` */
+  /** @type {string[]} all acts, as a script of `dgt simulate` */
   script = [];
 
   /** @param {import("./dgt.js").Library} dgt @param {HTMLElement} node */
@@ -69,7 +69,7 @@ export class Theorem {
   }
 
   /**
-   * Does an act of a script, and lists it with its outcome.
+   * Performs an act of a script, and lists it with its outcome.
    * @param {string} line
    */
   act(line) {
@@ -104,25 +104,25 @@ export class Theorem {
     if (node.textContent !== text) node.textContent = text;
   }
 
-  // What is promised now, in words.
   #said() {
     const { isPromised, isQuiet, counted } = this.#world;
     if (isPromised) {
       return (counted.hadFault ? "Healed. " : "") + (isQuiet ?
-        "It is proved: as all is quiet, the host's picture is the board's." :
-        "It is proved: once all is quiet, the host's picture is the board's.");
+        "Proved: nothing is in transit, so the host's picture is the board's position." :
+        "Proved: once nothing is in transit, the host's picture is the board's position.");
     }
     if (!counted.isInStep) {
-      return "Nothing is promised: the board may not read what the host sent. A restart heals.";
+      return "Nothing is promised: the board may misread the host's commands. " +
+        "Restart the host to heal that.";
     }
-    const lacks = [counted.updates ? "" : "for updates by its last mode command",
-                   counted.dump ? "" : "for a dump since the last break or fault"].filter(Boolean);
-    return `Nothing is promised: the host hasn't asked ${lacks.join(", nor ")}.`;
+    const lacks = [counted.updates ? "" : "updates with its last mode command",
+                   counted.dump ? "" : "a dump since the last break or fault"].filter(Boolean);
+    return `Nothing is promised: the host hasn't requested ${lacks.join(", or ")}.`;
   }
 }
 
 /**
- * Bytes of a line, of which one is lost or altered. On an empty line there is one that is stray.
+ * Returns the bytes of a line with one lost or altered; for an empty line, one stray byte.
  * @param {number[]} bytes
  */
 function garbled(bytes) {

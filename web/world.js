@@ -1,5 +1,5 @@
-// A board and a host with a line of bytes each way. Nothing moves by itself: each act is a line of
-// a script of `dgt simulate --faults`, and has the same outcome.
+// A board and a host with a line of bytes each way. Nothing happens by itself: each act is a line
+// of a script of `dgt simulate --faults`, and has the same outcome.
 
 import { ASK, Board, Host } from "./dgt.js";
 import { RESTART_LENGTH } from "./header.js";
@@ -15,7 +15,7 @@ export class World {
   up = [];
   /** @type {number[]} */
   down = [];
-  /** What counts of the host's commands, as docs/PROMISES.md says. */
+  /** The premises of docs/PROMISES.md for the promise of the picture. */
   counted = { isInStep: true, dump: false, updates: false, hadFault: false };
 
   /** @param {import("./dgt.js").Library} dgt */
@@ -31,7 +31,7 @@ export class World {
   }
 
   /**
-   * Does an act, and returns its outcome. One that isn't "done" has changed nothing.
+   * Performs an act, and returns its outcome. Only "done" has changed anything.
    * @param {string} line
    */
   act(line) {
@@ -64,13 +64,13 @@ export class World {
     return isInStep && dump && updates;
   }
 
-  /** Whether nothing is under way or left to send. */
+  /** Whether nothing is in transit or left to send. */
   get isQuiet() {
     const { up, down, board, host } = this;
     return !up.length && !down.length && !board.partial && !host.unread && !board.owes;
   }
 
-  /** The acts that deliver all, and have the board send what it has to send. */
+  /** The acts that deliver everything, and make the board send all that it has to send. */
   *settling() {
     for (;;) {
       if (this.up.length) yield "tohost 65535";

@@ -1,10 +1,10 @@
-// What tests take from Node, in a browser. Of node:assert/strict as far as handles.mjs uses it.
+// The parts of node:assert/strict and node:fs that handles.mjs uses, in a browser.
 
-export default function assert(value, text = "not so") {
+export default function assert(value, text = "the assertion failed") {
   if (!value) throw new Error(text);
 }
 assert.equal = (got, wanted, text = "values") =>
-  assert(Object.is(got, wanted), `${text}: ${got} in place of ${wanted}`);
+  assert(Object.is(got, wanted), `${text}: ${got} instead of ${wanted}`);
 assert.deepEqual = (got, wanted) => assert.equal(JSON.stringify(got), JSON.stringify(wanted));
 assert.throws = (act, wanted, text) => {
   let thrown;

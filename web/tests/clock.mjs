@@ -1,4 +1,4 @@
-// A clock that goes only by calls, in place of the one of timers and performance.now().
+// Replaces timers and performance.now() with a clock that only `pass` moves.
 
 let now = 0, number = 0;
 const timers = new Map();
@@ -13,9 +13,9 @@ globalThis.clearTimeout = globalThis.clearInterval = id => timers.delete(id);
 performance.now = () => now;
 
 const NEVER = [0, { at: Infinity }];
-const settled = () => new Promise(setImmediate); // what was resolved has run
+const settled = () => new Promise(setImmediate); // once resolved promises have run
 
-/** Lets this time pass, in milliseconds, or less if something holds before. */
+/** Lets this time pass, in milliseconds, or stops once a condition holds. */
 export async function pass(time, holds = () => false) {
   const end = now + time;
   await settled();

@@ -1,5 +1,5 @@
-// Defines faint(): the texts in sight whose contrast is below that of WCAG 2.2, level AA, in each
-// state of the board.
+// Defines faint(): the visible texts with less contrast than WCAG 2.2, level AA, in each state of
+// the board.
 function faint() {
   const colour = text => text.match(/[\d.]+/g).map(Number);
   const over = ([r, g, b, a = 1], below) =>

@@ -1,4 +1,4 @@
-/* Does what fuzz.mjs writes, by the library for C, and prints a number for each case. */
+/* Runs the cases that fuzz.mjs writes, with the library for C, and prints a hash for each case. */
 #include <dgt.h>
 
 #include <stdarg.h>

@@ -1,4 +1,4 @@
-// Has dgt.js and the library for C do the same, and compares all that they return.
+// Makes dgt.js and the library for C do the same, and compares everything that they return.
 //
 // node fuzz.mjs MODULE PROGRAM COUNT [SEED [-v]]    PROGRAM is fuzz.c, compiled
 
@@ -25,7 +25,7 @@ const random = chance(seed);
 const pick = list => list[random(list.length)];
 const some = (n, below = 128) => Array.from({ length: n }, () => random(below));
 
-/* What is said is hashed, as in fuzz.c. */
+/* Results are hashed, as in fuzz.c. */
 
 let hash, text = "";
 const isLoud = loud === "-v";
@@ -88,7 +88,7 @@ function saySignal(it) {
   const { type, id = 0, mainNumber = 0, subNumber = 0, button } = it;
   sayNumbers(SIGNALS[type], id, mainNumber, subNumber, button ? BUTTONS[button] : 0);
 }
-// Says what a call returns, or that it throws.
+// Hashes what a call returns or throws.
 function sayResult(act, then = sayBytes) {
   let result;
   try {
@@ -170,7 +170,7 @@ function clockBytes() {
   return [bytes, clock];
 }
 
-// A message with parts of any range, and what dgt_event has of it: 16 bytes and a clock.
+// A message with members of any range, and its dgt_event: 16 bytes and a clock.
 function anyMessage() {
   const [bytes, clock] = clockBytes(), n = some(9, random(4) ? 128 : 256);
   const message = pick([
@@ -371,7 +371,7 @@ function sayClockCommand() {
   ][which]());
 }
 
-// The rest of a chunk before is the beginning of the next one of its kind.
+// The rest of one chunk begins the next one of its kind.
 const rests = new Map();
 function take(make) {
   const bytes = [...rests.get(make) ?? [], ...chunk(make)].slice(0, 60000);
@@ -433,7 +433,7 @@ for (let done = 0; done < Number(total);) {
   const theirs = answer.trim().split("\n");
   hashes.forEach((mine, n) => {
     if (isLoud || mine === theirs[n]) return;
-    console.log(`case ${first + n} of seed ${seed}: ${mine} in place of ${theirs[n]}`);
+    console.log(`case ${first + n} of seed ${seed}: ${mine} instead of ${theirs[n]}`);
     process.exit(1);
   });
   hashes.length = ops.length = 0;

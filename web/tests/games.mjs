@@ -1,5 +1,5 @@
-// Plays games on a simulated board whose line and power fail, and compares the moves that a session
-// finds, one by one. Time is simulated, too.
+// Plays games on a simulated board while its line and power fail, and compares the moves that a
+// session finds, one by one. Time is simulated, too.
 //
 // node games.mjs MODULE COUNT [SEED]
 
@@ -15,12 +15,12 @@ import { chance } from "./random.mjs";
 const [module, count, seed = "1"] = process.argv.slice(2);
 const dgt = await load(readFileSync(module));
 const START = "rnbqkbnr/pppppppp/8/8/8/8/PPPPPPPP/RNBQKBNR";
-const PLIES = 40, PERIOD = 2000, MOST = 12000; // milliseconds until the picture is right again
+const PLIES = 40, PERIOD = 2000, MOST = 12000; // PERIOD, MOST: milliseconds
 
 const random = chance(seed);
 Math.random = () => random(2 ** 32) / 2 ** 32; // for the noise of the line
 
-// What befalls the line before a move, and what ends it after the move.
+// Faults, each with what starts it before a move and what ends it afterwards.
 const NONE = [() => {}, () => {}];
 const FAULTS = {
   none: NONE, garble: [port => port.garble(), () => {}], frame: [() => {}, port => port.frame()],
@@ -32,7 +32,7 @@ const FAULTS = {
 const lines = [];
 const page = { note: (kind, text) => lines.push(text), changed: () => {} };
 
-// A move's squares one after another, as hands move pieces.
+// Changes a move's squares one after another, as hands move pieces.
 async function show(port, before, after) {
   const changed = [...before].map((_, n) => n).filter(n => before[n] !== after[n])
     .sort((a, b) => (after[a] !== ".") - (after[b] !== "."));
@@ -79,7 +79,7 @@ async function play(number) {
   return [texts.length, faults];
 }
 
-// A port whose bytes are handed in here. What is written to it is in `sent`.
+// A port that delivers the bytes of this test. Bytes written to it are in `sent`.
 class ScriptedPort extends EventTarget {
   sent = [];
   writable = new WritableStream({ write: bytes => { this.sent.push(bytes); } });
@@ -100,8 +100,8 @@ class ScriptedPort extends EventTarget {
   async close() {}
 }
 
-// Each fault of a line is a doubt. A dump that comes up to a tenth of a second later may be older,
-// and one that was asked for afterwards ends the doubt.
+// Each fault of a line starts a doubt. A dump that arrives up to a tenth of a second later may be
+// older, and one that was requested afterwards ends the doubt.
 async function checkFault(name) {
   const port = new ScriptedPort(), board = new Board(dgt);
   const session = new Session(dgt, port, port, PERIOD, page), ran = session.run();
@@ -125,7 +125,7 @@ async function checkFault(name) {
   await reply();
   expect("known", "after a dump that is newer");
   port.fail(name);
-  port.out.enqueue(Uint8Array.of(0x8e, 0, 5, 52, 0, 0x8e, 0, 5, 36, 1)); // e2e4, which isn't so
+  port.out.enqueue(Uint8Array.of(0x8e, 0, 5, 52, 0, 0x8e, 0, 5, 36, 1)); // e2e4, which is wrong
   await pass(0);
   assert.deepEqual(session.game.moves, [], "moves of a picture in doubt");
   await session.end();

@@ -1,4 +1,4 @@
-// What fuzzing doesn't reach: handles, growth of the memory, wrong arguments, the stack.
+// Tests what fuzzing doesn't reach: handles, growth of the memory, wrong arguments, the stack.
 //
 // node handles.mjs MODULE
 
@@ -11,7 +11,7 @@ const bytes = readFileSync(process.argv[2]);
 const START = "rnbqkbnr/pppppppp/8/8/8/8/PPPPPPPP/RNBQKBNR";
 const dgt = await load(bytes);
 
-{ // Handles that were made before the memory grew go on.
+{ // Handles stay valid when the memory grows.
   const board = new Board(dgt), host = new Host(dgt), before = dgt.memorySize;
   board.take(host.restart());
   const many = Array.from({ length: 300 }, () => new Follower(dgt));
@@ -25,7 +25,7 @@ const dgt = await load(bytes);
   assert.equal(dgt.memorySize, high, "places are used again");
   assert.equal(host.placement, START);
 }
-{ // What was closed is not used; it may be closed again.
+{ // A closed handle can't be used; it may be closed again.
   const old = new Decoder(dgt);
   old.close();
   old.close();
@@ -34,7 +34,7 @@ const dgt = await load(bytes);
     assert.throws(act, Closed);
   }
 }
-{ // What is returned is a copy.
+{ // Returned values are copies.
   const host = new Host(dgt), board = new Board(dgt);
   board.take(host.restart());
   const [event] = host.hear(board.poll()), picture = host.picture;
@@ -45,7 +45,7 @@ const dgt = await load(bytes);
   new Decoder(dgt).feed(Uint8Array.of(0x92, 0, 5, 67, 68));
   assert.deepEqual([...body], [65, 66]);
 }
-{ // A byte is heard once the event before it was taken, whatever else is called between.
+{ // A byte is heard once the event before it was taken, whatever is called in between.
   const follower = new Follower(dgt), board = new Board(dgt), seen = [];
   board.take(follower.ask(0));
   follower.hear(1, board.poll());
@@ -61,7 +61,7 @@ const dgt = await load(bytes);
   assert.equal(follower.inDoubt, true);
   assert.equal(new Follower(dgt, { patience: 2 ** 32 - 1 }).heartbeatsLeft, 2 ** 32 - 1);
 }
-{ // What a board has stored, and names of bytes that messages carry.
+{ // What a board has stored, and the meanings of carried bytes.
   assert.deepEqual(dgt.readStored([0x6f, 0x40, 0x34, 0x51, 0x24, 0x61, 0x30, 5, 0x41]), [
     { type: "mark", mark: "begin" },
     { type: "piece", square: 52, piece: 0, bit: false },

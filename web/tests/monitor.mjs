@@ -1,4 +1,4 @@
-// Compares what dgt.js says of bytes by chance with what `dgt monitor` prints.
+// Compares the events that dgt.js finds in random bytes with the lines of `dgt monitor`.
 //
 // node monitor.mjs MODULE DGT STREAMS
 

@@ -1,4 +1,4 @@
-// The rules by their counts of positions, and the games that boards show.
+// Tests the rules by counting positions, and the recognition of random games.
 import assert from "node:assert/strict";
 import { BEGIN, Game, legalMoves, san } from "../moves.js";
 import { chance } from "./random.mjs";
@@ -25,7 +25,7 @@ for (const [text, counts] of KNOWN) {
 }
 
 const GAMES = 20;
-// Games by chance, whose moves are shown as a board shows them: a square after another.
+// Each move of a random game is shown as a board shows it: one square after another.
 const random = chance(1);
 let plies = 0;
 for (let round = 0; round < GAMES; round++) {

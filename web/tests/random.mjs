@@ -1,4 +1,4 @@
-/** Returns a function whose results, whole numbers below a limit, are the same for each seed. */
+/** Returns a random function: it returns whole numbers below a limit, the same for each seed. */
 export function chance(seed) {
   let state = Number(seed) >>> 0;
   return below => { // mulberry32

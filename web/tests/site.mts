@@ -1,5 +1,5 @@
-// A site that uses the package, for the compiler only. Each line after a @ts-expect-error is wrong:
-// the compiler has to refuse it.
+// A site that uses the package, for the compiler only, which has to refuse each line after
+// `@ts-expect-error`.
 
 import { ASK, Board, CommandDecoder, Follower, Host, IDS, MODES, lighting, load,
          type Command, type Event, type Library } from "dgt-board";
@@ -40,15 +40,15 @@ follower.mode = MODES.update;
 follower.send(ASK.leds);
 // @ts-expect-error nor is this a command
 follower.send(7);
-// @ts-expect-error a command is no text
+// @ts-expect-error a command is not a text
 dgt.encodeCommand("dump");
-// @ts-expect-error a follower has the board report
+// @ts-expect-error idle isn't a reporting mode
 follower.mode = MODES.idle;
 // @ts-expect-error a chunk is bytes
 follower.hear(0, "text");
 // @ts-expect-error the time comes first
 follower.hearEach(sent[0]);
-// @ts-expect-error there is no such event
+// @ts-expect-error not a type of event
 export const is = (event: Event): boolean => event.type === "dumps";
 // @ts-expect-error not each event has a square
 export const square = (event: Event): number => event.square;

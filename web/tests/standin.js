@@ -1,11 +1,11 @@
-// A stand-in for navigator.serial, whose one port has a board of its own. It is written from the
-// protocol, and uses nothing of the library.
+// A stand-in for navigator.serial with one port and a board. It is written from the protocol, and
+// uses nothing of the library.
 (() => {
   "use strict";
   const LETTERS = ".PRNBKQprnbkqXYZ";
   class Standin {
     pieces = [];
-    reported = []; // the squares as they were reported last
+    reported = []; // the squares as last reported
     mode = 0;
     word = [];
     out = []; // messages that wait
@@ -42,7 +42,7 @@
         this.word.push(one);
         const [first, size] = this.word;
         if (first === 0x2b || first === 0x60) {
-          // A byte and a length, and as many bytes.
+          // A byte, a length, and that number of bytes.
           if (this.word.length < 2 || this.word.length < 2 + size) continue;
           if (first === 0x60) this.lit = this.word[2] ? this.word.slice(3, 5) : [];
           if (first === 0x2b) this.say(0x8d, [0x0a, 0x10, 0, 0x0a, 0, 0, 0]);
@@ -99,7 +99,7 @@
       clearInterval(this.timer);
       this.readable = this.writable = null;
     }
-    // As a break on the line: this stream ends, and the port has a new one.
+    // A fault of the line ends this stream, and the port gets a new one.
     fault(name) {
       const { control } = this;
       this.#stream();
@@ -144,7 +144,7 @@
     lose() {
       this.port.lose();
     }
-    // The board comes back as another object, as after another socket was taken.
+    // The board comes back as another object, as if it was plugged into another socket.
     comeBack() {
       this.board.restart();
       this.port = new Port(this.board);

@@ -1,5 +1,5 @@
-// Does random scripts in a world of dgt.js, and compares what comes of them with `dgt simulate`.
-// What is promised holds whenever all is quiet.
+// Runs random scripts in a world of dgt.js, and compares the outcomes with `dgt simulate`. What is
+// promised has to hold whenever nothing is in transit.
 //
 // node world.mjs MODULE DGT COUNT
 
@@ -16,7 +16,7 @@ const random = chance(1);
 const pick = list => list[random(list.length)];
 const hex = bytes => bytes.map(one => one.toString(16).padStart(2, "0")).join("") || "-";
 
-// The bytes of a line, one of them lost, altered or inserted.
+// The bytes of a line, with some lost, altered or inserted.
 function garbled(bytes) {
   const made = bytes.slice(0, 250);
   made.splice(random(made.length + 1), random(3), ...pick([[], [random(256)], [0x8e], [0x60, 1]]));
