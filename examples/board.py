@@ -1,38 +1,38 @@
 #!/usr/bin/env python3
-"""Simulates a board on a pseudo-terminal, to try a host on.
+"""Simulates a board on a pseudo-terminal, so that you can try a host.
 
 It prints the name of the terminal, which a host opens as a serial line. If LINK
-is given, it makes that a symbolic link to the terminal. Then it reads what
-happens on the board from standard input, a line each:
+is given, it makes that a symbolic link to the terminal. Then it reads commands
+from standard input, one per line:
 
-    e2 .                   takes off what stands on e2
+    e2 .                   removes the piece on e2
     e4 P                   puts a piece on e4 (PRNBKQ white, prnbkq black)
-    e2e4                   moves what stands on e2; a piece on e4 is taken off
+    e2e4                   moves the piece on e2; a piece on e4 is removed
     turn                   sets up the pieces of a new game the other way round
     clock 1:00:00 0:59:30  sets the times of the clock's first and second side,
                            and stops it
-    clock start            has the clock run: its first side counts down each
+    clock start            starts the clock: its first side counts down each
                            second, to 0:00:00
     clock stop             stops the clock
-    wait 0.5               lets half a second pass; 3600 at most
+    wait 0.5               waits for half a second; 3600 at most
     off                    switches the board off and on; the port stays open.
-                           The board logs this, and what happens while no host
-                           has asked for updates: see dgt-game --log
+                           The board logs this, and all changes while no host
+                           has requested updates: see dgt-game --log
     gone                   unplugs the board
     back                   plugs it in again, on another terminal
     half                   sends half of the next message, and unplugs the board
-    lose                   loses the next message on the way
+    lose                   loses the next message on the line
     raw 8e00               sends these bytes
-    curt                   answers only by all squares from now on
-    mute                   answers nothing from now on
+    curt                   from now on answers only requests for all squares
+    mute                   from now on answers nothing
 
-It reports any other line on standard error, and ignores it. The host is
-answered all the time. With LINK it also prints which commands it was sent, and
-`ready` at the start and once a line was obeyed.
+It reports any other line on standard error, and ignores it. The board answers
+the host all the time. With LINK it also prints the host's commands, and `ready`
+at the start and after each line.
 
-It ends with its input if LINK is given. Else it ends half a second later, or
-once the host has read all. If that takes over ten seconds, it says so and ends
-with status 1.
+With LINK it ends at the end of its input. Otherwise it ends half a second later
+or once the host has read everything. If that takes more than ten seconds, it
+says so and ends with status 1.
 """
 
 import argparse
@@ -65,7 +65,7 @@ except ImportError as missing:
 
 
 RUNNING = 0x01  # the bit of a clock's status
-SQUARES = {0x86, 0x8E}  # how the messages begin that report squares: all of them, and one
+SQUARES = {0x86, 0x8E}  # the first bytes of messages with squares: all of them, and one
 MOVE = re.compile("([a-h][1-8])([a-h][1-8])")
 
 
@@ -78,7 +78,7 @@ class RunningClock:
         self.due: float | None = None  # when it counts next, if it runs
 
     def set(self, first: str, second: str) -> None:
-        """Shows these times, and stops. ValueError if one of them is none."""
+        """Shows these times, and stops. ValueError if one of them isn't valid."""
         shown, self.second = read_time(first), read_time(second)
         self.first = 3600 * shown.hours + 60 * shown.minutes + shown.seconds
         self.stop()
@@ -95,7 +95,7 @@ class RunningClock:
         self.show()
 
     def count(self) -> None:
-        """Counts the seconds that have passed."""
+        """Counts down the passed seconds."""
         while self.due is not None and self.due <= time.monotonic():
             self.first -= 1
             self.due = self.due + 1 if self.first else None
@@ -108,16 +108,16 @@ class RunningClock:
 
 
 def read_time(text: str) -> dgt.Time:
-    """Returns the time of a text such as 1:29:55. ValueError if it is none."""
+    """Returns the time of a text such as 1:29:55. ValueError if it isn't valid."""
     read = re.fullmatch(r"(\d):(\d\d):(\d\d)", text, re.ASCII)
     if not read:
-        raise ValueError(f"no time from 0:00:00 to 9:59:59: {text}")
+        raise ValueError(f"not a time from 0:00:00 to 9:59:59: {text}")
     hours, minutes, seconds = map(int, read.groups())
     return dgt.Time(hours, minutes, seconds)
 
 
 class Port:
-    """The board's end of a pseudo-terminal, and the one that a host opens."""
+    """Both sides of a pseudo-terminal: the board's, and the one that a host opens."""
 
     def __init__(self, link: str | None) -> None:
         self.link, self.ends = link, list[int]()
@@ -130,7 +130,8 @@ class Port:
         try:
             self.ends = [*pty.openpty()]
         except OSError as refused:
-            raise SystemExit(f"board.py: no pseudo-terminal: {refused.strerror}") from None
+            raise SystemExit(f"board.py: can't open a pseudo-terminal: {refused.strerror}"
+                             ) from None
         tty.setraw(self.ends[1])
         os.set_blocking(self.ends[0], False)
         name = os.ttyname(self.ends[1])
@@ -140,7 +141,7 @@ class Port:
         try:
             os.symlink(name, self.link)
         except OSError as refused:
-            why = f"{refused.strerror} (LINK is a new name in a folder of yours)"
+            why = f"{refused.strerror} (LINK must be a new name in a writable folder)"
             raise SystemExit(f"board.py: {self.link}: {why}") from None
 
     def unplug(self) -> None:
@@ -151,26 +152,26 @@ class Port:
         self.ends = []
 
     def write(self, data: bytes) -> None:
-        """Sends these bytes. What nobody reads is lost, as on a line."""
+        """Sends these bytes. Without a reader they are lost, like on a line."""
         if self.ends:
             with contextlib.suppress(BlockingIOError):
                 os.write(self.ends[0], data)
 
 
 class Simulation:
-    """A board and its clock, on one end of a pseudo-terminal."""
+    """A board and its clock, on one side of a pseudo-terminal."""
 
     def __init__(self, board: dgt.Board, port: Port) -> None:
         self.board, self.port, self.clock = board, port, RunningClock(board)
-        self.faults = set[str]()  # as lines of the input call them
+        self.faults = set[str]()  # by their names in the input
 
     def say(self, text: str) -> None:
-        """Prints what only a program wants to know that has named a link."""
+        """Prints a line, but only with LINK."""
         if self.port.link is not None:
             print(text, flush=True)
 
     def send(self, messages: Iterable[bytes]) -> None:
-        """Sends messages, or what is left of them."""
+        """Sends messages, as far as faults leave them."""
         for message in messages:
             if "mute" in self.faults or "curt" in self.faults and message[0] not in SQUARES:
                 continue
@@ -184,20 +185,20 @@ class Simulation:
                 self.port.write(message)
 
     def hear(self) -> None:
-        """Takes what the host asks for, and answers."""
+        """Takes the host's commands, and answers."""
         asked = os.read(self.port.ends[0], 4096)
         for command in asked.replace(b"\0", b""):
             self.say(f"asked {command:02x}")
         self.send(self.board.answers(asked))
 
     def unplug(self) -> None:
-        time.sleep(0.05)  # what was sent is read first
+        time.sleep(0.05)  # the host reads the bytes first
         self.port.unplug()
         self.board.line_lost()
 
     def serve(self, seconds: float | None, until: tuple[int, ...] = ()) -> None:
-        """Sends the host what has changed and answers it: for this number of seconds, or without an
-        end if it is None, or until one of these descriptors has something to read."""
+        """Sends changes to the host, and answers it: for this number of seconds, for ever if it is
+        None, or until one of these descriptors has something to read."""
         end = None if seconds is None else time.monotonic() + seconds
         while True:
             self.clock.count()
@@ -214,7 +215,7 @@ class Simulation:
                 return
 
     def lines(self) -> Iterator[str]:
-        """The lines of standard input. The host is answered while none has come."""
+        """The lines of standard input. Answers the host while it waits for one."""
         rest = b""
         while True:
             self.serve(None, (0,))
@@ -236,7 +237,7 @@ class Simulation:
         self.board.change(end, piece)
 
     def obey(self, happening: str) -> None:
-        """Does what a line of the input says. ValueError if it says nothing that can be done."""
+        """Obeys a line of the input. ValueError if the line is invalid."""
         match happening.split():
             case ["wait", seconds] if 0 <= float(seconds) <= 3600:
                 self.serve(float(seconds))
@@ -249,7 +250,7 @@ class Simulation:
             case ["clock", first, second]:
                 self.clock.set(first, second)
             case ["clock", *_]:
-                raise ValueError("no two times after clock, and no start or stop")
+                raise ValueError("neither two times nor start or stop after clock")
             case ["raw", text]:
                 self.port.write(bytes.fromhex(text))
             case ["turn"]:
@@ -268,16 +269,16 @@ class Simulation:
             case [word] if move := MOVE.fullmatch(word):
                 self.move(*move.groups())
             case _:
-                raise ValueError("none of the lines that --help lists")
+                raise ValueError("not a line that --help lists")
 
     def finish(self) -> None:
-        """Answers the host until it has read all, for half a second at least. SystemExit if it
-        hasn't after ten seconds."""
+        """Answers the host until it has read everything, for half a second at least. SystemExit if
+        it hasn't after ten seconds."""
         latest = time.monotonic() + 10
         self.serve(0.5)
         while select.select(self.port.ends[1:], [], [], 0)[0]:
             if time.monotonic() > latest:
-                raise SystemExit("board.py: the host hasn't read all")
+                raise SystemExit("board.py: the host hasn't read everything")
             self.serve(0.05)
 
 

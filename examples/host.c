@@ -1,11 +1,10 @@
-/* Follows a board on a serial line, and writes where its pieces stand after each change:
+/* Follows a board on a serial line, and prints the position after each change:
  *
  *     cc -I include examples/host.c -L lib/out -l:libdgt.a -o host && ./host /dev/ttyUSB0
  *
- * It asks for all squares every ten seconds, and sooner if the line lost or altered bytes. A line
- * that ends with " ?" may be wrong: the answer to the next question puts it right. It ends when the
- * serial line does, or when nothing has come for as many seconds as a second argument says, 1 to
- * 1000000. */
+ * It requests all squares every ten seconds, and sooner if the line lost or altered bytes. A line
+ * with " ?" at its end may be wrong: the next answer corrects it. The program ends when the serial
+ * line does. A second argument, from 1 to 1000000, ends it after this many seconds of silence. */
 #define _DEFAULT_SOURCE
 #include "dgt_port.h"
 
@@ -13,25 +12,24 @@
 #include <stdlib.h>
 
 enum {
-    PERIOD = 10000, /* milliseconds from one question to the next */
-    PATIENCE = 6,   /* how many questions in a row may be short ones */
+    PERIOD = 10000, /* milliseconds from one request to the next */
+    PATIENCE = 6,   /* the most plain requests in a row */
     SHOWN_ROOM = DGT_PLACEMENT_ROOM + 2
 };
 
-/* Says what is wrong with a line, by errno, and what to do about it. */
+/* Prints what is wrong with a line, by errno, and what to do about it. */
 static int complain(const char *name) {
     fprintf(stderr, "host: %s: %s\n", name, dgt_port_advice(errno));
     return 1;
 }
 
-/* A board on a line, and what is known of it. */
 typedef struct board {
     int line;
-    dgt_follower follower; /* decides when to ask and what, and knows where the pieces stand */
+    dgt_follower follower; /* makes the requests, and keeps the picture */
     char shown[SHOWN_ROOM];
 } board;
 
-/* Asks for all squares and for each change, if that is due. False, with errno, if the line can't be
+/* Requests all squares and each change, if that is due. False, with errno, if the line can't be
  * written. */
 static bool ask(board *board) {
     uint8_t out[DGT_MAX_ASKING];
@@ -45,7 +43,7 @@ static bool ask_trademark(board *board) {
     return sent.status == DGT_SENT && dgt_port_write(board->line, out, sent.bytes);
 }
 
-/* Writes where the pieces stand, and whether that may be wrong, if either has changed. */
+/* Prints the position, and whether it may be wrong, if either has changed. */
 static void show(board *board) {
     char text[SHOWN_ROOM];
     if (!dgt_follower_placement(&board->follower, text)) return;
@@ -56,7 +54,6 @@ static void show(board *board) {
     strcpy(board->shown, text);
 }
 
-/* Hears a chunk of bytes. */
 static void hear(board *board, const uint8_t *chunk, size_t n) {
     static uint8_t body[DGT_MAX_BODY];
     dgt_event event;
@@ -69,16 +66,16 @@ static void hear(board *board, const uint8_t *chunk, size_t n) {
     }
 }
 
-/* Waits for bytes until the next question is due, or until the end, and returns what dgt_port_read
- * does. */
+/* Waits for bytes until the next request is due, or until the end, and returns the result of
+ * dgt_port_read. */
 static long wait_for_bytes(board *board, uint8_t *chunk, size_t n, uint64_t end) {
     uint64_t due;
     if (dgt_follower_due_at(&board->follower, &due) && due < end) end = due;
     return dgt_port_read(board->line, chunk, n, end);
 }
 
-/* Follows a board until its line ends, or nothing has come for some milliseconds (0: for ever).
- * False, with errno, if the line takes no bytes. */
+/* Follows a board until its line ends, or nothing has arrived for some milliseconds (0: for ever).
+ * False, with errno, if the line can't be written. */
 static bool follow(board *board, uint64_t silence) {
     uint8_t chunk[256];
     uint64_t end = silence ? dgt_port_now() + silence : UINT64_MAX;
@@ -89,12 +86,12 @@ static bool follow(board *board, uint64_t silence) {
         hear(board, chunk, (size_t)n);
         if (n > 0 && silence) end = dgt_port_now() + silence;
         can_write = ask(board);
-        show(board); /* the last question may have had no answer, or a message no end */
+        show(board); /* an answer or the end of a message may be overdue */
     }
     return can_write || errno != ETIMEDOUT;
 }
 
-/* Reads a number of seconds, 1 to 1000000, as milliseconds. 0 where a text is something else. */
+/* Reads a number of seconds, 1 to 1000000, as milliseconds. 0 if the text is something else. */
 static uint64_t milliseconds(const char *text) {
     char *end;
     long seconds = strtol(text, &end, 10);

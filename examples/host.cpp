@@ -1,13 +1,11 @@
-// Follows a board: reads its bytes from standard input, and writes where the pieces stand after
-// each change, and what else the board reports. A line that ends with " ?" may be wrong. It ends
-// when its input does:
+// Follows a board: reads its bytes from standard input, and prints the position after each change
+// and the board's other reports. A line with " ?" at its end may be wrong. It ends with its input:
 //
 //     c++ -std=c++17 -I include examples/host.cpp -L lib/out -l:libdgt.a -o host
 //     ./dgt ask dump version | ./dgt board | ./host
 //
-// If a file is named, it writes there what it asks the board for, every ten seconds and after
-// faults of the line. On a serial line that stty has set up, this is the line itself, which flock
-// keeps from other readers:
+// If you name a file, it writes its requests there, every ten seconds and after faults of the line.
+// For a serial line that stty has set up, name the line itself; flock locks out other readers:
 //
 //     flock -n /dev/ttyUSB0 ./host /dev/ttyUSB0 </dev/ttyUSB0
 #include "dgt.hpp"
@@ -23,9 +21,8 @@
 #include <string>
 #include <variant>
 
-/// What is known of a board.
 struct Board {
-    dgt::Follower follower; ///< decides when to ask and what, and knows where the pieces stand
+    dgt::Follower follower; ///< makes the requests, and keeps the picture
     std::string shown;
 };
 
@@ -38,7 +35,7 @@ static bool write_all(std::ofstream &file, dgt::ByteView bytes) {
     return bool(file);
 }
 
-/// Writes where the pieces stand, and whether that may be wrong, if either has changed.
+/// Prints the position, and whether it may be wrong, if either has changed.
 static void show(Board &board) {
     auto placement = board.follower.placement();
     if (!placement) return;
@@ -46,7 +43,7 @@ static void show(Board &board) {
     if (text != board.shown) std::cout << (board.shown = text) << std::endl;
 }
 
-/// Writes what else the board reports.
+/// Prints the board's other reports.
 static void show(const dgt::Event &event) {
     if (auto *version = std::get_if<dgt::Version>(&event))
         std::cout << "version " << +version->main_number << '.' << +version->sub_number
@@ -57,7 +54,7 @@ static void show(const dgt::Event &event) {
         std::cout << "cut " << cut->have << std::endl;
 }
 
-/// Waits until bytes come, which are heard, or the board has to be asked. False if no more come.
+/// Waits for bytes and hears them, or until a request is due. False at the end of the input.
 static bool hear(Board &board) {
     auto due = board.follower.due();
     int wait = due ? int(std::max(*due - dgt::now(), dgt::Milliseconds(0)).count()) : -1;
@@ -83,7 +80,7 @@ int main(int count, char **words) {
     while (writes) {
         if (!hear(board)) return 0;
         writes = write_all(line, board.follower.ask(dgt::now()));
-        show(board); // the last asking may have had no answer, or a message no end
+        show(board); // an answer or the end of a message may be overdue
     }
     std::cerr << words[1] << ": can't be written\n";
     return 1;

@@ -1,34 +1,34 @@
 #!/usr/bin/env python3
-"""Prints the moves that are made on a board, by the rules of chess.
+"""Prints the moves that are made on a board.
 
-    game FEN      a game begins with this position; whose turn it is may not be
+    game FEN      a game begins with this position; the side to move may not be
                   known yet
-    e2e4          a move, named as in UCI
-    undo e2e4     the last move was taken back, or is replaced by that of the
+    e2e4          a move in UCI's notation
+    undo e2e4     the last move was taken back, or is replaced by the one in the
                   next line
 
 A move is printed once the board has shown the position after it for 0.3
-seconds, and has confirmed it by a report of all squares, or the other side has
-answered. Pieces may be lifted in any order, slid, put on wrong squares and put
-right, and moves may be taken back. A rook's move that may be the first half of
-castling waits for two seconds.
+seconds, and has confirmed it with a report of all squares, or the other side
+has answered. Pieces may be lifted in any order, slid, put on wrong squares and
+corrected, and moves may be taken back. A rook's move that may be the first half
+of castling waits for two seconds.
 
-All pieces on their first squares begin a game, also on a turned board. So does
-any other position that the board shows at the start, or that is set up with the
-kings last, after a second.
+A game begins when all pieces are on their first squares, also on a turned
+board. Any other position begins one after a second, at the start or if it is
+set up with the kings placed last.
 
-The board is asked for all squares every ten seconds, after each move, and soon
-if the line lost bytes. No move is printed until it has answered. If the port
-goes, it is looked for every two seconds, and the game goes on once it is back:
-a move that was made meanwhile is printed then. So it runs until Ctrl-C ends it,
-or nobody reads what it prints.
+All squares are requested every ten seconds, after each move, and soon if the
+line lost bytes. No move is printed until the board has answered. If the port
+disappears, the program looks for it every two seconds. The game goes on once it
+is back; a move that was made meanwhile is printed then. The program runs until
+Ctrl-C, or until nobody reads its output.
 
-Standard error shows where the pieces stand when the board first reports them,
-and again after it was away, and why it is away.
+Standard error shows the first position that the board reports, also after it
+was away, and why it is away.
 
-This is an example for programs of one's own. The command dgt-game of the
-package prints moves in short notation with the players' times, knows results,
-and keeps a PGN file.
+This is an example for your own programs. The command dgt-game of the package
+prints moves in short notation with the players' times, recognises results, and
+writes a PGN file.
 """
 
 import argparse
@@ -46,7 +46,7 @@ parser = argparse.ArgumentParser(
     allow_abbrev=False,
 )
 parser.add_argument("port", help="the board's serial port, such as /dev/ttyUSB0")
-parser.add_argument("--fen", help="the game begins with this position, in place of any other one")
+parser.add_argument("--fen", help="the only position with which a game may begin")
 words = parser.parse_args()
 
 sys.path.insert(0, str(pathlib.Path(__file__).resolve().parent.parent / "python"))
@@ -61,7 +61,7 @@ def warn(text: str) -> None:
 
 
 def made(board: dgt.Following, recogniser: dgt.MoveRecogniser) -> Iterator[dgt.MoveEvent]:
-    """What happens in the games on a board."""
+    """Yields the events of the games on a board."""
     away, is_new = None, True
     while True:
         view = board.wait(recogniser.due)
@@ -90,7 +90,7 @@ def text(event: dgt.MoveEvent) -> str:
 
 
 def tell(events: Iterable[dgt.MoveEvent]) -> None:
-    """Prints a line for each event. The program ends if nobody reads what it prints."""
+    """Prints a line for each event. The program ends if nobody reads its output."""
     try:
         for event in events:
             print(text(event), flush=True)

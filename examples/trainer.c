@@ -1,5 +1,5 @@
-/* Follows a board on a serial port: prints where the pieces stand after each change, and each time
- * of its clock, which shows how many changes there were. A port that goes is looked for. */
+/* Follows a board on a serial port: prints the position after each change and each time of its
+ * clock, and shows the number of changes on the clock. It waits for a port that disappears. */
 #define _DEFAULT_SOURCE
 #include <dgt_port.h>
 #include <stdio.h>
@@ -21,7 +21,7 @@ static void show(dgt_follower *board, int port) {
     puts(strcpy(shown, text));
     snprintf(number, sizeof number, "%d", ++changes);
     dgt_sent sent = dgt_follower_show_text(board, number, 0, out, sizeof out);
-    dgt_port_write(port, out, sent.bytes); /* if the port has gone, dgt_port_exchange finds it */
+    dgt_port_write(port, out, sent.bytes); /* dgt_port_exchange will find a lost port */
 }
 
 int main(int count, char **words) {

@@ -1,5 +1,5 @@
-// Follows a board on a serial port: prints where the pieces stand after each change, and each time
-// of its clock, which shows how many changes there were. A port that goes is looked for.
+// Follows a board on a serial port: prints the position after each change and each time of its
+// clock, and shows the number of changes on the clock. It waits for a port that disappears.
 #include <dgt_port.hpp>
 #include <iostream>
 #include <thread>
@@ -30,7 +30,8 @@ int main(int count, char **words) {
             board.line_lost();
             dgt::Port port(words[1]);
             for (;;) {
-                board.hear(dgt::now(), port.exchange(board), [&](auto &) { show(board, port); });
+                const auto chunk = port.exchange(board);
+                board.hear(dgt::now(), chunk, [&](auto &) { show(board, port); });
                 if (port.is_disturbed()) board.line_disturbed();
             }
         } catch (const dgt::PortError &error) {

@@ -1,6 +1,6 @@
 #!/usr/bin/env python3
-"""Follows a board on a serial port: prints where the pieces stand after each change, and each time
-of its clock, which shows how many changes there were. A port that goes is looked for."""
+"""Follows a board on a serial port: prints the position after each change and each time of its
+clock, and shows the number of changes on the clock. It waits for a port that disappears."""
 
 import argparse
 import pathlib

@@ -1,8 +1,8 @@
 #!/usr/bin/env python3
-"""Prints where the pieces of several boards stand after each change, by asyncio, with timeouts.
+"""Prints the positions of several boards after each change, with asyncio and timeouts.
 
-Each line begins with the port of its board. A board is left when nothing has changed for the
-given seconds, or its port has gone. The program ends when all are left. It needs Debian's
+Each line begins with the port of its board. The program drops a board when nothing has changed for
+the given seconds, or its port has disappeared, and ends after the last one. It needs Debian's
 python3-serial-asyncio.
 """
 

@@ -1,9 +1,9 @@
 #!/usr/bin/env python3
-"""Prints the events of a board on a port of pyserial, as `dgt monitor` does, with timeouts.
+"""Prints the events of a board on a pyserial port like `dgt monitor`, with timeouts.
 
-It asks for the version and the trademark, and waits for each answer for two seconds at most. Then
-it asks for all squares and each change. It ends when no event came for the given seconds. It needs
-Debian's python3-serial.
+It requests the version and the trademark, and waits for each answer for two seconds at most. Then
+it requests all squares and each change. It ends when no event has arrived for the given seconds. It
+needs Debian's python3-serial.
 """
 
 import argparse
@@ -38,23 +38,23 @@ class Board:
         self.line, self.host = line, dgt.Host()
 
     def events(self, seconds: float) -> Iterator[dgt.Event]:
-        """Yields the events that come within this time, in seconds."""
+        """Yields the events that arrive within this time, in seconds."""
         end = time.monotonic() + seconds
         while (left := end - time.monotonic()) > 0:
-            self.line.timeout = left  # for how long the next read waits
+            self.line.timeout = left  # of the next read
             yield from self.host.hear_each(self.line.read(self.line.in_waiting or 1))
 
     def answer(self, question: dgt.Ask) -> dgt.Event | None:
-        """Asks the board, and returns its answer, or None if it comes too late."""
+        """Sends a request, and returns the answer, or None if it is late."""
         self.line.write(self.host.send(question))
         for event in self.events(ANSWERED_IN):
             if question not in self.host.awaited:
                 return event
-        self.host.give_up_awaited()  # else the next answer would count as unasked
+        self.host.give_up_awaited()  # otherwise the next answer would count as unasked
         return None
 
     def show(self, idle: float) -> None:
-        """Prints the events, until none came for this time, in seconds."""
+        """Prints the events, until none has arrived for this time, in seconds."""
         self.line.write(self.host.follow())
         while (event := next(self.events(idle), None)) is not None:
             print(event, flush=True)
@@ -63,10 +63,10 @@ class Board:
 def main() -> None:
     signal.signal(signal.SIGINT, signal.SIG_DFL)
     try:
-        # Other programs can't open it meanwhile, and a port that takes nothing is an error.
+        # Other programs can't open it meanwhile, and a port that blocks is an error.
         with serial.Serial(words.port, 9600, exclusive=True, write_timeout=ANSWERED_IN) as line:
             board = Board(line)
-            line.write(board.host.restart())  # ends what another program left unfinished
+            line.write(board.host.restart())  # completes an unfinished command
             for question in (dgt.Ask.DUMP, dgt.Ask.VERSION, dgt.Ask.TRADEMARK):
                 print(board.answer(question) or f"no {question.name.lower()}", flush=True)
             board.show(words.idle)

@@ -1,8 +1,8 @@
-/* libdgtnix.so: the nine names that eboard looks for. README.md has what eboard does with them.
+/* libdgtnix.so: the nine names that eboard looks for. README.md explains how eboard uses them.
  *
- * One thread reads the board, and writes to a pipe what eboard reads. All names are called by one
- * thread of the program. Between the two threads stand a lock for what GetBoard shows, and the
- * start and the end of the thread for all else.
+ * One thread reads the board, and writes events for eboard to a pipe. One thread of the program
+ * calls all names. A lock protects the squares of GetBoard; everything else is set before the start
+ * or read after the end of the first thread.
  */
 #define _GNU_SOURCE
 #include "line.h"
@@ -25,10 +25,10 @@
 enum { SERIAL_TEXT = 0x1f00, BUS_ADDRESS_TEXT, VERSION_TEXT, TRADEMARK_TEXT, DRIVER_TEXT };
 
 enum {
-    CLICK = 1,         /* the event "a piece was lifted", which eboard takes for a click */
-    SETTLE = 300,      /* for how long a move rests before it is reported */
+    CLICK = 1,         /* the event "a piece was lifted", which eboard treats as a click */
+    SETTLE = 300,      /* the rest of a move before it is reported */
     BOARD_WAIT = 3000, /* for all squares, at the start */
-    TEXTS_WAIT = 700   /* for the texts, which a board needn't have */
+    TEXTS_WAIT = 700   /* for the texts, which not every board sends */
 };
 
 PUBLIC int dgtnix_errno = 0;
@@ -44,11 +44,11 @@ PUBLIC int dgtnixGetClockData(void);
 static bool running;
 static pthread_t reader;
 static int events[2] = {-1, -1}; /* a pipe: eboard reads [0] */
-static int stop = -1;            /* readable once the thread is to end */
+static int stop = -1;            /* readable once the thread has to end */
 
 static char serial[8], version[16], trademark[128]; /* set before the thread starts */
 
-/* The reader's own, while it runs. */
+/* Only for the reader while it runs. */
 static line board = {.port = -1};
 static struct progress {
     game game;
@@ -61,12 +61,12 @@ static enum plays plays;
 static int settle;
 
 static pthread_mutex_t lock = PTHREAD_MUTEX_INITIALIZER;
-static char shown[65]; /* under the lock: what stands on the board, as GetBoard returns it */
+static char shown[65]; /* under the lock: the squares that GetBoard returns */
 
 /* ---- Events for eboard */
 
-/* eboard takes each event for a click on its window's board, which it has turned where the player
- * has Black; but it thinks that the squares come from a board that is turned, too. */
+/* eboard treats each event as a click on its window's board, which it turns if the player has
+ * Black; but it assumes that the squares are those of a turned board, too. */
 static void set_click(uint8_t event[4], uint8_t square, uint8_t piece) {
     if (game_player(&followed.game) == BLACK) square = (uint8_t)(63 - square);
     event[0] = CLICK;
@@ -75,7 +75,7 @@ static void set_click(uint8_t event[4], uint8_t square, uint8_t piece) {
     event[3] = (uint8_t)dgt_piece_letter(piece);
 }
 
-/* Says on standard error that eboard never gets a move, by the squares of the game, and why. */
+/* Reports on standard error that eboard never gets a move, and why. The squares are the game's. */
 static void log_dropped(const move *made, const char *why) {
     char from[3], to[3];
     dgt_square_name(made->from, from);
@@ -83,7 +83,7 @@ static void log_dropped(const move *made, const char *why) {
     fprintf(stderr, "dgtnix: move %s%s dropped: %s\n", from, to, why);
 }
 
-/* Two clicks are a move. They go in one write, which the pipe takes whole or not at all. */
+/* Two clicks are a move. They are one write, which the pipe takes completely or not at all. */
 static void tell(const move *made) {
     uint8_t clicks[8];
     if (!game_wants(&followed.game, side_of(made->piece))) return;
@@ -93,15 +93,15 @@ static void tell(const move *made) {
         log_dropped(made, "the pipe is full, nobody reads it");
 }
 
-/* ---- What eboard gets, and when. A picture may be wrong until the board has sent all its squares
- * once more, and eboard takes no move back. So a move waits until a picture is confirmed. */
+/* ---- Moves for eboard. A picture may be wrong until the board has sent all its squares again, and
+ * eboard can't take a move back. So a move waits until a picture is confirmed. */
 
 static void find(const move *made) {
     if (finds < REMEMBERED) found[finds++] = *made;
     else log_dropped(made, "the board confirms none");
 }
 
-/* The picture is confirmed, and with it the moves that have led to it. */
+/* Confirms the picture, and with it the moves that have led to it. */
 static void trust(void) {
     for (int each = 0; each < finds; each++) tell(&found[each]);
     finds = 0;
@@ -115,8 +115,8 @@ static void show(const uint8_t pieces[64]) {
     pthread_mutex_unlock(&lock);
 }
 
-/* If a dump isn't the last picture, that was wrong, or the board was away. Then the game goes on
- * from the last picture that was confirmed. */
+/* If a dump differs from the last picture, that was wrong, or the board was away. Then the game
+ * continues from the last confirmed picture. */
 static void see(const uint8_t pieces[64], bool is_dump) {
     move made;
     if (is_dump && memcmp(last, pieces, sizeof last) != 0) {
@@ -131,7 +131,7 @@ static void see(const uint8_t pieces[64], bool is_dump) {
     if (line_is_confirmed(&board)) trust();
 }
 
-/* Looks whether a move has rested. While one waits, the board is asked for all its squares. */
+/* Checks whether a move has rested. While one waits, all squares are requested. */
 static void look(void) {
     move made;
     if (line_is_confirmed(&board)) {
@@ -144,13 +144,13 @@ static void look(void) {
 
 /* ---- The thread */
 
-/* How many milliseconds are left until a time, as poll takes them. */
+/* The milliseconds until a time, for poll. */
 static int left_until(long long time) {
     long long left = time - line_now();
     return left < 0 ? 0 : left < INT_MAX ? (int)left : INT_MAX;
 }
 
-/* When something is to be done but read. */
+/* When there is something to do besides reading. */
 static long long next_time(void) {
     long long due = line_due(&board), rested = followed.game.due;
     return line_is_confirmed(&board) && rested != 0 && rested < due ? rested : due;
@@ -167,7 +167,7 @@ static void *read_board(void *unused) {
     }
 }
 
-/* The program's signals stay with its own thread. */
+/* Signals stay with the program's own thread. */
 static bool start_reader(void) {
     sigset_t all, kept;
     sigfillset(&all);
@@ -191,7 +191,7 @@ static void read_settings(void) {
 }
 
 /* Reads the board until its squares are confirmed, or it has reported `texts` texts. False, with
- * the reason in errno, if it doesn't in time. Squares that are sure by then are enough. */
+ * the reason in errno, if that takes too long. Squares that are sure by then are enough. */
 static bool hear_for(int milliseconds, int texts) {
     long long end = line_now() + milliseconds;
     while (texts > 0 ? board.texts < texts : !line_is_confirmed(&board)) {
@@ -243,7 +243,7 @@ static bool start(const char *port) {
     return start_reader();
 }
 
-/* Answers the descriptor to read, or -1 with the reason in dgtnix_errno. */
+/* Returns the descriptor to read, or -1 with the reason in dgtnix_errno. */
 PUBLIC int dgtnixInit(const char *port) {
     if (running || !port) {
         dgtnix_errno = running ? EBUSY : EINVAL;
@@ -255,7 +255,7 @@ PUBLIC int dgtnixInit(const char *port) {
     return -1;
 }
 
-/* eboard unloads the library right after this: the thread has ended, and no descriptor is left. */
+/* eboard unloads the library right after this, so the thread and all descriptors are ended. */
 PUBLIC int dgtnixClose(void) {
     const uint64_t one = 1;
     if (!running) return 0;
@@ -266,10 +266,10 @@ PUBLIC int dgtnixClose(void) {
     return 0;
 }
 
-/* ---- What eboard asks */
+/* ---- eboard's questions */
 
-/* The driver's version must be 1.8137 at least, as the user's locale reads it: it has no mark
- * between whole and parts, which is a comma in many languages. */
+/* The driver's version must be at least 1.8137 in the user's locale. A whole number avoids the
+ * decimal separator, which is a comma in many languages. */
 PUBLIC const char *dgtnixQueryString(int which) {
     switch (which) {
     case SERIAL_TEXT: return serial;
@@ -281,7 +281,7 @@ PUBLIC const char *dgtnixQueryString(int which) {
     }
 }
 
-/* 64 squares from a8 to h1, with a blank for an empty square, and a zero. */
+/* 64 squares from a8 to h1, with a blank for an empty square, and a zero byte. */
 PUBLIC const char *dgtnixGetBoard(void) {
     static char copy[65];
     pthread_mutex_lock(&lock);
@@ -300,7 +300,7 @@ PUBLIC const char *dgtnixToPrintableBoard(const char *squares) {
     return text;
 }
 
-/* 1 if the same stands on the board, which may be turned. No zero comes after the 64 squares. */
+/* 1 if the board, which may be turned, has the same pieces. The 64 squares end without a zero. */
 PUBLIC int dgtnixTestBoard(const char *squares) {
     const char *stands = dgtnixGetBoard();
     bool upright = true, turned = true;
@@ -311,10 +311,10 @@ PUBLIC int dgtnixTestBoard(const char *squares) {
     return upright || turned;
 }
 
-/* eboard looks for this name, and never calls it. */
+/* eboard looks for this name, but never calls it. */
 PUBLIC int dgtnixGetClockData(void) { return 0; }
 
-/* eboard asks for messages for a developer; there are none. */
+/* eboard requests messages for developers; there are none. */
 PUBLIC int dgtnixSetOption(unsigned long option, unsigned value) {
     (void)option;
     (void)value;

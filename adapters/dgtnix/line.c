@@ -14,8 +14,8 @@
 #include <unistd.h>
 
 enum {
-    PERIOD = 2000,     /* of the follower: from one asking to the next */
-    HEARTBEATS = 6,    /* how many in a row the follower may send before it begins anew */
+    PERIOD = 2000,     /* of the follower: from one request to the next */
+    HEARTBEATS = 6,    /* the most plain requests in a row before the follower starts over */
     LOOK_AGAIN = 1000, /* between two looks for the port */
     WRITE_WAIT = 500   /* for a port that takes no bytes */
 };
@@ -28,7 +28,7 @@ long long line_now(void) {
 
 /* ---- The port */
 
-/* 9600 bits a second, eight bits, no parity, one stop bit, and no byte changed on its way. */
+/* 9600 baud, eight bits, no parity, one stop bit, raw. */
 static bool set_up(int port) {
     struct termios settings;
     if (tcgetattr(port, &settings) != 0) return false;
@@ -40,16 +40,16 @@ static bool set_up(int port) {
     return tcsetattr(port, TCSANOW, &settings) == 0;
 }
 
-/* Locks the port, as other programs do that ask before they use one. False, with EBUSY in errno, if
- * another program holds the lock. */
+/* Locks the port for programs that check the lock. False, with EBUSY in errno, if another program
+ * holds it. */
 static bool lock_port(int port) {
     if (flock(port, LOCK_EX | LOCK_NB) == 0) return true;
     if (errno == EWOULDBLOCK) errno = EBUSY;
     return false;
 }
 
-/* Opens the port for this process alone: TIOCEXCL refuses all later openers but root. Programs that
- * eboard starts, as an engine, must not have the port either: O_CLOEXEC. */
+/* Opens the port for this process only: TIOCEXCL refuses all later openers but root. Programs that
+ * eboard starts, such as an engine, must not inherit the port: O_CLOEXEC. */
 static int open_port(const char *name) {
     int port = open(name, O_RDWR | O_NOCTTY | O_NONBLOCK | O_CLOEXEC);
     if (port < 0) return -1;
@@ -82,7 +82,7 @@ static bool write_all(int port, const uint8_t *bytes, size_t n) {
     return true;
 }
 
-/* The port is gone, and with it what was under way. It is looked for from now on. */
+/* Notes that the port is lost, with everything in transit, and starts to look for it. */
 static void lose(line *line) {
     line_close(line);
     dgt_follower_line_lost(&line->follower);
@@ -90,11 +90,11 @@ static void lose(line *line) {
     line->look = line_now() + LOOK_AGAIN;
 }
 
-/* ---- What is asked */
+/* ---- Requests */
 
 static uint64_t now(void) { return (uint64_t)line_now(); }
 
-/* Asks for each change and all squares, if that is due. */
+/* Requests each change and all squares, if that is due. */
 static void ask(line *line) {
     uint8_t out[DGT_MAX_ASKING];
     dgt_sent asked = dgt_follower_ask(&line->follower, now(), out, sizeof out);
@@ -151,7 +151,7 @@ void line_close(line *line) {
     line->port = -1;
 }
 
-/* ---- What is heard */
+/* ---- Reports */
 
 bool line_is_sure(line *line) {
     dgt_follower *follower = &line->follower;
@@ -163,7 +163,7 @@ bool line_is_confirmed(line *line) {
     return dgt_follower_confirmed(&line->follower);
 }
 
-/* A square or all of them were reported. */
+/* Whether a square or all of them were reported. */
 static void show(line *line, bool is_dump, seen *seen) {
     uint8_t pieces[64];
     if (is_dump) line->hurries = false;

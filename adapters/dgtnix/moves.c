@@ -60,7 +60,7 @@ static bool pawn_reaches(const uint8_t squares[64], int from, int to, bool takes
     return forward == 1 || (forward == 2 && unmoved && is_clear(squares, from, to));
 }
 
-/* The piece on `from` may go to another square, as far as its kind is concerned. */
+/* Whether the piece on `from` may move to another square, by its kind. */
 static bool reaches(const uint8_t squares[64], int from, int to, bool takes) {
     int down = abs(row(to) - row(from)), across = abs(column(to) - column(from));
     bool straight = down == 0 || across == 0, diagonal = down == across;
@@ -75,7 +75,7 @@ static bool reaches(const uint8_t squares[64], int from, int to, bool takes) {
     }
 }
 
-/* The square of the pawn that one going from here to there would take in passing, or -1. */
+/* The square of the pawn that this pawn's move would take in passing, or -1. */
 static int square_passed(const uint8_t before[64], int from, int to) {
     enum side side = side_of(before[from]);
     int square = 8 * row(from) + column(to);
@@ -92,7 +92,7 @@ static bool promotes(uint8_t piece, uint8_t becomes, int to) {
            && (kind == ROOK || kind == KNIGHT || kind == BISHOP || kind == QUEEN);
 }
 
-/* A rook that goes from its corner to the square beside its king, which hasn't moved. */
+/* A rook that moves from its corner to the square next to its king, which hasn't moved. */
 static bool may_castle(const uint8_t before[64], int from, int to) {
     enum side side = side_of(before[from]);
     int first = 8 * (7 - last_row(side));
@@ -109,8 +109,7 @@ static void set_move(move *found, const uint8_t before[64], int from, int to, ui
     found->after[to] = becomes;
 }
 
-/* A king has moved by two squares towards one of its rooks, and the rook has jumped over it or will
- * do so. */
+/* A king has moved two squares towards one of its rooks; the rook has jumped over it, or will. */
 static bool find_castling(const uint8_t before[64], const uint8_t now[64], move *found) {
     for (int wing = 0; wing < 4; wing++) {
         enum side side = wing < 2 ? WHITE : BLACK;
@@ -130,7 +129,7 @@ static bool find_castling(const uint8_t before[64], const uint8_t now[64], move 
     return false;
 }
 
-/* A piece has gone from here to there, and where `other` is a square, what stood on it has gone. */
+/* A piece has moved, and if `other` is a square, its piece was removed. */
 static bool find_step(const uint8_t before[64], const uint8_t now[64], int from, int to, int other,
                       move *found) {
     uint8_t piece = before[from], becomes = now[to];
@@ -166,7 +165,7 @@ bool find_move(const uint8_t before[64], const uint8_t now[64], move *found) {
 
 /* ---- Following a game */
 
-/* More of the pieces stand in the other side's half of the board. */
+/* More of the pieces are in the other side's half of the board. */
 static bool is_turned(const uint8_t squares[64]) {
     int balance = 0;
     for (int square = 0; square < 64; square++) {
@@ -195,7 +194,7 @@ static void forget(game *game) {
     game->due = 0;
 }
 
-/* What stands on the board is what was reported. */
+/* The present position is the reported one. */
 static void settle_here(game *game) {
     memcpy(game->told, game->now, 64);
     forget(game);
@@ -243,7 +242,7 @@ static void remember(game *game, const move *made) {
     game->moves_told = game->moves_made;
 }
 
-/* The game goes on by this move. False if it was reported before. */
+/* Adds this move to the game. False if it was reported before. */
 static bool tell(game *game, const move *which, move *made) {
     *made = *which;
     if (made->corrects) memcpy(game->told, game->moves[--game->moves_made].before, 64);
@@ -255,7 +254,7 @@ static bool tell(game *game, const move *which, move *made) {
     return !again;
 }
 
-/* Which of the moves, from the last one on, was taken back with all after it, or -1. */
+/* The move that was taken back with all after it, or -1. */
 static int taken_back(const game *game) {
     for (int index = game->moves_made - 1; index >= 0; index--)
         if (same(game->now, game->moves[index].before)) return index;
@@ -269,19 +268,19 @@ static void take_back(game *game) {
     settle_here(game);
 }
 
-/* The side that has made the last move would make the next one, too. */
+/* The side of the last move would make the next one, too. */
 static bool is_out_of_turn(const game *game) {
     int made = game->moves_made;
     return made > 0 && game->moves[made - 1].side == side_of(game->next.piece);
 }
 
-/* Another piece than the one that moved last; that one is being put right or taken back. */
+/* Another piece than the one that moved last; that one is being corrected or taken back. */
 static bool is_another(const game *game) {
     return game->moves[game->moves_made - 1].to != game->next.from;
 }
 
-/* A side has made its move on the board before that of the other side, which was known already, and
- * that one follows now. It is reported first, and then the early one. */
+/* A side has made its move on the board before the other side's move, which was known already and
+ * follows now. That one is reported first, and then the early one. */
 static bool find_late_move(game *game) {
     uint8_t without[64];
     if (!game->is_early) return false;
@@ -293,8 +292,8 @@ static bool find_late_move(game *game) {
     return find_move(game->told, without, &game->next) && !is_out_of_turn(game);
 }
 
-/* The other side's move was put on a wrong square, or half of its castling alone was there, and it
- * is put right now. A move that the program has made can't be put right. */
+/* The other side's piece was on a wrong square, or its castling was half done, and this is
+ * corrected now. A move of the program can't be corrected. */
 static bool find_correction(game *game) {
     if (game->moves_made == 0) return false;
     const past *last = &game->moves[game->moves_made - 1];
@@ -304,7 +303,7 @@ static bool find_correction(game *game) {
     return side_of(game->next.piece) == last->side && !same(game->next.after, game->told);
 }
 
-/* A pawn that was reported on its last rank has been changed for the piece that it becomes. */
+/* A pawn that was reported on its last rank has been replaced with the promoted piece. */
 static void follow_promotion(game *game) {
     for (int square = 0; square < 64; square++)
         if (promotes(game->told[square], game->now[square], square))
@@ -328,22 +327,22 @@ static enum reading read_position(game *game) {
         game->is_early = is_another(game);
         game->early = game->next;
     }
-    /* Only here: a real move may lead to an earlier position, too, even to the first one. */
+    /* Only here: a real move may also lead to an earlier position, even to the first one. */
     if (taken_back(game) >= 0) return TAKEN_BACK;
     if (is_start(game->now)) return NEW_GAME;
     if (game->kings_off) return SET_UP;
     return find_late_move(game) || find_correction(game) ? A_MOVE : UNCLEAR;
 }
 
-/* The piece that moves may be about to slide on, and to take what stands there. */
+/* The moving piece may be about to slide on, and to take the piece there. */
 static bool may_go_on(const game *game, int square) {
     const move *next = &game->next;
     const uint8_t *before = before_move(game, next);
     return before[next->to] == 0 && reaches(before, next->from, square, true);
 }
 
-/* A piece of the other side is lifted after the move that waits: the answer to it begins, or the
- * pawn goes that was taken in passing. */
+/* A piece of the other side is lifted after the waiting move: the answer to it begins, or the pawn
+ * that was taken in passing is removed. */
 static bool is_answered(const game *game, const uint8_t now[64]) {
     if (game->reading != A_MOVE) return false;
     enum side mover = side_of(game->next.piece);
@@ -355,34 +354,34 @@ static bool is_answered(const game *game, const uint8_t now[64]) {
     return false;
 }
 
-/* The hand goes on from the move that waits: by the answer to it, or by the same piece. */
+/* The board changes after the waiting move: by the answer to it, or by the same piece. */
 static void hold_next(game *game) {
     if (game->reading != A_MOVE) return;
     game->held = game->next;
     game->is_held = true;
 }
 
-/* The other side has answered the move that waited, whichever piece it took up first. */
+/* The other side has answered the waiting move, whichever piece it lifted first. */
 static bool is_held_answered(const game *game) {
     move answer;
     return game->is_held && find_move(game->held.after, game->now, &answer)
            && side_of(answer.piece) != side_of(game->held.piece);
 }
 
-/* Begins in the position in which a game begins, on a board that may have been turned. */
+/* Begins in the starting position, on a board that may be turned. */
 static void begin_game(game *game) {
     uint8_t board[64];
     turn(board, game->now, game->turned);
     game_begin(game, board, game->plays, game->settle);
 }
 
-/* Begins with what stands on the board, which lies as it lay. */
+/* Begins with the position on the board, without turning it. */
 static void begin_here(game *game) {
     game->moves_made = game->moves_told = 0;
     settle_here(game);
 }
 
-/* Looks what the position means, and for how long it must rest. */
+/* Finds the meaning of the position, and how long it has to rest. */
 static void look(game *game, long long time) {
     game->reading = read_position(game);
     game->due = 0;
@@ -413,6 +412,6 @@ bool game_wait(game *game, long long time, move *made) {
     if (game->due == 0 || time < game->due) return false;
     bool is_move = game->reading == A_MOVE, told = is_move && tell(game, &game->next, made);
     if (!is_move) begin_here(game);
-    look(game, time - game->settle); /* what is left of it has rested, too */
+    look(game, time - game->settle); /* the rest of the position has rested, too */
     return told;
 }

@@ -1,11 +1,11 @@
-/* What hands do on a board, and the moves that are reported of it.
+/* Steps on a board, and the moves that are reported.
  *
- * A hand's steps: `e2.` takes what stands on e2 off, `e4P` puts a white pawn on e4 (p would be a
- * black one), and a number lets milliseconds pass. `e2e4` is a whole move: a piece on e4 is
- * taken off first, and it rests after it. `seen` shows the same position once more, `black` says
- * that the player has Black, and `both` that both sides' moves are wanted. Between two steps pass
- * 60 ms; a move is reported when it has rested for 300. Squares are the board's own, and the moves
- * that are reported are the game's, those of both sides.
+ * `e2.` removes the piece on e2, `e4P` puts a white pawn on e4 (p would be a black one), and a
+ * number waits for milliseconds. `e2e4` is a complete move: a piece on e4 is removed first, and it
+ * rests afterwards. `seen` shows the same position again, `black` gives the player Black, and
+ * `both` requests both sides' moves. There are 60 ms between two steps; a move is reported when it
+ * has rested for 300. Squares in the steps are the board's, and those in reported moves of both
+ * sides are the game's.
  */
 #include "moves.h"
 
@@ -180,7 +180,7 @@ static const struct test_case {
      "e2e4 g8f6 d2d4"},
     {"set up again, from a heap", SEVENTH "h8. g8. h7. a5. h8r g8n 900 h7p a7p 900 g7p h2P d2d4",
      SEVENTH "d2d4"},
-    {"set up anew, the kings last",
+    {"set up again, the kings last",
      "e2e4 e1. e8. e4. d8. d1. a8. 1500 e3P 1500 g3K g6k 1100 e3e4 g6g5", "e2e4 e3e4 g6g5"},
     {"a king's move, with the other king adjusted", "e2e4 e7e5 e1. e8. e8k e2K", "e2e4 e7e5 e1e2"},
     {"both kings adjusted", "e1. e8. 1500 e1K e8k e2e4", "e2e4"},
@@ -217,7 +217,7 @@ static void pass(int milliseconds) {
     }
 }
 
-/* The board shows what stands on it. */
+/* Shows the position again. */
 static void show(void) {
     move made;
     if (game_see(&followed, squares, now, &made)) tell(&made);
@@ -283,7 +283,7 @@ static bool passes(const struct test_case *tried) {
     for (char *step = strtok(steps, " "); step; step = strtok(NULL, " ")) make(step);
     pass(2500);
     if (strcmp(told, tried->told) == 0) return true;
-    printf("%s: told '%s' in place of '%s'\n", tried->name, told, tried->told);
+    printf("%s: told '%s' instead of '%s'\n", tried->name, told, tried->told);
     return false;
 }
 

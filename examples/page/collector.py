@@ -1,4 +1,4 @@
-"""Makes games of what boards say, as `dgt-game` makes them of a board on a port."""
+"""Makes games from the reports of boards, like `dgt-game`."""
 
 from __future__ import annotations
 
@@ -27,17 +27,17 @@ from views import SHOWN_MOVES, Summary, summary, written
 
 PROGRAM = os.path.basename(sys.argv[0])
 MOST_GAMES = 10000  # the latest ones
-# New players belong to a game of at most this many half-moves, and later to the next game.
+# New players belong to the present game if it has at most this many half-moves.
 OPENING = 20
 NEVER = float("inf")
 TURNS = {"white": 0x10, "black": 0x08}  # bits of a clock's status
 # A game's time follows its board's by as many seconds, so that what comes late is heard in time,
 # and goes on for as many without a word of the board.
 LATE, TRUST = 0.3, 15.0
-MOST_ROWS = 20000  # of a board that the state keeps, at least: more belong to no game
+MOST_ROWS = 20000  # the rows of a board that the state keeps at least: more belong to no game
 MOST_PENDING = 200  # entries that wait until one of them is confirmed
 AWAY = ("silent", "gone", "ended")
-MOST_WRONG = 2  # squares that one message alters
+MOST_WRONG = 2  # the squares that one altered message may change
 TABLES = """
 PRAGMA journal_mode = WAL;
 PRAGMA synchronous = NORMAL;
@@ -58,7 +58,7 @@ Tell = Callable[[str, Summary | None, bool], None]
 
 @dataclass
 class Said:
-    """What is known of a board from a time on."""
+    """The state of a board from a time on."""
 
     board: str
     at: float
@@ -71,8 +71,8 @@ class Said:
     row: int = 0  # of the state
 
     def view(self) -> dgt.BoardView:
-        """The same, as `dgt.follow` says it. A board in doubt is away, too: nobody is there who
-        sees that more moves were made meanwhile than can be found."""
+        """The same as a view of `dgt.follow`. A board in doubt counts as away, too: more moves may
+        be made meanwhile than can be recognised."""
         return dgt.BoardView(dgt.Position.of_letters(self.letters), clock_of(self.clock),
                              not self.is_sure, None if self.is_sure else self.state,
                              self.is_sure and self.is_confirmed)
@@ -80,7 +80,7 @@ class Said:
 
 @dataclass
 class Now:
-    """It is this time on a board, of which all is known; or it isn't known what time it is."""
+    """The time on a board up to which everything is known; or the time is unknown."""
 
     board: str
     journal: str
@@ -91,20 +91,20 @@ Heard = Now | str | Callable[[], None]
 
 
 class State:
-    """All that the games are made of, in its order, in a file of SQLite: whoever reads it again
-    makes the same games. The tags of rounds are in it, too, as of no board. Of games that are done
-    it keeps the text in place of what they were made of."""
+    """Everything that games are made from, in order, in an SQLite file: reading it again makes the
+    same games. Rows without a board contain the tags of rounds. For finished games it keeps only
+    their text."""
 
     def __init__(self, path: str | None) -> None:
-        """sqlite3.Error if the file can't be had."""
+        """sqlite3.Error if the file can't be opened."""
         self.kept = sqlite3.connect(path or ":memory:", isolation_level=None,
                                     check_same_thread=False, timeout=5.0)
         self.kept.executescript(TABLES)
-        self.read = 0  # up to which row the games have it
-        self.last = 1 << 62  # the row up to which they may have it
+        self.read = 0  # the last row that the games have read
+        self.last = 1 << 62  # the last row that they may read
 
     def add(self, journal: str, board: str, number: int, entry: Any) -> None:
-        """sqlite3.Error if it can't be kept."""
+        """sqlite3.Error if it can't be stored."""
         self.kept.execute("INSERT INTO heard (journal, board, number, entry) VALUES (?, ?, ?, ?)",
                           [journal, board, number, json.dumps(entry)])
 
@@ -115,23 +115,23 @@ class State:
                           [each for *row, entry in rows for each in (*row, json.dumps(entry))])
 
     def corrections(self, count: int) -> list[tuple[str, float, Entry]]:
-        """The last corrections: a board or none, the time, and what it was."""
+        """The last corrections: a board or none, the time, and the entry."""
         rows = self.kept.execute("SELECT board, at, entry FROM heard WHERE journal = ? "
                                  "ORDER BY id DESC LIMIT ?", [DESK, count]).fetchall()
         return [(board, at, json.loads(entry)) for board, at, entry in rows]
 
     def settings(self, what: str) -> list[Any]:
-        """What an arbiter has set of one kind, in its order."""
+        """The arbiter's entries of one kind, in order."""
         rows = self.kept.execute("SELECT entry FROM heard WHERE journal = ? AND board = '' "
                                  "ORDER BY id", [DESK]).fetchall()
         return [entry[what] for text, in rows if what in (entry := json.loads(text))]
 
     def mark(self, journal: str, board: str, number: int) -> None:
-        """What a journal has of a board up to this number isn't needed."""
+        """Notes that a journal's entries of a board up to this number aren't needed."""
         self.kept.execute("INSERT OR REPLACE INTO marks VALUES (?, ?, ?)", [board, journal, number])
 
     def marks(self) -> dict[tuple[str, str], int]:
-        """Up to which number each journal is heard of each board."""
+        """The last number that was heard of each board from each journal."""
         rows = self.kept.execute("SELECT board, journal, number FROM marks WHERE journal != ''")
         return {(board, journal): number for board, journal, number in rows}
 
@@ -143,7 +143,7 @@ class State:
         return [(*row, json.loads(entry)) for *row, entry, _ in rows]  # type: ignore[misc]
 
     def news(self) -> list[tuple[int, str, str, int, Any]]:
-        """What the games don't have yet: a row, a journal, a board, a number, and an entry."""
+        """The unread rows: a row, a journal, a board, a number, and an entry."""
         rows = self.kept.execute(
             "SELECT id, journal, board, number, entry FROM heard LEFT JOIN done USING (board) "
             "WHERE id > ? AND id <= ? AND id >= coalesce(since, 0) ORDER BY id LIMIT 1000",
@@ -152,48 +152,48 @@ class State:
         return [(*row, json.loads(entry)) for *row, entry in rows]  # type: ignore[misc]
 
     def finish(self, board: str, game: int, text: str, row: int) -> None:
-        """Keeps the text of a game that is done, which has all corrections up to a row."""
+        """Stores the text of a finished game, with all corrections up to a row."""
         self.kept.execute("INSERT INTO games (board, game, final, row) VALUES (?, ?, ?, ?) "
                           "ON CONFLICT DO UPDATE SET final = excluded.final, row = excluded.row",
                           [board, game, text, row])
 
     def finished(self) -> dict[tuple[str, int], int]:
-        """Up to which row the text has it of each game that is done."""
+        """The row up to which the text of each finished game contains the corrections."""
         return {(board, game): row for board, game, row in
                 self.kept.execute("SELECT board, game, row FROM games WHERE final IS NOT NULL")}
 
     def cut(self, board: str, games: int, since: int) -> None:
-        """Notes how many games of a board are done. The next one is made of the rows since this
-        one."""
+        """Notes the number of a board's finished games. The next one is made from the rows since
+        this one."""
         self.kept.execute("INSERT OR REPLACE INTO done VALUES (?, ?, ?)", [board, games, since])
         self.kept.execute("DELETE FROM heard WHERE board = ? AND id < ? AND journal != ?",
                           [board, since, DESK])
 
     def row_of_last(self, board: str, count: int) -> int:
-        """The first of as many last rows of a board."""
+        """The first of this number of a board's last rows."""
         row = self.kept.execute("SELECT id FROM heard WHERE board = ? ORDER BY id DESC LIMIT 1 "
                                 "OFFSET ?", [board, count - 1]).fetchone()
         return int(row[0]) if row else 0
 
     def counts(self) -> dict[str, int]:
-        """How many games of each board are done."""
+        """The number of finished games of each board."""
         return dict(self.kept.execute("SELECT board, games FROM done"))
 
     def done(self) -> list[tuple[str, int, str]]:
-        """The games that are done: a board, the game's number on it, and its text."""
+        """The finished games: a board, the game's number on it, and its text."""
         return self.kept.execute(
             "SELECT board, game, final FROM games JOIN done USING (board) "
             "WHERE game <= done.games AND final IS NOT NULL").fetchall()
 
     def file(self, rows: list[tuple[str, int, bytes, bytes]]) -> None:
-        """Notes of games, each a board and a number, what the file of --pgn is about to have, and
-        has."""
+        """Notes the new and the present text of games in the file of --pgn, each by its board and
+        its number."""
         self.kept.executemany(
             "INSERT INTO games (board, game, text, before) VALUES (?, ?, ?, ?) ON CONFLICT DO "
             "UPDATE SET text = excluded.text, before = excluded.before", rows)
 
     def filed(self, board: str, game: int) -> list[bytes]:
-        """What the file may have of a game."""
+        """The texts that the file may have for a game."""
         row = self.kept.execute("SELECT text, before FROM games WHERE board = ? AND game = ?",
                                 [board, game]).fetchone()
         return [each for each in row or () if each]
@@ -205,8 +205,8 @@ def said_of(board: topics.Board, at: float, row: int) -> Said:
 
 
 def correct(said: list[Said], before: str) -> None:
-    """Corrects what a board reported from one confirmed position to the next. If a report of all
-    squares, after a doubt, contradicts a square that has changed meanwhile, its change was none."""
+    """Corrects a board's reports from one confirmed position to the next. If a report of all
+    squares, after a doubt, contradicts the change of a square, the square didn't change."""
     doubt = next((at for at, each in enumerate(said) if each.state == "doubt"), 0)
     if not doubt or any(each.state in AWAY for each in said):
         return
@@ -235,14 +235,14 @@ def clock_of(clock: topics.Clock | None) -> dgt.Clock | None:
 
 
 def natural(text: str) -> list[tuple[int, str]]:
-    """A key by which 10 comes after 9."""
+    """A key that sorts 10 after 9."""
     parts = re.split(r"([0-9]+)", text)
     return [(int(part or 0), "") if at % 2 else (0, part) for at, part in enumerate(parts)]
 
 
 @dataclass
 class Kept:
-    """A game: its board, and its text, which it has once it stands on the shelf."""
+    """A game: its board, and its text once it is on the shelf."""
 
     board: str
     in_file: Any  # a dgt.KeptGame, if there is a file
@@ -251,8 +251,8 @@ class Kept:
 
 
 class Shelf:
-    """All games since the start, and the file of --pgn, which a thread of its own writes. Its
-    games change while the disk is waited for."""
+    """All games since the start, and the file of --pgn. A separate thread writes it, so that games
+    can change while the disk is slow."""
 
     def __init__(self, path: str | None, state: State) -> None:
         """OSError if the file can't be made."""
@@ -262,13 +262,13 @@ class Shelf:
         self.changed: list[Kept] = []
         self.is_stale, self.written = True, (b"", "")
         self.news, self.saving, self.fault = threading.Event(), threading.Lock(), ""
-        self.watchers: list[threading.Event] = []  # of those who want to know of each change
+        self.watchers: list[threading.Event] = []  # set after each change
         self.content = b"" if self.file is None else self.file._read() or b""
         for board, number, text in state.done():
             self.put(self.begin(board, number), text)
 
     def open(self) -> None:
-        """All that was heard before is on the shelf: the file is written from now on."""
+        """All earlier games are on the shelf: from now on the file is written."""
         if not self.is_open and self.file is not None:
             threading.Thread(target=self.save_all, daemon=True).start()
         self.is_open, self.content = True, b""
@@ -281,8 +281,8 @@ class Shelf:
         return kept
 
     def put(self, kept: Kept, text: str) -> None:
-        """Sets the text of a game. With its first move it comes onto the shelf: games without moves
-        push none off it."""
+        """Sets the text of a game, and puts it on the shelf with its first move: games without
+        moves must not push others off."""
         with self.lock:
             if kept.text == text:
                 return
@@ -300,7 +300,7 @@ class Shelf:
                          (board, number)), None)
 
     def texts(self) -> list[str]:
-        """All games in their order."""
+        """All games in order."""
         counts: collections.Counter[str] = collections.Counter()
         ordered = []
         for kept in self.games:
@@ -310,8 +310,8 @@ class Shelf:
         return [text for *_, text in ordered]
 
     def pgn(self) -> tuple[bytes, str]:
-        """All games as PGN, and a tag of just this text: the first game of each board, then the
-        second of each, and so on."""
+        """All games as PGN (the first game of each board, then the second of each, and so on), and
+        an ETag for this text."""
         with self.lock:
             if self.is_stale:
                 text = "\n".join(self.texts()).encode(errors="replace")
@@ -332,8 +332,8 @@ class Shelf:
             time.sleep(0.2)  # more moves may come, and the file is long
 
     def save(self) -> bool:
-        """Writes the file. Returns whether it has all. A fault is said once; what isn't written is
-        tried again after the next move."""
+        """Writes the file. Returns whether it is complete. A fault is reported once, and the next
+        move tries again."""
         if self.file is None:
             return True
         with self.saving:
@@ -353,8 +353,8 @@ class Shelf:
             return not self.fault
 
     def foretell(self, file: dgt.PgnFile) -> None:
-        """Notes what the file is about to have, by which the next process knows its games. OSError
-        if that fails."""
+        """Notes the text that the file is about to get, so that the next process can find its
+        games. OSError if that fails."""
         with self.lock:
             changed, self.changed = self.changed, []
             new = {(each.board, each.number): each for each in changed}
@@ -374,8 +374,8 @@ class Shelf:
         return bool(self.fault)
 
     def close(self) -> bool:
-        """Writes the file for the last time. Returns whether it has all; what it lacks is
-        reported."""
+        """Writes the file for the last time. Returns whether it is complete, and reports missing
+        games."""
         if self.file is None or self.save():
             return True
         report(f"{self.file.name} lacks this:\n{self.file.unsaved}")
@@ -383,7 +383,7 @@ class Shelf:
 
 
 class Place:
-    """The games of a board on the shelf, as `dgt.Games` puts them there."""
+    """The games of a board, which `dgt.Games` puts on the shelf."""
 
     name = unsaved = ""
 
@@ -394,7 +394,7 @@ class Place:
 
     @property
     def played(self) -> int:
-        """How many games have begun, but for one without moves."""
+        """The number of games with moves."""
         return self.count - bool(self.kept and not self.kept.text)
 
     def begin(self) -> None:
@@ -413,7 +413,7 @@ class Place:
 
 @dataclass
 class Table:
-    """The games of a board, and what was said of them."""
+    """The games of a board, and its pending entries."""
 
     games: dgt.Games
     place: Place
@@ -443,12 +443,12 @@ class Table:
             self.due = self.base[1] + due - self.base[0] + LATE
 
     def note_beginning(self) -> None:
-        """If a game has begun, it did with the position that the board shows."""
+        """Notes a new game, which began with the present position."""
         if self.begun != self.place.count:
             self.begun, self.since = self.place.count, self.row
 
     def name_players(self, players: tuple[str, str] | None) -> None:
-        """The players of the next game, and of this one if it has none or has just begun."""
+        """Sets the players of the next game, and of this one if it has none or has just begun."""
         if players == self.players:
             return
         self.players, game = players, self.games.game
@@ -457,7 +457,7 @@ class Table:
                             is_new and players is not None)
 
     def state(self) -> Any:
-        """Something that is another one if the summary is."""
+        """A value that changes with the summary."""
         game = self.games.game
         return game and (self.place.count, len(game.moves), game.state, game.result,
                          [each.move for each in game.moves[-SHOWN_MOVES:]],
@@ -465,13 +465,13 @@ class Table:
 
 
 class Collector:
-    """Makes games in a thread of its own, of what the boards say in their order. `tell` gets the
-    name of a board, the summary of its game, and whether it began on a turned board. If the name is
-    empty, the tags of games have changed."""
+    """Makes games in a separate thread, from the boards' entries in order. `tell` gets the name of
+    a board, the summary of its game, and whether it began on a turned board. If the name is empty,
+    the tags of games have changed."""
 
     def __init__(self, shelf: Shelf, tags: dict[str, str], white_clock: str,
                  tell: Tell, state: State, is_last: bool = True) -> None:
-        """If it `is_last`, nobody needs what the state has of games that are done."""
+        """If it `is_last`, nobody needs the state's rows of finished games."""
         self.shelf, self.tags, self.white_clock, self.tell = shelf, {**tags}, white_clock, tell
         self.is_last, self.finished, self.row = is_last, state.finished(), 0
         self.state, self.counts, self.is_between = state, state.counts(), False
@@ -483,18 +483,18 @@ class Collector:
 
     def hear(self, said: Heard) -> None:
         """The time on a board, or the name of one that is removed, or something to do between two
-        entries; what the boards said is in the state."""
+        entries; the entries themselves are in the state."""
         self.waiting.put(said)
 
     def close(self) -> None:
-        """Puts all on the shelf that was heard so far."""
+        """Puts all games so far on the shelf."""
         self.waiting.put(None)
         self.thread.join()
         for table in self.tables.values():
             table.games.close()
 
     def record(self, name: str) -> tuple[bytes, str]:
-        """The game on a board as JSON, or null, and a tag of just this text."""
+        """The game on a board as JSON, or null, and an ETag for this text."""
         table = self.tables.get(name)
         told = table and table.told
         if not table or not told or not (game := table.games.game):
@@ -506,7 +506,7 @@ class Collector:
         return table.record[1:]
 
     def next(self, seconds: float) -> Heard | None:
-        """What is heard next within this time. `queue.Empty` if nothing is."""
+        """The next news within this time. `queue.Empty` if there is none."""
         return self.waiting.get(timeout=seconds)
 
     def run(self) -> None:
@@ -540,7 +540,7 @@ class Collector:
                 self.take(self.row, journal, name, number / 1000, entry)
 
     def take(self, row: int, journal: str, name: str, at: float, entry: Any) -> None:
-        """A board's entry, or one of a round."""
+        """Handles a board's entry, or one of a round."""
         if not name:
             return self.take_round(row, entry)
         if entry is None:  # something is lost
@@ -553,8 +553,8 @@ class Collector:
             self.do(name, functools.partial(self.hear_said, journal, said_of(board, at, row)))
 
     def take_round(self, row: int, tags: dict[str, str] | None) -> None:
-        """Tags of all games that begin from now on; or the games under way are over, and none
-        begins until then."""
+        """Sets the tags of all games that begin from now on. Without tags the present games are
+        over, and none begins until there are some."""
         if tags is None:
             for name in list(self.tables):
                 self.remove(name)
@@ -572,8 +572,7 @@ class Collector:
                 self.do(name, functools.partial(self.hear_said, board.journal, said))
 
     def remove(self, name: str) -> None:
-        """Nothing is added to the game on a board any more. The board may be back, and was taken
-        for the same."""
+        """Ends the game on a board. The board may be back, and was taken for the same."""
         if table := self.tables.pop(name, None):
             table.games.close()
             self.counts[name] = table.place.played
@@ -584,7 +583,7 @@ class Collector:
             self.tell(name, None, False)
 
     def finish(self, name: str, table: Table, games: int) -> None:
-        """The state keeps games that are done, and of what the board said what comes after."""
+        """Stores finished games, and drops a board's rows before them."""
         if not self.is_last:
             table.place.done.clear()
             return
@@ -594,12 +593,12 @@ class Collector:
                 self.finished[name, kept.number] = self.row
             self.state.cut(name, games, table.since)
         except sqlite3.Error as fault:
-            report(f"the state can't be cut: {fault} (it is tried again with the next game)")
+            report(f"the state can't be shortened: {fault} (the next game tries again)")
         else:
             table.place.done.clear()
 
     def hear_said(self, journal: str, said: Said, table: Table) -> None:
-        """What is known of a board waits until it is confirmed: it may be corrected till then."""
+        """Queues a board's entries until they are confirmed: they may be corrected before."""
         table.pending.append((journal, said))
         table.rows += 1
         is_sure = said.is_sure and said.is_confirmed
@@ -617,19 +616,19 @@ class Collector:
                            self.state.row_of_last(table.place.board, MOST_ROWS))
 
     def lose(self, table: Table, at: float) -> None:
-        """Nobody watched the board up to this time."""
+        """Notes that nobody watched the board up to this time."""
         table.at = max(table.at, at + table.shift)
         table.games.see(dgt.BoardView(in_doubt=True, away="ended"), table.at)
 
     def wait(self, now: float, table: Table) -> None:
-        """What was heard of a board is all that there is until this time."""
+        """Notes that everything up to this time was heard."""
         table.at = max(table.at, table.now(now))
         table.games.wait(table.at)
         table.note_beginning()
 
     def see(self, journal: str, said: Said, table: Table) -> None:
-        """Hears what is known of a board from a time on, once all has happened that was due. The
-        clock of another machine may be slow, and nobody watched before it did."""
+        """Handles a board's entry, after everything that was due before. The clock of another
+        machine may be slow, and nobody watched before it did."""
         if journal != table.journal:
             if table.at:
                 self.lose(table, table.at - table.shift)
@@ -646,7 +645,7 @@ class Collector:
         table.note_beginning()
 
     def do(self, name: str, what: Callable[[Table], None]) -> None:
-        """Does something with a board's games, and says what is new of them."""
+        """Does something with a board's games, and reports the changes."""
         table = self.tables.get(name) or self.add(name)
         try:
             what(table)

@@ -1,4 +1,4 @@
-"""Makes games of what boards say and of what an arbiter corrects: his rows of the state."""
+"""Makes games from the boards' reports and the arbiter's corrections, both rows of the state."""
 
 from __future__ import annotations
 
@@ -24,8 +24,8 @@ Players = dict[str, tuple[str, str]]
 
 @dataclass
 class Wanted:
-    """What an arbiter wants to be kept, of a board or of none. `keep` keeps it, if that is more
-    than one row, and `reply` gets what is wrong with it."""
+    """A correction that an arbiter wants to store, for a board or for none. `keep` stores it if it
+    is more than one row, and `reply` gets its fault."""
 
     board: str
     entry: Entry
@@ -34,17 +34,17 @@ class Wanted:
 
 
 class Corrected(collector.Collector):
-    """Makes games. `name` gets the players of a round, as its file has them. The side of a clock
-    that has White's time is `left` or `right`, or it is learned."""
+    """Makes games. `name` gets the players of a round from its file. The side of a clock that has
+    White's time is `left` or `right`, or it is learned."""
 
     def __init__(self, shelf: collector.Shelf, tags: dict[str, str], side: str,
                  tell: collector.Tell, name: Callable[[Players], None], state: collector.State,
                  is_last: bool) -> None:
         self.names: Players = {}
         self.name = name
-        self.sides: dict[str, str] = {}  # of each clock, if it isn't the usual one
+        self.sides: dict[str, str] = {}  # of clocks with another side than the usual one
         self.targets: dict[str, str] = {}  # the address that gets the games of a round
-        self.late: Corrected | None = None  # which makes the same games some time later
+        self.late: Corrected | None = None  # makes the same games some time later
         super().__init__(shelf, tags, side, tell, state, is_last)
 
     def hear(self, said: collector.Heard) -> None:
@@ -55,7 +55,7 @@ class Corrected(collector.Collector):
     # ---- Keeping a correction
 
     def ask(self, wanted: Wanted) -> None:
-        """Keeps what an arbiter wants, once it is known that it can be done. Refused if not."""
+        """Stores a correction, if it is possible. Otherwise Refused."""
         self.hear(functools.partial(self.decide, wanted))
         try:
             fault = wanted.reply.get(timeout=20)
@@ -65,8 +65,8 @@ class Corrected(collector.Collector):
             raise Refused(fault)
 
     def decide(self, wanted: Wanted) -> None:
-        """Keeps a correction with the times of the boards that it is about, by which it has the
-        same effect when the state is read again. It is tried on a copy before."""
+        """Stores a correction with the times of its boards, so that it has the same effect when the
+        state is read again. It is tried on a copy before."""
         here, board = time.monotonic(), wanted.board
         at = {name: math.ceil(1000 * (max(table.at, table.now(here)) - table.shift))
               for name, table in self.tables.items() if board in ("", name)}
@@ -84,12 +84,12 @@ class Corrected(collector.Collector):
             wanted.reply.put("")
 
     def game(self, board: str, number: int) -> dgt.PgnGame:
-        """A copy of a game. Refused if there is none."""
+        """A copy of a game. Refused if it doesn't exist."""
         table, kept = self.tables.get(board), self.shelf.find(board, number)
         if table is not None and number == table.place.count and table.games.game is not None:
             return corrections.copied(table.games.game)
         if kept is None:
-            raise Refused(f"there is no game {number} on board {board}")
+            raise Refused(f"board {board} has no game {number}")
         return corrections.read_game(kept.text)
 
     def check(self, board: str, entry: Entry) -> None:
@@ -104,9 +104,9 @@ class Corrected(collector.Collector):
         table, board = self.tables.get(one), self.shown.get(other)
         game = table.games.game if table else None
         if one == other or board is None or not board.is_shown:
-            raise Refused(f"there is no other board {other}")
+            raise Refused(f"unknown other board: {other}")
         if table is None or game is None:
-            raise Refused(f"there is no game on board {one}")
+            raise Refused(f"board {one} has no game")
         shown, right = said_of(board, 0.0, 0).letters, game.state.letters
         right = right[::-1] if table.games.recogniser.turned else right
         wrong = [dgt.SQUARES[at] for at in range(64) if shown[at] != right[at]]
@@ -114,7 +114,7 @@ class Corrected(collector.Collector):
             raise Refused(f"set up the position of the game on board {other} first: see "
                           f"{', '.join(wrong[:8])}{' and others' if len(wrong) > 8 else ''}")
 
-    # ---- Making games of it
+    # ---- Making the games
 
     def take(self, row: int, journal: str, name: str, at: float, entry: Any) -> None:
         if journal != DESK:
@@ -134,15 +134,15 @@ class Corrected(collector.Collector):
         return None
 
     def reach(self, at: float, table: Table) -> None:
-        """All happens that is due up to a time of the board. What isn't confirmed waits."""
+        """Does everything due up to a time of the board. Unconfirmed entries wait."""
         table.at = max(table.at, at + table.shift)
         while not table.pending and (due := table.games.due) is not None and due <= table.at:
             table.games.wait(due)
         table.note_beginning()
 
     def correct(self, row: int, name: str, entry: Entry) -> None:
-        """Corrects the game that is under way on a board, or one before it. The text of one that is
-        done may have it already."""
+        """Corrects the present game on a board, or an earlier one. The text of a finished game may
+        contain the correction already."""
         table, number = self.tables.get(name), entry["game"]
         if table is not None and number == table.place.count and table.games.game is not None:
             self.do(name, functools.partial(self.correct_live, entry))
@@ -156,16 +156,16 @@ class Corrected(collector.Collector):
             self.keep_done(row, kept)
 
     def keep_done(self, row: int, kept: collector.Kept) -> None:
-        """The state keeps the text of a game that is done, which has the correction of a row."""
+        """Stores the text of a finished game, with the correction of a row."""
         if self.is_last:
             try:
                 self.state.finish(kept.board, kept.number, kept.text, row)
                 self.finished[kept.board, kept.number] = row
             except sqlite3.Error as fault:
-                report(f"the state can't be kept: {fault}")
+                report(f"the state can't be written: {fault}")
 
     def correct_live(self, entry: Entry, table: Table) -> None:
-        """Corrects the game under way, and looks at the board anew."""
+        """Corrects the present game, and looks at the board again."""
         corrections.correct_live(table.games, entry, table.at)
         board = self.shown.get(table.place.board)
         if not table.pending and board is not None and board.is_shown:
@@ -173,7 +173,7 @@ class Corrected(collector.Collector):
             table.note_beginning()
 
     def set(self, entry: Entry) -> None:
-        """What is set of no single game."""
+        """Handles corrections that aren't about a single game."""
         if "names" in entry:
             self.take_names(**entry["names"])
         for name, side in entry.get("clock", {}).items():
@@ -185,8 +185,8 @@ class Corrected(collector.Collector):
                 self.do(name, functools.partial(self.move_to, *said))
 
     def take_names(self, tags: dict[str, str], players: dict[str, list[str]], push: str) -> None:
-        """The tags and players of a round, for the games that begin from now on, and for those of
-        this round that are under way."""
+        """Sets the tags and players of a round, for the games that begin from now on, and for the
+        present games of this round."""
         self.tags |= tags
         if push:
             self.targets[self.tags.get("Round", "?")] = push
@@ -217,14 +217,14 @@ class Corrected(collector.Collector):
     # ---- Clocks, and boards that are swapped
 
     def side(self, name: str) -> str:
-        """White's side of a board's clock, or that it is learned."""
+        """White's side of a board's clock, or `learn`."""
         return self.sides.get(name, self.white_clock)
 
     def set_side(self, table: Table) -> None:
-        """White's side of a board's clock is this one from now on, also in the game under way."""
+        """Sets White's side of a board's clock from now on, also in the present game."""
         table.games.white_clock = self.side(table.place.board)
 
     def move_to(self, journal: str, number: int, table: Table) -> None:
-        """The game goes on at another board, of which a journal has said something last with this
-        number: nobody was away."""
+        """Continues the game on another board. The last entry of a journal about that board has
+        this number: nobody was away."""
         table.journal, table.shift = journal, max(0.0, table.at + 0.001 - number / 1000)

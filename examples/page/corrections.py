@@ -1,4 +1,4 @@
-"""What an arbiter corrects: what his rows of the state mean, and what they do to games."""
+"""The arbiter's corrections: the meaning of his rows of the state, and their effect on games."""
 
 from __future__ import annotations
 
@@ -31,14 +31,14 @@ Entry = dict[str, Any]
 
 
 class Refused(Exception):
-    """A correction, or a file, says what can't be."""
+    """A correction, or a file, isn't valid."""
 
 
 # ---- Games as text
 
 
 def named(state: dgt.GameState, word: str) -> str:
-    """The legal move that a word means, in short or long notation."""
+    """The legal move of a word in short or long notation."""
     plain = word.rstrip("+#!?").replace("0", "O")
     found = SAN.fullmatch(plain)
     if plain in CASTLINGS:
@@ -79,7 +79,7 @@ def read_moves(state: dgt.GameState, text: str) -> Iterator[tuple[str, str]]:
 
 
 def read_game(text: str) -> dgt.PgnGame:
-    """A game of the text that `dgt.PgnGame` writes of it."""
+    """Reads a game from the text that `dgt.PgnGame` has written."""
     heads, _, body = text.partition("\n\n")
     tags = {name: re.sub(r"\\(.)", r"\1", value)
             for name, value in re.findall(r'(?m)^\[(\w+) "(.*)"\]$', heads)}
@@ -104,7 +104,7 @@ def copied(game: dgt.PgnGame) -> dgt.PgnGame:
 
 
 def spliced(game: dgt.PgnGame, text: str) -> Entry:
-    """The correction after which a game has the moves of a text. Refused if it can't."""
+    """The correction that gives a game the moves of a text. Refused if they aren't legal."""
     old = [each.move for each in game.moves]
     new = [move for move, _ in read_moves(game.start, re.sub(r"\{[^}]*\}", " ", text))]
     ply = next((at for at, pair in enumerate(zip(old, new)) if pair[0] != pair[1]),
@@ -116,7 +116,7 @@ def spliced(game: dgt.PgnGame, text: str) -> Entry:
 
 
 def tags_of(entry: Entry) -> dict[str, str]:
-    """The tags of a game that a correction sets. An empty one is taken away."""
+    """The tags that a correction sets. An empty one is removed."""
     if "result" in entry:
         return {"Termination": "" if entry["result"] == "*" else str(entry["why"])}
     return dict(entry.get("tags", {}))
@@ -129,11 +129,11 @@ def set_tags(game: dgt.PgnGame, tags: dict[str, str]) -> None:
 
 
 def correct(game: dgt.PgnGame, entry: Entry) -> None:
-    """Corrects a game that is done, or a copy. Refused if that can't be."""
+    """Corrects a finished game, or a copy. Refused if that isn't possible."""
     if "ply" in entry:
         ply, count = entry["ply"], len(entry["old"])
         if [each.move for each in game.moves[ply:ply + count]] != entry["old"]:
-            raise Refused("the game has other moves by now")
+            raise Refused("the moves of the game have changed meanwhile")
         try:
             game.replace(ply, count, entry["new"])
         except dgt.DgtError as fault:
@@ -143,7 +143,7 @@ def correct(game: dgt.PgnGame, entry: Entry) -> None:
 
 
 def correct_live(games: dgt.Games, entry: Entry, at: float) -> None:
-    """Corrects the game that is under way, at a time of its board."""
+    """Corrects the present game, at a time of its board."""
     if games.game is None:
         raise Refused("no game has begun")
     set_tags(games.game, tags_of(entry))
@@ -158,7 +158,7 @@ def correct_live(games: dgt.Games, entry: Entry, at: float) -> None:
 
 
 def check_address(url: str) -> str:
-    """An address that may get a token. Refused if it is none."""
+    """An address that may get a token. Refused if it isn't one."""
     try:
         parts = urllib.parse.urlsplit(url)
     except ValueError as fault:
@@ -172,7 +172,7 @@ def check_address(url: str) -> str:
 
 @dataclass
 class Names:
-    """What a file says of a round, and the address that gets its games."""
+    """The content of a file about a round: names, tags, and the address that gets its games."""
 
     tags: dict[str, str] = field(default_factory=dict)
     players: dict[str, list[str]] = field(default_factory=dict)
@@ -217,7 +217,7 @@ class Watch:
             raise Refused(f"{path}: {self.fault}")
 
     def look(self) -> Any:
-        """Something that is another one if the file is."""
+        """A value that changes with the file."""
         try:
             now = os.stat(self.path)
             return now.st_mtime_ns, now.st_size, now.st_ino
@@ -225,21 +225,20 @@ class Watch:
             return None
 
     def read(self) -> bool:
-        """Reads the file. If it is wrong, the names stay as they were."""
+        """Reads the file. If it is wrong, the names don't change."""
         try:
             content = pathlib.Path(self.path).read_bytes()[:MOST_FILE]
             self.names, self.fault = read_names(content.decode("utf-8-sig")), ""
         except OSError as fault:
             self.fault = fault.strerror or str(fault)
         except UnicodeDecodeError:
-            self.fault = "it is no UTF-8"
+            self.fault = "it isn't UTF-8"
         except Refused as fault:
             self.fault = str(fault)
         return not self.fault
 
     def run(self, hear: Callable[[Names], None], report: Callable[[str], None]) -> None:
-        """Reads the file again once it has changed, and stays as it is from one look to the
-        next."""
+        """Reads the file again if it has changed between two looks, and is stable."""
         stop = threading.Event()
         while not stop.wait(LOOK):
             stamp, self.seen = self.seen, self.look()

@@ -1,4 +1,4 @@
-"""Games and boards as they were some minutes ago: all that others than the arbiter get."""
+"""Delayed games and boards: all that spectators get."""
 
 from __future__ import annotations
 
@@ -13,21 +13,21 @@ import corrected
 
 
 class Shown(Protocol):
-    """What shows the boards."""
+    """Shows the boards."""
 
     def show(self, journal: str, board: str, number: int, entry: list[Any]) -> None:
-        """A board said this."""
+        """Shows an entry of a board."""
 
     def show_time(self, now: collector.Now) -> None:
-        """It is this time on a board."""
+        """Notes the time on a board."""
 
     def remove(self, name: str) -> None:
-        """A board goes."""
+        """Removes a board."""
 
 
 class LateState(collector.State):
-    """The rows of a state, each of which is read some seconds after it came. The time of the
-    machine counts for those that were there before, and no step of it for the others."""
+    """The rows of a state, each of which is read some seconds after its arrival. For rows from
+    before the start the machine's time counts; steps of the clock don't affect the others."""
 
     def __init__(self, state: collector.State, seconds: float) -> None:
         self.kept, self.read, self.seconds, self.last, self.newest = state.kept, 0, seconds, 0, 0
@@ -49,7 +49,7 @@ class LateState(collector.State):
 
 
 class Late(corrected.Corrected):
-    """Makes the games of a late state. `boards` shows what it has."""
+    """Makes the games of a delayed state. `boards` shows them."""
 
     def __init__(self, shelf: collector.Shelf, tags: dict[str, str], side: str,
                  tell: collector.Tell, name: Any, state: LateState, boards: Shown) -> None:

@@ -1,4 +1,4 @@
-"""The arbiter's desk: one page at an address of its own, which shows all boards as they are now and
+"""The arbiter's desk: a page at a separate address, which shows all boards without the delay and
 takes corrections."""
 
 from __future__ import annotations
@@ -36,7 +36,8 @@ quoted = html.escape
 
 @dataclass
 class Source:
-    """What the desk shows, and what keeps its corrections. `status` yields lines of how all is."""
+    """The boards and games of the desk, and the store of corrections. `status` yields lines about
+    the server."""
 
     boards: Any
     games: corrected.Corrected
@@ -57,7 +58,7 @@ class Desk(web.Visit):
     def do_GET(self) -> None:
         path, _, query = self.path.partition("?")
         if "Content-Length" in self.headers or "Transfer-Encoding" in self.headers:
-            self.close_connection = True  # what follows isn't read, and is no next request
+            self.close_connection = True  # the rest isn't read, and isn't another request
         if not self.is_let_in():
             return
         if path in ("/", "/desk"):
@@ -68,19 +69,19 @@ class Desk(web.Visit):
             self.answer(200, "application/x-chess-pgn",
                         self.source.games.shelf.pgn()[0].decode(errors="replace"))
         else:
-            self.answer(404, "text/plain", "there is no such page\n")
+            self.answer(404, "text/plain", "page not found\n")
 
     def do_POST(self) -> None:
         length = self.headers.get("Content-Length", "")
         self.close_connection = True
         if not length.isdecimal() or int(length) > web.MOST_BODY:
-            return self.answer(413, "text/plain", "this is no form of the desk\n")
+            return self.answer(413, "text/plain", "this is not a form of the desk\n")
         body = self.rfile.read(int(length))
         if not self.is_let_in():
             return
         form = dict(urllib.parse.parse_qsl(body.decode(errors="replace"), keep_blank_values=True))
         if not self.is_of_desk(form):
-            return self.answer(403, "text/plain", "this form isn't of the desk: open it again\n")
+            return self.answer(403, "text/plain", "this form isn't the desk's: open it again\n")
         place = {name: form[name] for name in ("board", "game") if form.get(name)}
         try:
             self.correct(form)
@@ -89,11 +90,11 @@ class Desk(web.Visit):
         self.answer(303, "text/plain", "", Location=f"/desk?{urllib.parse.urlencode(place)}"
                     f"&kept={urllib.parse.quote(form['kind'])}")
 
-    # ---- Who may come
+    # ---- Access
 
     def is_let_in(self) -> bool:
-        """Whether the browser has the password; without one, whether it asks this machine by its
-        own name, as no page from elsewhere can."""
+        """Whether the browser knows the password; without one, whether it uses this machine's own
+        name, which no page from elsewhere can."""
         password, given = self.source.password, self.headers.get("Authorization", "")
         if password is None:
             host = self.headers.get("Host", "")
@@ -106,12 +107,12 @@ class Desk(web.Visit):
         if given:
             self.pause = WAIT
         self.close_connection = True
-        self.answer(401, "text/plain", "the desk has a password\n",
+        self.answer(401, "text/plain", "the desk needs a password\n",
                     WWW_Authenticate='Basic realm="desk", charset="UTF-8"')
         return False
 
     def is_of_desk(self, form: Form) -> bool:
-        """Whether a form is of this desk, and not of another page."""
+        """Whether a form belongs to this desk, and not to another page."""
         origin = self.headers.get("Origin")
         is_own = origin is None or (urllib.parse.urlsplit(origin).netloc
                                     == self.headers.get("Host", ""))
@@ -132,10 +133,10 @@ class Desk(web.Visit):
         if self.command != "HEAD":
             self.wfile.write(content)
 
-    # ---- What is shown
+    # ---- The pages
 
     def show(self, query: Form, fault: str = "", form: Form | None = None) -> None:
-        """Sends the page of all boards, or of one. A form that was refused has what was typed."""
+        """Sends the page of all boards, or of one. A refused form contains the typed text."""
         nonce, name = secrets.token_urlsafe(16), query.get("board", "")
         said = ""
         if fault:
@@ -187,7 +188,7 @@ class Desk(web.Visit):
         return f"<h2>Last corrections</h2><ul>{items}</ul>" if items else ""
 
     def board(self, name: str, number: str, form: Form) -> tuple[str, str, str]:
-        """The title, what changes by itself, and the forms of a board."""
+        """The title, the live part, and the forms of a board."""
         games = self.source.games
         table = games.tables.get(name)
         last = table.place.count if table else games.counts.get(name, 0)
@@ -243,26 +244,26 @@ class Desk(web.Visit):
                 "The game goes on at board", "other", others, "")))
         return parts
 
-    # ---- What is corrected
+    # ---- Corrections
 
     def correct(self, form: Form) -> None:
-        """Keeps the correction of a form. Refused, or a ValueError, if it can't be."""
+        """Stores the correction of a form. Refused, or a ValueError, if it isn't valid."""
         games, kind, board = self.source.games, form.get("kind"), form.get("board", "")
         number = int(form.get("game", ""))
         entry: dict[str, Any] = {"game": number}
         if kind == "result":
             if form.get("result") not in RESULTS or form.get("why") not in corrections.REASONS:
-                raise Refused("there is no such result")
+                raise Refused("not a result")
             entry |= {"result": form["result"], "why": form["why"]}
         elif kind == "moves":
             game = games.game(board, number)
             if form.get("before") != moves_of(game):
-                raise Refused("the game went on meanwhile: see it, and correct it once more")
+                raise Refused("the game went on meanwhile: look at it, and correct it again")
             entry |= corrections.spliced(game, form.get("moves", ""))
         elif kind == "tags":
             tags = {each: form[each].strip() for each in ("White", "Black", "Round")}
             if not all(0 < len(each) <= 200 and each.isprintable() for each in tags.values()):
-                raise Refused("each needs a name")
+                raise Refused("both players need a name")
             entry |= {"tags": tags}
         elif kind == "clock" and form.get("side") in corrections.SIDES:
             board, entry = "", {"clock": {board: form["side"]}}
@@ -271,12 +272,13 @@ class Desk(web.Visit):
             keep = self.source.boards.swap
             return games.ask(Wanted("", {"swap": swap}, keep))
         else:
-            raise Refused("there is no such form")
+            raise Refused("not a form of the desk")
         games.ask(Wanted(board, entry))
 
 
 def is_password(given: str, password: str) -> bool:
-    """Whether a head of HTTP has the password, of any user. It takes the same time if not."""
+    """Whether an HTTP header contains the password, for any user. A wrong one takes the same
+    time."""
     kind, _, code = given.partition(" ")
     try:
         _, _, said = base64.b64decode(code, validate=True).partition(b":")

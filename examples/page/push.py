@@ -1,4 +1,4 @@
-"""Sends the games of a round to an address with a token, and writes those of each into a file."""
+"""Sends the games of a round to an address with a token, and writes each round into a file."""
 
 from __future__ import annotations
 
@@ -20,33 +20,33 @@ from typing import Any
 import collector
 from corrections import Refused, check_address
 
-TIMEOUT = 10.0  # seconds in which an address has to take what is sent, and to answer
-LEAST, MOST = 1.0, 60.0  # seconds between two tries: they double
+TIMEOUT = 10.0  # seconds for a request and its answer
+LEAST, MOST = 1.0, 60.0  # seconds between two attempts: they double
 PAUSE = 1.0  # seconds after which games are sent again
-MOST_ASKED = 900.0  # seconds for which an address may ask to be left alone
+MOST_ASKED = 900.0  # the most seconds that an address may ask to wait
 ROUND = re.compile(r'(?m)^\[Round "((?:[^"\\]|\\.)*)"\]$')
 
 
 class Unreadable(Exception):
-    """A file has no secret, and why."""
+    """A file contains no secret, and why."""
 
     def __str__(self) -> str:
         return ": ".join(map(str, self.args))
 
 
 def read_secret(path: str) -> str:
-    """The first line of a file that others can't read. Unreadable if it is none."""
+    """The first line of a file that others can't read. Unreadable if it isn't a secret."""
     try:
         with open(path, "rb") as opened:
             if os.fstat(opened.fileno()).st_mode & stat.S_IRWXO:
-                raise Unreadable(path, "others may read it (chmod o= does away with that)")
+                raise Unreadable(path, "others may read it (chmod o= prevents that)")
             secret = opened.read(4097).decode().partition("\n")[0].strip()
     except OSError as fault:
         raise Unreadable(path, fault.strerror or str(fault)) from None
     except UnicodeDecodeError:
-        raise Unreadable(path, "it is no text") from None
+        raise Unreadable(path, "it isn't text") from None
     if not 0 < len(secret) <= 4096 or not secret.isascii() or not secret.isprintable():
-        raise Unreadable(path, "its first line is no secret")
+        raise Unreadable(path, "its first line isn't a secret")
     return secret
 
 
@@ -66,8 +66,8 @@ def by_round(shelf: collector.Shelf) -> dict[str, bytes]:
 
 
 class Out:
-    """A thread that does something with the games after each change, and tries again with growing
-    waits until it has done it."""
+    """A thread that does something with the games after each change. On failure it tries again,
+    with growing waits."""
 
     def __init__(self, shelf: collector.Shelf) -> None:
         self.shelf, self.changed = shelf, threading.Event()
@@ -87,10 +87,10 @@ class Out:
             time.sleep(PAUSE)
 
     def turn(self) -> float | None:
-        """Does it. Returns after how many seconds it is tried again, if that is needed."""
+        """Does it. Returns the seconds until another attempt, if that is needed."""
         fault, asked = self.do()
         if fault and fault != self.fault:
-            collector.report(f"{fault} (it is tried again)")
+            collector.report(f"{fault} (trying again)")
         elif self.fault and not fault:
             collector.report(f"{self.name} has all games again")
         self.fault = fault
@@ -131,7 +131,7 @@ class Files(Out):
         return "", 0.0
 
     def write(self, name: str, text: bytes) -> None:
-        """Puts a whole file in the place of the earlier one."""
+        """Replaces a file."""
         path, new = self.folder / name, self.folder / f".{name}.new"
         try:
             with open(new, "wb") as opened:
@@ -146,15 +146,15 @@ class Files(Out):
 
 
 class Still(urllib.request.HTTPRedirectHandler):
-    """Goes nowhere else: another address isn't to get the token."""
+    """Follows no redirection: another address must not get the token."""
 
     def redirect_request(self, *_: Any) -> None:
         return None
 
 
 class Push(Out):
-    """An address gets the games of a round, by POST with a token. `targets` has of each address its
-    round, or `None` for all games."""
+    """Sends the games of a round to an address, by POST with a token. `targets` has the round of
+    each address, or `None` for all games."""
 
     def __init__(self, shelf: collector.Shelf, token: str,
                  targets: Callable[[], dict[str, str | None]]) -> None:
@@ -193,15 +193,15 @@ class Push(Out):
         except urllib.error.HTTPError as fault:
             with fault:
                 return f"{fault.code} {fault.reason}"[:200], seconds_of(fault.headers)
-        except OSError as fault:  # URLError and timeouts are some
+        except OSError as fault:  # such as URLError and timeouts
             return str(getattr(fault, "reason", fault))[:200] or type(fault).__name__, 0.0
         except http.client.HTTPException as fault:
-            return f"no answer of HTTP: {type(fault).__name__}", 0.0
+            return f"no HTTP answer: {type(fault).__name__}", 0.0
         return "", 0.0
 
 
 def seconds_of(heads: Any) -> float:
-    """For how long an answer asks to wait."""
+    """The seconds that an answer asks to wait."""
     text = str(heads.get("Retry-After", ""))
     if text.isdecimal() and len(text) < 9:
         return min(MOST_ASKED, float(text))

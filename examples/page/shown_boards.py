@@ -22,7 +22,7 @@ MOST_BOARDS, MOST_OF_PUBLISHER = 4096, 512
 
 
 class Said:
-    """Reports on standard error how the broker is, each time that it is another way."""
+    """Reports the broker's state on standard error, each time that it changes."""
 
     def __init__(self) -> None:
         self.last = ""
@@ -34,7 +34,7 @@ class Said:
 
 
 class Boards:
-    """What each board said last, and what pages are sent of it."""
+    """The last messages of each board, and the events for pages."""
 
     def __init__(self, state: collector.State) -> None:
         self.lock = threading.Lock()
@@ -46,13 +46,13 @@ class Boards:
         self.events = web.Events()
         self.latest: tuple[int, str] = (-1, "")
         self.games: corrected.Corrected | None = None
-        self.late: Boards | None = None  # what others than the desk get
+        self.late: Boards | None = None  # the boards for spectators
         self.names: corrected.Players = {}
-        self.seats: dict[str, str] = {}  # in whose place a board is, if it was swapped
+        self.seats: dict[str, str] = {}  # the other board of each swapped one
         self.broker = False
         self.messages = self.refused = 0
-        self.wrong: set[tuple[str, str]] = set()  # of which a refused message was reported
-        self.full: set[str] = set()  # publishers of which a refused board was reported
+        self.wrong: set[tuple[str, str]] = set()  # topics with a reported invalid message
+        self.full: set[str] = set()  # publishers with a reported refused board
 
     def head(self) -> dict[str, Any]:
         tags = self.games.tags if self.games else {}
@@ -68,8 +68,8 @@ class Boards:
             return self.all()
 
     def written(self) -> tuple[bytes, int]:
-        """All that pages show, as JSON, and the place of the next event. Its first key is the time,
-        by which a page knows how old each clock is."""
+        """Everything that pages show, as JSON, and the place of the next event. Its first key is
+        the time, from which a page computes the age of each clock."""
         with self.lock:
             end = self.events.end
             if self.latest[0] != end:
@@ -82,18 +82,18 @@ class Boards:
         self.events.add(json.dumps(event).encode())
 
     def refuse(self, name: str, topic: str, payload: bytes) -> None:
-        """Reports a message that says nothing, once for each topic until it says something."""
+        """Reports an invalid message, once for each topic until it has a valid one."""
         with self.lock:
             self.refused += 1
             is_new = (name, topic) not in self.wrong and len(self.wrong) < MOST_BOARDS
             self.wrong |= {(name, topic)} if is_new else set()
         if is_new:
             shown = f"{name}/{topic}" if topic else name
-            report(f"{shown[:80]!r} said {payload[:80]!r}, which is passed over")
+            report(f"{shown[:80]!r}: invalid message ignored: {payload[:80]!r}")
 
     def board_of(self, name: str, journal: str) -> topics.Board | None:
-        """The board of this name. Nothing if it would be one too many of this publisher, which is
-        reported once."""
+        """The board with this name. Nothing if its publisher has too many boards, which is reported
+        once."""
         board = self.known.get(name)
         if (board is None or board.journal != journal) and (
                 self.owned[journal] >= MOST_OF_PUBLISHER
@@ -101,8 +101,7 @@ class Boards:
             self.refused += 1
             if journal not in self.full and len(self.full) < MOST_BOARDS:
                 self.full.add(journal)
-                report(f"{name[:80]!r} is one board too many of its publisher: it and all more are "
-                       "passed over")
+                report(f"{name[:80]!r}: ignored, since its publisher has too many boards")
             return None
         if board is None:
             board = self.known[name] = topics.Board(name)
@@ -110,7 +109,7 @@ class Boards:
         return board
 
     def give(self, board: topics.Board, journal: str | None) -> None:
-        """A publisher has this board from now on, or none."""
+        """Gives the board to a publisher, or to none."""
         self.owned[board.journal] -= 1
         if not self.owned[board.journal]:
             del self.owned[board.journal]
@@ -121,15 +120,14 @@ class Boards:
             board.journal = journal
 
     def hear(self, name: str, topic: str, payload: bytes) -> None:
-        """A message of a board. An empty one takes back what the topic said: so a broker forgets
-        it."""
+        """Handles a message of a board. An empty one removes what the topic said."""
         now = time.monotonic()
         try:
             said = topics.read(topic, payload)
             with self.lock:
                 board = self.known.get(name)
                 if board and board.journal and topic != topics.COUNTERS:
-                    return  # the journal says it, too
+                    return  # the journal contains it, too
                 if (board := board or self.board_of(name, "")) is None:
                     return
                 self.wrong.discard((name, topic))
@@ -144,8 +142,8 @@ class Boards:
             self.refuse(name, topic, payload)
 
     def hear_log(self, name: str, payload: bytes, is_live: bool) -> str | None:
-        """A message of a journal about a board. Returns what is to be asked for, if it lacks
-        something."""
+        """Handles a message of a journal about a board. Returns a request for missing entries, if
+        there are any."""
         try:
             log = topics.read_log(payload)
             with self.lock:
@@ -183,16 +181,17 @@ class Boards:
         return f"{log.journal} {mark}"
 
     def end_of_last(self, board: topics.Board, log: topics.Log) -> int:
-        """The time in a new journal of the last entry of the journal before. What is older was
-        somewhere else, as another game. The clocks of two machines may differ."""
+        """The time in a new journal that corresponds to the last entry of the old one. Older
+        entries are from somewhere else, such as another game. The clocks of two machines may
+        differ."""
         if board.journal in ("", log.journal) or board.ahead is None:
             return 0
         last = self.marks.get((board.name, board.journal), 0)
         return last + board.ahead - topics.ahead(log.now) - 1000
 
     def keep(self, name: str, log: topics.Log, mark: int) -> int:
-        """Keeps the entries that follow the last one that is kept, and returns the number of the
-        last one then. What the journal doesn't have any more is lost."""
+        """Stores the entries that follow the last stored one, and returns the number of the last
+        one. Entries that the journal has dropped are lost."""
         try:
             if 0 < mark < log.first:
                 self.state.add(log.journal, name, log.first - 1, None)
@@ -202,13 +201,13 @@ class Boards:
                     self.state.add(log.journal, name, number, said)
                     mark = number
         except sqlite3.Error as fault:
-            self.fault.say(f"the state can't be kept: {fault} (what is missing is asked for again)")
+            self.fault.say(f"the state can't be written: {fault} (requesting the rest again)")
         else:
             self.fault.last = ""
         return mark
 
     def pass_over(self, board: topics.Board) -> None:
-        """The board's journal is heard: others need not say what they said until now."""
+        """Notes that the board's journal is heard, so that other messages aren't needed."""
         for journal, number in board.others.items():
             with contextlib.suppress(sqlite3.Error):
                 self.state.mark(journal, board.name, number)
@@ -216,7 +215,7 @@ class Boards:
         board.others.clear()
 
     def end_journal(self, journal: str) -> None:
-        """The program of a journal has ended."""
+        """Notes that the program of a journal has ended."""
         with self.lock:
             for board in self.known.values():
                 if board.journal == journal:
@@ -224,7 +223,7 @@ class Boards:
                     self.tell_change(board)
 
     def tell_change(self, board: topics.Board) -> None:
-        """Sends pages what they don't show by themselves."""
+        """Sends changes to pages, unless they show them by themselves."""
         board.named = self.names.get(board.name)
         event = board.event() if board.is_shown else None
         if event is None and board.told is not None:
@@ -236,7 +235,7 @@ class Boards:
         board.told = event
 
     def pass_on(self, board: topics.Board, was_shown: bool) -> None:
-        """Games are made of what a board says that no journal has."""
+        """Makes games from the messages of a board without a journal."""
         if self.games and board.is_shown:
             now = time.time()
             with contextlib.suppress(sqlite3.Error):
@@ -246,7 +245,7 @@ class Boards:
             self.games.hear(board.name)
 
     def recall(self) -> None:
-        """What the state has of each board: the page shows it until more is heard."""
+        """Shows the boards of the state until their messages arrive."""
         for name, journal, number, entry in self.state.latest():
             if board := self.board_of(name, journal):
                 self.give(board, journal)
@@ -254,7 +253,7 @@ class Boards:
                 board.live_at = time.monotonic()
 
     def hear_game(self, name: str, game: dict[str, Any] | None, is_turned: bool) -> None:
-        """What is new of the game on a board, or of the tags, if it is no board."""
+        """Notes changes of the game on a board or, without a board, of the tags."""
         with self.lock:
             board = self.known.get(name)
             if board is not None and board.is_shown:
@@ -264,9 +263,9 @@ class Boards:
                 self.tell(self.head())
 
     def hear_broker(self, is_there: bool) -> None:
-        """The broker comes or goes. When it comes, nothing is known of a board's state until it is
-        heard again: what was retained may be forgotten. The rest stays, and what the broker repeats
-        of it is no change."""
+        """Notes that the broker was connected or lost. On a connection the boards' states are
+        unknown until they arrive again: the broker may have lost retained messages. The rest stays,
+        and repeated messages change nothing."""
         with self.lock:
             self.broker = is_there
             self.tell(self.head())
@@ -280,10 +279,10 @@ class Boards:
                     self.tell_change(board)
                 self.pass_on(board, False)
 
-    # ---- What an arbiter sets, and what is shown late
+    # ---- The arbiter's settings, and delayed boards
 
     def sit(self) -> None:
-        """The boards that were swapped before are at their places."""
+        """Puts boards that were swapped before at their places."""
         for one, other in self.state.settings("swap"):
             self.change_places(one, other)
 
@@ -292,8 +291,8 @@ class Boards:
         self.seats[sources[one]], self.seats[sources[other]] = other, one
 
     def swap(self, entry: corrections.Entry) -> None:
-        """Two boards change their places: each goes on with the other's game. sqlite3.Error if that
-        can't be kept."""
+        """Two boards change places: each continues the other's game. sqlite3.Error if that can't be
+        stored."""
         one, other = entry["swap"]
         with self.lock:
             rows = []
@@ -309,7 +308,7 @@ class Boards:
             self.exchange(self.known[one], self.known[other])
 
     def exchange(self, one: topics.Board, other: topics.Board) -> None:
-        """The page shows the boards at each other's places. The games stay there."""
+        """Shows the boards at each other's places. The games stay there."""
         one.name, other.name = other.name, one.name
         one.game, other.game = other.game, one.game
         one.is_turned, other.is_turned = other.is_turned, one.is_turned
@@ -318,14 +317,14 @@ class Boards:
             self.tell_change(board)
 
     def name(self, players: corrected.Players) -> None:
-        """The players as the file of names has them."""
+        """Sets the players of the file of names."""
         with self.lock:
             self.names = players
             for board in self.known.values():
                 self.tell_change(board)
 
     def show(self, journal: str, name: str, number: int, entry: list[Any]) -> None:
-        """A board said this some time ago."""
+        """Shows an entry from some time ago."""
         with self.lock:
             board = self.known.setdefault(name, topics.Board(name))
             board.journal = journal

@@ -1,4 +1,4 @@
-"""What the topics of a board say, and all that is known of a board by them."""
+"""The messages of a board's topics, and the state of a board."""
 
 from __future__ import annotations
 
@@ -10,23 +10,23 @@ from typing import Any
 
 import dgt
 
-# The topics of a board, below boards/NAME. Of several that are retained, a server hears them in
-# this order: whether a position is right and confirmed is known before it comes.
+# The topics of a board, below boards/NAME. A server gets retained messages in this order, so that
+# the state and the confirmation are known before the position.
 LOG, JOURNAL, STATE, CONFIRMED, POSITION, CLOCK, PLAYERS, COUNTERS = TOPICS = (
     "log", "journal", "state", "confirmed", "", "clock", "players", "counters")
 IN_ENTRY = (STATE, POSITION, CLOCK, PLAYERS)
-# What a board may be. In doubt is one whose line lost bytes, until it has reported all squares.
+# The states of a board. In doubt: the line lost bytes, and all squares weren't reported yet.
 STATES = ("following", "doubt", "silent", "gone", "ended", "unknown")
 MOST_BYTES = 500  # of a message
-MOST_LOG = 500 * 110  # of one with entries
+MOST_LOG = 500 * 110  # of a message with entries
 MOST_NAME = MOST_PLAYERS = 200  # bytes
-LOST = 25.0  # seconds after which a journal that isn't heard may be another one's board
+LOST = 25.0  # seconds after which another journal may take a silent one's board
 SIDES = ("left", "right")  # of a clock
 AT_START = time.time() - time.monotonic()
-NEAR = 1.5  # seconds by which a clock may differ from what a page makes of its last reading
-# A line of `dgt picture`: how many bytes had come, and where the pieces stand.
+NEAR = 1.5  # seconds by which a clock may differ from a page's prediction
+# A line of `dgt picture`: the number of bytes, and the position.
 LINE = re.compile(r"(\d{8,20}) (\S+)")
-# One of `dgt picture --clock`, and the words of its flags.
+# A line of `dgt picture --clock`, and its words for flags.
 TIME = r"(\d{1,3}:[0-5]\d:[0-5]\d)"
 FLAGS = [side + flag for side in SIDES for flag in ("blocked", "permove", "fallen")]
 TIMES = re.compile(rf"\d{{8,20}} clock {TIME} {TIME} (running|stopped) (white|black|-)( low)?"
@@ -35,12 +35,12 @@ NO_CLOCK = re.compile(r"\d{8,20} clock none")
 
 
 class Refused(Exception):
-    """A message says nothing that its topic may say."""
+    """A message isn't valid for its topic."""
 
 
 @dataclass(frozen=True)
 class Clock:
-    """What a clock shows, in seconds; or that there is none."""
+    """The times of a clock, in seconds; or that there is none."""
 
     is_none: bool = True
     left: int = 0
@@ -48,11 +48,11 @@ class Clock:
     running: bool = False
     turn: str | None = None
     low: bool = False
-    fallen: tuple[str, ...] = ()  # the sides whose flag has fallen
+    fallen: tuple[str, ...] = ()  # the sides with a fallen flag
 
 
 def read_position(text: str) -> tuple[int, dgt.Position]:
-    """The count of bytes, and where the pieces stand."""
+    """The number of bytes, and the position."""
     if not (found := LINE.fullmatch(text)):
         raise Refused
     try:
@@ -93,7 +93,7 @@ def read_players(text: str) -> tuple[str, str]:
 
 
 def read_counters(text: str) -> dict[str, int]:
-    """How often something happened, by names."""
+    """Numbers of events, by names."""
     try:
         read = json.loads(text)
     except (ValueError, RecursionError):
@@ -111,7 +111,7 @@ READERS = {STATE: read_state, CONFIRMED: read_position, POSITION: read_position,
 
 
 def read(topic: str, payload: bytes) -> Any:
-    """What a message of a topic says. None is that an empty one takes back what was said."""
+    """The content of a message of a topic. None for an empty one, which removes the last one."""
     if not payload:
         return None
     try:
@@ -125,8 +125,8 @@ def read(topic: str, payload: bytes) -> Any:
 
 @dataclass(frozen=True)
 class Log:
-    """A message of a journal: each entry that it has of a board after the number `before`. It has
-    those from `first` to `last`. A number is a time in milliseconds, as `now` is."""
+    """A message of a journal: its entries of a board after the number `before`. The journal has
+    those from `first` to `last`. Numbers are times in milliseconds; so is `now`."""
 
     journal: str
     now: int
@@ -153,7 +153,7 @@ def read_log(payload: bytes) -> Log:
 
 
 def read_entry(said: list[Any]) -> dict[str, Any]:
-    """What each topic says. Refused if one of them may not say that."""
+    """The contents of all topics. Refused if one of them isn't valid."""
     *texts, is_confirmed = said
     entry = {topic: read(topic, text.encode())
              for topic, text in zip(IN_ENTRY, texts, strict=True) if text}
@@ -161,29 +161,29 @@ def read_entry(said: list[Any]) -> dict[str, Any]:
 
 
 def ahead(now: int) -> int:
-    """By how many milliseconds the clock here is ahead of another one."""
+    """The milliseconds by which the clock here is ahead of another one."""
     return round(1000 * time.time()) - now
 
 
 @dataclass
 class Board:
-    """What is known of a board."""
+    """The state of a board."""
 
     name: str
-    said: dict[str, Any] = field(default_factory=dict)  # of each topic, what it said last
+    said: dict[str, Any] = field(default_factory=dict)  # the last content of each topic
     game: dict[str, Any] | None = None
     is_turned: bool = False  # White's pieces began on the ranks 8 and 7
-    texts: dict[str, str] = field(default_factory=dict)  # of the same
-    journal: str = ""  # that has the board, if one has it
-    named: tuple[str, str] | None = None  # its players, as an arbiter's file has them
-    clock_number: int = 0  # of the entry with this clock
+    texts: dict[str, str] = field(default_factory=dict)  # the same as text
+    journal: str = ""  # the journal with the board, if there is one
+    named: tuple[str, str] | None = None  # its players from an arbiter's file
+    clock_number: int = 0  # the number of the entry with this clock
     others: dict[str, int] = field(default_factory=dict)  # other journals, and their last numbers
     less: str | None = None  # the side of the clock that had less time than before
-    told: dict[str, Any] | None = None  # the event that pages were sent last
+    told: dict[str, Any] | None = None  # the last event for pages
     has_ended: bool = False  # the journal's program
     live_at: float = 0.0  # when the journal was heard
     ahead: int | None = None  # the clock here, of the journal's, in milliseconds
-    is_fresh: bool = False  # its position was heard since the broker came
+    is_fresh: bool = False  # its position was heard since the broker was connected
     heard_at: float = 0.0
     clock_at: float = 0.0
 
@@ -193,12 +193,12 @@ class Board:
 
     @property
     def is_sure(self) -> bool:
-        """Whether the board stands as its position says."""
+        """Whether the position is right."""
         return self.is_fresh and self.state in ("following", "unknown")
 
     @property
     def is_confirmed(self) -> bool:
-        """Whether the board has confirmed its position, as far as its publisher says that."""
+        """Whether the board has confirmed its position, according to its publisher."""
         confirmed = self.said.get(CONFIRMED)
         return bool(confirmed is None or confirmed[1] == self.position)
 
@@ -207,8 +207,8 @@ class Board:
         return "ended" if self.has_ended else str(self.said.get(STATE, "unknown"))
 
     def may_be_of(self, journal: str, now: float, is_live: bool) -> bool:
-        """Whether a journal is the one that is heard. If two programs watch one board, that is the
-        one that was first, until it is away or isn't heard any more."""
+        """Whether a journal is the one in use. If two programs follow one board, that is the first
+        one, until it is disconnected or silent."""
         return self.journal in ("", journal) or is_live and (
             self.state in ("silent", "gone", "ended") or now > self.live_at + LOST)
 
@@ -228,8 +228,8 @@ class Board:
         return players
 
     def hear(self, topic: str, said: Any, now: float, text: str = "") -> None:
-        """Notes what a topic says. A clock's message that was heard before is as old as then: a
-        broker that comes back repeats it."""
+        """Notes a message of a topic. A repeated clock message keeps its age: a broker that comes
+        back repeats it."""
         self.heard_at = now
         if topic == CLOCK and text != self.texts.get(CLOCK):
             self.clock_at = now
@@ -245,7 +245,7 @@ class Board:
                 self.game, self.is_turned = None, False
 
     def hear_entry(self, number: int, said: list[Any]) -> None:
-        """Notes what an entry says."""
+        """Notes an entry."""
         entry = read_entry(said)
         text = said[IN_ENTRY.index(CLOCK)] or ""
         if text != self.texts.get(CLOCK):
@@ -263,8 +263,8 @@ class Board:
 
     @property
     def runs(self) -> str | None:
-        """The side of the clock that runs: by the turn if White's side is known, or the one that
-        had less time than before. If neither is known, the left one is taken for White's."""
+        """The running side of the clock: by the side to move if White's side is known, or the one
+        that had less time than before. If neither is known, the left one counts as White's."""
         clock, side = self.clock, self.game and self.game["white_side"]
         if clock is None or not clock.running:
             return None
@@ -273,7 +273,7 @@ class Board:
         return by_turn if by_turn and side else self.less or by_turn
 
     def hear_time(self, number: int, now: float) -> None:
-        """Notes what time it is on the board, by which its clock is as old as it is."""
+        """Notes the time on the board, which gives the age of its clock."""
         clock_at = now - max(0, number - self.clock_number) / 1000
         if abs(clock_at - self.clock_at) > 0.5:
             self.clock_at = clock_at
@@ -281,13 +281,13 @@ class Board:
         self.ahead = ahead(number)
 
     def as_entry(self) -> list[Any]:
-        """The same, of a board that no journal has."""
+        """The same for a board without a journal."""
         sure = {"following": self.is_sure, "unknown": self.is_sure}.get(self.state, True)
         state = (None if self.state == "unknown" else self.state) if sure else "doubt"
         return [state, *(self.texts.get(each) for each in IN_ENTRY[1:]), self.is_confirmed]
 
     def event(self) -> dict[str, Any]:
-        """What a page is sent. `at` of the clock is the `moment` at which it was read."""
+        """The event for a page. `at` of the clock is the `moment` at which it was read."""
         count, position = self.said[POSITION]
         placement, players, clock = str(position), self.players, self.clock
         return {
@@ -305,13 +305,13 @@ class Board:
 
 
 def moment(at: float) -> int:
-    """A time of `time.monotonic` in milliseconds since 1970, which go on evenly."""
+    """A time of `time.monotonic` in milliseconds since 1970, without steps."""
     return round(1000 * (AT_START + at))
 
 
 def is_foreseen(told: dict[str, Any] | None, event: dict[str, Any]) -> bool:
-    """Whether a page that was sent the one event shows the other by itself: it counts the side of
-    the clock down that runs."""
+    """Whether a page with the one event shows the other by itself: it counts down the running side
+    of the clock."""
     old, new = told and told["clock"], event["clock"]
     if not told or {**told, "clock": None} != {**event, "clock": None}:
         return False

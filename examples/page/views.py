@@ -1,4 +1,4 @@
-"""What pages are sent of a game."""
+"""Games as JSON for pages."""
 
 from __future__ import annotations
 
@@ -12,7 +12,7 @@ Summary = dict[str, Any]
 
 
 def summary(games: dgt.Games) -> Summary | None:
-    """What pages show of the game on a board."""
+    """The summary of the game on a board."""
     game = games.game
     if game is None:
         return None
@@ -30,7 +30,7 @@ def summary(games: dgt.Games) -> Summary | None:
 
 def written(game: dgt.PgnGame) -> bytes:
     """A game as JSON: its moves in short notation, the placement before the first and after each,
-    and the seconds that the player has left."""
+    and the player's remaining seconds."""
     moves = list(game.moves)  # the thread of the games may add some
     first = moves[0].before if moves else game.state
     clocks = [each.clock and 3600 * each.clock.hours + 60 * each.clock.minutes + each.clock.seconds

@@ -1,4 +1,4 @@
-"""A web server for many open pages. One loop does all, so that a slow browser holds up no other."""
+"""A web server for many open pages. It has one loop, so that a slow browser delays no other."""
 
 from __future__ import annotations
 
@@ -18,26 +18,26 @@ import traceback
 from collections.abc import Callable
 from typing import Any
 
-SECONDS = 10.0  # for a request as a whole; its answer has as many, and one for each RATE bytes
+SECONDS = 10.0  # for a whole request; its answer has the same time, plus a second per RATE bytes
 RATE = 10_000
 MOST_HEAD, MOST_BODY = 1 << 14, 1 << 16  # bytes of a request
-# Connections at once, of all addresses and of each: those of open pages, and those that wait for a
-# request. Of these the oldest goes if there are more; and a page more gets the answer 503.
+# The most connections, of all addresses and of each: open pages, and those that wait for a request.
+# Too many waiting ones drop the oldest, and too many pages get the answer 503.
 MOST_PAGES, MOST_PAGES_OF_ONE = 4096, 2048
 MOST_WAITING, MOST_WAITING_OF_ONE = 1024, 256
-# A page that hasn't taken this many events is cut off. It comes back by itself, and begins anew.
+# A page that hasn't taken this many events is dropped. It reconnects and starts again.
 BEHIND = 10_000
-AT_ONCE = 100  # events that one write has at most
+AT_ONCE = 100  # the most events of one write
 PAUSE = 0.1  # seconds between two writes to all pages
-QUIET = 15.0  # seconds after which a page is sent something, to find out whether it is there
-STUCK = 60.0  # seconds after which a page that takes nothing is cut off
+QUIET = 15.0  # seconds after which a page is sent something, to check that it is there
+STUCK = 60.0  # seconds after which a page that takes nothing is dropped
 UNSENT = 1 << 17  # bytes of a connection that the kernel may hold
 END = re.compile(rb"\r?\n\r?\n")
 LENGTH = re.compile(rb"(?i)\ncontent-length:[ \t]*(\d{1,9})[ \t\r]*$", re.M)
 
 
 def network(address: str) -> str:
-    """Whose address it is: of IPv6 one user has all that begin with the same 64 bits."""
+    """The user's address: in IPv6 a user has all addresses with the same first 64 bits."""
     found = ipaddress.ip_address(address.partition("%")[0])
     if isinstance(found, ipaddress.IPv4Address):
         return str(found)
@@ -45,7 +45,7 @@ def network(address: str) -> str:
 
 
 class Events:
-    """What all open pages are sent. Each event is encoded once, and a page has its place there."""
+    """The events for all open pages. Each is encoded once, and each page has a place among them."""
 
     def __init__(self) -> None:
         self.lock = threading.Lock()
@@ -71,7 +71,7 @@ class Events:
 
 
 class Visit(http.server.BaseHTTPRequestHandler):
-    """A whole request, which is answered at once. `place` is that of a page: it gets all events
+    """A complete request, which is answered at once. `place` is that of a page: it gets all events
     from there on."""
 
     protocol_version = "HTTP/1.1"
@@ -95,14 +95,14 @@ class Visit(http.server.BaseHTTPRequestHandler):
 
 
 class Connection(asyncio.Protocol):
-    """A browser's connection: a request after the other, or the events of a page."""
+    """A browser's connection: one request after another, or the events of a page."""
 
     transport: asyncio.Transport
     address = ""
 
     def __init__(self, server: Server) -> None:
         self.server, self.unread, self.due = server, b"", math.inf
-        self.place: int | None = None  # among the events, of a page
+        self.place: int | None = None  # of a page, among the events
         self.is_full = False
         self.written = 0.0
 
@@ -128,12 +128,12 @@ class Connection(asyncio.Protocol):
         self.server.let_wait(self)
 
     def data_received(self, chunk: bytes) -> None:
-        if self.place is None:  # a page says nothing
+        if self.place is None:  # a page sends nothing
             self.unread += chunk
             self.read()
 
     def read(self) -> None:
-        """Answers each request that is whole, once the browser has taken the answer before."""
+        """Answers each complete request, once the browser has taken the answer before."""
         while self.unread and not self.is_full and not self.transport.is_closing():
             found = END.search(self.unread)
             size = found.end() if found else 0
@@ -158,7 +158,7 @@ class Connection(asyncio.Protocol):
             self.drop()
             return
         if visit.pause:
-            self.is_full = True  # nothing is read meanwhile
+            self.is_full = True  # stop reading
             self.due = math.inf
             self.server.loop.call_later(visit.pause, self.send_answer, visit)
         else:
@@ -190,7 +190,7 @@ class Connection(asyncio.Protocol):
             self.read()
 
     def catch_up(self) -> None:
-        """Sends a page what is new."""
+        """Sends new events to a page."""
         assert self.place is not None
         self.due = math.inf
         while self.place < self.server.events.end and not self.is_full:
@@ -207,7 +207,7 @@ class Connection(asyncio.Protocol):
 
 
 class Server:
-    """Listens at a socket, and answers each request by a `Visit`. `report` prints a fault."""
+    """Listens at a socket, and answers each request with a `Visit`. `report` prints a fault."""
 
     loop: asyncio.AbstractEventLoop
 
@@ -225,10 +225,10 @@ class Server:
         self.most_pages, self.most_waiting = MOST_PAGES, MOST_WAITING
 
     def serve_forever(self, begun: Callable[[], object] = lambda: None) -> None:
-        """Serves until `shutdown`, and calls `begun` once it does. With few descriptors it has
+        """Serves until `shutdown`, and calls `begun` at the start. With few descriptors it allows
         fewer connections."""
         count, most = resource.getrlimit(resource.RLIMIT_NOFILE)
-        with contextlib.suppress(OSError):  # where that is forbidden
+        with contextlib.suppress(OSError):  # if that is forbidden
             resource.setrlimit(resource.RLIMIT_NOFILE, (most, most))
             count = most
         if count != resource.RLIM_INFINITY:
@@ -237,7 +237,7 @@ class Server:
         asyncio.run(self.serve(begun))
 
     def shutdown(self) -> None:
-        """Ends that, from another thread."""
+        """Stops serving, from another thread."""
         if self.ended and not self.loop.is_closed():
             self.loop.call_soon_threadsafe(self.ended.set)
 
@@ -256,8 +256,8 @@ class Server:
             listening.close()
 
     def hear_fault(self, _: Any, context: dict[str, Any]) -> None:
-        """The loop fails at something. If it has no descriptor for one more connection, half of
-        those that wait go."""
+        """Handles a fault of the loop. Without a descriptor for a connection, half of the waiting
+        ones are dropped."""
         if "accept" in context["message"]:
             for one in list(self.waiting)[:len(self.waiting) // 2]:
                 one.drop()
@@ -275,7 +275,7 @@ class Server:
             next(iter(self.waiting)).drop()
 
     def has_room(self, address: str) -> bool:
-        """Whether an address may open one more page."""
+        """Whether an address may open another page."""
         return len(self.pages) < self.most_pages and self.of_one[address] < MOST_PAGES_OF_ONE
 
     def add_page(self, page: Connection) -> None:
@@ -295,13 +295,13 @@ class Server:
             self.of_one -= collections.Counter([one.address])
 
     def since(self, place: int) -> tuple[bytes, int]:
-        """As of `Events`; pages at the same place get the same bytes."""
+        """Like `Events`; pages at the same place get the same bytes."""
         if place not in self.some:
             self.some[place] = self.events.since(place)
         return self.some[place]
 
     def wake(self) -> None:
-        """There are events. This is called in any thread."""
+        """Notes that there are events. Call it in any thread."""
         if not self.is_woken:
             self.is_woken = True
             try:
@@ -313,7 +313,7 @@ class Server:
         self.loop.call_at(self.written + PAUSE, self.write)
 
     def write(self) -> None:
-        """Sends all pages what is new."""
+        """Sends new events to all pages."""
         self.written, self.is_woken = self.loop.time(), False
         self.some.clear()
         for page in list(self.pages):
@@ -321,7 +321,7 @@ class Server:
                 page.catch_up()
 
     async def watch(self) -> None:
-        """Ends what takes too long."""
+        """Ends requests and answers that take too long."""
         while True:
             await asyncio.sleep(1)
             now = self.loop.time()

@@ -1,4 +1,4 @@
-"""Simulated DGT boards on pseudo-terminals: each has a path in place of its serial port."""
+"""Simulated DGT boards on pseudo-terminals: each has a path instead of its serial port."""
 
 import contextlib
 import os
@@ -59,7 +59,7 @@ class Port:
     def plug(self):
         """The port comes."""
         master, port = pty.openpty()
-        if self.is_raw:  # as a serial port that is no terminal: what is sent to it isn't sent back
+        if self.is_raw:  # like a serial line: without echo
             tty.setraw(port)
         # If no host reads, what the board sends is lost, and the board goes on.
         os.set_blocking(master, False)
@@ -108,7 +108,7 @@ class Board(Port):
         self.transmit(message)
 
     def garble(self, noise):
-        """Any bytes in place of messages, a few at a time."""
+        """Sends random bytes instead of messages, a few at a time."""
         for at in range(0, len(noise), 512):
             with self.lock:
                 self.transmit(noise[at : at + 512])

@@ -1,4 +1,4 @@
-"""What the trials run beside each other: a broker, boards that are published, and the page."""
+"""Runs a broker, published boards and the page for the trials."""
 
 import os
 import pathlib

@@ -1,4 +1,4 @@
-"""What the page of examples/page shows of its boards, read from what is drawn in a browser."""
+"""Reads the boards that the page of examples/page shows in a browser."""
 
 from __future__ import annotations
 
@@ -73,7 +73,7 @@ def last_moves(words: list[str]) -> str:
 
 @dataclasses.dataclass
 class Board:
-    """A board as it is drawn. Of two players, White is the first."""
+    """A board on the page. The first of two players is White."""
 
     letters: str  # of the pieces on the 64 squares from a8 on, and a full stop for none
     marks: list[str]  # the squares of the last move
@@ -91,7 +91,7 @@ class Board:
             is_near = field == "times" and None not in one and all(
                 abs(mine - its) <= most for mine, its in zip(one, other))
             if one != other and not is_near:
-                yield f"{field}: {one!r} in place of {other!r}"
+                yield f"{field}: {one!r} instead of {other!r}"
 
 
 FIELDS = tuple(field.name for field in dataclasses.fields(Board))

@@ -1,5 +1,5 @@
-"""A stand-in for the server of examples/page: it serves the page, and sends the events that it is
-handed. So the page is tried without a broker and without boards."""
+"""A stand-in for the server of examples/page: it serves the page, and sends given events. So the
+page is tried without a broker and without boards."""
 
 from __future__ import annotations
 
@@ -178,7 +178,7 @@ class StandIn:
             self.tell(one)
 
     def replace(self, *known: Said) -> None:
-        """All boards anew, as after the broker came back."""
+        """Sends all boards again, as after a return of the broker."""
         self.known = {one["board"]: one for one in known}
         self.tell(self.first())
 

@@ -1,6 +1,6 @@
-"""A table for the trials of the UCI engine: a display that nobody sees, a board
-with a player who moves by chance, and the engine as the chess program starts
-it. It also reads the games that a chess program has saved."""
+"""A table for the trials of the UCI engine: a virtual display, a board with a
+player who makes random moves, and the engine with the chess program's command.
+It also reads the games that a chess program has saved."""
 
 import argparse
 import os
@@ -148,7 +148,7 @@ class Table:
         self.display = ":" + (room.path / "display").read_text().strip()
 
     def start(self, *words, **environment):
-        """Runs a program on the display, with a home of its own."""
+        """Runs a program on the display, with a separate home."""
         environment["DISPLAY"] = self.display
         settings = [f"{name}={value}" for name, value in environment.items()]
         isolated = ROOT / "examples" / "trial" / "isolated"
