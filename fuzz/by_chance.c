@@ -1,6 +1,6 @@
 /* Runs a harness without libFuzzer, which clang lacks for some processors: on the first inputs, and
- * then on parts of two of them, joined and altered by chance. Its words are seconds, a seed and the
- * file of the first inputs. It prints how many inputs it tried, and at a fault the input. */
+ * then on parts of two of them, joined and randomly altered. Its arguments are seconds, a seed and
+ * the file of the first inputs. It prints how many inputs it tried, and after a fault the input. */
 #define _DEFAULT_SOURCE
 #include <signal.h>
 #include <stdbool.h>
@@ -24,7 +24,7 @@ static uint64_t chance(uint64_t below) {
     return state % below;
 }
 
-/* The beginning of a known input, the end of another, some altered bytes, and some more. */
+/* The beginning of one known input, the end of another, some altered bytes, and some more. */
 static void make_input(void) {
     size_t one = chance(files), other = chance(files);
     n = chance(length[one] + 1);
@@ -46,7 +46,7 @@ static void show_input(int number) {
     raise(number);
 }
 
-/* Reads the inputs of a file. Each is in hexadecimal digits, after a line of comment. */
+/* Reads the inputs of a file. Each is in hexadecimal digits, after a comment line. */
 static bool read_known(const char *name) {
     static char line[2 * MOST + 2];
     FILE *file = fopen(name, "r");

@@ -1,4 +1,4 @@
-/* A board, which takes any bytes in any chunks, while pieces are put and clocks are handed in. */
+/* A board, which takes any bytes in any chunks, while its pieces and its clock change. */
 #include "input.h"
 #include "model.h"
 
@@ -48,7 +48,7 @@ static void poll_all(void) {
     CHECK(count <= 73);
 }
 
-/* ---- What happens to it. */
+/* ---- Changes. */
 
 static void change(uint8_t square, uint8_t piece) {
     bool is_right = square < 64 && piece < 16;
@@ -64,13 +64,13 @@ static void change_one(void) {
     change(square, piece);
 }
 
-/* Some squares in a row. */
+/* Some consecutive squares. */
 static void change_many(void) {
     uint8_t first = input_byte() % 64, n = input_byte() % 65, piece = input_byte();
     for (uint8_t i = 0; i < n; i++) change((first + i) % 64, (piece + i) % 16);
 }
 
-/* Numbers that mostly are in the ranges of times. */
+/* Numbers that are mostly in the ranges of times. */
 static dgt_time any_time(void) {
     uint8_t hours = input_byte(), minutes = input_byte(), seconds = input_byte();
     uint8_t odd = input_byte();
@@ -80,7 +80,7 @@ static dgt_time any_time(void) {
     return (dgt_time){hours, minutes, seconds, odd >> 4 & (odd % 16 == 3 ? 15 : 7)};
 }
 
-/* A clock at the place LOOK, mostly one that is right. What its kind doesn't set is rubbish. */
+/* A clock at the place LOOK, mostly a valid one. Members that its kind doesn't set are random. */
 static const dgt_clock *any_clock(void) {
     dgt_clock *clock = guarded(LOOK, sizeof *clock);
     uint8_t how = input_byte(), mask = how % 16 == 0 ? 0xff : 0x7f;
@@ -134,7 +134,7 @@ static void start(void) {
           model_board_start(&model, pieces, clock, identity));
 }
 
-/* ---- What it knows. */
+/* ---- Its state. */
 
 static void look(void) {
     uint8_t *pieces = guarded(LOOK, 64), message[DGT_MAX_SENT];

@@ -1,4 +1,4 @@
-/* A reader of commands, handed any bytes in any chunks. */
+/* A decoder of commands, fed any bytes in any chunks. */
 #include "input.h"
 #include "model.h"
 

@@ -1,4 +1,4 @@
-/* A decoder, handed any bytes in any chunks. */
+/* A decoder, fed any bytes in any chunks. */
 #include "input.h"
 #include "model.h"
 
@@ -26,7 +26,7 @@ static size_t feed_all(const uint8_t *bytes, size_t n) {
     for (right.body_len = 0; used < n && count < capacity && right.body_len == 0;) {
         used += model_feed(&model, bytes + used, n - used, &right, right_body);
         if (right.kind == DGT_EVENT_NONE) break;
-        right.place = used; /* in the whole chunk */
+        right.place = used; /* relative to the whole chunk */
         CHECK_SAME(&events[count++], &right);
     }
     CHECK(told.used == used && told.count == count);

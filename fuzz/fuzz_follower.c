@@ -1,4 +1,5 @@
-/* A follower, which hears any bytes at any times, and is asked when it is due and when it isn't. */
+/* A follower, which hears any bytes at any times, and is asked both when it is due and when it
+ * isn't. */
 #include "input.h"
 #include "model.h"
 
@@ -40,7 +41,7 @@ static void hear_chunk(bool by_events) {
     check_same_chunk(given);
 }
 
-/* The reply to an asking, as a board sends it: a dump with the same piece on each square. */
+/* A board's reply to a request: a dump with the same piece on each square. */
 static void hear_dump(bool by_events) {
     uint8_t *dump = guarded(IN, 67);
     memset(dump, input_byte() % 16, 67);

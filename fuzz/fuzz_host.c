@@ -34,7 +34,7 @@ static size_t hear_all(const uint8_t *bytes, size_t n) {
     for (right.body_len = 0; used < n && count < capacity && right.body_len == 0;) {
         used += model_hear(&model, bytes + used, n - used, &right, right_body);
         if (right.kind == DGT_EVENT_NONE) break;
-        right.place = used; /* in the whole chunk */
+        right.place = used; /* relative to the whole chunk */
         CHECK_SAME(&events[count++], &right);
     }
     CHECK(told.used == used && told.count == count);
@@ -52,7 +52,7 @@ static void hear_chunk(bool by_events) {
 
 /* ---- What it sends. */
 
-/* Many bytes that are the same, at the place IN. */
+/* Many equal bytes, at the place IN. */
 static chunk any_payload(void) {
     size_t n = input_byte();
     n += input_byte() % 3;
@@ -69,7 +69,7 @@ static void send_follow(bool is_restart) {
     check_sent(sent, model_send(&model, &sending, room), out, room, &sending);
 }
 
-/* ---- What it knows. */
+/* ---- Its state. */
 
 static void look(void) {
     uint8_t *picture = guarded(LOOK, 64);

@@ -1,4 +1,4 @@
-/* Messages and commands by themselves: any are encoded and viewed. */
+/* Messages and commands without a handle: any are encoded and viewed. */
 #include "input.h"
 #include "model.h"
 
@@ -16,7 +16,7 @@ static dgt_time any_time(void) {
     return (dgt_time){hours, minutes, seconds, input_byte() % 9};
 }
 
-/* The clock of an event, mostly one that its kind has. */
+/* The clock of an event, mostly a valid one of its kind. */
 static void write_clock(dgt_clock *clock, uint8_t kind) {
     uint8_t odd = input_byte();
     clock->kind = odd < 240 ? kind - DGT_EVENT_TIMES + DGT_CLOCK_TIMES : odd % 4;
@@ -38,7 +38,7 @@ static void write_numbers(uint8_t *numbers, size_t n, uint8_t most) {
     }
 }
 
-/* An event at the place EVENTS. What its kind doesn't set is rubbish. */
+/* An event at the place EVENTS. Members that its kind doesn't set are random. */
 static const dgt_event *any_event(void) {
     dgt_event *event = guarded(EVENTS, sizeof *event);
     event->kind = input_byte() % 18;

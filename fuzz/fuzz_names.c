@@ -1,8 +1,8 @@
-/* What a board has stored, and names of bytes that messages carry. */
+/* What a board has stored, and the meaning of bytes that messages carry. */
 #include "input.h"
 #include "model.h"
 
-/* Reads a body until its end. */
+/* Reads a body to its end. */
 static void read_stored(const uint8_t *body, size_t n) {
     for (size_t at = 0; at <= n;) {
         dgt_stored *stored = guarded(LOOK, sizeof *stored), right;
@@ -24,7 +24,7 @@ static void name_body(size_t n) {
     read_stored(body, n);
 }
 
-/* Mostly of a clock that did what it was asked, with a button. */
+/* Mostly of a clock that executed a message, with a button. */
 static void name_ack(uint8_t odd) {
     uint8_t *ack = guarded(IN, 4);
     ack[0] = odd < 16 ? input_byte() : 0x10;

@@ -4,7 +4,7 @@
 
 #include <string.h>
 
-/* A text, mostly of letters that placements have. */
+/* A text, mostly of the letters of placements. */
 static void parse_placement(bool is_any) {
     static const char letters[] = "12345678/PRNBKQprnbkqXYZ8/8/0 9.";
     size_t n = input_byte() % 100;

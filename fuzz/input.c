@@ -18,7 +18,7 @@ void stop(const char *file, int line, const char *what) {
 
 static const uint8_t *input;
 static size_t input_left;
-static bool is_guarded_before; /* memory begins at an unmapped page, in place of ending at one */
+static bool is_guarded_before; /* memory begins at an unmapped page instead of ending at one */
 
 static void make_places(void);
 
@@ -61,7 +61,7 @@ static size_t make_plain(size_t n) {
     return n;
 }
 
-/* Equal bytes, whose number is a multiple of `step` and a byte. */
+/* Equal bytes: a multiple of `step`, and one more. */
 static size_t make_equal(size_t step) {
     uint8_t byte = input_byte();
     size_t n = input_byte() * step;
@@ -80,7 +80,7 @@ static size_t make_message(uint8_t code, uint8_t n) {
     return n + 3u;
 }
 
-/* One of a code that has a size. */
+/* A message with a code that fixes a size. */
 static size_t make_known_message(void) {
     static const uint8_t sizes[][2] = {{0x06, 64}, {0x0d, 7}, {0x0e, 2}, {0x11, 5}, {0x13, 2}};
     const uint8_t *chosen = sizes[input_byte() % (sizeof sizes / sizeof *sizes)];
@@ -97,7 +97,7 @@ static size_t make_short_command(uint8_t which) {
     return 1;
 }
 
-/* A message to the clock or an LED frame, of two bytes and n more. */
+/* A clock message or an LED frame, of two bytes and n more. */
 static size_t make_long_command(bool is_clock, uint8_t n) {
     made[0] = is_clock ? DGT_SEND_CLOCK_MESSAGE : DGT_SEND_LEDS;
     made[1] = n;

@@ -1,4 +1,4 @@
-/* What the harnesses share: choices that an input makes, and memory between guard pages. */
+/* Shared by the harnesses: choices that an input makes, and memory between guard pages. */
 #ifndef INPUT_H
 #define INPUT_H
 
@@ -6,11 +6,11 @@
 
 #include <string.h>
 
-/* Stops unless this holds. libFuzzer keeps the input then. */
+/* Aborts unless this is true. libFuzzer then keeps the input. */
 #define CHECK(holds) ((holds) ? (void)0 : stop(__FILE__, __LINE__, #holds))
 __attribute__((noreturn)) void stop(const char *file, int line, const char *what);
 
-/* Stops unless two structs of dgt.h are the same. None of them has padding. */
+/* Aborts unless two structs of dgt.h are equal. None of them has padding. */
 #define CHECK_SAME(got, right) CHECK(memcmp(got, right, sizeof *(got)) == 0)
 
 /* ---- Choices. Each reads some bytes of the input; after its end each byte is 0. */
@@ -38,24 +38,24 @@ typedef struct chunk {
  * message, or many equal bytes. */
 chunk input_chunk(void);
 
-/* Stops unless a chunk is as it was made. */
+/* Aborts unless a chunk is unchanged. */
 void check_same_chunk(chunk made);
 
 /* ---- Memory. Each place has an unmapped page on either side. */
 
 enum place { HANDLE, IN, OUT, BODY, EVENTS, LOOK, PLACES };
 
-#define FILL 0xa5 /* what memory holds before a call */
+#define FILL 0xa5 /* the contents of memory before a call */
 
 /* Memory of n bytes, each FILL, that ends or begins at an unmapped page. It is aligned to 8 if n is
  * a multiple of 8. */
 void *guarded(enum place which, size_t n);
 
-/* Stops unless the bytes from `from` on are still FILL, of n bytes. */
+/* Aborts unless the bytes from `from` on are still FILL, of n bytes. */
 void check_kept(const void *memory, size_t from, size_t n);
 
-/* Stops unless memory of n bytes begins with as much of `right` as there is room for, and is still
- * FILL after it. */
+/* Aborts unless memory of n bytes begins with as much of `right` as fits, and is still FILL after
+ * it. */
 void check_written(const void *memory, size_t n, const void *right, size_t right_n);
 
 #endif

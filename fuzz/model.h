@@ -1,5 +1,5 @@
-/* docs/PROTOCOL.md and include/dgt.h once more, as plain as it can be said in C. The harnesses
- * compare the library with it after each call. */
+/* docs/PROTOCOL.md and include/dgt.h again, as simply as possible in C. The harnesses compare the
+ * library with it after each call. */
 #ifndef MODEL_H
 #define MODEL_H
 
@@ -10,7 +10,7 @@
 /* The letters of the pieces, by their codes. */
 extern const char model_letters[];
 
-/* Writes the placement of a FEN, with a zero at its end. */
+/* Writes the placement of a FEN, with a final zero byte. */
 void model_placement(const uint8_t pieces[64], char text[DGT_PLACEMENT_ROOM]);
 
 /* As dgt_segment. */
@@ -22,7 +22,7 @@ dgt_parsed model_parse_placement(const char *text, size_t n, uint8_t pieces[64])
 /* ---- Messages. */
 
 typedef struct model_decoder {
-    uint8_t open[DGT_MAX_BODY + 3]; /* what has come of a message */
+    uint8_t open[DGT_MAX_BODY + 3]; /* the received bytes of a message */
     size_t n;
 } model_decoder;
 
@@ -32,7 +32,7 @@ size_t model_feed(model_decoder *decoder, const uint8_t *bytes, size_t n, dgt_ev
 
 /* ---- What a board has stored, and names. */
 
-/* As the calls of dgt.h. If there is nothing, or nothing known, the struct has zeros. */
+/* As the calls of dgt.h. If there is nothing, or nothing known, the struct is all zeros. */
 size_t model_stored_first(const uint8_t *body, size_t n, dgt_stored *stored);
 bool model_signal_of(const uint8_t ack[4], dgt_signal *signal);
 bool model_battery_of(const uint8_t *body, size_t n, dgt_battery *battery);
@@ -41,7 +41,7 @@ bool model_is_text(const uint8_t *bytes, size_t n);
 /* ---- Commands. */
 
 typedef struct model_reader {
-    uint8_t word[DGT_MAX_WORD]; /* what has come of a command */
+    uint8_t word[DGT_MAX_WORD]; /* the received bytes of a command */
     size_t n;
 } model_reader;
 
@@ -49,9 +49,9 @@ typedef struct model_reader {
 size_t model_read(model_reader *reader, const uint8_t *bytes, size_t n, dgt_command *command,
                   uint8_t word[DGT_MAX_WORD]);
 
-/* ---- Messages and commands by themselves. */
+/* ---- Messages and commands without a handle. */
 
-/* The bytes of the message that an event says, 0 if it says none. */
+/* The bytes of the message in an event, 0 if there is none. */
 size_t model_encode(const dgt_event *said, const uint8_t *body, size_t body_len,
                     uint8_t *bytes);
 
@@ -76,35 +76,35 @@ void model_host_init(model_host *host);
 size_t model_hear(model_host *host, const uint8_t *bytes, size_t n, dgt_event *event,
                   uint8_t body[DGT_MAX_BODY]);
 
-/* What a host may send: bytes, or DGT_NO_COMMAND if there are none. */
+/* What a host can send: bytes, or DGT_NO_COMMAND if there are none. */
 typedef struct model_sending {
     uint8_t bytes[DGT_MAX_ASKING];
     size_t n;
-    uint8_t asks_for; /* the code of the command whose reply is awaited then, or 0 */
+    uint8_t asks_for; /* the code of the command with a reply that is then awaited, or 0 */
 } model_sending;
 
-/* A command of one byte, a message to the clock, and an LED frame. */
+/* A command of one byte, a clock message, and an LED frame. */
 model_sending model_command(uint8_t code);
 model_sending model_clock_message(uint8_t id, const uint8_t *payload, size_t n);
 model_sending model_leds(const uint8_t *leds, size_t n);
 
-/* One of the eight calls that send a message to the clock by its meaning. */
+/* One of the eight calls that send a clock message by its meaning. */
 typedef struct model_clock_call {
     uint8_t id;           /* DGT_ID_DISPLAY to DGT_ID_TEXT */
-    const uint8_t *text;  /* six or eight characters, as the id has it */
+    const uint8_t *text;  /* six or eight characters, depending on the id */
     const uint8_t *left, *right; /* three numbers each */
     uint8_t one, other;   /* the numbers after these */
     const uint8_t *icons;
     size_t icons_n;
 } model_clock_call;
 
-/* A call whose text, numbers and icons are at the places IN, BODY and EVENTS. */
+/* A call with its text, numbers and icons at the places IN, BODY and EVENTS. */
 model_clock_call any_clock_call(void);
 
 /* What it sends. */
 model_sending model_called(const model_clock_call *call);
 
-/* 44 42 after this number of zeros. */
+/* 44 42 after this many zeros. */
 model_sending model_follow(size_t zeros);
 
 /* Sends it into a buffer of `room` bytes. */
@@ -121,7 +121,7 @@ typedef struct model_follower {
     bool has_asked, has_heard, has_changed, has_serial;
     uint64_t asked, heard, changed;
     bool is_unfinished;  /* the last bytes left a message unfinished, */
-    uint64_t unfinished; /* and came at this time */
+    uint64_t unfinished; /* and were received at this time */
     uint8_t serial[5];
     bool is_answered, is_disturbed, has_requested, is_wanted, pardons; /* since it asked */
     bool is_settling, is_doubtful, is_confirmed, is_unreadable;
@@ -173,7 +173,7 @@ bool model_hand_clock(model_board *board, const dgt_clock *clock);
 dgt_taken model_take(model_board *board, const uint8_t *bytes, size_t n, dgt_command *command,
                      uint8_t word[DGT_MAX_WORD]);
 
-/* The next message, and how many bytes it has: 0 if there is none. */
+/* The next message, and its length: 0 if there is none. */
 size_t model_next(const model_board *board, uint8_t message[DGT_MAX_SENT]);
 
 /* The next message, of n bytes, counts as sent. */

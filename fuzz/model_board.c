@@ -2,7 +2,7 @@
 
 #include <string.h>
 
-/* ---- What a board is made of. */
+/* ---- The parts of a board. */
 
 static const dgt_identity simulated = {
     .serial = "00001",
@@ -93,7 +93,7 @@ uint8_t model_board_start(model_board *board, const uint8_t pieces[64], const dg
 
 /* ---- What it hears. */
 
-/* Whether the clock as it is was not reported yet. */
+/* Whether the present clock was not yet reported. */
 static bool is_news(const model_board *board) {
     return memcmp(&board->clock, &board->reported_clock, sizeof board->clock) != 0;
 }
@@ -149,7 +149,7 @@ static dgt_event said_clock(const model_board *board) {
                        .clock = board->clock};
 }
 
-/* The first reply that is owed. An acknowledgement is 10, the id, the version or 0, and 00. */
+/* The first owed reply. An acknowledgement is 10, the id, the version or 0, and 00. */
 static dgt_event said_reply(const model_board *board, const dgt_body **carried) {
     const model_reply *reply = &board->owed[0];
     const dgt_identity *own = &board->identity;
@@ -171,7 +171,7 @@ static dgt_event said_reply(const model_board *board, const dgt_body **carried) 
     return said;
 }
 
-/* The first square that has to be reported, or 64. */
+/* The first square to be reported, or 64. */
 static uint8_t changed_square(const model_board *board) {
     uint8_t square = board->mode == DGT_MODE_IDLE ? 64 : 0;
     while (square < 64 && board->squares[square] == board->reported[square]) square++;

@@ -3,7 +3,7 @@
 
 #include <string.h>
 
-/* Characters, mostly of those that the display has, at the place IN. */
+/* Characters, mostly those of the display, at the place IN. */
 static const uint8_t *any_text(size_t n) {
     uint8_t *text = guarded(IN, n);
     for (size_t i = 0; i < n; i++) {

@@ -2,7 +2,7 @@
 
 #include <string.h>
 
-/* What these bytes of a host are: DGT_NO_WORD while more of the word is to come. */
+/* What these bytes of a host are: DGT_NO_WORD if more of the word is to follow. */
 static uint8_t kind_of(const uint8_t *word, size_t n) {
     switch (word[0]) {
     case DGT_SEND_RESET: case DGT_SEND_CLOCK: case DGT_SEND_DUMP: case DGT_SEND_UPDATE:

@@ -5,7 +5,7 @@
 enum { DUMP = 0x06, CLOCK = 0x0d, FIELD = 0x0e, SERIAL = 0x11, TRADEMARK = 0x12, VERSION = 0x13,
        BATTERY = 0x20, LONG_SERIAL = 0x22 };
 
-/* The size of the body of a code that has one, or 0. */
+/* The size of the body that a code fixes, or 0. */
 static size_t size_of(uint8_t code) {
     switch (code) {
     case DUMP: return 64;
@@ -46,7 +46,7 @@ static void read_field(const uint8_t *body, dgt_event *event) {
     }
 }
 
-/* Of the six bytes of both times, the offset of the first that has a bad digit, or 6. */
+/* The offset of the first of the six bytes of both times with an invalid digit, or 6. */
 static size_t bad_digit(const uint8_t *body) {
     size_t at = 0;
     for (; at < 6; at++) {

@@ -3,10 +3,10 @@
 #include <string.h>
 
 enum {
-    OVERDUE = 1000,    /* for how many milliseconds an answer is awaited without a doubt */
-    UNFINISHED = 1000, /* for how many the rest of a message is */
-    SETTLED = 1000,    /* after a change or an asking, when a picture is asked for again */
-    TRIES = 3          /* how often the serial number is requested */
+    OVERDUE = 1000,    /* milliseconds until a missing answer is a doubt */
+    UNFINISHED = 1000, /* milliseconds until an unfinished message is one */
+    SETTLED = 1000,    /* milliseconds from a change or a request to a confirming request */
+    TRIES = 3          /* the most requests of the serial number */
 };
 
 void model_follower_start(model_follower *follower, uint64_t period, uint32_t patience) {
@@ -49,14 +49,14 @@ static bool is_unreadable(const dgt_event *event) {
     return event->kind == DGT_EVENT_REFUSED && event->fault == DGT_BAD_READING;
 }
 
-/* `differs` is whether it made another picture of one that was known. */
+/* `differs` says whether it changed a known picture. */
 static bool disturbs(const model_follower *follower, const dgt_event *event, bool differs) {
     if (!is_message(event)) return !is_unreadable(event);
     if (event->unasked && !follower->pardons) return true;
     return event->kind == DGT_EVENT_DUMP && differs;
 }
 
-/* Whether the picture is confirmed after the event. `repeats` is whether the picture is as it was
+/* Whether the picture is confirmed after the event. `repeats` says whether the picture is the one
  * known before. */
 static bool confirms(const model_follower *follower, const dgt_event *event, bool repeats) {
     if (!is_message(event)) return is_unreadable(event) && follower->is_confirmed;
@@ -65,7 +65,7 @@ static bool confirms(const model_follower *follower, const dgt_event *event, boo
     return follower->is_confirmed;
 }
 
-/* A clock that has no reading yet. */
+/* A clock without a reading so far. */
 static bool is_blank(const dgt_clock *clock) {
     static const dgt_clock blank = {.kind = DGT_CLOCK_TIMES};
     return memcmp(clock, &blank, sizeof blank) == 0;
@@ -120,9 +120,9 @@ size_t model_follower_hear(model_follower *follower, uint64_t now, const uint8_t
     return used;
 }
 
-/* ---- When it asks. */
+/* ---- When a request is due. */
 
-/* A time, or one past the last. */
+/* A time, or one after the last. */
 typedef struct moment {
     bool is_past_last;
     uint64_t time;
@@ -158,10 +158,10 @@ static uint64_t wait_of(const model_follower *follower) {
     uint64_t quarter = follower->period / 4;
     if (follower->is_disturbed) return quarter;
     if (!is_unanswered(follower)) return follower->period;
-    return quarter > OVERDUE ? quarter : OVERDUE; /* the period is no less */
+    return quarter > OVERDUE ? quarter : OVERDUE; /* the period is not shorter */
 }
 
-/* The first time at which it asks. */
+/* The first time at which a request is due. */
 static moment asks_at(const model_follower *follower) {
     bool is_owed = is_unanswered(follower);
     bool is_wanted = wants_serial(follower) || (follower->is_wanted && !is_owed);
@@ -190,7 +190,7 @@ bool model_due_at(const model_follower *follower, uint64_t *due) {
     return !first.is_past_last;
 }
 
-/* ---- What it asks. */
+/* ---- The request. */
 
 static uint8_t mode_command(const model_follower *follower) {
     switch (follower->mode) {
@@ -221,7 +221,7 @@ static model_sending sending_of(const model_follower *follower, asking asking) {
     return sending;
 }
 
-/* Notes what is late by now: an answer, or the rest of a message. */
+/* Records that an answer, or the rest of a message, is late. */
 static void note_time(model_follower *follower, uint64_t now) {
     bool is_overdue = is_unanswered(follower) && has_come(overdue_at(follower), now);
     bool is_stuck = follower->is_unfinished && has_come(stuck_at(follower), now);
@@ -232,7 +232,7 @@ static void note_time(model_follower *follower, uint64_t now) {
     }
 }
 
-/* It has asked for a dump. */
+/* Records that it has requested a dump. */
 static void note_asking(model_follower *follower, asking asking, uint64_t now) {
     bool is_new = asking == ANEW;
     follower->pardons = is_new && is_calm(follower);

@@ -4,7 +4,7 @@
 
 void model_host_init(model_host *host) { memset(host, 0, sizeof *host); }
 
-/* The code of the command that is answered by such a message if its reply is awaited, or 0. */
+/* The code of the command that such a message answers if its reply is awaited, or 0. */
 static uint8_t question_of(const dgt_event *event) {
     switch (event->kind) {
     case DGT_EVENT_DUMP: return DGT_SEND_DUMP;

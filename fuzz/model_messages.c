@@ -2,7 +2,7 @@
 
 #include <string.h>
 
-/* Whether a message with this code and this body may be: it is then read by a decoder as new. */
+/* Whether a message may have this code and this body: then a new decoder reads it. */
 static bool read_whole(uint8_t code, const uint8_t *body, size_t n, dgt_event *event) {
     static model_decoder decoder;
     static uint8_t read[DGT_MAX_BODY];
@@ -22,7 +22,7 @@ bool model_view(uint8_t code, const uint8_t *body, size_t body_len, dgt_event *e
     return done;
 }
 
-/* Two digits in one byte, or a byte that no body has. */
+/* Two digits in one byte, or a byte that occurs in no body. */
 static uint8_t to_decimal(uint8_t number) {
     return number > 99 ? 0xff : (uint8_t)(number / 10 << 4 | number % 10);
 }
@@ -85,7 +85,7 @@ size_t model_encode(const dgt_event *said, const uint8_t *body, size_t body_len,
     if (!is_message(said->kind) || !is_right_clock(said)) return 0;
     uint8_t code = write_body(said, own, &n);
     if (n != SIZE_MAX) body = own, body_len = n;
-    /* What is out of its range is read as another message, or refused. */
+    /* A value out of range is read as another message, or refused. */
     if (!read_whole(code, body, body_len, &read) || read.kind != said->kind) return 0;
     bytes[0] = code | 0x80;
     bytes[1] = (uint8_t)((body_len + 3) / 128);

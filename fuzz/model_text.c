@@ -12,7 +12,7 @@ uint8_t model_segment(uint8_t character) {
     return found ? segments[found - shown] : DGT_NO_SUCH;
 }
 
-/* Writes a rank, and returns the end of what it wrote. */
+/* Writes a rank, and returns the end of the text. */
 static char *write_rank(const uint8_t *pieces, char *text) {
     int empty = 0;
     for (int file = 0; file < 8; file++) {

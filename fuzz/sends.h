@@ -1,5 +1,5 @@
-/* What a host and a follower both send. Who includes this defines SEND(name, ..), the call of this
- * name, and MODEL, the model of the host. */
+/* What both a host and a follower send. A file that includes this defines SEND(name, ..), the call
+ * of this name, and MODEL, the model of the host. */
 
 static void check_sent(dgt_sent sent, dgt_sent right, const uint8_t *out, size_t room,
                        const model_sending *sending) {
@@ -30,7 +30,7 @@ static void send_clock_call(void) {
     check_sent(sent, model_send(MODEL, &sending, room), out, room, &sending);
 }
 
-/* A command of one byte, a message to the clock, or an LED frame. */
+/* A command of one byte, a clock message, or an LED frame. */
 static void send_code(uint8_t how, chunk (*any_payload)(void)) {
     size_t room = input_room(DGT_MAX_WORD + 3);
     uint8_t *out = guarded(OUT, room), code = input_byte();

@@ -23,7 +23,7 @@ static void *room(size_t n) {
     return memory;
 }
 
-/* Bytes in a block of their own, so that a read past them is seen. */
+/* Bytes in a separate block, so that a read past them is detected. */
 static uint8_t *copy(const void *bytes, size_t n) {
     uint8_t *copied = room(n);
     if (n > 0) memcpy(copied, bytes, n);
@@ -528,7 +528,7 @@ static void unfinished(void) {
     CHECK(dgt_follower_confirmed(follower) && is_due_at(follower, 20000));
     dgt_follower_hear_all(follower, 10100, BYTES(0x8e, 0));
     CHECK(dgt_follower_hear(follower, 10200, BYTES(5), &heard, NULL, 0) == 1);
-    dgt_follower_hear_all(follower, 10900, NULL, 0); /* no byte is no news */
+    dgt_follower_hear_all(follower, 10900, NULL, 0); /* without bytes nothing changes */
     CHECK(is_due_at(follower, 11200) && asks(follower, 11199, 0));
     CHECK(dgt_follower_confirmed(follower) && !dgt_follower_in_doubt(follower));
     CHECK(asks(follower, 11200, 0) && is_due_at(follower, 12500));
@@ -541,7 +541,7 @@ static void unfinished(void) {
     free(follower);
 }
 
-/* Nothing is noted of it if there is no room. It asks at once after a quarter of the period. */
+/* Without room nothing is noted of it. It asks at once after a quarter of the period. */
 static void unfinished_without_room(void) {
     dgt_follower *follower = room(dgt_follower_size());
     uint8_t out[DGT_MAX_ASKING];
@@ -590,7 +590,7 @@ static void identifying(void) {
     hear_dump(follower, 9, 1);
     CHECK(asks(follower, 9, 0));
 
-    /* An event, of whose body there is room for a part. */
+    /* An event with room for a part of its body. */
     CHECK(dgt_follower_hear(follower, 9, BYTES(0x92, 0, 5, 'A', 'B'), &heard, letters, 1) == 5);
     CHECK(heard.kind == DGT_EVENT_TRADEMARK && heard.unasked && heard.body_len == 2);
     CHECK(!memcmp(letters, "Ax", 2) && dgt_follower_in_doubt(follower));
@@ -914,7 +914,7 @@ static void event_texts(void) {
     CHECK(has_no_text(EVENT(.kind = DGT_EVENT_FIELD, .square = 64)));
 }
 
-/* Whether an event says no message, also if there is no room for one. */
+/* Whether an event has no message, even without room for one. */
 static bool says_nothing(const dgt_event *said, const uint8_t *carried, size_t carried_len) {
     uint8_t *out = room(10);
     dgt_encoded encoded = dgt_encode_message(said, carried, carried_len, out, 10);

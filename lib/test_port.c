@@ -176,7 +176,7 @@ static const char *const links[][2] = {{"usb-BB", "../../ttyUSB1"},
 static const char *const listed[] = {"dev/serial/by-id/usb-A", "dev/serial/by-id/usb-B",
                                      "dev/rfcomm0", "dev/ttyUSB0", "dev/ttyUSB10"};
 
-/* Makes the folder dev, which stands for /dev. */
+/* Makes the folder dev, which is used instead of /dev. */
 static void plug_in(void) {
     CHECK(chdir("dev") == 0);
     for (size_t i = 0; i < COUNT(devices); i++)

@@ -1,7 +1,7 @@
-// A library to preload: it refuses one allocation of the process, that whose number, from 1 on,
-// REFUSE gives. At the end of the process it writes a line to the file descriptor COUNT_TO, where
-// that is given: how many there were. LATE_TO is the same for those that came after the first read
-// or write of the process.
+// A library to preload: it refuses one allocation of the process, with the number REFUSE, counted
+// from 1. At the end of the process it writes the number of allocations as a line to the file
+// descriptor COUNT_TO, if that is set. LATE_TO is the same for allocations after the first read or
+// write of the process.
 #include <errno.h>
 #include <stddef.h>
 #include <stdio.h>

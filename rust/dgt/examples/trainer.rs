@@ -1,5 +1,5 @@
-//! Follows a board on a serial port: prints where the pieces stand after each change, and each time
-//! of its clock, which shows how many changes there were. A port that goes is looked for.
+//! Follows a board on a serial port: prints the position after each change, and each time of its
+//! clock, which shows the number of changes. It reopens a port that was unplugged.
 
 use dgt::{Clock, ClockCommand, Command, UpdateMode};
 use std::{env, error::Error, thread, time::Duration};

@@ -18,13 +18,13 @@ impl<'a> Message<'a> {
     ///
     /// # Errors
     ///
-    /// What is wrong with a body that is none of its code.
+    /// The fault of a body that doesn't belong to its code.
     pub fn view(code: SevenBit, body: Body<'a>) -> Result<Self, BodyFault> {
         message::view(code, body)
     }
 
     /// Writes the message at the beginning of the slice, as [`message::encode`] does, and returns
-    /// how many bytes it has.
+    /// how many bytes it takes.
     ///
     /// ```
     /// use dgt::{Message, NoRoom, Piece};
@@ -45,14 +45,14 @@ impl<'a> Message<'a> {
 }
 
 impl<'a> Command<'a> {
-    /// The command whose bytes are exactly these, as [`command::view_command`] reads it.
+    /// The command with exactly these bytes, as [`command::view_command`] reads it.
     #[must_use]
     pub fn view(bytes: &'a [u8]) -> Option<Self> {
         command::view_command(bytes)
     }
 
     /// Writes the command at the beginning of the slice, as [`command::encode`] does, and returns
-    /// how many bytes it has.
+    /// how many bytes it takes.
     ///
     /// ```
     /// use dgt::{ClockCommand, Command};

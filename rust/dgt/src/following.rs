@@ -1,4 +1,4 @@
-//! A board that is followed over a stream, view by view.
+//! Follows a board over a stream, view by view.
 
 use crate::{Clock, Command, Follower, MAX_ASKING, MAX_WORD, Position};
 use core::fmt::{self, Display, Formatter};
@@ -8,12 +8,13 @@ use std::sync::OnceLock;
 use std::thread;
 use std::time::Instant;
 
-/// How many milliseconds pass between two looks for a port that has gone.
+/// The time between two searches for a port that has gone, in milliseconds.
 const LOOK: u64 = 2000;
-/// How many milliseconds to wait for a stream that has nothing to read and doesn't wait itself.
+/// How many milliseconds to wait if a stream has nothing to read and doesn't block.
 const NAP: u64 = 10;
 
-/// The time in milliseconds, by a clock that doesn't go back: for [`Follower::hear`] and its like.
+/// The time in milliseconds, by a clock that doesn't go back, for [`Follower::hear`] and other
+/// calls.
 #[must_use]
 pub fn now() -> u64 {
     static BEGUN: OnceLock<Instant> = OnceLock::new();
@@ -25,9 +26,9 @@ pub fn now() -> u64 {
 #[cfg_attr(feature = "serde", derive(serde::Serialize, serde::Deserialize))]
 #[non_exhaustive]
 pub enum Away {
-    /// Its port has gone. It is looked for every two seconds.
+    /// Its port has gone. The program looks for it every two seconds.
     Gone,
-    /// Its port is there, and it doesn't answer.
+    /// Its port exists, but the board doesn't answer.
     Silent,
 }
 
@@ -40,33 +41,33 @@ impl Display for Away {
     }
 }
 
-/// What is known of a board that is followed.
+/// What is known of a followed board.
 #[derive(Clone, Copy, Debug, Default, PartialEq, Eq, Hash)]
 #[cfg_attr(feature = "serde", derive(serde::Serialize, serde::Deserialize))]
 #[non_exhaustive]
 pub struct BoardView {
-    /// What stands on the squares, or `None` before the first report of it.
+    /// The pieces on the squares, or `None` before the first dump.
     pub picture: Option<Position>,
-    /// The last report of the board's clock, or `None` before the first, and while the clock shows
-    /// no digits, as while it is set, or sends zeros alone.
+    /// The last report of the board's clock. `None` before the first report, and while the clock
+    /// shows no digits, as while it is being set, or sends only zeros.
     pub clock: Option<Clock>,
     /// Whether the picture may be wrong: the line lost or altered bytes, or the board is away. It
     /// may be wrong until the board reports all squares again.
     pub in_doubt: bool,
-    /// Whether a second report of all squares has shown the same picture. With
-    /// [`Follower::set_confirm`] it soon has.
+    /// Whether a second report of all squares has shown the same picture. After
+    /// [`Follower::set_confirm`] that happens soon.
     pub confirmed: bool,
     /// Why nothing is heard of the board. `None` if it is heard.
     pub away: Option<Away>,
 }
 
-/// A board that is followed over a stream, as an iterator of [`BoardView`]s, one for each change.
-/// It never ends: a stream that has gone is opened again.
+/// A followed board on a stream, as an iterator of [`BoardView`]s, one for each change. It never
+/// ends: a stream that has gone is reopened.
 ///
-/// The stream is whatever `open` returns. A read has to return after a while if nothing comes, by
-/// `TimedOut` or `WouldBlock`, so that the board can be asked in time. `InvalidData` says that
-/// bytes were lost or altered. `Ok(0)` and any other fault say that the stream has gone. A port of
-/// the crate `serialport` does for each system it knows:
+/// `open` returns the stream. If no bytes arrive, a read has to return `TimedOut` or `WouldBlock`
+/// after a while, so that the next request is on time. `InvalidData` means that bytes were lost or
+/// altered. `Ok(0)` and any other error mean that the stream has gone. A port of the crate
+/// `serialport` behaves this way on each system that it supports:
 ///
 /// ```ignore
 /// let port = || Ok(serialport::new("COM3", 9600).timeout(Duration::from_millis(100)).open()?);
@@ -75,7 +76,7 @@ pub struct BoardView {
 /// }
 /// ```
 ///
-/// Here it is a board of this crate:
+/// This example uses a simulated board:
 ///
 /// ```
 /// use dgt::{Board, Polled, Views};
@@ -120,12 +121,12 @@ pub struct Views<Open, Stream> {
 }
 
 impl<Open: FnMut() -> io::Result<Stream>, Stream: Read + Write> Views<Open, Stream> {
-    /// Follows the board on the stream that this opens, now and whenever it has gone. The follower
-    /// is the one by default; change it by [`Views::follower`].
+    /// Follows the board on the stream that `open` returns, and calls it again whenever the stream
+    /// has gone. It uses the default follower; change its settings with [`Views::follower`].
     ///
     /// # Errors
     ///
-    /// The fault of opening the stream for the first time.
+    /// The error of opening the stream for the first time.
     pub fn new(mut open: Open) -> io::Result<Self> {
         let stream = Some(open()?);
         Ok(Views {
@@ -153,11 +154,11 @@ impl<Open: FnMut() -> io::Result<Stream>, Stream: Read + Write> Views<Open, Stre
         &mut self.follower
     }
 
-    /// Sends a command of the program's own, as [`Follower::send`] does.
+    /// Sends another command, as [`Follower::send`] does.
     ///
     /// # Errors
     ///
-    /// `NotConnected` while the stream is away, the fault of writing, or a
+    /// `NotConnected` while the stream is away, the error of writing, or a
     /// [`SendFault`](crate::SendFault).
     pub fn send(&mut self, command: &Command<'_>) -> io::Result<()> {
         let Some(stream) = &mut self.stream else {
@@ -168,7 +169,7 @@ impl<Open: FnMut() -> io::Result<Stream>, Stream: Read + Write> Views<Open, Stre
         stream.write_all(&out[..count])
     }
 
-    /// Does one thing, and returns whether it changed what is known.
+    /// Takes one step, and returns whether it changed what is known.
     fn turn(&mut self) -> bool {
         let fault = if self.heard < self.came {
             self.heard += self.follower.hear(now(), &self.chunk[self.heard..self.came]);
@@ -208,14 +209,14 @@ impl<Open: FnMut() -> io::Result<Stream>, Stream: Read + Write> Views<Open, Stre
         (self.stream, self.looked) = ((self.open)().ok(), now());
     }
 
-    /// Two askings found nothing that was heard since the first of them.
+    /// Whether nothing was heard since the first of the last two requests.
     fn is_silent(&self) -> bool {
         self.asked_before
             .is_some_and(|asked| self.follower.last_heard().is_none_or(|it| it < asked))
     }
 
-    /// What was known stays known while the stream is away, and until the board reports it again.
-    /// Returns whether something has changed.
+    /// Updates what is known. The last known state is kept while the stream is away, and until the
+    /// board reports it again. Returns whether anything changed.
     fn note(&mut self) -> bool {
         let away = match &self.stream {
             None => Some(Away::Gone),
@@ -243,7 +244,7 @@ impl<Open: FnMut() -> io::Result<Stream>, Stream: Read + Write> Views<Open, Stre
 impl<Open: FnMut() -> io::Result<Stream>, Stream: Read + Write> Iterator for Views<Open, Stream> {
     type Item = BoardView;
 
-    /// Waits until something changes, and returns what is known then.
+    /// Waits until something changes, and returns the new view.
     fn next(&mut self) -> Option<BoardView> {
         while !self.turn() {}
         Some(self.view)
@@ -261,7 +262,7 @@ fn ask(follower: &mut Follower, stream: &mut impl Write) -> io::Result<usize> {
     }
 }
 
-/// Reads what comes, and returns how many bytes: 0 if nothing came in time.
+/// Reads what was received, and returns how many bytes: 0 if none arrived in time.
 fn read(follower: &mut Follower, stream: &mut impl Read, chunk: &mut [u8]) -> io::Result<usize> {
     match stream.read(chunk) {
         Ok(0) => Err(ErrorKind::UnexpectedEof.into()),

@@ -1,16 +1,17 @@
-//! A host, a follower, a decoder, a reader of commands and a board for DGT electronic chess boards.
+//! A host, a follower, a decoder, a decoder of commands and a board for DGT electronic chess
+//! boards.
 //!
 //! | Type | What it does |
 //! |---|---|
-//! | [`Follower`] | asks a board again and again, so that its picture stays right |
-//! | [`Host`] | asks a board by rules of your own, and reports each event |
+//! | [`Follower`] | requests all squares again and again, so that its picture stays right |
+//! | [`Host`] | sends the requests that you choose, and reports each event |
 //! | [`Decoder`] | reads a board's bytes, and keeps no picture |
-//! | [`Board`] | stands in for a board, so that a host can be tested without one |
+//! | [`Board`] | simulates a board, so that a host can be tested without one |
 //! | [`CommandDecoder`] | reads a host's bytes |
 //!
-//! None of them opens a line, waits or takes memory: you hand in the bytes that came, in chunks of
-//! any length, and write out what a call wrote into your slice. With the feature `std`, which is on
-//! by default, `follow` follows a board on a serial port, and [`Views`] one on any stream.
+//! None of them opens a line, waits or allocates memory: you pass the received bytes in chunks of
+//! any length, and send the bytes that a call wrote into your slice. With the feature `std`, which
+//! is on by default, `follow` follows a board on a serial port, and [`Views`] one on any stream.
 //!
 //! ```
 //! use dgt::{Board, Host, MAX_SENT, Piece, Polled, RESTART_LENGTH};
@@ -35,10 +36,10 @@
 //! # What is proved
 //!
 //! The public modules are generated from crates in Rattle, which is Rust with contracts. The
-//! contracts of those crates are proved for all inputs. The modules have their code without the
-//! contracts, but for four places that `rust/plain.edits` of the repository lists. Comments name
-//! contracts, `laws` and files of `specs/`, which are in the repository, too. What the modules
-//! don't have, such as traits, texts and views, is written by hand, and tested.
+//! contracts of those crates are proved for all inputs. The modules contain their code without the
+//! contracts, except for the few places that `rust/plain.edits` of the repository lists. Comments
+//! name contracts, `laws` and files of `specs/`, which are also in the repository. The rest of this
+//! crate, such as traits, texts and views, is written by hand, and tested.
 //!
 //! # Features
 //!
@@ -47,7 +48,7 @@
 //! | `std` (by default) | `follow`, `ports`, `Port`, [`Views`], and errors of `std::io` |
 //! | `serde` | `Serialize` and `Deserialize` of values, clocks and modes |
 //!
-//! Without `std` it needs `core` and the crate `arrayvec` alone.
+//! Without `std` it depends only on `core` and the crate `arrayvec`.
 #![no_std]
 #![forbid(unsafe_code)]
 

@@ -12,26 +12,26 @@ use std::process::{Command, Stdio};
 use std::thread;
 use std::vec::Vec;
 
-// Numbers of Linux, which the standard library keeps to itself.
+// Numbers of Linux, which the standard library doesn't export.
 #[cfg(any(target_arch = "mips", target_arch = "mips64", target_arch = "sparc64"))]
 compile_error!("Port doesn't know the numbers of this processor: build without the feature std");
 const O_NOCTTY: i32 = 0o400;
 const O_NONBLOCK: i32 = 0o4000;
 
-/// For how many milliseconds a write waits for the port.
+/// The longest time that a write waits for the port, in milliseconds.
 const PATIENCE: u64 = 2000;
-/// Locks the port, which is its standard input, and sets it up. It marks what is altered.
+/// Locks the port, which is its standard input, and sets it up. The port marks altered bytes.
 const SET_UP: &str = "flock -n 0 || exit 2
 stty 9600 raw -echo cs8 -parenb -cstopb -crtscts clocal inpck parmrk";
 
-/// How the names of serial ports of USB and Bluetooth begin.
+/// The prefixes of the names of USB and Bluetooth serial ports.
 const KINDS: [&str; 3] = ["rfcomm", "ttyACM", "ttyUSB"];
 
-/// Lists the serial ports that may be boards, which are those of USB and Bluetooth, by the names to
-/// open them by. None is opened.
+/// Lists the names of the serial ports that may be boards, which are those of USB and Bluetooth. It
+/// opens none.
 ///
-/// A port has its first name in `/dev/serial/by-id`, which stays, or else the one in `/dev`. Those
-/// in `by-id` come first; both are in the order of their names.
+/// The name is the port's first one in `/dev/serial/by-id`, which stays the same, or otherwise that
+/// in `/dev`. Names in `by-id` are listed first; both groups are sorted.
 ///
 /// ```
 /// for path in dgt::ports() {
@@ -44,7 +44,7 @@ pub fn ports() -> Vec<PathBuf> {
 }
 
 fn ports_in(dev: &Path) -> Vec<PathBuf> {
-    // A link with a dot is being made.
+    // A link with a dot is not yet complete.
     let mut paths = paths_in(&dev.join("serial/by-id"), |name| !name.starts_with('.'));
     paths.extend(paths_in(dev, |name| KINDS.iter().any(|kind| name.starts_with(kind))));
     let mut devices = BTreeSet::new();
@@ -52,7 +52,7 @@ fn ports_in(dev: &Path) -> Vec<PathBuf> {
     paths
 }
 
-/// The paths of the entries of a folder that have such a name, in order. None if it isn't there.
+/// The paths of a folder's entries with such names, sorted. None if there is no such folder.
 fn paths_in(folder: &Path, is_named: impl Fn(&str) -> bool) -> Vec<PathBuf> {
     let entries = fs::read_dir(folder).into_iter().flatten().flatten();
     let named = entries.filter(|entry| is_named(&entry.file_name().to_string_lossy()));
@@ -61,7 +61,7 @@ fn paths_in(folder: &Path, is_named: impl Fn(&str) -> bool) -> Vec<PathBuf> {
     paths
 }
 
-/// Follows the board on a serial port, and finds the port again if it goes.
+/// Follows the board on a serial port, and reopens the port if it was unplugged.
 ///
 /// ```no_run
 /// for view in dgt::follow("/dev/ttyUSB0")? {
@@ -82,11 +82,11 @@ pub fn follow(
     Views::new(move || Port::open(&path))
 }
 
-/// A serial port that this process alone has: 9600 baud, 8 bits, no parity, 1 stop bit, raw. It is
-/// closed with the object.
+/// A serial port that only this process can use: 9600 baud, 8 bits, no parity, 1 stop bit, raw. It
+/// is closed with the object.
 ///
-/// The standard library can neither set up a port nor wait for one. So the commands `stty` and
-/// `flock` set it up, and a read returns `WouldBlock` if nothing has come.
+/// The standard library can neither set up a port nor wait for one. Therefore the commands `stty`
+/// and `flock` set it up, and a read returns `WouldBlock` if nothing was received.
 #[derive(Debug)]
 pub struct Port {
     file: File,
@@ -94,8 +94,8 @@ pub struct Port {
     is_disturbed: bool,
 }
 
-/// What a port has begun to mark. `ff ff` is the byte ff, and `ff 00` comes before a byte whose
-/// stop bit is wrong, or before the 00 of a break.
+/// A partial mark of the port. `ff ff` is the byte ff, and `ff 00` precedes a byte with a wrong
+/// stop bit, or the 00 of a break.
 #[derive(Debug, Default, PartialEq)]
 enum Marks {
     #[default]
@@ -105,8 +105,8 @@ enum Marks {
 }
 
 impl Marks {
-    /// Takes the marks from bytes. Returns how many bytes are left, and whether one was altered:
-    /// they are left out.
+    /// Removes the marks and the altered bytes. Returns how many bytes are left, and whether any
+    /// was altered.
     fn take(&mut self, bytes: &mut [u8]) -> (usize, bool) {
         let (mut kept, mut is_altered) = (0, false);
         for at in 0..bytes.len() {
@@ -140,8 +140,8 @@ impl Port {
     ///
     /// # Errors
     ///
-    /// The fault of opening the file or of running `sh`, `in use by another program`, or
-    /// `not a serial port`.
+    /// The error of opening the file or of running `sh`, `in use by another program`, or `not a
+    /// serial port`.
     pub fn open(path: impl AsRef<Path>) -> io::Result<Self> {
         let (mut options, mut set_up) = (File::options(), Command::new("sh"));
         options.read(true).write(true).custom_flags(O_NOCTTY | O_NONBLOCK);
@@ -156,8 +156,8 @@ impl Port {
 }
 
 impl Read for Port {
-    /// Reads what has come. `WouldBlock` if nothing has. `InvalidData` if bytes were altered that
-    /// came before or among those that were read last. Bytes that overran aren't noticed.
+    /// Reads the received bytes. Returns `WouldBlock` if there are none, and `InvalidData` if bytes
+    /// before or among those of the last read were altered. It doesn't notice overruns.
     fn read(&mut self, chunk: &mut [u8]) -> io::Result<usize> {
         while !mem::take(&mut self.is_disturbed) {
             let came = self.file.read(chunk)?;
@@ -172,7 +172,7 @@ impl Read for Port {
 }
 
 impl Write for Port {
-    /// Waits until the port takes bytes. `TimedOut` if it takes none for two seconds.
+    /// Waits until the port takes bytes. Returns `TimedOut` if it takes none for two seconds.
     fn write(&mut self, bytes: &[u8]) -> io::Result<usize> {
         let end = now() + PATIENCE;
         loop {

@@ -1,5 +1,5 @@
-//! Values for serde: squares, pieces and positions as their texts, bytes as numbers, and clocks by
-//! their parts. What is read is checked as it is everywhere else.
+//! Values for serde: squares, pieces and positions as their texts, bytes as numbers, and clocks as
+//! their parts. Values are checked when they are read, as everywhere else.
 
 use crate::{Clock, NoClock, Piece, Position, Reading, SevenBit, Square, Status, Times};
 use core::convert::Infallible;
@@ -9,7 +9,7 @@ use core::str::FromStr;
 use serde::de::{Deserialize, Deserializer, Error, Visitor};
 use serde::ser::{Serialize, Serializer};
 
-/// Reads a text of a value.
+/// Reads the text of a value.
 struct Text<T>(PhantomData<T>);
 
 impl<T: FromStr<Err: Display>> Visitor<'_> for Text<T> {
@@ -42,7 +42,7 @@ macro_rules! as_text {
 
 as_text!(Piece, Position, Square);
 
-/// What a value is written as, and read from.
+/// The form in which a value is written and read.
 macro_rules! as_parts {
     ($($name:ident as $parts:ty: $write:expr, $read:expr);* $(;)?) => {$(
         impl Serialize for $name {

@@ -1,5 +1,5 @@
-//! Values as text. Messages, commands and events read as the lines of `dgt monitor` and of
-//! `dgt commands` do, without their offsets.
+//! Values as text. Messages, commands and events have the texts of the lines of `dgt monitor` and
+//! `dgt commands`, without their offsets.
 
 use crate::{
     BodyFault, Clock, ClockAck, ClockCommand, Command, CommandEvent, Event, Message, NoClock,
@@ -20,7 +20,7 @@ impl Display for Hex<'_> {
 }
 
 impl Display for Square {
-    /// The name, as in `e4`.
+    /// The name, such as `e4`.
     fn fmt(&self, f: &mut Formatter<'_>) -> fmt::Result {
         let [file, rank] = self.name().map(char::from);
         write!(f, "{file}{rank}")
@@ -42,7 +42,7 @@ impl Display for Position {
 }
 
 impl Display for Reading {
-    /// Hours, minutes and seconds, as in `1:29:55`.
+    /// Hours, minutes and seconds, such as `1:29:55`.
     fn fmt(&self, f: &mut Formatter<'_>) -> fmt::Result {
         write!(f, "{}:{:02}:{:02}", self.hours(), self.minutes(), self.seconds())
     }
@@ -147,7 +147,7 @@ impl Display for CommandEvent<'_> {
     }
 }
 
-/// The character that these segments show, if they show one.
+/// The character of these segments, if there is one.
 fn shown(segments: u8) -> Option<char> {
     "0123456789 -".chars().find(|&character| segment(character) == Ok(segments))
 }

@@ -1,5 +1,5 @@
-//! What users of Rust expect of types beside what the generated modules derive: defaults,
-//! conversions, and closures that listen.
+//! Traits that users of Rust expect in addition to those that the generated modules derive:
+//! defaults, conversions, and closures as listeners.
 
 use crate::command::WordFramer;
 use crate::decode::Framer;
@@ -25,21 +25,21 @@ macro_rules! new_by_default {
 new_by_default!(CommandDecoder, Decoder, Framer, Host, WordFramer);
 
 impl Default for Follower {
-    /// A follower that asks every ten seconds, and begins anew after six heartbeats.
+    /// A follower that sends a request every ten seconds, and starts over after six heartbeats.
     fn default() -> Self {
         Self::new(10_000, 6)
     }
 }
 
 impl Default for Board {
-    /// The board that `dgt board` simulates, with the pieces of a new game.
+    /// The board that `dgt board` simulates, in the initial position.
     fn default() -> Self {
         Self::new(Position::start(), simulated_clock(), Identity::simulated())
     }
 }
 
 impl Default for Position {
-    /// The position in which a game begins.
+    /// The initial position of a game.
     fn default() -> Self {
         Self::start()
     }

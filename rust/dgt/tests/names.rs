@@ -1,4 +1,4 @@
-//! What other programs read in the bytes that a message carries has names.
+//! Names for bytes that a message carries unread, as other programs read them.
 
 use dgt::names::{BatteryState, Button, Flags, Signal, is_text};
 use dgt::{Event, KnownId, Message};

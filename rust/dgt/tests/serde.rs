@@ -8,7 +8,7 @@ use serde::de::IntoDeserializer;
 use serde::de::value::{Error, MapDeserializer, StrDeserializer};
 use std::fmt;
 
-/// What is written of a value: serde writes texts and numbers to a formatter.
+/// The output for a value: serde writes texts and numbers to a formatter.
 struct Written<T>(T);
 
 impl<T: Serialize> fmt::Display for Written<T> {

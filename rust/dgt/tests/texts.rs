@@ -1,11 +1,11 @@
-//! Messages, events and commands read as the lines of checks/rows.txt, and refusals say what is
-//! wrong.
+//! The texts of messages, events and commands are the lines of checks/rows.txt, and errors say what
+//! is wrong.
 
 use dgt::*;
 
 const LINES: &str = include_str!("../../../checks/rows.txt");
 
-/// The rows of the table after a heading: what stands in backticks in the first two cells.
+/// The rows of the table after a heading: the contents of the backticks in the first two cells.
 fn rows_after(heading: &str) -> Vec<[Vec<&'static str>; 2]> {
     let (_, rest) = LINES.split_once(heading).unwrap();
     let table = rest.lines().skip(1).take_while(|line| !line.starts_with('#'));
@@ -74,24 +74,24 @@ fn commands_are_the_words_of_ask() {
 #[test]
 fn refusals_say_what_is_wrong() {
     let said: [(Box<dyn std::error::Error>, &str); 18] = [
-        (Box::new(NotSevenBit), "the top bit is set"),
+        (Box::new(NotSevenBit), "the byte's top bit is set"),
         (Box::new(TooMuch), "too many bytes"),
-        (Box::new(BodyError::Length(TooMuch)), "there are more than 16380 bytes"),
-        (Box::new(BodyError::Byte(NotSevenBit)), "a byte has its top bit set"),
-        (Box::new(NoRoom { need: 2 }), "this takes 2 bytes of room"),
-        (Box::new(SendFault::NoRoom { need: 3 }), "this takes 3 bytes of room"),
+        (Box::new(BodyError::Length(TooMuch)), "the body is longer than 16380 bytes"),
+        (Box::new(BodyError::Byte(NotSevenBit)), "a byte of the body has its top bit set"),
+        (Box::new(NoRoom { need: 2 }), "the buffer needs 2 bytes"),
+        (Box::new(SendFault::NoRoom { need: 3 }), "the buffer needs 3 bytes"),
         (Box::new(SendFault::TooMany), "16 replies are awaited already"),
         (Box::new(NoSquare), "not a square"),
         (Box::new(NoPiece), "not a piece"),
-        (Box::new(NoSegment), "this character has no segments"),
-        (Box::new(BadPlacement { at: 7 }), "no placement, from offset 7 on"),
-        (Box::new(Known), "this has a case of its own"),
-        (Box::new(BadDigits), "no clock shows these digits"),
-        (Box::new(NotThisKind), "this belongs to another kind of clock message"),
-        (Box::new(TooLong), "a body has more than 64 bytes"),
-        (Box::new(Busy), "the board owes as many replies as it can"),
-        (Box::new(BodyFault::WrongSize), "the body has not the size of its code"),
-        (Box::new(BodyFault::BadReading { at: 1 }), "byte 1 is no part of a reading"),
+        (Box::new(NoSegment), "not a digit, a space or a hyphen"),
+        (Box::new(BadPlacement { at: 7 }), "not a placement: wrong at offset 7"),
+        (Box::new(Known), "this has a variant of its own"),
+        (Box::new(BadDigits), "not a time from 0:00:00 to 9:59:59"),
+        (Box::new(NotThisKind), "these bytes are another kind of clock message"),
+        (Box::new(TooLong), "a body is longer than 64 bytes"),
+        (Box::new(Busy), "the board owes 8 replies: poll it first"),
+        (Box::new(BodyFault::WrongSize), "the body has the wrong size for its code"),
+        (Box::new(BodyFault::BadReading { at: 1 }), "byte 1 is not valid in a clock time"),
     ];
     for (error, text) in said {
         assert_eq!(error.to_string(), text);
@@ -104,5 +104,5 @@ fn refusals_are_errors_of_std_io() {
     let fault: std::io::Error = SendFault::TooMany.into();
     assert_eq!(fault.to_string(), "16 replies are awaited already");
     let fault: std::io::Error = NoRoom { need: 9 }.into();
-    assert_eq!(fault.to_string(), "this takes 9 bytes of room");
+    assert_eq!(fault.to_string(), "the buffer needs 9 bytes");
 }

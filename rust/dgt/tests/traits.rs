@@ -43,8 +43,8 @@ fn bytes_are_numbers() {
     assert!(SevenBit::try_from(1).unwrap() < SevenBit::try_from(2).unwrap());
 }
 
-/// The default follower asks every ten seconds, and begins anew after six heartbeats. The default
-/// board is the one that `dgt board` simulates.
+/// The default follower sends a request every ten seconds, and starts over after six heartbeats.
+/// The default board is the one that `dgt board` simulates.
 #[test]
 fn types_have_defaults() {
     let (mut follower, mut board, mut out) = (Follower::default(), Board::default(), [0; MAX_SENT]);

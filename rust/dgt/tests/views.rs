@@ -1,4 +1,4 @@
-//! A board that is followed over a stream, which goes and comes again.
+//! A followed board on a stream that disappears and comes back.
 #![cfg(feature = "std")]
 
 use dgt::*;
