@@ -1,6 +1,6 @@
-/* The calls that the program takes from C code of the toolchain, for machines for which the
- * toolchain has none. They do what its objects for x86-64 do. The contracts of the crates libc and
- * os take this as given: it is trusted. */
+/* The calls that the program needs from the toolchain's C code, for machines for which it has none.
+ * They do the same as its objects for x86-64. The contracts of the crates libc and os assume this:
+ * it is trusted. */
 
 #include <errno.h>
 #include <stddef.h>
@@ -19,14 +19,14 @@ int rattle_errno(void);
 void rattle_set_errno(int number);
 int64_t rattle_arg(uint64_t index, char *room, uint64_t size);
 
-static char nothing; /* where a block begins that is not there */
+static char nothing; /* the start of a block that could not be allocated */
 
 static struct block block_at(void *start) {
     struct block made = {start != NULL, start != NULL ? start : &nothing};
     return made;
 }
 
-/* malloc aligns for each type of C, and nothing asks for more. A block of no bytes has some. */
+/* malloc aligns for each type of C, and no caller needs more. An empty block also gets memory. */
 struct block rattle_alloc(size_t size, size_t align) {
     return block_at(malloc(size != 0 ? size : align));
 }

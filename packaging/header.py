@@ -8,14 +8,14 @@ import re
 
 HEADER = pathlib.Path(__file__).resolve().parent.parent / "include" / "dgt.h"
 SECTION = re.compile(r"-{4} (.*)", re.S)
-# What only compilers read, after a declaration or before it.
+# Attributes, after a declaration or before it, which only compilers read.
 ATTRIBUTE = re.compile(r"\s*\bDGT_(?:NONNULL|READS|WRITES)_\([\d, ]*\)|\s*\bDGT_MUST_USE_\b")
 
 
 @dataclasses.dataclass
 class Part:
-    """A comment or a declaration. A comment's text has no marks; a declaration's has no
-    attributes, and of a function that stands in the header no body."""
+    """A comment without its marks, or a declaration without attributes and without the body of an
+    inline function."""
 
     kind: str  # "comment" or "code"
     text: str
@@ -72,7 +72,7 @@ def read(header: pathlib.Path = HEADER) -> list[Section]:
             cleaned, parts = clean(part.text), sections[-1].parts
             if not re.match(r"static inline .*\bdgt_\w*_\(", cleaned):
                 parts += [Part("code", cleaned)] if cleaned else []
-            elif len(parts) > 1 and parts[-1].kind == "comment":  # of a call of its own
+            elif len(parts) > 1 and parts[-1].kind == "comment":  # the comment of a helper
                 parts.pop()
     return [section for section in sections if section.parts]
 

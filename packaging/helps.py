@@ -1,7 +1,7 @@
-"""Reads the help texts of commands, as clap and argparse lay them out.
+"""Reads the help texts of commands, in the layouts of clap and argparse.
 
-A help has blocks, with an empty line between them: the usage, tables (commands, arguments,
-options), and text. A block with a line that begins with two spaces and `$ ` is an example.
+A help consists of blocks, separated by empty lines: the usage, tables (commands, arguments,
+options), and text. A block with a line that starts with two spaces and `$ ` is an example.
 """
 
 from __future__ import annotations
@@ -14,7 +14,7 @@ TABLES = {
     "commands": "commands", "arguments": "arguments", "options": "options",
     "positional arguments": "arguments", "optional arguments": "options",
 }
-# A word of a command's own, with what follows it in capitals: `beep N`.
+# A word of `dgt ask`, with its operands in capitals: `beep N`.
 WORD = re.compile(r"  ([a-z]+)((?: [A-Z]+)*)(?:  +(.*))?")
 
 
@@ -29,7 +29,7 @@ class Row:
 
 @dataclasses.dataclass
 class Help:
-    """What a help text has. `usage` is one line, without the word itself."""
+    """The parts of a help text. `usage` is one line, without the word usage."""
 
     usage: str = ""
     tables: dict[str, list[Row]] = dataclasses.field(default_factory=dict)
@@ -48,7 +48,7 @@ class Help:
 
 
 def read_rows(lines: list[str]) -> list[Row]:
-    """The rows of a table. What is indented further than the row before belongs to that row."""
+    """The rows of a table. A line that is indented further than a row continues that row."""
     rows: list[Row] = []
     for line in lines:
         names, _, about = line.strip().partition("  ")
@@ -83,7 +83,7 @@ def parse(text: str) -> Help:
 
 
 def read_words(help_of: Help) -> list[Row]:
-    """The words of a command that its text lists: the longest list of such rows."""
+    """The words that the text of a command lists: the longest list of such rows."""
     best: list[Row] = []
     for block in help_of.text:
         rows: list[Row] = []
@@ -104,7 +104,7 @@ def ask(program: str, *words: str) -> str:
 
 
 def all_of(program: str) -> dict[str, Help]:
-    """The helps of a program with commands, by the command; that of the program is under ""."""
+    """The helps of a program by its commands, and that of the program itself under ""."""
     helps = {"": parse(ask(program))}
     for row in helps[""].rows("commands"):
         if row.names[0] != "help":
