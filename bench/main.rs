@@ -1,7 +1,7 @@
-//! Times the proved library, and beside it the same work in plain Rust (`plain`), and by the plain
-//! Rust that is made of the proved sources (`generated`). Lines go to a writer that only counts
-//! bytes, so no system call is timed. With the word `monitor` or `picture`
-//! it is that program in plain Rust.
+//! Times the proved library, the same work in plain Rust (`plain`), and the plain Rust that is
+//! generated from the proved sources (`generated`). Lines go to a writer that only counts bytes, so
+//! no system call is timed. With the argument `monitor` or `picture` it is that program in plain
+//! Rust.
 use std::cell::RefCell;
 use std::hint::black_box;
 use std::io;
@@ -15,7 +15,7 @@ mod program;
 mod work;
 mod world;
 
-// A slice crosses as a pointer and a length.
+// A slice is passed as a pointer and a length.
 unsafe extern "C" {
     fn dgt_bench_decode(bytes: *const u8, len: usize, most: usize) -> u64;
     fn dgt_bench_feed_all(bytes: *const u8, len: usize, most: usize) -> u64;
@@ -39,7 +39,7 @@ fn message(code: u8, body: &[u8]) -> Vec<u8> {
 }
 
 /// The microseconds that some work takes, the least of 100 runs or of half a second, and its
-/// answer. Runs are short, so that one at least is not interrupted.
+/// result. Runs are short, so that at least one isn't interrupted.
 fn timed(work: impl Fn() -> u64) -> (f64, u64) {
     let (begun, mut best) = (Instant::now(), (f64::MAX, 0));
     for run in 0.. {
@@ -56,7 +56,7 @@ fn timed(work: impl Fn() -> u64) -> (f64, u64) {
     best
 }
 
-/// Prints a row, without the made code if there is none for this work.
+/// Prints a row, without the generated code if there is none for this work.
 fn compare(
     name: &str,
     parts: usize,
@@ -126,7 +126,7 @@ fn compare_take(name: &str, parts: usize, bytes: &[u8], poll: bool) {
     );
 }
 
-/// Bytes that look random, the same in each run. None is zero, so no short message comes whole.
+/// Bytes that look random, the same in each run. None is zero, so no short message is complete.
 fn garbage(len: usize) -> Vec<u8> {
     let mut state = 1u64;
     let step = |_| {
@@ -163,7 +163,7 @@ fn compare_messages() {
     compare_copies(&longest);
 }
 
-/// Longest messages in whole chunks, beside a copy of as many bytes.
+/// Longest messages in whole chunks, compared with a copy of as many bytes.
 fn compare_copies(longest: &[u8]) {
     let many = longest.repeat(50);
     let copy = RefCell::new(vec![1; many.len()]);

@@ -1,4 +1,4 @@
-//! What main.rs times in plain Rust, beside the functions of library.rt.in with these names.
+//! The work that main.rs times in plain Rust, like the functions of library.rt.in with these names.
 use super::plain::board::{Board, Command, Identity, Polled, Word};
 use super::plain::decoder::{Decoder, Event};
 use super::plain::host::Host;
@@ -7,7 +7,7 @@ use super::plain::message::{Clock, Message, Time};
 use super::plain::values::{Piece, Position, Square};
 use std::hint::black_box;
 
-/// What is added up of an event, so that its message is read.
+/// The number added up for an event, so that its message is read.
 fn weight(event: &Event) -> u64 {
     match event {
         Event::Message(Message::Field { square, piece }) => {
@@ -33,7 +33,7 @@ pub fn decode(bytes: &[u8], most: usize) -> u64 {
     sum
 }
 
-/// A host hears these bytes, an event a call. A sum over the events and the picture.
+/// A host hears these bytes, one event a call. Returns a sum over the events and the picture.
 pub fn hear(mut bytes: &[u8]) -> u64 {
     let (mut host, mut sum) = (Host::new(), 0);
     while !bytes.is_empty() {
@@ -44,7 +44,7 @@ pub fn hear(mut bytes: &[u8]) -> u64 {
     sum + host.picture().map_or(0, |picture| u64::from(picture.pieces()[60].code()))
 }
 
-/// Forms the lines of `dgt monitor`, and returns how many bytes they have.
+/// Forms the lines of `dgt monitor`, and returns their length.
 pub fn monitor(bytes: &[u8]) -> u64 {
     let (mut engine, mut text) = (Monitor::new(), Vec::with_capacity(100_000));
     let mut count = 0;
@@ -57,7 +57,7 @@ pub fn monitor(bytes: &[u8]) -> u64 {
     count + black_box(&text).len() as u64
 }
 
-/// Copies all of the bytes at once, and reads the last byte of each part.
+/// Copies all bytes at once, and reads the last byte of each part.
 pub fn copy_all(bytes: &[u8], part: usize, copy: &mut [u8]) -> u64 {
     copy.copy_from_slice(bytes);
     black_box(&*copy).chunks(part).map(|part| u64::from(part[part.len() - 1])).sum()
@@ -90,7 +90,7 @@ fn board() -> Board {
     board
 }
 
-/// What is added up of a word, so that it is read.
+/// The number added up for a word, so that it is read.
 fn word_weight(word: &Word) -> u64 {
     match word {
         Word::Command(Command::Leds([.., last])) => u64::from(*last),
@@ -106,8 +106,8 @@ fn sent_weight(out: &[u8; 67], polled: Polled) -> u64 {
     }
 }
 
-/// A board takes these bytes, a command a call, and with `poll` sends the next message after each.
-/// A sum over the commands and what it sends.
+/// A board takes these bytes, one command a call, and after each sends the next message by `poll`.
+/// Returns a sum over the commands and the messages.
 pub fn take(mut bytes: &[u8], poll: bool) -> u64 {
     let (mut board, mut out, mut sum) = (board(), [0; 67], 0);
     while !bytes.is_empty() {
@@ -124,8 +124,8 @@ pub fn take(mut bytes: &[u8], poll: bool) -> u64 {
     sum
 }
 
-/// Puts a king on each of these squares and takes it off again, and polls the board after each
-/// change. A sum over what it sends.
+/// Puts a king on each of these squares and removes it again, and polls the board after each
+/// change. Returns a sum over the messages.
 pub fn poll(squares: &[u8]) -> u64 {
     let (mut board, mut out, mut sum) = (board(), [0; 67], 0);
     for square in squares.iter().filter_map(|&index| Square::from_index(index)) {

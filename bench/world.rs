@@ -1,8 +1,8 @@
-//! Times the deliveries of a world, the squares that differ and the polls of a board: the last two
-//! beside a scan of the squares, proved too.
+//! Times the deliveries of a world, the squares that differ and the polls of a board. The last two
+//! are compared with a scan of the squares, which is also proved.
 use super::{garbage, timed};
 
-// A parameter of the type `Global` takes no place.
+// A parameter of the type `Global` has no size.
 unsafe extern "C" {
     fn dgt_bench_deliver(capacity: usize, dumps: u64, rounds: u64) -> u64;
     fn dgt_bench_fill(capacity: usize, dumps: u64, rounds: u64) -> u64;
@@ -19,11 +19,11 @@ unsafe extern "C" {
 const ROUNDS: u64 = 2_000;
 const TURNS: u64 = 128_000;
 const DUMP: u64 = 67;
-/// How many replies a host awaits at most.
+/// The most replies that a host awaits.
 const MOST_DUMPS: u64 = 16;
 
-/// One `ToHost(65535)` delivers all dumps that a line takes. A line is emptied in no other way, so
-/// the time of filling is taken over new worlds, and the time of making those is subtracted.
+/// One `ToHost(65535)` delivers all dumps that fit into a line. There is no other way to empty a
+/// line, so the time of filling new worlds is measured, minus the time of making them.
 fn deliver(capacity: usize) {
     let dumps = MOST_DUMPS.min(capacity as u64 / DUMP);
     let bytes = dumps * DUMP;
@@ -60,7 +60,7 @@ fn print_scan(name: &str, lanes: f64, scan: f64, turns: u64) {
 }
 
 /// Polls of boards on which one square changed a while ago: 64 boards are changed, and then all are
-/// polled. The time of the same changes with no poll is subtracted.
+/// polled. The time of the same changes without polls is subtracted.
 fn poll_later(squares: &[u8]) {
     let lanes =
         |poll| timed(|| unsafe { dgt_bench_poll_later(squares.as_ptr(), squares.len(), poll) });
@@ -79,7 +79,7 @@ fn poll_later(squares: &[u8]) {
 }
 
 pub fn compare() {
-    // A large block that is given back has the allocator keep what the worlds give back.
+    // After a large block is freed, the allocator keeps the blocks that the worlds free.
     drop(std::hint::black_box(vec![1u8; 16 << 20]));
     for capacity in [1024, 4096, 16384, 65535] {
         deliver(capacity);

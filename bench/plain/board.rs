@@ -5,7 +5,7 @@ use std::collections::VecDeque;
 
 const MAX_OWED: usize = 8;
 
-/// A command. The bytes of a clock message and of LEDs are lent.
+/// A command. It borrows the bytes of a clock message and of LEDs.
 #[derive(Clone, Copy, Debug, PartialEq, Eq)]
 pub enum Command<'a> {
     Reset,
@@ -44,14 +44,14 @@ fn bare_command(code: u8) -> Option<Command<'static>> {
     })
 }
 
-/// The bytes of a word that isn't whole yet.
+/// The bytes of an unfinished word.
 struct Reader {
     held: [u8; 257],
     have: usize,
 }
 
 impl Reader {
-    /// How many bytes of a piece are used, up to and including the first that completes a word, and
+    /// How many bytes of a chunk are used, up to and including the first that completes a word, and
     /// the word.
     fn feed(&mut self, piece: &[u8]) -> (usize, Option<Word<'_>>) {
         for (index, &byte) in piece.iter().enumerate() {
@@ -69,7 +69,7 @@ impl Reader {
         (piece.len(), None)
     }
 
-    /// How many bytes the word has, where its last one has come or one of them is a fault.
+    /// The length of the word, if its last byte was received or one of its bytes is a fault.
     fn ended(&self) -> Option<usize> {
         let have = self.have;
         let ends = match (self.held[0], have) {
@@ -82,7 +82,7 @@ impl Reader {
     }
 }
 
-/// What the bytes of a word mean.
+/// The meaning of a word's bytes.
 fn word(bytes: &[u8]) -> Word<'_> {
     match bytes {
         [0x60, _, leds @ ..] => Word::Command(Command::Leds(leds)),
@@ -118,7 +118,7 @@ pub struct Identity {
     pub long_serial: Vec<u8>,
 }
 
-/// What a board keeps beside the bytes of an unfinished command.
+/// The state of a board, except for the bytes of an unfinished command.
 struct State {
     squares: Position,
     told: Position,
@@ -272,8 +272,8 @@ impl Board {
         self.state.squares.set(square, piece);
     }
 
-    /// Uses bytes up to and including the first that completes a word, which has its effect. `None`
-    /// if as many replies are owed as can be.
+    /// Uses the bytes up to and including the first that completes a word, which takes effect.
+    /// `None` if the board owes as many replies as it can.
     pub fn take(&mut self, piece: &[u8]) -> Option<(usize, Option<Word<'_>>)> {
         if self.state.owed.len() == MAX_OWED {
             return None;
@@ -285,7 +285,7 @@ impl Board {
         Some((used, word))
     }
 
-    /// Writes the next message that is to be sent.
+    /// Writes the next message to be sent.
     pub fn poll(&mut self, out: &mut [u8]) -> Polled {
         self.state.poll(out)
     }

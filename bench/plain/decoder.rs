@@ -21,13 +21,13 @@ impl Decoder {
         Decoder { held: [0; 16383], have: 0, total: 0 }
     }
 
-    /// How many bytes have come of an unfinished message.
+    /// How many bytes of an unfinished message were received.
     pub fn rest(&self) -> usize {
         self.have
     }
 
-    /// How many bytes of a piece are used, up to and including the first that makes an event, and
-    /// the event.
+    /// How many bytes of a chunk are used, up to and including the first that completes an event,
+    /// and the event.
     pub fn feed(&mut self, piece: &[u8]) -> (usize, Option<Event<'_>>) {
         for (index, &byte) in piece.iter().enumerate() {
             let have = self.have;
@@ -53,7 +53,7 @@ impl Decoder {
         (piece.len(), None)
     }
 
-    /// What the bytes of a whole message make known.
+    /// The event of the bytes of a whole message.
     fn whole(&self) -> Event<'_> {
         if self.total < 3 {
             return Event::BadLength;

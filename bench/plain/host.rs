@@ -1,4 +1,4 @@
-//! A host: a picture of the 64 squares, the clock, and the replies that are awaited.
+//! A host: a picture of the 64 squares, the clock, and the awaited replies.
 use super::decoder::{Decoder, Event};
 use super::message::{Clock, Kind, Message};
 use super::values::Position;
@@ -19,7 +19,7 @@ struct Known {
 }
 
 impl Known {
-    /// Takes note of a message, and returns whether it was not asked for.
+    /// Applies a message, and returns whether it is unasked.
     fn note(&mut self, message: &Message) -> bool {
         match (message, &mut self.picture) {
             (Message::Dump(position), picture) => *picture = Some(*position),
@@ -53,7 +53,7 @@ impl Host {
         self.known.picture.as_ref()
     }
 
-    /// Uses bytes up to and including the first that makes an event.
+    /// Uses the bytes up to and including the first that completes an event.
     pub fn hear(&mut self, piece: &[u8]) -> Heard<'_> {
         let (used, event) = self.decoder.feed(piece);
         let unasked = match &event {

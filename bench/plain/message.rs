@@ -1,5 +1,5 @@
-//! Messages of a board: which kind a body is, with each byte checked that has to be a piece, a
-//! square or a digit.
+//! Messages of a board: reads a body, and checks each byte that has to be a piece, a square or a
+//! digit.
 use super::values::{Piece, Position, Square};
 
 #[derive(Clone, Copy, Debug, PartialEq, Eq)]
@@ -42,7 +42,7 @@ pub enum Message<'a> {
 }
 
 impl Message<'_> {
-    /// The kind of reply that it is, if it is one.
+    /// The kind of reply of this message, if it is one.
     pub fn kind(&self) -> Option<Kind> {
         match self {
             Message::Dump(_) => Some(Kind::Dump),
@@ -56,7 +56,7 @@ impl Message<'_> {
     }
 }
 
-/// Why a body is no message of its code.
+/// Why a body isn't a message of its code.
 #[derive(Clone, Copy, Debug, PartialEq, Eq)]
 pub enum BodyFault {
     WrongSize,
@@ -65,7 +65,7 @@ pub enum BodyFault {
     BadReading { at: usize },
 }
 
-/// The message of this code and this body, whose bytes are below 128.
+/// The message of this code and this body of bytes below 128.
 pub fn view(code: u8, body: &[u8]) -> Result<Message<'_>, BodyFault> {
     match code {
         0x06 => {
@@ -111,7 +111,7 @@ fn view_clock<'a>(body: &[u8; 7]) -> Result<Message<'a>, BodyFault> {
     Ok(Message::Clock(Clock::Times { first, second, status }))
 }
 
-/// The time of one player, or the place of its first byte at fault.
+/// The time of one player, or the place of its first invalid byte.
 fn view_time(hours: u8, minutes: u8, seconds: u8) -> Result<Time, usize> {
     if hours % 16 > 9 {
         return Err(0);

@@ -55,7 +55,7 @@ impl Piece {
     }
 }
 
-/// The number of a square, which is below 64.
+/// The number of a square, below 64.
 #[derive(Clone, Copy, Debug, PartialEq, Eq)]
 pub struct Square(u8);
 
@@ -73,7 +73,7 @@ impl Square {
     }
 }
 
-/// What stands on the squares.
+/// The pieces on the 64 squares.
 #[derive(Clone, Copy, Debug, PartialEq, Eq)]
 pub struct Position([Piece; 64]);
 
@@ -94,7 +94,7 @@ impl Position {
         self.0[usize::from(square.0)] = piece;
     }
 
-    /// The pieces of these codes, or the place of the first that is none.
+    /// The pieces of these codes, or the place of the first invalid one.
     pub fn from_codes(codes: &[u8; 64]) -> Result<Self, usize> {
         match codes.iter().position(|&code| Piece::from_code(code).is_none()) {
             Some(at) => Err(at),
@@ -102,13 +102,13 @@ impl Position {
         }
     }
 
-    /// The first square on which another position differs.
+    /// The first square on which the two positions differ.
     pub fn first_difference(&self, other: &Position) -> Option<Square> {
         let at = self.0.iter().zip(&other.0).position(|(one, other)| one != other)?;
         Some(Square(at as u8))
     }
 
-    /// Adds the first field of a FEN.
+    /// Appends the first field of a FEN.
     pub fn put_placement(&self, text: &mut Vec<u8>) {
         for (rank, row) in self.0.chunks(8).enumerate() {
             if rank > 0 {
