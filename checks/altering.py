@@ -1,5 +1,5 @@
-"""What checks/wrong_bodies and checks/definitions share: edits of a crate that the prover has to
-refuse, copies of crates to try them in, and what rt check prints of these. As a program it makes
+"""The common parts of checks/wrong_bodies and checks/definitions: edits of a crate that the prover
+has to refuse, copies of crates to try them in, and the output of rt check. As a program it makes
 such a copy: `altering.py CRATE FOLDER`."""
 
 import contextlib
@@ -14,7 +14,7 @@ from collections.abc import Iterable
 
 ROOT = pathlib.Path(__file__).resolve().parent.parent
 PROVED = re.compile(r"(?m)^(?:fn|impl) (\S+): proved")
-# What rt check prints of a function whose own body is refused. Of one that only calls such a
+# The output of rt check for a function with a refused body. For one that only calls such a
 # function it prints something else.
 REFUSED = (
     re.compile(r"(?m)^(?:fn|impl) (\S+): not proved$"),
@@ -164,18 +164,18 @@ def check_with(crate: pathlib.Path, sources: dict[str, str], *words: str) -> str
 
 
 def refused_in(crate: str, output: str) -> set[str]:
-    """The functions whose own bodies are refused."""
+    """The functions with refused bodies."""
     found = {name for line in REFUSED for name in line.findall(output)}
     found |= {f"{crate}::{path.replace('/', '::')}" for path in REFUSED_ANSWERS.findall(output)}
     return {name.removeprefix(f"{crate}::") for name in found}
 
 
 def needed(names: list[str]) -> dict[str, str]:
-    """The lines of crates.txt for these crates and for all that they stand on, lowest first."""
+    """The lines of crates.txt for these crates and for all that they use, lowest first."""
     texts = (ROOT / "crates.txt").read_text().splitlines()
     lines = {re.split("[ :]", text)[0]: text for text in texts if not text.startswith("#")}
     wanted = set(names)
-    for name in reversed(lines):  # a crate comes after those that it stands on
+    for name in reversed(lines):  # a crate comes after those that it uses
         if name in wanted:
             wanted.update(lines[name].partition(":")[2].split())
     return {name: line for name, line in lines.items() if name in wanted}

@@ -1,12 +1,12 @@
 """Plays whole fast games over UCI with a simulated board, and compares each move that the engine
-sends with the one that was made on the board. The board's side moves by chance, and the other side
+sends with the move that was made on the board. The board's side moves at random. The other side
 plays to win, so most games end with a mate.
 
-A third of the games begin with a FEN. In half of them the board has Black, in some it is turned,
+A third of the games start from a FEN. In half of them the board plays Black, in some it is turned,
 and in half of them the line loses and alters bytes. Moves are made as people make them. Pieces are
-slid, taken ones are lifted first or last, and castling begins with the king or the rook. A pawn is
-put on the last rank before the piece that it becomes. Moves are begun and taken back, and the own
-move may come before the answer was put.
+slid, captured pieces are lifted first or last, and castling starts with the king or the rook. A
+pawn is put on the last rank before the piece that it becomes. Moves are started and taken back, and
+the board's move may be made before the answer was put on the board.
 """
 
 import pathlib

@@ -1,5 +1,4 @@
-"""What checks ask of a folder that was built: whether another one is the same, and whether the
-links of its web pages lead somewhere."""
+"""Compares folders that were built, and checks the links of web pages."""
 
 import html.parser
 import os

@@ -1,4 +1,4 @@
-"""Checks the calls of the package for Python that make commands for the clock: on a host, on a
+"""Checks the calls of the package for Python that make commands for the clock, on a host, on a
 follower, and on a board that is followed. Their bytes are those of docs/PROTOCOL.md and
 checks/rows.txt."""
 
@@ -34,7 +34,7 @@ ROWS = [
 SHOWN = [ROWS[at][2] for at in (1, 2, 5, 8, 16, 17, 18)]
 DIGITS = "text must be at most 6 digits, spaces and hyphens: "
 ASCII = "text must be at most 8 ASCII characters: "
-TIME = "must be a Time whose flags are 0: "
+TIME = "must be a Time with flags 0: "
 NO_BYTES = (-1, 256, "3", b"3", 1.5, None)
 # The call, arguments that are refused, and what is said of each.
 REFUSED = [
@@ -67,7 +67,7 @@ class Line:
 
 
 def with_times(dgt, arguments):
-    """The arguments, with a Time in place of each tuple."""
+    """The arguments, with a Time instead of each tuple."""
     return [dgt.Time(*each) if isinstance(each, tuple) else each for each in arguments]
 
 

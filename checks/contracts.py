@@ -1,4 +1,4 @@
-"""The functions of the crates and the names of their clauses, as the sources have them."""
+"""The functions of the crates and the names of their clauses, read from the sources."""
 
 import dataclasses
 import functools

@@ -1,6 +1,6 @@
-"""Conversations of a host and a board over two lines, and of a follower and a board over lines that
-lose and alter bytes. Each act is done with the package and with checks/model.py, and afterwards
-both are the same."""
+"""Conversations of a host and a board over two lines, and of a follower and a board over lines
+that lose and alter bytes. Each act is done with the package and with checks/model.py, and then both
+are in the same state."""
 
 from __future__ import annotations
 
@@ -24,7 +24,7 @@ MOST_SENDINGS = 73  # of a board, while nothing else happens
 
 
 def same(what: str, got: object, right: object) -> None:
-    assert got == right, f"{what}: {got!r} in place of {right!r}"
+    assert got == right, f"{what}: {got!r} instead of {right!r}"
 
 
 class Ends(RuleBasedStateMachine):
@@ -47,7 +47,7 @@ class Ends(RuleBasedStateMachine):
 
     @rule(position=some.POSITIONS)
     def set_up(self, position: dgt.Position) -> None:
-        """All pieces are put where they stand in a position."""
+        """All pieces are put on their squares of a position."""
         for square, piece in zip(dgt.SQUARES, position):
             self.change(square, piece)
 
@@ -126,7 +126,7 @@ class Ends(RuleBasedStateMachine):
 
 
 class Talk(Ends):
-    """A host and a board, whose lines lose nothing but at a break.
+    """A host and a board, with lines that lose bytes only at a break.
 
     Once a dump was asked for, the last mode command asks for updates and all is quiet, the host's
     picture is the board's.
@@ -168,7 +168,7 @@ class Talk(Ends):
     @rule(how=st.sampled_from(["follow", "restart", "break", "break of the host"]))
     def begin(self, how: str) -> None:
         """The host asks for all squares and for changes; or the line breaks, and what is under way
-        is lost. If the host alone sees a break, it restarts the board."""
+        is lost. If only the host sees a break, it restarts the board."""
         if how.startswith("break"):
             self.up.clear()
             self.down.clear()

@@ -1,11 +1,11 @@
-// Tries dgt.hpp and dgt_port.hpp. Without a word it makes each call once at least, exits with 1 and
-// prints the first thing that is not as these headers say, or exits with 0. With a word it reads
-// standard input in chunks of as many bytes as the second word says:
+// Tests dgt.hpp and dgt_port.hpp. Without a word it makes each call at least once. It prints the
+// first difference from these headers and exits with 1, or exits with 0. With a word it reads
+// standard input in chunks of N bytes:
 //
-//     events N, host N   writes the lines of `dgt monitor`, by a Decoder or a Host
-//     pictures N         writes the lines of `dgt picture`, by a Host
+//     events N, host N   writes the lines of `dgt monitor`, with a Decoder or a Host
+//     pictures N         writes the lines of `dgt picture`, with a Host
 //     words N            writes the lines of `dgt commands`, but those of clock messages as hex
-//     board N            writes what a Board answers
+//     board N            writes the replies of a Board
 #include "dgt.hpp"
 #include "dgt_port.hpp"
 
@@ -398,7 +398,7 @@ template <class Sender> void clock_commands(Sender &&sender) {
     CHECK(refuses([&] { sender.icons(dgt::Bytes(253)); }));
 }
 
-/// What a function throws that is handed in comes out, and nothing is heard twice or lost.
+/// Exceptions of a callback pass through, and no event is heard twice or lost.
 void exceptions() {
     const dgt::Bytes fields{0x8e, 0, 5, 52, 0, 0x8e, 0, 5, 36, 1, 0x31};
     dgt::Decoder decoder;
@@ -589,7 +589,7 @@ std::string why_not(const std::string &port) {
     return "";
 }
 
-/* The list of a folder that stands for /dev: the stable names first, and each port once. */
+/* The list of a folder instead of /dev: the stable names first, and each port once. */
 void listed_ports() {
     namespace fs = std::filesystem;
     const fs::path dev = fs::current_path() / "dev", links = dev / "serial" / "by-id";

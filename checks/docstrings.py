@@ -1,8 +1,8 @@
 """Runs the examples of the docstrings of the package for Python, and of its README.md.
 
-Stand-ins take the place of pyserial and pyserial-asyncio, and of the ports that the package opens
-itself, with a board at the other end. As pyserial does, `read` waits for all the bytes that it is
-asked for, or for the timeout.
+Stand-ins replace pyserial, pyserial-asyncio and the ports that the package opens itself, with a
+board at the other side. As in pyserial, `read` waits for all the bytes that it is asked for, or for
+the timeout.
 """
 
 import asyncio

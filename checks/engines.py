@@ -1,7 +1,7 @@
-"""A UCI engine that is tried, a board on a pseudo-terminal for it, and the hands at the board.
+"""A UCI engine under test, a board on a pseudo-terminal for it, and the hands at the board.
 
 The board is one of the package, as in checks/ports.py. The line between them may lose and alter
-bytes either way.
+bytes in both directions.
 """
 
 import os

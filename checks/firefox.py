@@ -1,6 +1,6 @@
-"""A headless Firefox with one page, driven by WebDriver BiDi, over a socket of its own.
+"""A headless Firefox with one page, controlled with WebDriver BiDi over a separate socket.
 
-It has what chromium.Chromium of examples/trial has, as far as checks/web uses it."""
+It has the members of chromium.Chromium of examples/trial that checks/web uses."""
 
 from __future__ import annotations
 

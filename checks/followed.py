@@ -1,5 +1,5 @@
 """Programs that follow a board on a port: the trainers and the programs of the pages, in each
-language. checks/c_library, checks/cargo and checks/examples try these cases. The line of the board
+language. checks/c_library, checks/cargo and checks/examples run these cases. The line of the board
 is that of ports.py."""
 
 import contextlib
@@ -152,9 +152,9 @@ def first_program(language, port):
 
 
 def a_first_program(_, line, words, status=None):
-    """It prints where the pieces stand at first, after two changes that come at once, and after a
-    field that is no change, a stray byte and two more changes. Then the port goes. It ends with a
-    status, or else goes on once the port is back."""
+    """It prints the position at first, after two changes that arrive at once, and after a field
+    that changes nothing, a stray byte and two more changes. Then the port disappears. It ends with
+    a status, or continues once the port is back."""
     with Program(line, words) as program:
         program.expect(START)
         line.put(("e2", "."), ("e4", "P"))

@@ -1,5 +1,5 @@
-"""Checks the calls of a follower of the package for Python. A picture is confirmed, a message that
-stays unfinished disturbs, a board is asked at once, its serial number is requested, and events are
+"""Checks the calls of a follower of the package for Python. A picture is confirmed, an unfinished
+message is a disturbance, a board is asked at once, its serial number is requested, and events are
 heard."""
 
 import model

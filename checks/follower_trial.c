@@ -4,21 +4,21 @@
  *
  *     follower_trial GAMES SEED HOST HOURS RUNS
  *
- * GAMES is a file of games: pairs of bytes, each a square and the piece that is put there (0 for
- * none), 64 0 after each move and 64 1 after each game. HOST is one of these:
+ * GAMES is a file of games: pairs of bytes, each a square and the piece put on it (0 for none), and
+ * 64 0 after each move and 64 1 after each game. HOST is one of these:
  *
  *     follower     a follower with a period of 10 s and a patience of 6
  *     confirming   the same, which confirms
- *     clock        a follower in the mode UPDATE_NICE, at a board whose clock goes
+ *     clock        a follower in the mode UPDATE_NICE, with a running clock on the board
  *     update       the same in the mode UPDATE
- *     old          a host by the rules that followers had before: see ask_old
- *     heartbeats   a follower whose new beginnings are cut to the 2 bytes of a heartbeat
- *     at-faults    a host that begins anew at each fault that it notices
+ *     old          a host by the former rules of followers: see ask_old
+ *     heartbeats   a follower with restarts that are cut to the 2 bytes of a heartbeat
+ *     at-faults    a host that restarts at each fault that it notices
  *     once         a host that asks once, at the start
  *
- * It prints a line for each row of faults: of HOURS hours, or of a quarter of them if the row has a
- * trouble. The last line is of RUNS runs. In these the faults stop and the picture has to become
- * right, and the clock with it if the mode reports it. Times are in 24ths of a millisecond. */
+ * It prints a line for each row of faults, after HOURS hours, or a quarter of them if the row has a
+ * trouble. The last line is of RUNS runs. In these the faults stop, and the picture has to become
+ * right, and the clock if the mode reports it. Times are in 24ths of a millisecond. */
 #include "dgt.h"
 
 #include <stdio.h>
@@ -137,7 +137,7 @@ enum { FOLLOWER, CONFIRMING, CLOCK, UPDATE, HEARTBEATS, OLD, AT_FAULTS, ONCE, HO
 static const char *const host_names[HOSTS] = {"follower", "confirming", "clock", "update",
                                               "heartbeats", "old", "at-faults", "once"};
 
-/* The trouble of a row, beside the faults of its lines and its losses of power. */
+/* The trouble of a row, in addition to the faults of its lines and its losses of power. */
 enum {
     NOTHING,
     DUMPS,   /* one dump in ten comes with another piece */
@@ -223,7 +223,7 @@ static void ask_follower(void) {
     uint8_t out[DGT_MAX_ASKING];
     uint64_t due = ask_due();
     dgt_sent sent = dgt_follower_ask(&world.follower, world.now / MILLISECOND, out, sizeof out);
-    check(sent.status == DGT_SENT, "an asking has no room");
+    check(sent.status == DGT_SENT, "a request has no room");
     bool is_done = sent.bytes > 0 || (dgt_follower_in_doubt(&world.follower) && ask_due() > due);
     check(is_done == (due <= world.now), "what is due isn't done, or what isn't is");
     if (sent.bytes == 0) return;
@@ -322,7 +322,7 @@ static bool is_clock_right(void) {
     return !memcmp(&heard, &shown, sizeof heard);
 }
 
-/* A frame for the LEDs whose bytes are commands as well, if a part of it is lost. */
+/* A frame for the LEDs with bytes that are commands if a part of it is lost. */
 static void send_leds(void) {
     static const uint8_t codes[8] = {0x00, 0x2b, 0x40, 0x42, 0x44, 0x60, 0x05, 0xff};
     uint8_t leds[16], out[DGT_MAX_WORD];
@@ -416,7 +416,7 @@ static void await_gap(void) {
     world.window += window;
 }
 
-/* A gap begins or ends: of both lines, or for MUTE of the board's line alone. */
+/* A gap begins or ends: of both lines, or for MUTE only of the board's line. */
 static void switch_gap(void) {
     bool is_mute = world.trouble == MUTE;
     world.up.is_cut = !world.up.is_cut;
@@ -700,7 +700,7 @@ static void play_run(int kind, uint64_t seed, uint64_t number) {
     world.healed -= world.healed > 0 ? stop : 0;
 }
 
-/* All became right, and after patience and one more askings at most if it asks each period. */
+/* All became right, and after at most patience + 1 requests if it asks each period. */
 static bool is_healed(void) {
     if (world.is_unhealed) return false;
     return world.kind > OLD || (world.askings > PATIENCE && world.needed <= PATIENCE + 1);

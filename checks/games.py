@@ -1,6 +1,6 @@
 """Checks the rules of chess and the recognition of moves of the package for Python.
 
-The rules: the numbers of positions after some moves (perft) of seven positions, as they are
+The rules: the numbers of positions after some moves (perft) of seven positions are those that are
 published. The recognition: each case of the table in adapters/dgtnix/test_moves.c, which the
 adapter for eboard passes too, and random games. The hands that play these slide pieces, take moves
 back, answer before the move was put down, and put pieces on wrong squares.
@@ -111,13 +111,13 @@ class Hand:
 # ---- The table of the adapter for eboard
 
 TABLE = pathlib.Path(__file__).resolve().parent.parent / "adapters" / "dgtnix" / "test_moves.c"
-# What the recogniser reports in place of what the adapter reports, by the name of the case. It
+# What the recogniser reports instead of what the adapter reports, by the name of the case. It
 # also reports what is taken back and made again, and replaces moves of either side. It waits for
 # the rook of a castling and for the piece that a pawn becomes, and reports that a game begins.
 OTHERS = {
     "seen once more while it rests": "e2e4 -e2e4",
     "a queen's move is none that looks like it": "QUEEN_IN_CORNER h1f1 -h1f1",
-    # The king alone goes to g1 at the end, which answers nothing.
+    # Only the king moves to g1 at the end, which replies to nothing.
     "castling, Black's, long, the king first":
         "d2d4 d7d5 c1f4 c8f5 e2e3 b8c6 g1f3 d8d7 f1e2",
     "promotion, the pawn left there": "SEVENTH h7g8q b7b6",
@@ -155,7 +155,7 @@ OTHERS = {
     "set up again, piece by piece": "e2e4 e7e5 g1f3 -g1f3 -e7e5 -e2e4 d2d4",
     "set up again, a piece that goes home by a move": "e2e4 g8f6 -g8f6 -e2e4 d2d4",
     "set up again, from a heap": "SEVENTH game d2d4",
-    "set up anew, the kings last": "e2e4 game e3e4 g6g5",
+    "set up again, the kings last": "e2e4 game e3e4 g6g5",
     "a turned board": "game e2e4 e7e5 -e7e5 -e2e4",
     "turned between two games": "e2e4 game e2e4",
     "a castling on a turned board": "game ITALIAN e1g1 d7d6",
@@ -271,7 +271,7 @@ def check_given(dgt):
     return len(GIVEN)
 
 
-# ---- Games made by chance
+# ---- Random games
 
 
 def in_any_order(chance, before, after, move, number):
@@ -311,7 +311,7 @@ def on_the_way(chance, before, move, number):
 
 
 class Game:
-    """A game made by chance. `moves` has those that stand."""
+    """A random game. `moves` contains the moves that were not taken back."""
 
     long = 2.5  # for how long a position rests that is then looked at
 

@@ -1,4 +1,4 @@
-"""The harnesses of fuzz/, and how they run without libFuzzer."""
+"""The harnesses of fuzz/, and their runs without libFuzzer."""
 
 from __future__ import annotations
 
@@ -20,7 +20,7 @@ def number(name: str, default: int) -> int:
     """A setting of the environment, from 1 on."""
     text = os.environ.get(name, str(default))
     if not re.fullmatch("[1-9][0-9]{0,8}", text):
-        raise Wrong(f"{name} is no number from 1 on: {text}")
+        raise Wrong(f"{name} must be a number from 1 on, not {text}")
     return int(text)
 
 

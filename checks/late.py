@@ -1,4 +1,4 @@
-"""Tries again what fails where a machine is busy and so is late."""
+"""Repeats tests that fail because a busy machine is late."""
 
 import sys
 

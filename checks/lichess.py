@@ -1,9 +1,8 @@
-"""A client of `dgt-livechess` that behaves as the page lichess.org/dgt does, from what is known of
-it.
+"""A client of `dgt-livechess` that behaves like the page lichess.org/dgt, as far as is known.
 
-It lists the boards, subscribes to one, and sets up the position of the game. What a list of moves
-has more than the list before are new moves. Those of its own side it sends to the server. Those of
-the other side are what the person has put on the board.
+It lists the boards, subscribes to one, and sets up the position of the game. The moves that a list
+has in addition to the list before are new. It sends those of its own side to the server. Those of
+the other side are the moves that the player has made on the board.
 """
 
 import asyncio
@@ -85,7 +84,7 @@ class Lichess:
             self.move(text)
 
     def move(self, text):
-        """A new move of the list. One of its own side is sent, and one of the other side has to be
+        """A new move of the list. A move of its side is sent, and one of the other side has to be
         the one that the server has named."""
         named = {self.dgt.san(self.state, move): move for move in self.state.moves()}
         is_own, move = self.state.white == self.is_white, named.get(text)

@@ -1,4 +1,4 @@
-"""Checks the list of serial ports of the package for Python, with folders that stand for /dev and
+"""Checks the list of serial ports of the package for Python, with folders instead of /dev and
 /sys."""
 
 import contextlib

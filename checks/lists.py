@@ -1,4 +1,4 @@
-"""Lists of bytes made by chance: messages, commands and other bytes, some of them not whole."""
+"""Random lists of bytes: messages, commands and other bytes, some of them incomplete."""
 
 import model
 

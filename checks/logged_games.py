@@ -1,8 +1,9 @@
 """Checks the games that `python -m dgt game --log` makes of a board's log, and the log that a
 `dgt.LoggingBoard` keeps. checks/games runs these cases.
 
-A log is written as text here: `e4P` is a piece that was put, `e2.` one that was lifted, `L1:29:50`
-and `R1:29:50` are times of the clock's first and second side, `7d` is a byte, and words are marks.
+A log is written as text here: `e4P` is a piece that was put on e4, and `e2.` one that was lifted
+from e2. `L1:29:50` and `R1:29:50` are times of the clock's first and second side. `7d` is a byte,
+and words are marks.
 """
 
 import contextlib
@@ -28,9 +29,9 @@ SECONDS = 60
 MARKS = {"nothing": 0x00, "on": 0x6A, "end": 0x6B, "rows": 0x6C, "empty": 0x6D, "sent": 0x6E,
          "begin": 0x6F, "turned": 0x7A, "tag": 0x7B, "dog": 0x7C, "erased": 0x7F}
 ON = "broken off: the board was switched on after this"
-DOG = "broken off: the board began anew after this"
-GAP = "broken off: the log lacks what was moved after this"
-UNTOLD = "no moves lead to what the log has after this"
+DOG = "broken off: the board restarted after this"
+GAP = "broken off: the log lacks moves after this"
+UNTOLD = "no moves lead to the positions in the log after this"
 ITALIAN = "e2. e4P e7. e5p g1. f3N b8. c6n f1. c4B f8. c5b"
 PROMOTION = "a2. a4P b7. b5p a4. b5. b5P a7. a6p b5. a6. a6P c8. b7b a6. b7. b7P h7. h6p b7. a8."
 BACK = "g1N f3. f1B c4. e2P e4. b8n c6. f8b c5. e7p e5."
@@ -101,13 +102,13 @@ LOGS = [
     ("begin e2. e4P e7. e5p f1. e5. e5B on", [f"e4 e5 * {UNTOLD}"], []),
     # Bytes that are unknown, and a log that begins in the middle of what was stored.
     ("7d begin e2. 3f e4P 7e 41", ["e4 *"],
-     ["bytes of the log that are unknown were passed over: 7d at 0, 3f at 4, 7e at 7, 41 at 8"]),
+     ["unknown bytes in the log were ignored: 7d at 0, 3f at 4, 7e at 7, 41 at 8"]),
     ("24 e7. e5p begin d2. d4P", ["d4 *"],
-     ["bytes of the log that are unknown were passed over: 24 at 0", 2, 1]),
-    ("L1:00:00 7d 6a", [], ["bytes of the log that are unknown were passed over: 7d at 3"]),
+     ["unknown bytes in the log were ignored: 24 at 0", 2, 1]),
+    ("L1:00:00 7d 6a", [], ["unknown bytes in the log were ignored: 7d at 3"]),
     ("05 30 begin d2. d4P", ["d4 *"],
-     ["bytes of the log that are unknown were passed over: 05 at 0, 30 at 1"]),
-    (" ".join(["7d"] * 22), [], ["bytes of the log that are unknown were passed over: "
+     ["unknown bytes in the log were ignored: 05 at 0, 30 at 1"]),
+    (" ".join(["7d"] * 22), [], ["unknown bytes in the log were ignored: "
                                  + ", ".join(f"7d at {at}" for at in range(20)) + " and 2 more"]),
 ]
 # A log, White's side of the clock, and the time after each move.
@@ -124,7 +125,7 @@ TIMED = [
     # Both times after each move, of which one is new.
     ("begin L1:30:00 R1:30:00 e2. e4P L1:29:50 R1:30:00 e7. e5p L1:29:50 R1:30:20 g1. f3N "
      "L1:29:30 R1:30:20", "learn", "1:29:50 1:30:20 1:29:30"),
-    # A clock that isn't stored, or of one side alone, gives no time.
+    # A clock that isn't stored, or only of one side, gives no time.
     ("L1:30:00 R1:30:00 begin e2. e4P L1:29:50 e7. e5p g1. f3N L1:29:30 b8. c6n R1:20:00", "left",
      "1:29:50 - 1:29:30 1:20:00"),
     ("begin e2. e4P L1:29:50 e7. e5p g1. f3N L1:29:30", "left", "- - -"),
@@ -133,7 +134,7 @@ TIMED = [
      "0:09:50 0:09:40 -"),
     ("L0:10:00 R0:10:00 begin e2. e4P L0:09:50 e4. e2P d2. d4P L0:09:30", "left", "0:09:30"),
     ("L0:10:00 R0:10:00 begin e2. e4P L0:09:00 R0:10:00 e7. e5p on", "left", "0:09:00 -"),
-    # A flag in the time is no part of it; the clock is set for the next game.
+    # A flag in the time is not a part of it; the clock is set for the next game.
     ("L0:10:00 R0:10:00 begin e2. e4P L0:00:00 on L0:10:00 R0:10:00 begin d2. d4P", "left",
      "0:00:00 -"),
 ]
@@ -171,13 +172,13 @@ def outside(said):
     """What is said of changes that are of no game: how many, and the place of the first."""
     words = [each for each in said if isinstance(each, str)]
     if count := [each for each in said if not isinstance(each, str)]:
-        words.append(f"{count[0]} changes of squares are of no game, from byte {count[1]} of the "
-                     "log on: what stood on the board is unknown")
+        words.append(f"{count[0]} changes of squares belong to no game, from byte {count[1]} of "
+                     "the log on: the position is unknown there")
     return words
 
 
 def logs(dgt):
-    """Each log has these games. So has one whose pieces have the other bit set."""
+    """Each log has these games, and so has a log with the other bit of the pieces set."""
     for text, right, said in LOGS:
         body = logged(dgt, text)
         for bit in (0, 0x10):
@@ -332,7 +333,7 @@ def room(dgt):
             raise Wrong(f"a room of {size!r}")
 
 
-# ---- Games made by chance
+# ---- Random games
 
 
 class LoggedTable(tables.AtGame):
@@ -358,7 +359,7 @@ class LoggedTable(tables.AtGame):
 
 class LoggedGame(tables.Played):
     """A game at such a table. A move that is taken back and made again has two times in the log, so
-    that moves are taken back in every second game alone."""
+    that moves are taken back only in every second game."""
 
     def sit_down(self, turned):
         self.side = "left" if self.chance.random() < 0.7 else "right"
@@ -500,7 +501,7 @@ def program_no_log(dgt):
                (1, "", False))
         wanted("what it says", got.stderr,
                f"dgt-game: {line.path}: the board sent no log within 5 seconds. Not every board "
-               "keeps one. Switch it off and on, and try again; dgt-doctor finds out whether it "
+               "keeps one. Switch it off and on, and try again; dgt-doctor checks whether it "
                "answers\n")
         wanted(f"whether it waits, {passed}", 5 <= passed < 5 + ports.LATE + 3, True)
     for spoil, said in [(lambda message: message[:-1], "a message was cut off after 7 bytes"),
@@ -511,7 +512,7 @@ def program_no_log(dgt):
             wanted(f"{said}, {got.stderr}", (got.returncode, got.stdout, path.exists()),
                    (1, "", False))
             wanted("what it says", got.stderr.partition(": the line ")[2],
-                   f"altered or lost bytes, in each of 3 tries: {said}. Try another cable or "
+                   f"altered or lost bytes in each of 3 attempts: {said}. Try another cable or "
                    "socket, without a hub\n")
     with a_line(dgt) as (line, path):
         spoiled = iter([lambda message: message[:-1] + b"\x86", lambda message: b"\x05" + message])

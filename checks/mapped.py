@@ -1,12 +1,13 @@
-"""Compares crates/ONE_MORE.md, the map of what one more message or command takes, with the files in
-git.
+"""Compares crates/ONE_MORE.md, the list of the files that one more message or command changes,
+with the files in git.
 
-Each path of the map is that of a file. The crate of a path is named before it, with a colon, or
-after it, with `of`. The long serial number is both a message and a question: each file that names
-it is in the map, or needs no change (STAYS). Each file that any message code takes names it or
+Each path of the list is that of a file. The crate of a path is named before it, with a colon, or
+after it, with `of`. The long serial number is both a message and a request: each file that names
+it is in the list, or needs no change (STAYS). Each file that any message code concerns names it or
 its code. In each item of the list these files come before an `If`.
 
-checks/promises_stand runs it; `python3 checks/mapped.py` prints what any message code takes."""
+checks/promises_stand runs it; `python3 checks/mapped.py` prints the files that any message code
+concerns."""
 
 import itertools
 import pathlib

@@ -1,10 +1,10 @@
-"""docs/PROTOCOL.md and docs/PROGRAM.md once more, as plain as it can be said in Python: what `dgt
-monitor`, `dgt picture`, `dgt log`, `dgt commands`, `dgt ask`, `dgt board` and `dgt simulate` write.
+"""docs/PROTOCOL.md and docs/PROGRAM.md in plain Python: the output of `dgt monitor`, `dgt
+picture`, `dgt log`, `dgt commands`, `dgt ask`, `dgt board` and `dgt simulate`.
 
-Written from these pages and the program's help, and not from its sources, so that both can
-be held against each other: checks/hostile does that. Squares are numbers, pieces their codes, a
-position is a list of 64 pieces. A clock is the seven bytes of its message's body, since each times
-or no-clock message has one encoding.
+It was written from these pages and the program's help, not from its sources, so that checks/hostile
+can compare both. Squares are numbers, pieces their codes, a position is a list of 64 pieces. A
+clock is the seven bytes of its message's body, since each times or no-clock message has one
+encoding.
 """
 
 import re
@@ -360,7 +360,7 @@ def clock_message(clock_id, payload):
     return bytes([CLOCK_MESSAGE, len(payload) + 3, 0x03, clock_id, *payload, 0x00])
 
 
-# What `dgt ask` writes for the words that stand alone.
+# The bytes that `dgt ask` writes for words without operands.
 ASKED = {name: bytes([code]) for code, name in NAMES.items()}
 ASKED |= {name: clock_message(clock_id, b"") for clock_id, name in EMPTY.items()}
 ASKED |= {"follow": b"\x44\x42", "restart": bytes(255) + b"\x44\x42", "log": b"\x49"}
@@ -652,7 +652,7 @@ class World:
         self.host.awaited.append(DUMP)
         return "done"
 
-    # What a faulty world has beside.
+    # The additional state of a world with faults.
 
     def line_garbles(self, line, room, data):
         if len(data) > room:

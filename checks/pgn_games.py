@@ -1,4 +1,4 @@
-"""Reads games of PGN files: by a reader of our own, and by Debian's pgn-extract."""
+"""Reads games of PGN files, with our own reader and with Debian's pgn-extract."""
 
 import re
 import shutil
@@ -32,7 +32,7 @@ class Read:
         if not clock:
             self.comments.append(text)
         elif not self.moves or self.clocks[-1]:
-            raise Wrong(f"{text} stands after no move")
+            raise Wrong(f"{text} does not follow a move")
         else:
             self.clocks[-1] = clock[1]
 
@@ -91,7 +91,7 @@ def named(state, text):
 
 
 def read(dgt, text):
-    """The games of a file, by the reader of our own. It allows the export format alone."""
+    """The games of a file, from our own reader. It accepts only the export format."""
     return [read_game(dgt, Read(tags), words) for tags, words in split(text)]
 
 
@@ -99,7 +99,7 @@ def read_game(dgt, game, words):
     state, after_comment, has_number = dgt.GameState.parse(game.fen), True, False
     for word in words:
         if game.result:
-            raise Wrong(f"{word!r} stands after the result")
+            raise Wrong(f"{word!r} follows the result")
         if word in RESULTS:
             game.result = word
         elif word[0] == "{":

@@ -1,6 +1,6 @@
-"""The library for C from plain Rust: crates/dgt_c over the modules that rust/generate writes.
+"""The library for C in plain Rust: crates/dgt_c with the modules that rust/generate writes.
 
-It is only there to be compared with the models of fuzz/, as the proved library is.
+It is only made to compare it with the models of fuzz/, like the proved library.
 """
 
 from __future__ import annotations
@@ -37,7 +37,7 @@ panic = "abort"
 CHANGED = [("#![no_std]\n", ""),
            ("#![forbid(unsafe_code)]\n", "#![allow(unused, unexpected_cfgs)]\n"),
            ("generated! {\n", 'generated! {\n    c "generated/c/mod.rs",\n')]
-# What the files of dgt_c have that plain Rust lacks. Texts of events stand on dgt_lines, of which
+# Parts of the files of dgt_c that plain Rust lacks. Texts of events use dgt_lines, of which
 # no module is generated.
 NOT_THERE = ["use std::marker::{Model, Send};", "mod texts;\n"]
 LEFT_OUT = ["laws", "texts"]

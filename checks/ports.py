@@ -1,8 +1,8 @@
-"""Checks how the package for Python follows boards: on ports, on lines that it is handed, and on
-streams.
+"""Checks how the package for Python follows boards: on ports, on lines that it gets from others,
+and on streams.
 
-A pseudo-terminal takes the place of a serial port, by a link that goes and comes with it. A board
-of the package is at its other end, and the line between them may spoil what the board sends.
+A pseudo-terminal replaces a serial port, with a link that disappears and comes back with it. A
+board of the package is at its other side, and the line between them may alter bytes of the board.
 """
 
 import asyncio
@@ -101,7 +101,7 @@ class Line(boards.Port):
 
 @contextlib.contextmanager
 def a_line(dgt, **how):
-    """A board on a line, whose port is in a folder of its own."""
+    """A board on a line, with its port in a separate folder."""
     with tempfile.TemporaryDirectory() as folder:
         with contextlib.closing(Line(dgt, folder, **how)) as line:
             yield line
@@ -256,7 +256,7 @@ def clock_heals(dgt, line):
 
 
 def noise(dgt, line):
-    """A field that isn't so, after bytes that are no message."""
+    """A wrong field, after bytes that are not a message."""
     with dgt.follow(line.path, 1.0) as board:
         expect("at first", board, (START, False, None))
         line.send([b"\x00\x7f\x31", bytes.fromhex("8e00053400")])
@@ -330,7 +330,7 @@ def silence(dgt, line):
 
 
 def of_draughts(dgt, line):
-    """A board whose reports have 100 squares, and then one of 64."""
+    """A board that reports 100 squares, and then one that reports 64."""
     line.spoil = lambda message: b"\x86\x00\x67" + bytes(100)
     with dgt.follow(line.path, 1.0) as board:
         expect_at_last("100 squares", board, (None, True, DRAUGHTS))
@@ -615,7 +615,7 @@ class Handed:
 
 
 def handed(dgt, line):
-    """A line that is handed over ends it when it is closed, and is left open by it."""
+    """A line that is passed to it ends it when it is closed, and is left open by it."""
     port = Handed(line.board)
     with dgt.follow(port, 60) as board:
         expect("a line", board, (START, False, None))

@@ -1,5 +1,5 @@
-"""Properties of what reads and writes bytes: the same events in any chunks, as checks/model.py has
-them, and what was encoded comes back."""
+"""Properties of readers and writers of bytes: the events of checks/model.py with any chunks, and
+decoding reverses encoding."""
 
 from __future__ import annotations
 

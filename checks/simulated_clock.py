@@ -1,4 +1,4 @@
-"""Checks the clock of examples/board.py, as a host sees it that follows that board."""
+"""Checks the clock of examples/board.py, as seen by a host that follows this board."""
 
 import pathlib
 import subprocess
@@ -25,11 +25,11 @@ ROWS = [
 # Lines that it refuses, and what it says of them.
 REFUSED = [
     ("clock start", "the clock's first side has no time left"),
-    ("clock", "no two times after clock, and no start or stop"),
-    ("clock go", "no two times after clock, and no start or stop"),
-    ("clock 0:00:01 0:00:02 0:00:03", "no two times after clock, and no start or stop"),
-    ("clock 0:00:01 10:00:00", "no time from 0:00:00 to 9:59:59: 10:00:00"),
-    ("clock 1:00 0:00:01", "no time from 0:00:00 to 9:59:59: 1:00"),
+    ("clock", "neither two times nor start or stop after clock"),
+    ("clock go", "neither two times nor start or stop after clock"),
+    ("clock 0:00:01 0:00:02 0:00:03", "neither two times nor start or stop after clock"),
+    ("clock 0:00:01 10:00:00", "not a time from 0:00:00 to 9:59:59: 10:00:00"),
+    ("clock 1:00 0:00:01", "not a time from 0:00:00 to 9:59:59: 1:00"),
     ("clock 1:60:00 0:00:01", "minutes must be a number from 0 to 59: 60"),
     ("clock 0:00:60 0:00:01", "seconds must be a number from 0 to 59: 60"),
 ]
@@ -61,7 +61,7 @@ def check_row(following, board, lines, right):
     if texts == right and not right[-1].endswith("01"):
         texts += clocks(following, 1, time.monotonic() + 1.2)
     if texts != right:
-        return f"{lines}: {texts} in place of {right}"
+        return f"{lines}: {texts} instead of {right}"
     return None if passed > least - 0.1 else f"{lines}: {passed} seconds"
 
 
@@ -85,7 +85,7 @@ def check_refusals():
         _, told = board.communicate("".join(f"{line}\n" for line, _ in REFUSED), timeout=60)
     right = [f"board.py: {line!r}: {said}" for line, said in REFUSED]
     if told.splitlines() != right:
-        raise Wrong(f"what board.py says: {told.splitlines()} in place of {right}")
+        raise Wrong(f"what board.py says: {told.splitlines()} instead of {right}")
 
 
 def check(dgt):

@@ -1,7 +1,7 @@
-"""What checks/properties makes by chance: positions, clocks, the bytes of boards and of hosts, and
-how a line cuts them.
+"""The random values of checks/properties: positions, clocks, the bytes of boards and of hosts,
+and the cuts of a line.
 
-What a strategy calls has a name: hypothesis takes long to print a lambda.
+The functions of a strategy have names: hypothesis takes long to print a lambda.
 """
 
 from __future__ import annotations
@@ -110,7 +110,7 @@ def spoil(message: bytes, at: int, byte: int, size: int) -> bytes:
     return bytes(data[:size % (2 * len(data)) + 1])
 
 
-# Messages whose bodies mostly are right.
+# Messages with mostly correct bodies.
 UNSIZED = st.sampled_from([0x12, 0x20, 0x22, 0x00, 0x10, 0x30, 0x7F])
 MESSAGES = st.one_of(
     st.builds(field, st.integers(0, 65), st.integers(0, 17)),

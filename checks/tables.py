@@ -1,5 +1,5 @@
-"""Games that are played at a table with a board and a clock, and kept by the package's
-`python -m dgt game`: in simulated time, but for the file, which is a real one.
+"""Games that are played with a board and a clock, and kept by the package's `python -m dgt game`:
+in simulated time, but with a real file.
 
 The board is one of the package. Its bytes go through the steps of `dgt.follow`. Hands play as in
 checks/games.py, and press the clock after each move, some at once and some later, but before the
@@ -184,7 +184,7 @@ class Table(games.Hand):
 
 
 class Played(games.Game):
-    """A game made by chance, at a table. `clocks` has the time of each move's player after it."""
+    """A random game at a table. `clocks` contains the time of each move's player after it."""
 
     long = 3.2
     most_fast = 2  # how often in a row moves are made before the last ones have rested
@@ -362,11 +362,11 @@ def compare(dgt, seeds, path, played, results):
 def differing(got, right):
     """What two lists have from the first difference on."""
     if isinstance(got, str):
-        return f"{got!r} in place of {right!r}"
+        return f"{got!r} instead of {right!r}"
     at = next((number for number, (one, two) in enumerate(zip(got, right)) if one != two),
               min(len(got), len(right)))
     there = slice(at, at + 4)
-    return f"from {at} on {got[there]} of {len(got)} in place of {right[there]} of {len(right)}"
+    return f"from {at} on {got[there]} of {len(got)} instead of {right[there]} of {len(right)}"
 
 
 def seeds_of(count, size=5):

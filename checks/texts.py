@@ -1,5 +1,5 @@
-"""Checks the texts of events of the package for Python: they are those of `dgt monitor`, as
-checks/rows.txt has them."""
+"""Checks the texts of events of the package for Python: they are those of `dgt monitor` in
+checks/rows.txt."""
 
 import typing
 
@@ -24,7 +24,7 @@ def check(dgt):
         events = dgt.Decoder().feed(data)
         told = [str(event) for event in events]
         if told != texts:
-            raise Wrong(f"the texts of {data.hex(' ')}: {told} in place of {texts}")
+            raise Wrong(f"the texts of {data.hex(' ')}: {told} instead of {texts}")
         count, kinds = count + len(texts), kinds | {type(event) for event in events}
     if missing := set(typing.get_args(dgt.Event)) - kinds:
         raise Wrong(f"no text of {missing}")

@@ -1,4 +1,4 @@
-"""What the library for C reports, as the program writes it. `dgt` is the package for Python."""
+"""The reports of the library for C in the format of the program. `dgt` is the Python package."""
 
 import model
 

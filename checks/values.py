@@ -1,7 +1,7 @@
 """Checks the values of the package for Python. A position is a sequence of letters. A time, a
-clock and an identity are refused when they are made with a value out of its range. Calls refuse
-wrong arguments by the errors that their docstrings name, and objects refuse to be copied. What a
-board has stored, and bytes that messages carry, have their names."""
+clock and an identity refuse values out of their ranges. Calls refuse wrong arguments with the
+errors that their docstrings name, and objects refuse to be copied. The events that a board stored,
+and the bytes that messages carry, have names."""
 
 import collections.abc
 import copy
@@ -22,7 +22,7 @@ def refusal(what, error, call):
         made = call()
     except error as fault:
         return str(fault)
-    raise Wrong(f"{what}: {made!r} in place of a {error.__name__}")
+    raise Wrong(f"{what}: {made!r} instead of a {error.__name__}")
 
 
 # ---- Positions
@@ -172,16 +172,16 @@ def check_refusals(dgt):
          "patience must be a number from 0 to 4294967295: 1.5"),
         (lambda: dgt.Follower(mode=7), dgt.BadValue, "mode must be a number from 0 to 3: 7"),
         (lambda: dgt.Follower(mode=0), dgt.BadValue,
-         "a follower has no mode in which a board reports nothing"),
+         "a follower needs a mode in which the board reports changes, not IDLE"),
         (lambda: dgt.Follower("text"), dgt.BadValue,
          "period must be a number of seconds, 1.0 or more: 'text'"),
         (lambda: dgt.Follower(0.999), dgt.BadValue,
          "period must be a number of seconds, 1.0 or more: 0.999"),
-        (lambda: dgt.Follower(confirm=1), TypeError, "this must be a bool: 1"),
+        (lambda: dgt.Follower(confirm=1), TypeError, "not a bool: 1"),
         (lambda: dgt.Follower().ask(2.0**64), dgt.BadValue,
          "a time must be below 2**64 milliseconds: 1.8446744073709552e+19"),
         (lambda: dgt.follow(5), TypeError,
-         "port must be a port's name, or an open port as of pyserial: 5"),
+         "port must be a port's name, or an open port of pyserial: 5"),
         (lambda: dgt.follow("/", None), dgt.BadValue,
          "period must be a number of seconds, 1.0 or more: None"),
         (lambda: dgt.MoveRecogniser(5), dgt.BadFen, "not a text: 5"),
@@ -189,12 +189,12 @@ def check_refusals(dgt):
          f"not two numbers at the end: '{KINGS} w - - 0 {LONG}'"),
         (lambda: dgt.MoveRecogniser(settle=-1), dgt.BadValue,
          "settle must be a number of seconds, 0.0 or more: -1"),
-        (lambda: dgt.MoveRecogniser().see(None, 0.0), TypeError, "this must be a Position: None"),
+        (lambda: dgt.MoveRecogniser().see(None, 0.0), TypeError, "not a Position: None"),
         (lambda: dgt.Games(len, len, white_clock="top"), dgt.BadValue,
          "white_clock must be left, right or learn: 'top'"),
         (lambda: dgt.PgnGame(result=1).text(), dgt.BadValue,
          "result must be one of 1-0, 0-1, 1/2-1/2, *: 1"),
-        (lambda: dgt.PgnFile("\0"), OSError, "[Errno 2] there is no such file: '\\x00'"),
+        (lambda: dgt.PgnFile("\0"), OSError, "[Errno 2] the name contains a zero byte: '\\x00'"),
         (lambda: dgt.PgnGame({"Round": 3}).text(), dgt.BadValue,
          "the tag Round must be a text: 3"),
     ]:

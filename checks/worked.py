@@ -1,4 +1,4 @@
-"""Reads the worked rows of checks/rows.txt, whose head says how they are written."""
+"""Reads the worked rows of checks/rows.txt. Its first lines describe the format."""
 
 from __future__ import annotations
 
@@ -32,7 +32,7 @@ class Row(NamedTuple):
 
 
 def is_right(got: Answer, wanted: tuple[int, Output, bytes]) -> bool:
-    """Whether a run gave what it has to."""
+    """Whether a run gave the wanted results."""
     status, output, errors = wanted
     if isinstance(output, re.Pattern):
         return (got[0], got[2]) == (status, errors) and output.fullmatch(got[1]) is not None
@@ -43,7 +43,7 @@ def is_right(got: Answer, wanted: tuple[int, Output, bytes]) -> bool:
 
 
 def expand(text: str, names: Names) -> str:
-    """The text with names for what they stand for, and what is repeated written out."""
+    """The text with the values of names, and with repetitions written out."""
     text = re.sub(r"\{([a-z_]+)\}", lambda found: names[found[1]], text)
     return re.sub(r"\{([^{}]*)\*(\d+)\}", lambda found: found[1] * int(found[2]), text)
 
@@ -100,7 +100,7 @@ def read_run(template: str, cells: list[str], names: Names) -> Run:
 
 
 def read_cells(line: str, names: Names) -> list[str]:
-    """The cells of a row. If they stand in backticks, the first two are read, and the digits of
+    """The cells of a row. If they are in backticks, the first two are read, and the digits of
     the first may have spaces."""
     if line.startswith("| "):
         first, second = ("; ".join(re.findall("`([^`]*)`", part)) for part in line.split("|")[1:3])
@@ -116,7 +116,7 @@ def read_row(number: int, line: str, templates: list[str], names: Names) -> Row:
         cells = read_cells(line, names)
         named = re.findall(r"\{(?:length |ends )?(\d)\}", str(templates))
         if len(cells) != len({*named}):
-            raise ValueError(f"{len(cells)} cells in place of {len({*named})}")
+            raise ValueError(f"{len(cells)} cells instead of {len({*named})}")
         return Row(number, cells, [read_run(each, cells, names) for each in templates])
     except (LookupError, SyntaxError, ValueError) as error:
         raise ValueError(f"{ROWS}:{number}: {error!r}") from error
@@ -134,7 +134,7 @@ def numbered_lines() -> list[tuple[int, str]]:
 
 
 def read_tables() -> tuple[dict[str, list[Row]], Names]:
-    """The rows of each table, by its name, and what names stand for."""
+    """The rows of each table, by its name, and the values of names."""
     tables: dict[str, list[Row]] = {}
     rows, templates, names = [], [], {}  # type: list[Row], list[str], Names
     for number, line in numbered_lines():

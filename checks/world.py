@@ -1,5 +1,5 @@
-"""Checks the world of the package for Python: the outcome of each act, and what board and host show
-at the end, are those of `dgt simulate --faults` for the same acts."""
+"""Checks the world of the package for Python: the outcome of each act, and the closing states of
+board and host, are those of `dgt simulate --faults` for the same acts."""
 
 import random
 import subprocess
@@ -139,13 +139,13 @@ def check_refusals(dgt):
             made = make()
         except dgt.BadValue:
             continue
-        raise Wrong(f"{made!r} in place of a BadValue")
+        raise Wrong(f"{made!r} instead of a BadValue")
     for command in 0x46, dgt.Leds(bytes(256)), dgt.ClockMessage(1, bytes(253)):
         try:
             made = dgt.World().host_sends(command)
         except dgt.NoSuchCommand:
             continue
-        raise Wrong(f"{made!r} in place of a NoSuchCommand")
+        raise Wrong(f"{made!r} instead of a NoSuchCommand")
 
 
 def check(dgt, program):

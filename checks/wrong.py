@@ -1,4 +1,4 @@
-"""What a check raises, how it compares two values, and what it prints of what it left out."""
+"""The exception of a check, the comparison of two values, and the list of what was skipped."""
 
 import os
 
@@ -10,7 +10,7 @@ class Wrong(Exception):
 def wanted(what: str, got: object, right: object) -> None:
     """Raises Wrong if a value isn't the right one."""
     if got != right:
-        raise Wrong(f"{what}: {got!r} in place of {right!r}")
+        raise Wrong(f"{what}: {got!r} instead of {right!r}")
 
 
 def tell_left_out(things: list[str]) -> str:

@@ -1,7 +1,7 @@
-"""A stand-in for the module paho.mqtt.client. What happens to its broker is read from the file
-`broker`, for all clients of a process, and then written to `happened`. What is published is kept in
-the file `said`, and how the module was called in `words`. Nothing happens to the broker between a
-line and its note."""
+"""A stand-in for the module paho.mqtt.client. It reads the events of its broker from the file
+`broker`, for all clients of a process, and then writes them to `happened`. It writes what is
+published to the file `said`, and its calls to `words`. The broker does nothing between a line and
+its note."""
 
 import json
 import threading
@@ -70,7 +70,7 @@ class Client:
                                                ("boards/+/ask", 1))
 
     def happen(self, what, topic="", payload=""):
-        if what.startswith("on_"):  # a call, and in place of a topic what it is given
+        if what.startswith("on_"):  # a call, and instead of a topic what it is given
             getattr(self, what)(self, None, *topic)
         elif what == "come":
             self.is_there = True
