@@ -261,8 +261,8 @@ enum {
 
 typedef struct dgt_event {
     uint8_t kind;
-    uint8_t unasked;      /* only set by a host: 1 if the message doesn't answer the first awaited
-                             command, and otherwise 0 */
+    uint8_t unasked;      /* only set by a host or a follower: 1 if the message is a reply, but not
+                             of the kind that is awaited first, and otherwise 0 */
     uint8_t code;         /* of the message, 0 to 127 */
     uint8_t square;
     uint8_t piece;
@@ -554,7 +554,8 @@ void dgt_host_line_lost(dgt_host *host) DGT_NONNULL_(1);
  * DGT_SEND_DUMP, 2 bytes. To start over, the follower writes 258 bytes: 255 zeros, which complete
  * any unfinished command of the board, 44 42 and the command of the mode. The host then gives up
  * the replies that it awaits. A heartbeat is enough if an awaited dump was heard since the last
- * request, without a disturbance after it, fewer than 16 replies are awaited, and patience is left.
+ * request, without a disturbance since then, fewer than 16 replies are awaited, and patience is
+ * left.
  *
  * Disturbances are a cut or refused message, a bad length, a stray byte, an unasked message, and a
  * dump that differs from the known picture. So is a message that is unfinished for a second after
@@ -569,13 +570,13 @@ void dgt_host_line_lost(dgt_host *host) DGT_NONNULL_(1);
  *
  * A picture is in doubt, confirmed or neither.
  *
- *  - In doubt: since the last awaited dump there was a disturbance, or an answer was a second late.
- *    The picture may be wrong, and is requested again.
- *  - Confirmed: an awaited dump repeated it. Since then there was no change, no unasked message, no
- *    disturbance and no late answer. It is then what the board had reported, up to that dump or
- *    including it, if at most one message was altered, lost or inserted since the last whole dump
- *    before it. Two faults that agree can make it wrong, and so can one in a dump that is the first
- *    to report a change. The next dump shows it.
+ *  - In doubt: since the last awaited dump there was a disturbance, or dgt_follower_ask found an
+ *    answer a second late. The picture may be wrong, and is requested again.
+ *  - Confirmed: an awaited dump repeated it. Since then there was no change, no unasked message
+ *    and no disturbance, and no answer was found late. It is then what the board had reported, up
+ *    to that dump or including it, if at most one message was altered, lost or inserted since the
+ *    last whole dump before it. Two faults that agree can make it wrong, and so can one in a dump
+ *    that is the first to report a change. The next dump shows it.
  *  - Neither: it was just reported or changed, and no dump has repeated it yet. One altered message
  *    is enough to make it wrong. After dgt_follower_set_confirm it is confirmed soon. */
 
@@ -626,9 +627,9 @@ void dgt_follower_hear_all(dgt_follower *follower, uint64_t now, const uint8_t *
  *  - if the picture is to be confirmed, a second after it changed and after the last request;
  *  - after dgt_follower_ask_now, at once, or once the last request is answered;
  *  - if `now` is before the last request, since your clock was set back.
- * If an answer is a second late, the next call puts the picture in doubt, whether it writes or not.
- * The same happens if a message is unfinished for a second, which is also a disturbance; the rest
- * of it is still heard if it arrives later. */
+ * If an answer is a second late, the next call puts the picture in doubt, whether it writes or not,
+ * unless it returns DGT_NO_ROOM. The same happens if a message is unfinished for a second, which is
+ * also a disturbance; the rest of it is still heard if it arrives later. */
 dgt_sent dgt_follower_ask(dgt_follower *follower, uint64_t now, uint8_t *out, size_t n)
     DGT_MUST_USE_ DGT_NONNULL_(1) DGT_WRITES_(3, 4);
 
@@ -647,7 +648,7 @@ uint8_t dgt_follower_mode(dgt_follower *follower) DGT_NONNULL_(1);
 bool dgt_follower_set_mode(dgt_follower *follower, uint8_t mode) DGT_NONNULL_(1);
 
 /* Makes a request due at once, or once the last one is answered. Its answer is no older than this
- * call. */
+ * call, unless answers to earlier requests were late. */
 void dgt_follower_ask_now(dgt_follower *follower) DGT_NONNULL_(1);
 
 /* Sets whether a picture that isn't confirmed is requested again: by a heartbeat a second after its
@@ -894,7 +895,7 @@ bool dgt_board_hand_clock(dgt_board *board, const dgt_clock *clock)
 void dgt_board_line_lost(dgt_board *board) DGT_NONNULL_(1);
 
 typedef struct dgt_taken {
-    bool busy;   /* eight replies are owed: poll first. Nothing was used, and nothing changed */
+    bool busy;   /* eight replies are owed: poll first. No byte was used; the board is as before */
     size_t used; /* how many bytes were used: at least 1 if it isn't busy and n > 0 */
 } dgt_taken;
 

@@ -45,8 +45,9 @@ The package contains:
     MoveRecogniser  finds the moves of a game in the host's pictures; GameState knows the rules
     Games, PgnFile  make games from the pictures, and keep them in a file; PgnGame, san write PGN
 
-The objects are those of the library libdgt, in memory that Python owns. The Rattle code of libdgt
-is proved; this layer is tested. Each object has a lock, so that threads may share it: a call waits
+A Host, Follower, Decoder, CommandDecoder and Board is one of the library libdgt, in memory that
+Python owns. The Rattle code of libdgt is proved; all else, such as World, is written in Python and
+tested. Each object has a lock, so that threads may share it: a call waits
 for a call of another thread, and raises `Nested` within a call of its own thread. A process that
 was forked while another thread was in a call of an object must not use that object: its calls would
 wait for ever.

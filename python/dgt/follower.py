@@ -92,7 +92,7 @@ class Follower(EventReader, Asker):
 
     def ask_now(self) -> None:
         """Makes a request due at once, or as soon as the last one is answered. Its answer isn't
-        older than this call."""
+        older than this call, unless answers to earlier requests were late."""
         self._call(dgt.dgt_follower_ask_now)
 
     def _time(self, name: str) -> float | None:
@@ -122,7 +122,7 @@ class Follower(EventReader, Asker):
     @property
     def in_doubt(self) -> bool:
         """Whether the picture may be wrong: since the last awaited dump there was a disturbance, or
-        an answer was a second late."""
+        `ask` found an answer a second late."""
         return bool(self._call(dgt.dgt_follower_in_doubt))
 
     @property

@@ -3,5 +3,5 @@ pub mod State
 pub mod Sending
 pub mod View
 pub mod Simulated
--- Only for bodies.
+-- How memory represents a board, and what only bodies cite.
 pub mod Kept

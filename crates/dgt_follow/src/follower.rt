@@ -244,9 +244,9 @@ impl Follower {
     /// serial number is unknown, at most three times ([`TRIES`](crate::TRIES)).
     ///
     /// If an answer is a second late, the next call puts the picture in doubt, whether it writes or
-    /// not. A message that is unfinished for a second ([`UNFINISHED`](crate::UNFINISHED)) is a
-    /// disturbance. If it has lost a byte, its other bytes would stay unread until the next
-    /// message.
+    /// not, unless it is refused. A message that is unfinished for a second
+    /// ([`UNFINISHED`](crate::UNFINISHED)) is a disturbance. If it has lost a byte, its other bytes
+    /// would stay unread until the next message.
     ///
     /// Returns `NoRoom` if the slice is shorter than what is due in this mode; then nothing
     /// changes. A heartbeat takes 2 bytes with [`UpdateMode::Squares`] and 3 in the other modes,
@@ -379,8 +379,8 @@ impl Follower {
         self.pace.set_confirm(confirm);
     }
 
-    /// Makes a request due at once, or as soon as the last one is answered. Use it to get a picture
-    /// at least as new as this call.
+    /// Makes a request due at once, or as soon as the last one is answered. Its answer is a picture
+    /// at least as new as this call, unless answers to earlier requests were late.
     pub fn ask_now(&mut self)
         ensures { self.new ≡ following self.old.host (record self.old.pace { wanted = true }) }
     {

@@ -229,7 +229,7 @@ impl FaultyWorld {
             IsQuietWorld self.new → self.new.host.clock ≡ Some self.new.board.state.clock) }
         ensures clock_kept { AreClockCalm (map faulty_content acts.now) →
             IsClockPromisedWorld self.old → IsClockPromisedWorld self.new }
-        // between faults and quiet: the board sends a dump first, and no break happens
+        // between faults and quiet: the board sends a dump first, and no fault or break happens
         ensures reported { (later : List ActContent) (outcomes : List Answer) →
             map faulty_content acts.now ≡ map FaultyContent.Plain (ActContent.BoardSend ∷ later) →
             FaultyRuns (map faulty_content acts.now) self.old (Outcome.Done ∷ outcomes) self.new →

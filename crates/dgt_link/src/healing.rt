@@ -277,10 +277,10 @@ pub fn what_was_reported()
         → (after_move x move).up ≡ x.up ++ sent_by x move }
 {}
 
-/// After faults, in a world in step, let the board send a dump, and let no break follow. Whenever
-/// nothing is under way to the host, its picture is then what the board has reported. From the
-/// first such moment on, the pieces that it shows on a square were there on the board, in this
-/// order.
+/// After faults, in a world in step, let the board send a dump, and let no fault, restart or break
+/// follow. Whenever nothing is under way to the host, its picture is then what the board has
+/// reported. From the first such moment on, the pieces that it shows on a square were there on the
+/// board, in this order.
 pub fn dumps_are_shown()
     ensures picture { (acts : List ActContent) (world after : WorldView)
         (answers : List Outcome) → AllByRecursion (λ act. is_break act ≡ false) acts
