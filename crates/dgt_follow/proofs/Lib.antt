@@ -4,3 +4,4 @@ mod ManyCalls
 mod OneStretch
 mod Overdue
 mod Slices
+mod WhenDue

@@ -1,5 +1,5 @@
 -- The effect of consecutive calls of a follower, and facts about its picture after them.
-use Rattle.std.specs.Prelude.{◌≡◌, ℕ, List, [], ◌∷◌, ◌++◌, Option, Some, Bool, false, true, option_to_list, IsTrue}
+use Rattle.std.specs.Prelude.{◌≡◌, ◌≤◌, ◌<◌, ◌^◌, ℕ, List, [], ◌∷◌, ◌++◌, Option, Some, Bool, false, true, option_to_list, IfSome, IsTrue}
 use Rattle.std.specs.List.{AllByRecursion, flat_map}
 use Rattle.dgt_values.specs.declared.kinds.Kind.{Kind}
 use Rattle.dgt_values.specs.declared.pieces.Piece.{Piece}
@@ -11,8 +11,8 @@ use Rattle.dgt_host.specs.Confirmed.{IsRight, confirmed_after_all, messages}
 use Rattle.dgt_host.specs.Host.{host_awaiting}
 use Rattle.dgt_follow.specs.declared.asking.Asking.{Asking}
 use Rattle.dgt_follow.specs.declared.asking.UpdateMode.{UpdateMode}
-use Rattle.dgt_follow.specs.Pace.{pace_after_asking, pace_at, pace_disturbed}
-use Rattle.dgt_follow.specs.Follower.{FollowerView, asking_of, follower_after, following, host_after_asking}
+use Rattle.dgt_follow.specs.Pace.{next_due, pace_after_asking, pace_at, pace_disturbed}
+use Rattle.dgt_follow.specs.Follower.{FollowerView, asking_of, follower_after, following, host_after_asking, is_sure}
 
 -- A call that is done. The loss of the line isn't included: it makes the follower as new.
 pub data Call : Type 0 where
@@ -50,6 +50,20 @@ abbrev pub follower_after_calls : FollowerView → List Call → FollowerView
 follower_after_calls follower [] = follower
 follower_after_calls follower (call ∷ more) =
     follower_after_calls (follower_after_call follower call) more
+
+-- a call of `ask` at this time writes nothing, and leaves the follower as it was
+abbrev pub IsIdle : FollowerView → ℕ → Type 0
+IsIdle follower now =
+    (asking_of follower now ≡ Asking.Nothing)
+    × (follower_after_call follower (Asks now) ≡ follower)
+
+-- `due_at` names the first time at which a follower isn't idle, if its clock doesn't go back.
+abbrev pub DueAtIsFirst : Type 0
+DueAtIsFirst =
+    (follower : FollowerView) → IsTrue (is_sure follower.pace) →
+    ((due : ℕ) → next_due follower.pace ≡ Some due → ¬ (IsIdle follower due))
+    × ((now : ℕ) → now < 2 ^ 64 → IfSome follower.pace.asked (λ asked. asked ≤ now) →
+    IfSome (next_due follower.pace) (λ due. now < due) → IsIdle follower now)
 
 -- the bytes that were heard, in whatever chunks and whatever else was called meanwhile
 abbrev pub bytes_heard : List Call → List ℕ

@@ -1,5 +1,5 @@
 -- How contracts see a follower, how heard bytes change it, and what it requests.
-use Rattle.std.specs.Prelude.{◌≡◌, ◌≤◌, ◌/◌, Option, Bool, if◌then◌else◌, max, not, ◌&&◌, ◌||◌, IsTrue, IsFalse, ℕ, List, [], ◌∷◌, ◌++◌, None, Some, false, Result, Ok, Err}
+use Rattle.std.specs.Prelude.{◌≡◌, ◌⊎◌, ◌≤◌, ◌<◌, ◌/◌, Option, Bool, if◌then◌else◌, max, not, ◌&&◌, ◌||◌, is_some, IsSome, IsSomeAnd, IsNone, IsTrue, IsFalse, ℕ, List, [], ◌∷◌, ◌++◌, None, Some, false, Result, Ok, Err}
 use Rattle.dgt_values.specs.Bytes.{WritesPrefix}
 use Rattle.dgt_values.specs.declared.kinds.Kind.{Kind}
 use Rattle.dgt_values.specs.declared.refusals.NoRoom.{NoRoom}
@@ -11,7 +11,7 @@ use Rattle.dgt_host.specs.Confirmed.{confirmed_after_all, messages}
 use Rattle.dgt_host.specs.Host.{HostView, awaits_too_many, host_after_event, host_awaiting, new_host, without_awaited}
 use Rattle.dgt_follow.specs.declared.asking.Asking.{Asking}
 use Rattle.dgt_follow.specs.declared.asking.UpdateMode.{UpdateMode}
-use Rattle.dgt_follow.specs.declared.pace.TheConstants.{OVERDUE}
+use Rattle.dgt_follow.specs.declared.pace.TheConstants.{OVERDUE, SETTLED}
 use Rattle.dgt_follow.specs.Pace.{PaceView, asking, asking_bytes, is_overdue, is_stuck, is_unanswered, new_pace, pace_after_asking, pace_after_event, pace_at, pace_disturbed, time_after, unfinished_by}
 
 pub record FollowerView : Type 0 where
@@ -127,6 +127,23 @@ SureStaysSure =
 abbrev pub asking_of : FollowerView → ℕ → Asking
 asking_of follower now =
     asking (pace_at follower.pace now) (awaits_too_many follower.host (Some Kind.Dump)) now
+
+-- Why a request is due at this time. A period has passed since the last one, or there was none.
+-- After a disturbance a quarter is enough, and for an owed answer a quarter, but at least a second.
+-- Other reasons are a call of `ask_now`, a picture that is to be confirmed and didn't change for a
+-- second, and an unknown serial number. The last one is a time before the last request.
+abbrev pub HasReason : PaceView → ℕ → Type 0
+HasReason pace now =
+    let owed = is_some pace.asked && not pace.answered in
+    (time_after pace.asked pace.period ≤ now)
+    ⊎ (IsTrue pace.disturbed × (time_after pace.asked (pace.period / 4) ≤ now))
+    ⊎ (IsTrue owed × (time_after pace.asked (max OVERDUE (pace.period / 4)) ≤ now))
+    ⊎ (IsFalse owed × IsTrue pace.wanted)
+    ⊎ (IsFalse (owed || pace.disturbed) × IsTrue (pace.confirm && not pace.confirmed)
+    × (time_after pace.asked SETTLED ≤ now) × (time_after pace.changed SETTLED ≤ now))
+    ⊎ (IsFalse (owed || pace.disturbed) × IsSome pace.asked × IsNone pace.serial
+    × IsTrue (pace.identify && not pace.requested) × (0 < pace.tries))
+    ⊎ IsSomeAnd pace.asked (λ asked. now < asked)
 
 -- The host after a request: it also awaits a dump, after a new start only that, or a serial number.
 -- The picture, the clock and the unread bytes stay as they are.

@@ -1,7 +1,7 @@
 //! Laws of a follower, for all bytes that it may receive. Each function does nothing at run time:
 //! its contract states the facts.
 
-ghost use Rattle.std.specs.Prelude.{◌≡◌, ◌≤◌, ◌↔◌, ◌∷◌, ◌++◌, IsTrue, ℕ, Bool, List, [], Option, None, Ok, Some, length, replicate, false, true};
+ghost use Rattle.std.specs.Prelude.{◌≡◌, ◌≢◌, ◌+◌, ◌≤◌, ◌↔◌, ◌∷◌, ◌++◌, IsFalse, IsTrue, ℕ, Bool, List, [], Option, None, Ok, Some, length, replicate, false, true};
 ghost use Rattle.dgt_values.specs.declared.kinds.Kind.{Kind};
 ghost use Rattle.dgt_values.specs.declared.pieces.Piece.{Piece};
 ghost use Rattle.dgt_message.specs.Clock.{Absence, Time, Times as BothTimes, time_of, times_of};
@@ -11,8 +11,8 @@ ghost use Rattle.dgt_decode.specs.Grammar.{Event};
 ghost use Rattle.dgt_values.specs.Equality.{CloneIsSame, EqualIsSame};
 ghost use Rattle.dgt_host.specs.Host.{HostView, Request, Sends, host_after};
 ghost use Rattle.dgt_host.specs.Confirmed.{changes, repeats};
-ghost use Rattle.dgt_follow.specs.Calls.{Call, ConfirmedOverCalls, OneStretchIsSeen, bytes_heard, follower_after_call, follower_after_calls};
-ghost use Rattle.dgt_follow.specs.Follower.{Asks, AskingsConfirmNothing, ConfirmedAsHeard, DisturbedIsAskedAnew, FollowedInChunks, FollowerView, OverdueIsAskedAnew, OverdueIsDoubt, SureStaysSure, asking_of, clock_known, follower_after, following};
+ghost use Rattle.dgt_follow.specs.Calls.{Call, ConfirmedOverCalls, DueAtIsFirst, OneStretchIsSeen, bytes_heard, follower_after_call, follower_after_calls};
+ghost use Rattle.dgt_follow.specs.Follower.{Asks, AskingsConfirmNothing, ConfirmedAsHeard, DisturbedIsAskedAnew, FollowedInChunks, FollowerView, HasReason, OverdueIsAskedAnew, OverdueIsDoubt, SureStaysSure, asking_of, clock_known, follower_after, following};
 ghost use Rattle.dgt_follow.specs.Pace.{KeepsCount, PaceView, asking, asking_bytes, is_blank, is_overdue, is_stuck, new_pace, next_due, pace_after_asking, pace_after_event, pace_at, unfinished_by};
 ghost use Rattle.dgt_follow.specs.declared.asking.Asking.{Asking};
 ghost use Rattle.dgt_follow.specs.declared.asking.UpdateMode.{UpdateMode};
@@ -116,6 +116,16 @@ pub fn overdue_is_doubt()
     ensures disturbed { DisturbedIsAskedAnew }
 {}
 
+/// A follower asks at once, then each period, and earlier exactly for the reasons that
+/// [`Follower::ask`](crate::Follower::ask) lists. The time of
+/// [`Follower::due_at`](crate::Follower::due_at) is the first at which a call of `ask` writes or
+/// changes anything.
+pub fn asks_when_due()
+    ensures reasons { (follower : FollowerView) (now : ℕ) →
+        (asking_of follower now ≢ Asking.Nothing) ↔ HasReason (pace_at follower.pace now) now }
+    ensures first { DueAtIsFirst }
+{}
+
 /// A confirmed picture is never in doubt.
 pub fn confirmed_is_sure()
     ensures { SureStaysSure }
@@ -193,8 +203,10 @@ pub fn askings_by_time()
 /// the message is forgotten. An overdue answer is a doubt, but not a disturbance. Otherwise nothing
 /// changes.
 pub fn what_time_brings()
-    ensures before { (pace : PaceView) → pace.unfinished ≡ Some 3000 → is_stuck pace 3999 ≡ false }
-    ensures stuck { (pace : PaceView) → pace.unfinished ≡ Some 3000 → is_stuck pace 4000 ≡ true }
+    ensures stuck { (pace : PaceView) (time now : ℕ) → pace.unfinished ≡ Some time →
+        (IsTrue (is_stuck pace now) ↔ time + 1000 ≤ now) }
+    ensures late { (pace : PaceView) (time now : ℕ) → pace.asked ≡ Some time →
+        (IsTrue (is_overdue pace now) ↔ IsFalse pace.answered × (time + 1000 ≤ now)) }
     ensures whole { (pace : PaceView) (now : ℕ) → pace.unfinished ≡ None →
         is_stuck pace now ≡ false }
     ensures disturbs { (pace : PaceView) (now : ℕ) → is_stuck pace now ≡ true →

@@ -44,8 +44,8 @@
 //! Contracts see a follower as its host and its pace (`specs/Follower.antt`). The pace
 //! (`specs/Pace.antt`) is what it counts and records: `due_time` is the time of the next request,
 //! `asking` its content, and `pace_after_event` the record of an event. When to ask, and how many
-//! heartbeats may follow one another, is this project's own choice. [`laws`] says that the division
-//! into chunks doesn't matter, and what a confirmed picture guarantees.
+//! heartbeats may follow one another, is this project's own choice. [`laws`] says for what reasons
+//! it asks, that the division into chunks doesn't matter, and what a confirmed picture guarantees.
 #![tactic(auto)]
 
 mod asking;

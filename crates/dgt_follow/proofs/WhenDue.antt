@@ -1,0 +1,98 @@
+-- A follower writes exactly if it has a reason, and `due_at` names the first time at which it isn't idle.
+use Rattle.std.proofs.Common.{◌≡◌, ◌≢◌, ◌↔◌, ◌≤◌, ◌<◌, ◌^◌, Bool, true, false, not, ◌&&◌, ◌||◌, if◌then◌else◌, is_some, nat_le, min, Option, Some, refl, sym, ap, subst, ℕ, arith}
+use Rattle.std.specs.Prelude.{IfSome}
+use Rattle.std.proofs.lemmas.Bool.Decides.{nat_tests}
+use Rattle.dgt_values.specs.declared.kinds.Kind.{Kind}
+use Rattle.dgt_host.specs.Host.{awaits_too_many}
+use Rattle.dgt_follow.specs.declared.asking.Asking.{Asking}
+use Rattle.dgt_follow.specs.Pace.{PaceView, asking, counted, doubt_time, due_time, is_due, is_overdue, is_stuck, next_due, pace_at, time_after, wait}
+use Rattle.dgt_follow.specs.Follower.{FollowerView, HasReason, asking_of, is_sure}
+use Rattle.dgt_follow.specs.Calls.{DueAtIsFirst, follower_asking}
+
+-- ---- its reasons
+
+reached : (due now : ℕ) (back : Bool) → due ≤ now → (nat_le due now || back) ≡ true
+reached due now back e = grind (arith, nat_tests)
+
+no_later : (pace : PaceView) → due_time pace ≤ time_after pace.asked (wait pace)
+no_later pace = grind (arith, nat_tests)
+
+waits : (pace : PaceView) → time_after pace.asked (wait pace) ≤ time_after pace.asked pace.period
+waits pace = grind (arith, nat_tests)
+
+reason : (pace : PaceView) (now : ℕ) → is_due pace now ≡ true → HasReason pace now
+reason pace now due = grind (arith, nat_tests)
+
+due_for : (pace : PaceView) (now : ℕ) → HasReason pace now → is_due pace now ≡ true
+due_for pace now why = grind (arith, nat_tests, reached, no_later pace, waits pace)
+
+writes : (pace : PaceView) (full : Bool) (now : ℕ) → (asking pace full now ≢ Asking.Nothing) ↔ (is_due pace now ≡ true)
+writes pace full now = (λ asks. grind (arith, nat_tests), λ due. grind (arith, nat_tests))
+
+pub for_a_reason : (follower : FollowerView) (now : ℕ)
+    → (asking_of follower now ≢ Asking.Nothing) ↔ HasReason (pace_at follower.pace now) now
+for_a_reason follower now =
+    let pace = pace_at follower.pace now in
+    let full = awaits_too_many follower.host (Some Kind.Dump) in
+    let due = writes pace full now in (λ asks. reason pace now (due.0 asks), λ why. due.1 (due_for pace now why))
+
+-- ---- idle before that time
+
+unchanged : (pace : PaceView) (now : ℕ) → is_sure pace ≡ true → now < 2 ^ 64
+    → IfSome (next_due pace) (λ due. now < due) → pace_at pace now ≡ pace
+unchanged pace now sure small early = grind (arith, nat_tests)
+
+doubted : (pace : PaceView) → doubt_time pace ≤ due_time pace
+doubted pace = grind (arith, nat_tests)
+
+not_due : (pace : PaceView) (now : ℕ) → now < 2 ^ 64 → IfSome (next_due pace) (λ due. now < due)
+    → now < due_time pace
+not_due pace now small early = grind (arith, nat_tests, doubted pace)
+
+nothing : (pace : PaceView) (full : Bool) (now : ℕ) → now < due_time pace
+    → IfSome pace.asked (λ asked. asked ≤ now) → asking pace full now ≡ Asking.Nothing
+nothing pace full now early after = grind (arith, nat_tests)
+
+stays : (what : Asking) (follower : FollowerView) (now : ℕ) → what ≡ Asking.Nothing
+    → pace_at follower.pace now ≡ follower.pace → follower_asking what follower now ≡ follower
+stays what follower now none same = rw (none, same) refl
+
+-- ---- and not at that time
+
+stuck : (pace : PaceView) (now : ℕ) → pace_at pace now ≡ pace → is_stuck pace now ≡ false
+stuck pace now same = grind (arith, nat_tests)
+
+overdue : (pace : PaceView) (now : ℕ) → pace_at pace now ≡ pace → (is_overdue pace now && not pace.doubtful) ≡ false
+overdue pace now same = grind (arith, nat_tests)
+
+named : (unfinished : Option ℕ) (doubts limit now : ℕ)
+    → (if is_some unfinished then counted (min doubts limit) else counted doubts) ≡ Some now
+    → (is_some unfinished && nat_le limit now) ≡ false → doubts ≤ now
+named unfinished doubts limit now due free = grind (arith, nat_tests)
+
+due_by : (pace : PaceView) (now : ℕ) → doubt_time pace ≤ now → pace_at pace now ≡ pace → due_time pace ≤ now
+due_by pace now by same = grind (arith, nat_tests, overdue pace now same)
+
+not_idle : (pace : PaceView) (full : Bool) (now : ℕ) → next_due pace ≡ Some now → pace_at pace now ≡ pace
+    → asking pace full now ≢ Asking.Nothing
+not_idle pace full now due same =
+    let by = due_by pace now (named pace.unfinished _ _ now due (stuck pace now same)) same in
+    (writes pace full now).1 (reached (due_time pace) now _ by)
+
+kept : (what : Asking) (follower : FollowerView) (now : ℕ) → what ≡ Asking.Nothing
+    → follower_asking what follower now ≡ follower → pace_at follower.pace now ≡ follower.pace
+kept what follower now none same = rw none at (ap (λ (x : FollowerView). x.pace) same)
+
+pub is_first : DueAtIsFirst
+is_first follower sure =
+    let full = awaits_too_many follower.host (Some Kind.Dump) in (
+      λ due named idle.
+          let same = kept _ follower due idle.0 idle.1 in
+          not_idle follower.pace full due named same
+          (subst (λ pace. asking pace full due ≡ Asking.Nothing) same idle.0),
+      λ now small after early.
+          let same = unchanged follower.pace now sure small early in
+          let none = subst (λ pace. asking pace full now ≡ Asking.Nothing) (sym same)
+          (nothing follower.pace full now (not_due follower.pace now small early) after) in
+          (none, stays _ follower now none same),
+    )
