@@ -274,7 +274,8 @@ this writes the commands in the file sent again:
 
   dgt commands <sent | cut -d' ' -f2- | xargs -rd '\\n' dgt ask
 
---help and -h print this help, except as the TEXT of text.
+As arguments of their own, --help and -h print this help, except as the TEXT of
+text.
 
 Exit status: 0 on success. It is 1 if standard output fails, 2 if the command
 line or a word is wrong (then nothing is written), and 3 if memory runs out.

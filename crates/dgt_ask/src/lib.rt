@@ -1,7 +1,7 @@
 //! Encodes commands by name, for `dgt ask`.
 //!
 //! [`asked_bytes`] reads words such as `dump`, `beep 16` and `leds ff00`, and returns the bytes of
-//! the commands. [`WORDS`] lists the words. A command is several words, or one with spaces.
+//! the commands. [`WORDS`] lists the words. A command is one or more words, or one with spaces.
 //!
 //! ```rust
 //! use dgt_ask::asked_bytes;

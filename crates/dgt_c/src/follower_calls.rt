@@ -134,8 +134,8 @@ fn put_time(said: Option<u64>, time: &mut u64) -> bool
     }
 }
 
-/// The first time at which a request is due, if nothing is heard before. Returns false if there is
-/// none; then `time` is unchanged.
+/// The first time at which `dgt_follower_ask` writes or finds a doubt, if nothing is heard before.
+/// Returns false if there is none; then `time` is unchanged.
 #[unsafe(no_mangle)]
 pub extern "C" fn dgt_follower_due_at(follower: &mut DgtFollower, time: &mut u64) -> bool
     ensures place { follower.new.at ≡ follower.old.at }

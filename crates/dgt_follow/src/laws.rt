@@ -67,7 +67,7 @@ pub fn confirmed_as_heard()
     dgt_decode::laws::unfinished_is_quiet();
 }
 
-/// A single stretch of faulty bytes never makes a confirmed picture wrong.
+/// After one stretch of faulty bytes, a picture that both sides' messages confirm was reported.
 pub fn one_stretch_is_seen()
     ensures { OneStretchIsSeen }
 {

@@ -17,7 +17,7 @@
 //!   asks again after a quarter of the period.
 //! - *confirmed* ([`Follower::confirmed`]): a dump repeated it. It is then what the board had
 //!   reported, up to that dump or including it, if the line had at most one fault since the last
-//!   whole dump before ([`laws::one_stretch_is_seen`]).
+//!   whole dump before ([`dgt_host::laws::one_fault_is_seen`]).
 //! - neither: it was just reported or changed. After [`Follower::set_confirm`] it is confirmed
 //!   soon.
 //!

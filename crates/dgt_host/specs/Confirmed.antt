@@ -111,7 +111,7 @@ abbrev pub reported_by : Option (List Piece) → Passage → Option (List Piece)
 reported_by reported (Whole said) = picture_after reported said
 reported_by reported (Faulty sent heard) = reported
 
--- ---- no single fault makes a confirmed picture wrong
+-- ---- a confirmed picture after a single fault
 
 -- The host heard a dump that repeated its picture, and nothing changed the picture since. If there
 -- was at most one fault up to that dump, since the last whole dump before it, then the picture is

@@ -89,9 +89,9 @@ pub fn changes_are_exact()
     ensures { ChangesIsExact }
 {}
 
-/// No single fault of the line makes a confirmed picture wrong. If there was at most one fault
-/// since the last whole dump, a confirmed picture is what the board had reported when it sent the
-/// confirming dump. It is all that the board has reported if the board has repeated that.
+/// What a confirmed picture is, after at most one fault of the line: if that happened since the
+/// last whole dump, the picture is what the board had reported when it sent the confirming dump. It
+/// is all that the board has reported if the board has repeated that.
 pub fn one_fault_is_seen()
     ensures was { ConfirmedWasReported }
     ensures is { ConfirmedIsReported }

@@ -460,7 +460,7 @@ pub fn fair_rounds_rest()
 }
 
 /// The pieces that a host shows on a square were there, in this order: it shows nothing that was
-/// never there, and never returns to an earlier piece. Breaks don't change that.
+/// never there, and an earlier piece again only if that was there again, whatever breaks happen.
 pub fn squares_are_shown_in_order()
     ensures { (x : MachineState) (moves : List Move) (square : ℕ) → x.picture ≡ None → x.up ≡ []
         → IsInOrderOf (shown_on square x moves) (stood_on square x moves) }
