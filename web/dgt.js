@@ -1200,7 +1200,10 @@ export class Board extends Handle {
     const wrong = this.call("start", dgt.put(dgt.in, checked(pieces, 64)),
                             dgt.writeClock(dgt.other, clock),
                             dgt.write("identity", dgt.small, identity));
-    if (wrong) throw new BadValue(`not ${["", "64 pieces", "a clock", "an identity"][wrong]}`);
+    if (wrong) {
+      throw new BadValue(["", "a piece", "a member of the clock", "a member of the identity"][wrong] +
+                         " is out of its range");
+    }
   }
 
   /**

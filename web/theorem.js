@@ -108,8 +108,10 @@ export class Theorem {
     const { isPromised, isQuiet, counted } = this.#world;
     if (isPromised) {
       return (counted.hadFault ? "Healed. " : "") + (isQuiet ?
-        "Proved: nothing is in transit, so the host's picture is the board's position." :
-        "Proved: once nothing is in transit, the host's picture is the board's position.");
+        "Proved: nothing is in transit or left to send, so the host's picture is the board's " +
+        "position." :
+        "Proved: once nothing is in transit or left to send, the host's picture is the board's " +
+        "position.");
     }
     if (!counted.isInStep) {
       return "Nothing is promised: the board may misread the host's commands. " +
