@@ -16,8 +16,8 @@ FINDINGS = {
     "have lost its power for a moment: check cable and battery",
     "no updates": "it doesn't report changes by itself, though this was requested. Programs see a "
     "move only with the next report of all squares",
-    "clock refused": "a clock is connected, but rejected a message three times. Switch the clock "
-    "on, and choose its mode for a connected board (see the clock's manual)",
+    "clock refused": "a clock is connected, but didn't acknowledge a message in three attempts. "
+    "Switch the clock on, and choose its mode for a connected board (see the clock's manual)",
     "clock unreadable": "a reading of the clock has no digits. A clock sends it while it is being "
     "set: finish that, and start again",
     "altered bytes": "bytes were lost, altered or inserted on the line. Try another cable or "

@@ -138,7 +138,7 @@ def _on_clock(board: Examination, step: Step, before: Position) -> str:
     shown = "hello" if has_text else "12-34"
     message = board.host.text(shown, 3) if has_text else board.host.display(shown, 0, 3)
     if board.send_clock(message, ClockId.TEXT if has_text else ClockId.DISPLAY) is None:
-        return "the clock rejected it"
+        return "the clock didn't acknowledge it"
     board.person.say(f"  does it show {shown}? (Enter: yes, n and Enter: no)")
     while (line := board.person.typed()) is None:
         board.hear(time.monotonic() + LONGEST, 0)

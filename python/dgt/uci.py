@@ -247,7 +247,7 @@ class Engine:
     def _go(self, words: list[str], now: float) -> None:
         self._begin()
         if self._turn is None:
-            self._inform("the chess program has requested a move, but has set no position")
+            self._inform("the chess program has requested a move, but no position is set")
             self._end(_NO_MOVE)
             return
         only = words[words.index("searchmoves") + 1:] if "searchmoves" in words else []
