@@ -15,7 +15,7 @@ use Rattle.dgt_text.specs.Simulating.{IsSimulated, Rules, ShowsHealed, ShowsPict
 use Rattle.dgt_ask.specs.declared.tasks.Task.TheVariants.{Help, Show, Monitor, Picture, Log, Commands, Ask, Board, Simulate}
 use Rattle.dgt_program.specs.declared.fault.Fault.{Fault}
 use Rattle.dgt_program.specs.declared.fault.Fault.TheVariants.{Run}
-use Rattle.dgt_program.specs.Ends.{AllIsMonitored, AllIsShown, FaultsComeFirst, IsBeforeRuns, PlacementsAreRefused, PlaysAll, PositionsArePlaced, ShowsAll, ShowsNothing, SmallLinesAreRefused, TextsAreFlushed, WordsAreDecoded, WordsComeFirst, WorldsAreLarge}
+use Rattle.dgt_program.specs.Ends.{AllIsMonitored, AllIsShown, FaultsComeFirst, IsBeforeRuns, PlacementsAreRefused, PlaysAll, PositionsArePlaced, ShowsAll, ShowsNothing, SmallLinesAreRefused, TextsAreFlushed, WordsAreDecoded, WorldsAreLarge}
 use Rattle.dgt_program.specs.Tasks.{IsPrintedWith, IsShown, PlaysScript, PlaysWith, ShowsWord, task_answer}
 
 -- ---- answers
@@ -68,10 +68,6 @@ module _ {S T : Type 0} (R : Source S) (W : Sink T) where
   faults_come_first (Simulate placement up down faults) source sink fault first
       (inl (position, placed, inr (large, wide, inr p)))
       = (p.unread, p.unwritten)
-
-  pub words_come_first : WordsComeFirst R W
-  words_come_first source sink fault first (inl p) = (p.2.unread, p.2.unwritten)
-  words_come_first source sink fault first (inr p) = faults_come_first p.0 source sink fault first p.1
 
   -- ---- runs that end well
 

@@ -18,7 +18,7 @@ use Rattle.dgt_ask.specs.declared.tasks.Task.{Task}
 use Rattle.dgt_ask.specs.declared.tasks.Task.TheVariants.{Monitor}
 use Rattle.dgt_program.specs.declared.fault.Fault.{Fault}
 use Rattle.dgt_program.specs.declared.fault.Fault.TheVariants.{BadHex, BadPlacement, LineTooSmall, OutOfMemory, Run}
-use Rattle.dgt_program.specs.Tasks.{Does, DoesOne, InWorld, IsPrintedWith, IsShown, OnBoard, PlaysWith, Prints, Shows, ShowsWord}
+use Rattle.dgt_program.specs.Tasks.{Does, InWorld, IsPrintedWith, IsShown, OnBoard, PlaysWith, Prints, Shows, ShowsWord}
 
 -- ---- faults
 
@@ -31,13 +31,6 @@ abbrev pub FaultsComeFirst : {S T : Type 0} → Source S → Sink T → Type 0
 FaultsComeFirst {S} {T} R W =
     (task : Task) (source : Change S) (sink : Change T) (fault : Fault) → IsBeforeRuns fault
     → Does R W task source sink (Err fault)
-    → (source.new ≡ source.old) × (sink.new ≡ sink.old)
-
--- if a run for any words ends with such a fault, no bytes were read or written
-abbrev pub WordsComeFirst : {S T : Type 0} → Source S → Sink T → Type 0
-WordsComeFirst {S} {T} R W =
-    (source : Change S) (sink : Change T) (fault : Fault) → IsBeforeRuns fault
-    → DoesOne R W source sink (Err fault)
     → (source.new ≡ source.old) × (sink.new ≡ sink.old)
 
 -- ---- runs that succeed

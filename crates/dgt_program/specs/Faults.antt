@@ -1,5 +1,7 @@
 -- The faults that end the program.
-use Rattle.std.specs.Prelude.{◌≡◌, ⊤, ℕ}
+use Rattle.std.specs.Prelude.{◌≡◌, ℕ}
+use Rattle.dgt_ask.specs.declared.tasks.BadArguments.{BadArguments}
+use Rattle.dgt_ask.specs.declared.tasks.BadArguments.TheVariants as words
 use Rattle.dgt_link.specs.declared.world.WorldFault.{WorldFault}
 use Rattle.dgt_link.specs.declared.world.WorldFault.TheVariants as world
 use Rattle.dgt_program.specs.declared.fault.Fault.{Fault}
@@ -14,14 +16,10 @@ fault_status (BadPlacement _) = 2
 fault_status LineTooSmall = 2
 fault_status OutOfMemory = 3
 
--- the words are not a valid command line, or their reader was refused memory
-abbrev pub IsOfWords : Fault → Type 0
-IsOfWords (CommandLine _) = ⊤
-IsOfWords OutOfMemory = ⊤
-IsOfWords (Run _) = ⊥
-IsOfWords BadHex = ⊥
-IsOfWords (BadPlacement _) = ⊥
-IsOfWords LineTooSmall = ⊥
+-- the fault, if the words are not a valid command line, or their reader was refused memory
+abbrev pub IsOfWords : BadArguments → Fault → Type 0
+IsOfWords (words.Refused text) fault = fault ≡ CommandLine text
+IsOfWords words.OutOfMemory fault = fault ≡ OutOfMemory
 
 -- the fault, if a world was not made
 abbrev pub IsOfWorld : WorldFault → Fault → Type 0

@@ -25,7 +25,6 @@ use Rattle.dgt_ask.specs.declared.tasks.Task.TheVariants.{Help, Show, Monitor, P
 use Rattle.dgt_program.specs.declared.program.TheConstants.{MOST_TURNS}
 use Rattle.dgt_program.specs.declared.fault.Fault.{Fault}
 use Rattle.dgt_program.specs.declared.fault.Fault.TheVariants.{BadHex, BadPlacement, LineTooSmall, Run, OutOfMemory}
-use Rattle.dgt_program.specs.Faults.{IsOfWords}
 
 -- ---- how a task ends
 
@@ -162,10 +161,3 @@ Does R W (Board placement) source sink r =
 Does R W (Simulate placement up down faults) source sink r =
     OnBoard source sink r placement.now
     (InWorld source sink r up down (PlaysWith faults R W source sink r))
-
--- the words are not a valid command line, or one task is done
-abbrev pub DoesOne : {S T : Type 0} → Source S → Sink T → Change S → Change T
-    → Result (Unit {0}) Fault → Type 0
-DoesOne R W source sink r =
-    ((fault : Fault) × IsOfWords fault × Refuses source sink r fault)
-    ⊎ ((task : Task) × Does R W task source sink r)

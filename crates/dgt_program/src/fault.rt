@@ -45,7 +45,7 @@ impl From<RunFault> for Fault {
 }
 
 impl From<BadArguments> for Fault {
-    ghost from_gives = { λ _ fault. IsOfWords fault };
+    ghost from_gives = { IsOfWords };
 
     fn from(error: BadArguments) -> Fault {
         match error {

@@ -1,7 +1,8 @@
 //! Facts about the program's limits, its faults and the ends of its tasks. Nothing here runs: the
 //! contract of each function states a fact.
 
-ghost use Rattle.std.specs.Prelude.{◌≡◌, ℕ, List, map, All, Ok, true, false};
+ghost use Rattle.std.specs.Prelude.{◌≡◌, ◌↔◌, ℕ, List, String, map, All, Ok, true, false};
+ghost use Rattle.std.specs.declared.alloc.Global.{Global};
 ghost use Rattle.dgt_command.specs.Content.{CommandContent};
 ghost use Rattle.dgt_command.specs.Encoding.{AreBytes, EncodesCommand, command_encoding};
 ghost use Rattle.dgt_lines.specs.CommandWords.{command_text};
@@ -9,10 +10,11 @@ ghost use Rattle.dgt_lines.specs.Lines.{monitor_text};
 ghost use Rattle.dgt_lines.specs.Monitoring.{IsMonitored};
 ghost use Rattle.dgt_lines.specs.NamedLines.{AreMonitored};
 ghost use Rattle.dgt_ask.specs.Asks.{AskInOrder, Asks};
+ghost use Rattle.dgt_ask.specs.declared.tasks.BadArguments.{BadArguments as Bad};
 ghost use Rattle.dgt_link.specs.declared.world.WorldFault.{WorldFault};
 ghost use Rattle.dgt_lines.specs.declared.faults.RunFault.{RunFault};
 ghost use Rattle.dgt_text.specs.Simulating.{ShowsHealed, ShowsPicture, faulty_rules, plain_rules};
-ghost use Rattle.dgt_program.specs.Ends.{AllIsMonitored, AllIsShown, FaultsComeFirst, PlacementsAreRefused, PlaysAll, PositionsArePlaced, ShowsAll, ShowsNothing, SmallLinesAreRefused, TextsAreFlushed, WordsAreDecoded, WordsComeFirst, WorldsAreLarge};
+ghost use Rattle.dgt_program.specs.Ends.{AllIsMonitored, AllIsShown, FaultsComeFirst, PlacementsAreRefused, PlaysAll, PositionsArePlaced, ShowsAll, ShowsNothing, SmallLinesAreRefused, TextsAreFlushed, WordsAreDecoded, WorldsAreLarge};
 ghost use Rattle.dgt_program.specs.Faults.{IsOfWords, IsOfWorld, fault_status};
 ghost use Rattle.dgt_program.specs.declared.fault.Fault.{Fault as AnyFault};
 
@@ -38,21 +40,23 @@ pub fn commands_are_asked_back()
 /// Wrong words end the program with status 2, and refused memory with 3. They have no other fault.
 /// A world that is not made ends the program with the same statuses.
 pub fn faults()
-    ensures run { (run : RunFault) → ¬ (IsOfWords (AnyFault.Run run)) }
-    ensures hex { ¬ (IsOfWords AnyFault.BadHex) }
-    ensures placement { (at : ℕ) → ¬ (IsOfWords (AnyFault.BadPlacement at)) }
-    ensures line { ¬ (IsOfWords AnyFault.LineTooSmall) }
+    ensures said { (text : String Global) →
+        IsOfWords (Bad.Refused text) (AnyFault.CommandLine text) }
+    ensures text { (text other : String Global) →
+        IsOfWords (Bad.Refused text) (AnyFault.CommandLine other) → other ≡ text }
+    ensures words { (text : String Global) (fault : AnyFault) →
+        IsOfWords (Bad.Refused text) fault → fault_status fault ≡ 2 }
+    ensures refused { (fault : AnyFault) → IsOfWords Bad.OutOfMemory fault ↔
+        (fault_status fault ≡ 3) }
     ensures small { (fault : AnyFault) → IsOfWorld WorldFault.LineTooSmall fault →
         fault_status fault ≡ 2 }
     ensures memory { (fault : AnyFault) → IsOfWorld WorldFault.OutOfMemory fault →
         fault_status fault ≡ 3 }
 {}
 
-/// If a task ends with a fault that is not of a run, no bytes were read or written. The same holds
-/// for any words.
+/// If a task ends with a fault that is not of a run, no bytes were read or written.
 pub fn faults_come_first<R: Source, W: Sink>()
-    ensures tasks { FaultsComeFirst R.Source W.Sink }
-    ensures words { WordsComeFirst R.Source W.Sink }
+    ensures { FaultsComeFirst R.Source W.Sink }
 {}
 
 /// What was read and written if a task succeeds.

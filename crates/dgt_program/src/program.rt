@@ -12,7 +12,9 @@ ghost use Rattle.dgt_lines.specs.NamedLines.{AreMonitored};
 ghost use Rattle.dgt_lines.specs.Picturing.{IsPictured};
 ghost use Rattle.dgt_lines.specs.Turns.{change};
 ghost use Rattle.dgt_text.specs.Simulating.{ShowsHealed, ShowsPicture, faulty_rules, plain_rules};
-ghost use Rattle.dgt_program.specs.Tasks.{AnswersFor, Does, DoesOne, InWorld, IsPrintedWith, OnBoard, PlaysScript, PlaysWith, Prints, Runs, ShowsWord};
+ghost use Rattle.dgt_program.specs.Faults.{IsOfWords};
+ghost use Rattle.dgt_program.specs.Tasks.{AnswersFor, Does, InWorld, IsPrintedWith, OnBoard, PlaysScript, PlaysWith, Prints, Refuses, Runs, ShowsWord};
+ghost use Rattle.dgt_program.specs.declared.fault.Fault.{Fault as AnyFault};
 
 use crate::fault::Fault;
 use dgt_ask::{BadArguments, Task};
@@ -63,8 +65,11 @@ pub fn run<R: Source, W: Sink>(
     input: &mut R,
     output: &mut W,
 ) -> Result<(), Fault>
-    ensures { DoesOne R.Source W.Sink (change input.old input.new) (change output.old output.new)
-        result }
+    ensures { MatchResult task.entry
+        (λ task. Does R.Source W.Sink task (change input.old input.new)
+        (change output.old output.new) result)
+        (λ bad. (fault : AnyFault) × IsOfWords bad fault
+        × Refuses (change input.old input.new) (change output.old output.new) result fault) }
 {
     run_task(alloc, &task?, input, output)
 }
