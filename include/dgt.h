@@ -22,10 +22,11 @@
  * A follower asks again by itself. A host asks only when you call it.
  *
  * WHAT IS PROVED, AND YOUR PART. The Rattle code of the library is proved to keep its contracts. If
- * you keep to the rules below, each call returns, and accesses only the memory that you pass,
- * whatever the bytes are. This header's comments and inline functions, such as dgt_host_new, are
- * tested and not proved. If you break a rule, nothing is guaranteed. Unless NDEBUG is defined, each
- * call asserts that its handle is where it was made. Nothing checks the other rules at run time.
+ * you keep to the rules below, each call returns, and accesses only its stack and the memory that
+ * you pass, whatever the bytes are. This header's comments and inline functions, such as
+ * dgt_host_new, are tested and not proved. If you break a rule, nothing is guaranteed. Unless
+ * NDEBUG is defined, each call asserts that its handle is where it was made. Nothing checks the
+ * other rules at run time.
  *
  *  - A pointer may be NULL if its length, the next parameter, is 0. No other pointer is null. Each
  *    pointer is aligned for its type. A length is at most 2^63 - 1, and all of that memory may be
@@ -40,6 +41,7 @@
  *  - Two calls with the same handle never run at once: neither in two threads without a lock
  *    between them, nor in a signal handler. Different handles are independent. A handle may pass to
  *    another thread under a lock, or by starting or joining that thread.
+ *  - Each call has 64 KiB of free stack. That this suffices is tested, not proved.
  *
  * Calls that only read still take a handle that isn't const, because they need exclusive access to
  * it. A struct or a slice that a call writes may be uninitialised; the bytes of a slice after those

@@ -2,6 +2,7 @@
  * with rubbish before. Exits with 1 and prints the first thing that is not as dgt.h says, or 0. */
 #include "dgt.h"
 
+#include <pthread.h>
 #include <stdio.h>
 #include <stdlib.h>
 #include <string.h>
@@ -354,6 +355,13 @@ static bool asks(dgt_follower *follower, uint64_t now, size_t bytes) {
     return right;
 }
 
+/* Whether a command was sent that is these bytes. Fills the slice with rubbish afterwards. */
+static bool is_sent(dgt_sent sent, uint8_t *out, const uint8_t *bytes, size_t n) {
+    bool right = sent.status == DGT_SENT && sent.bytes == n && !memcmp(out, bytes, n);
+    memset(out, 0xa5, n);
+    return right;
+}
+
 static void follower(void) {
     dgt_follower *follower = room(dgt_follower_size());
     CHECK(dgt_follower_new(follower, 1000, 1));
@@ -393,12 +401,11 @@ static void follower(void) {
     CHECK(!dgt_follower_set_mode(follower, DGT_MODE_IDLE));
     CHECK(dgt_follower_set_mode(follower, DGT_MODE_UPDATE_NICE));
     CHECK(dgt_follower_mode(follower) == DGT_MODE_UPDATE_NICE);
-    asked = dgt_follower_send(follower, DGT_SEND_VERSION, out, sizeof out);
-    CHECK(asked.status == DGT_SENT && asked.bytes == 1 && out[0] == 0x4d);
-    asked = dgt_follower_send_clock(follower, DGT_ID_BEEP, BYTES(9), out, sizeof out);
-    CHECK(asked.status == DGT_SENT && asked.bytes == 6 && out[4] == 9);
-    asked = dgt_follower_send_leds(follower, BYTES(1, 2), out, sizeof out);
-    CHECK(asked.status == DGT_SENT && asked.bytes == 4 && out[0] == 0x60);
+    CHECK(is_sent(dgt_follower_send(follower, DGT_SEND_VERSION, out, 1), out, BYTES(0x4d)));
+    CHECK(is_sent(dgt_follower_send_clock(follower, DGT_ID_BEEP, BYTES(9), out, sizeof out), out,
+                  BYTES(0x2b, 4, 3, 0x0b, 9, 0)));
+    CHECK(is_sent(dgt_follower_send_leds(follower, BYTES(1, 2), out, sizeof out), out,
+                  BYTES(0x60, 2, 1, 2)));
     CHECK(dgt_follower_send(follower, 0x46, out, sizeof out).status == DGT_NO_COMMAND);
     dgt_follower_clock(follower, &clock);
     CHECK(clock.kind == DGT_CLOCK_UNKNOWN);
@@ -613,13 +620,6 @@ static void setting_a_clock(void) {
     }
     CHECK(!dgt_follower_in_doubt(follower) && is_due_at(follower, 1000));
     free(follower);
-}
-
-/* Whether a command was sent that is these bytes. Fills the slice with rubbish afterwards. */
-static bool is_sent(dgt_sent sent, uint8_t *out, const uint8_t *bytes, size_t n) {
-    bool right = sent.status == DGT_SENT && sent.bytes == n && !memcmp(out, bytes, n);
-    memset(out, 0xa5, n);
-    return right;
 }
 
 /* Has a host and a follower send the same, and compares the bytes. */
@@ -1031,7 +1031,6 @@ static void no_bytes_of_hosts(void) {
     dgt_host *host = room(dgt_host_size());
     dgt_decoder *decoder = room(dgt_decoder_size());
     CHECK(dgt_host_new(host) && dgt_decoder_new(decoder));
-    uint8_t out[6];
     dgt_event event;
     CHECK(dgt_host_hear(host, NULL, 0, &event, NULL, 0) == 0 && event.kind == DGT_EVENT_NONE);
     CHECK(dgt_host_hear(host, BYTES(0x92, 0, 4, 'D'), &event, NULL, 0) == 4);
@@ -1044,19 +1043,6 @@ static void no_bytes_of_hosts(void) {
     CHECK(all.used == 0 && all.count == 0);
     CHECK(dgt_host_follow(host, NULL, 0).status == DGT_NO_ROOM);
     CHECK(dgt_host_restart(host, NULL, 0).status == DGT_NO_ROOM);
-    CHECK(dgt_host_send(host, DGT_SEND_DUMP, NULL, 0).status == DGT_NO_ROOM);
-    dgt_sent sent = dgt_host_send_clock(host, DGT_ID_END, NULL, 0, NULL, 0);
-    CHECK(sent.status == DGT_NO_ROOM && sent.bytes == 5);
-    sent = dgt_host_send_clock(host, DGT_ID_END, NULL, 0, out, sizeof out);
-    CHECK(sent.status == DGT_SENT && sent.bytes == 5 && !memcmp(out, "\x2b\3\3\3\0", 5));
-    sent = dgt_host_send_icons(host, NULL, 0, NULL, 0);
-    CHECK(sent.status == DGT_NO_ROOM && sent.bytes == 5);
-    sent = dgt_host_send_icons(host, NULL, 0, out, sizeof out);
-    CHECK(sent.status == DGT_SENT && sent.bytes == 5 && !memcmp(out, "\x2b\3\3\2\0", 5));
-    sent = dgt_host_send_leds(host, NULL, 0, NULL, 0);
-    CHECK(sent.status == DGT_NO_ROOM && sent.bytes == 2);
-    sent = dgt_host_send_leds(host, NULL, 0, out, sizeof out);
-    CHECK(sent.status == DGT_SENT && sent.bytes == 2 && !memcmp(out, "\x60\0", 2));
 
     CHECK(dgt_decoder_feed(decoder, NULL, 0, &event, NULL, 0) == 0 && event.kind == 0);
     CHECK(dgt_decoder_feed(decoder, BYTES(0x92, 0, 4, 'D'), &event, NULL, 0) == 4);
@@ -1068,17 +1054,24 @@ static void no_bytes_of_hosts(void) {
     free(host), free(decoder);
 }
 
-/* The same of the clock's commands, which need from 5 to 14 bytes. */
+/* The same of commands, which need from 1 to 14 bytes. */
 static void no_bytes_for_commands(void) {
     dgt_host *host = room(dgt_host_size());
     dgt_follower *follower = room(dgt_follower_size());
     CHECK(dgt_host_new(host) && dgt_follower_new(follower, 1000, 1));
     const uint8_t time[3] = {0}, digits[6] = {'1', '2', '3', '4', '5', '6'}, text[8] = {0};
+    uint8_t out[5];
+    REFUSES(send, DGT_NO_ROOM, 1, DGT_SEND_DUMP, NULL, 0);
+    REFUSES(send_clock, DGT_NO_ROOM, 5, DGT_ID_END, NULL, 0, NULL, 0);
+    SENDS(send_clock, BYTES(0x2b, 3, 3, 3, 0), DGT_ID_END, NULL, 0, out, sizeof out);
+    REFUSES(send_leds, DGT_NO_ROOM, 2, NULL, 0, NULL, 0);
+    SENDS(send_leds, BYTES(0x60, 0), NULL, 0, out, sizeof out);
     REFUSES(send_display, DGT_NO_ROOM, 13, digits, 0, 0, NULL, 0);
     REFUSES(send_text, DGT_NO_ROOM, 14, text, 0, NULL, 0);
     REFUSES(send_beep, DGT_NO_ROOM, 6, 3, NULL, 0);
     REFUSES(send_set_and_run, DGT_NO_ROOM, 12, time, time, 0, NULL, 0);
     REFUSES(send_icons, DGT_NO_ROOM, 5, NULL, 0, NULL, 0);
+    SENDS(send_icons, BYTES(0x2b, 3, 3, 2, 0), NULL, 0, out, sizeof out);
     REFUSES(send_end, DGT_NO_ROOM, 5, NULL, 0);
     REFUSES(send_button, DGT_NO_ROOM, 5, NULL, 0);
     REFUSES(send_clock_version, DGT_NO_ROOM, 5, NULL, 0);
@@ -1088,19 +1081,11 @@ static void no_bytes_for_commands(void) {
 static void no_bytes_of_followers(void) {
     dgt_follower *follower = room(dgt_follower_size());
     CHECK(dgt_follower_new(follower, 1000, 1));
-    uint8_t out[6];
     CHECK(dgt_follower_hear(follower, 1, NULL, 0, &heard, NULL, 0) == 0);
     CHECK(heard.kind == DGT_EVENT_NONE && heard.place == 0);
     dgt_follower_hear_all(follower, 1, NULL, 0);
     dgt_sent sent = dgt_follower_ask(follower, 1, NULL, 0);
     CHECK(sent.status == DGT_NO_ROOM && sent.bytes == 258);
-    CHECK(dgt_follower_send(follower, DGT_SEND_DUMP, NULL, 0).status == DGT_NO_ROOM);
-    CHECK(dgt_follower_send_clock(follower, DGT_ID_END, NULL, 0, NULL, 0).status == DGT_NO_ROOM);
-    sent = dgt_follower_send_clock(follower, DGT_ID_END, NULL, 0, out, sizeof out);
-    CHECK(sent.status == DGT_SENT && sent.bytes == 5 && !memcmp(out, "\x2b\3\3\3\0", 5));
-    CHECK(dgt_follower_send_leds(follower, NULL, 0, NULL, 0).status == DGT_NO_ROOM);
-    sent = dgt_follower_send_leds(follower, NULL, 0, out, sizeof out);
-    CHECK(sent.status == DGT_SENT && sent.bytes == 2 && !memcmp(out, "\x60\0", 2));
     free(follower);
 }
 
@@ -1129,7 +1114,7 @@ static void no_bytes_of_boards(void) {
     free(reader), free(board);
 }
 
-int main(void) {
+static void all_calls(void) {
     CHECK(dgt_version() == DGT_VERSION);
     CHECK(sizeof(dgt_host) == dgt_host_size() && sizeof(dgt_decoder) == dgt_decoder_size());
     CHECK(sizeof(dgt_board) == dgt_board_size() && sizeof(dgt_follower) == dgt_follower_size());
@@ -1160,5 +1145,23 @@ int main(void) {
     no_bytes_for_commands();
     no_bytes_of_followers();
     no_bytes_of_boards();
+}
+
+/* Makes the calls with less stack than the 64 KiB of dgt.h: this is half of the thread's. */
+static void *with_half_a_stack(void *unused) {
+    volatile uint8_t half[64 * 1024];
+    half[0] = 0;
+    all_calls();
+    CHECK(half[0] == 0);
+    return unused;
+}
+
+int main(void) {
+    pthread_attr_t small; /* 128 KiB, the least on some processors */
+    pthread_t thread;
+    CHECK(!pthread_attr_init(&small) && !pthread_attr_setstacksize(&small, 128 * 1024));
+    CHECK(!pthread_attr_setguardsize(&small, 1024 * 1024)); /* more than a call can skip */
+    CHECK(!pthread_create(&thread, &small, with_half_a_stack, NULL));
+    CHECK(!pthread_join(thread, NULL));
     return 0;
 }
