@@ -21,12 +21,11 @@
  *
  * A follower asks again by itself. A host asks only when you call it.
  *
- * WHAT IS PROVED, AND YOUR PART. The Rattle code of the library is proved to keep its contracts. If
- * you keep to the rules below, each call returns, and accesses only its stack and the memory that
- * you pass, whatever the bytes are. This header's comments and inline functions, such as
- * dgt_host_new, are tested and not proved. If you break a rule, nothing is guaranteed. Unless
- * NDEBUG is defined, each call asserts that its handle is where it was made. Nothing checks the
- * other rules at run time.
+ * WHAT IS PROVED, AND YOUR PART. The Rattle code of the library is proved to keep its contracts: if
+ * you keep to the rules below, each call returns, and accesses only its stack and the memory you
+ * pass, whatever the bytes. This header's comments and inline functions, such as dgt_host_new, are
+ * tested and not proved. If you break a rule, nothing is guaranteed. Unless NDEBUG is defined, each
+ * call asserts that its handle is where it was made. Nothing checks the other rules at run time.
  *
  *  - A pointer may be NULL if its length, the next parameter, is 0. No other pointer is null. Each
  *    pointer is aligned for its type. A length is at most 2^63 - 1, and all of that memory may be

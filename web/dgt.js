@@ -1201,8 +1201,8 @@ export class Board extends Handle {
                             dgt.writeClock(dgt.other, clock),
                             dgt.write("identity", dgt.small, identity));
     if (wrong) {
-      throw new BadValue(["", "a piece", "a member of the clock", "a member of the identity"][wrong] +
-                         " is out of its range");
+      const what = ["", "a piece", "a member of the clock", "a member of the identity"][wrong];
+      throw new BadValue(`${what} is out of its range`);
     }
   }
 
