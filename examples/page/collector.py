@@ -20,6 +20,7 @@ from dataclasses import dataclass, field
 from typing import Any
 
 import dgt
+from dgt._locks import hold
 
 import topics
 from corrections import DESK, Entry
@@ -255,10 +256,12 @@ class Shelf:
     can change while the disk is slow."""
 
     def __init__(self, path: str | None, state: State) -> None:
-        """OSError if the file can't be made."""
+        """OSError if the file can't be made, or another process keeps it."""
         self.lock, self.state, self.is_open = threading.Lock(), state, False
         self.games: collections.deque[Kept] = collections.deque(maxlen=MOST_GAMES)
         self.file = None if path is None else dgt.PgnFile(path)
+        if path is not None:
+            hold(path, PROGRAM)
         self.changed: list[Kept] = []
         self.is_stale, self.written = True, (b"", "")
         self.news, self.saving, self.fault = threading.Event(), threading.Lock(), ""

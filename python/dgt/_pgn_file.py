@@ -4,20 +4,18 @@ from __future__ import annotations
 
 import contextlib
 import errno
-import fcntl
 import os
 import stat
-import time
 from collections.abc import Iterator
 from dataclasses import dataclass
 
 from ._handle import Uncopied
+from ._locks import lock
 from .values import checked
 
 _TRIES = 200
-_TRY_EACH = 0.01
-"""The attempts to lock a folder that another program has locked, and the seconds between them. In
-these two seconds the port buffers the board's bytes."""
+"""The attempts to lock a folder that another program has locked. In these two seconds the port
+buffers the board's bytes."""
 _MODE = 0o666
 """The mode of a new file, before the umask."""
 _NEW = os.O_WRONLY | os.O_CREAT | os.O_EXCL | os.O_CLOEXEC
@@ -110,7 +108,7 @@ class PgnFile(Uncopied):
         except FileNotFoundError as fault:
             raise OSError(fault.errno, "the folder doesn't exist") from None
         try:
-            _lock(number)
+            lock(number, _TRIES)
             yield folder
             with contextlib.suppress(OSError):  # not every file system supports it
                 os.fsync(number)
@@ -159,17 +157,3 @@ class PgnFile(Uncopied):
                 os.fchmod(number, stat.S_IMODE(old.st_mode))
             os.fsync(number)
             os.replace(path, self._path)
-
-
-def _lock(number: int) -> None:
-    """Locks a folder, if its file system supports that. `OSError` if it stays locked for two
-    seconds."""
-    for left in range(_TRIES, -1, -1):
-        try:
-            return fcntl.flock(number, fcntl.LOCK_EX | fcntl.LOCK_NB)
-        except BlockingIOError:
-            if not left:
-                raise OSError(errno.EWOULDBLOCK, "in use by another program") from None
-            time.sleep(_TRY_EACH)
-        except OSError:
-            return None
