@@ -24,11 +24,11 @@ from dgt._locks import hold
 
 import topics
 from corrections import DESK, Entry
-from views import SHOWN_MOVES, Summary, summary, written
+from views import Summary, summary, written
 
 PROGRAM = os.path.basename(sys.argv[0])
 MOST_GAMES = 10000  # the latest ones
-# New players belong to the present game if it has at most this many half-moves.
+# New players belong to the present game if it goes on, and has at most this many half-moves.
 OPENING = 20
 NEVER = float("inf")
 TURNS = {"white": 0x10, "black": 0x08}  # bits of a clock's status
@@ -455,16 +455,16 @@ class Table:
         if players == self.players:
             return
         self.players, game = players, self.games.game
-        is_new = game is None or game.tags.get("White", "?") == "?" or len(game.moves) <= OPENING
+        is_new = game is None or game.tags.get("White", "?") == "?" or (
+            len(game.moves) <= OPENING and game.result == "*")
         self.games.set_tags(dict(zip(("White", "Black"), players or ("?", "?"))),
                             is_new and players is not None)
 
     def state(self) -> Any:
         """A value that changes with the summary."""
         game = self.games.game
-        return game and (self.place.count, len(game.moves), game.state, game.result,
-                         [each.move for each in game.moves[-SHOWN_MOVES:]],
-                         self.games.recogniser.turned, self.games.white_clock)
+        return game and (self.place.count, len(game.moves), game.state,
+                         self.games.recogniser.turned, summary(self.games))
 
 
 class Collector:

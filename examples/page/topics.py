@@ -289,7 +289,8 @@ class Board:
     def event(self) -> dict[str, Any]:
         """The event for a page. `at` of the clock is the `moment` at which it was read."""
         count, position = self.said[POSITION]
-        placement, players, clock = str(position), self.players, self.clock
+        placement, clock, game = str(position), self.clock, dict(self.game or {})
+        players = game.pop("players", None) or self.players
         return {
             "board": self.name,
             "count": count,
@@ -300,7 +301,7 @@ class Board:
                 "left": clock.left, "right": clock.right, "running": clock.running,
                 "turn": clock.turn, "low": clock.low, "fallen": clock.fallen, "runs": self.runs,
                 "at": moment(self.clock_at)},
-            "game": self.game,
+            "game": game or None,
         }
 
 

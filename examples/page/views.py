@@ -25,7 +25,14 @@ def summary(games: dgt.Games) -> Summary | None:
         "last": [last[:2], last[2:4]] if last else None,
         "result": game.result,
         "white_side": games.white_clock,
+        "players": players(game),
     }
+
+
+def players(game: dgt.PgnGame) -> tuple[str, str] | None:
+    """White and Black of a game, once it has moves and their names are known."""
+    white, black = (game.tags.get(each, "?") for each in ("White", "Black"))
+    return (white, black) if game.moves and white != "?" else None
 
 
 def written(game: dgt.PgnGame) -> bytes:
