@@ -36,6 +36,9 @@ class Learner:
         before, self.before = self.before, clock
         if clock is None or before is None:
             return
+        if clock.black_turn != before.black_turn:  # pressed: until then the mover's side counted
+            self.counted.pop(letters, None)
+            return
         counts = [_seconds(before.first) - _seconds(clock.first),
                   _seconds(before.second) - _seconds(clock.second)]
         if min(counts) == 0 < max(counts) < _MOST_COUNTED:
@@ -47,8 +50,10 @@ class Learner:
         """Notes the side to move in the last two positions of the game, if a side counted there."""
         states = [(len(game.moves), game.state)]
         states += [(len(game.moves) - 1, game.moves[-1].before)] if game.moves else []
-        self.turns |= {ply: (state.white, self.counted[state.letters]) for ply, state in states
-                       if state.letters in self.counted}
+        for ply, state in states:
+            self.turns.pop(ply, None)
+            if state.letters in self.counted:
+                self.turns[ply] = state.white, self.counted[state.letters]
 
     @property
     def side(self) -> str | None:
