@@ -40,12 +40,9 @@ pub fn commands_are_asked_back()
 /// Wrong words end the program with status 2, and refused memory with 3. They have no other fault.
 /// A world that is not made ends the program with the same statuses.
 pub fn faults()
-    ensures said { (text : String Global) →
-        IsOfWords (Bad.Refused text) (AnyFault.CommandLine text) }
-    ensures text { (text other : String Global) →
-        IsOfWords (Bad.Refused text) (AnyFault.CommandLine other) → other ≡ text }
     ensures words { (text : String Global) (fault : AnyFault) →
-        IsOfWords (Bad.Refused text) fault → fault_status fault ≡ 2 }
+        IsOfWords (Bad.Refused text) fault ↔ (fault ≡ AnyFault.CommandLine text) }
+    ensures status { (text : String Global) → fault_status (AnyFault.CommandLine text) ≡ 2 }
     ensures refused { (fault : AnyFault) → IsOfWords Bad.OutOfMemory fault ↔
         (fault_status fault ≡ 3) }
     ensures small { (fault : AnyFault) → IsOfWorld WorldFault.LineTooSmall fault →
