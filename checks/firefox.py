@@ -178,10 +178,13 @@ class Firefox:
         self.folder.cleanup()
 
 
-# It has to be there before the window is.
-BEGIN_ORCA = """orca --debug-file="$HOME/said" &
+# It has to be there before the window is, and there is one at most for a user.
+BEGIN_ORCA = """while pgrep -x orca; do sleep .1; done
+orca --debug-file="$HOME/said" &
 until grep -qs window:activate "$HOME/said"; do sleep .1; done
-exec "$@\""""
+"$@"
+kill $!
+wait"""
 
 
 class Spoken(Firefox):
