@@ -178,8 +178,12 @@ class Firefox:
         self.folder.cleanup()
 
 
-# It has to be there before the window is, and there is one at most for a user.
+# It has to be there before the window is, and there is one at most for a user. Its notes would wait
+# in a buffer.
 BEGIN_ORCA = """while pgrep -x orca; do sleep .1; done
+mkdir -p "$HOME/.local/share/orca"
+echo "import orca.debug; orca.debug.debugFile.reconfigure(line_buffering=True)" \
+    >"$HOME/.local/share/orca/orca-customizations.py"
 orca --debug-file="$HOME/said" &
 until grep -qs window:activate "$HOME/said"; do sleep .1; done
 "$@"
