@@ -25,8 +25,7 @@ ok_run (Ok done) e = refl
 ok_run (Err fault) e = absurd (cc)
 
 ok_not_failed : (run : Result (Unit {0}) RunFault) → run ≡ Ok tt → run ≢ Err WriteFailed
-ok_not_failed (Ok done) e h = cc
-ok_not_failed (Err fault) e h = cc
+ok_not_failed run e h = cc
 
 no_run : (run : Result (Unit {0}) RunFault) (fault : Fault) → IsBeforeRuns fault → Err fault ≡ task_answer run → ⊥
 no_run (Ok done) fault first e = cc

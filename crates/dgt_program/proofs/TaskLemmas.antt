@@ -1,6 +1,6 @@
 -- The result of an engine, and that of its task.
 use Rattle.std.proofs.Common.{◌≡◌, ℕ, List, Option, Some, None, Result, Ok, Err, false, ap}
-use Rattle.std.specs.Prelude.{IsErrAnd, OnOk}
+use Rattle.std.specs.Prelude.{IsErrAnd, MatchResult, OnOk}
 use Rattle.std.specs.Io.KnownBytes.{Consumes, IsAtEnd}
 use Rattle.std.proofs.lemmas.List.{append-nil}
 use Rattle.dgt_lines.specs.declared.faults.RunFault.{RunFault}
@@ -10,6 +10,12 @@ use Rattle.dgt_program.specs.declared.program.TheConstants.{MOST_TURNS}
 use Rattle.dgt_program.specs.declared.fault.Fault.{Fault}
 use Rattle.dgt_program.specs.declared.fault.Fault.TheVariants.{Run}
 use Rattle.dgt_program.specs.Tasks.{IsShown, task_answer}
+
+-- what holds for a result, if it follows in either case
+pub either_result : {A B : Type 0} (P P₁ : A → Type 0) (Q Q₁ : B → Type 0) (r : Result A B)
+    → ((a : A) → P a → P₁ a) → ((b : B) → Q b → Q₁ b) → MatchResult r P Q → MatchResult r P₁ Q₁
+either_result P P₁ Q Q₁ (Ok a) f g h = f a h
+either_result P P₁ Q Q₁ (Err b) f g h = g b h
 
 -- the fault of an engine is the task's
 pub failed : (r : Result (Unit {0}) Fault) (fault : RunFault) → IsErrAnd r (λ e. e ≡ Run fault)

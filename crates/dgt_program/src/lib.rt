@@ -6,12 +6,6 @@
 //! this program. It first prints a note if it reads bytes from a terminal or writes bytes to one:
 //!
 //! ```rust
-//! fn main(rt: HostRuntime) -> ExitCode {
-//!     let alloc = rt.alloc();
-//!     let words: Result<Vec<String>, Fault> = match env::args(&rt) {
-//!         Ok(words) => words.collect(alloc).map_err(Fault::from),
-//!         Err(error) => Err(Fault::from(refuse_arguments(alloc, &error))),
-//!     };
 //!     let status = match words {
 //!         Ok(words) => {
 //!             note_terminals(&rt, words.as_slice());
@@ -19,8 +13,6 @@
 //!         }
 //!         Err(fault) => fault.report(&mut rt.stderr()),
 //!     };
-//!     ExitCode::from(status)
-//! }
 //! ```
 #![tactic(auto)]
 

@@ -1,18 +1,19 @@
 //! Runs the program with any task and streams.
 
-ghost use Rattle.std.specs.Prelude.{◌≡◌, ◌<◌, ◌≤◌, ◌⊎◌, IsErr, MatchResult, Ok};
+ghost use Rattle.std.specs.Prelude.{◌≡◌, ◌<◌, ◌≤◌, ◌⊎◌, IsErr, MatchResult, Ok, Result};
 ghost use Rattle.hex.specs.Hex.{decode_of};
 ghost use Rattle.dgt_values.specs.Board.{pieces_of};
 ghost use Rattle.dgt_board.specs.Simulated.{simulated_identity, simulated_times};
 ghost use Rattle.dgt_link.specs.View.{new_world};
 ghost use Rattle.dgt_lines.specs.Commanding.{IsListed};
+ghost use Rattle.dgt_lines.specs.Device.{IsNewDevice};
 ghost use Rattle.dgt_lines.specs.Logging.{IsLogged};
 ghost use Rattle.dgt_lines.specs.Monitoring.{IsMonitored};
 ghost use Rattle.dgt_lines.specs.NamedLines.{AreMonitored};
 ghost use Rattle.dgt_lines.specs.Picturing.{IsPictured};
-ghost use Rattle.dgt_lines.specs.Turns.{change};
+ghost use Rattle.dgt_lines.specs.Turns.{Change, change};
 ghost use Rattle.dgt_text.specs.Simulating.{ShowsHealed, ShowsPicture, faulty_rules, plain_rules};
-ghost use Rattle.dgt_program.specs.Faults.{IsOfWords};
+ghost use Rattle.dgt_program.specs.Faults.{IsOfWords, fault_status};
 ghost use Rattle.dgt_program.specs.Tasks.{AnswersFor, Does, InWorld, IsPrintedWith, OnBoard, PlaysScript, PlaysWith, Prints, Refuses, Runs, ShowsWord};
 ghost use Rattle.dgt_program.specs.declared.fault.Fault.{Fault as AnyFault};
 
@@ -39,8 +40,8 @@ pub const MOST_TURNS: u32 = u32::MAX;
 /// It reads from `input`, writes to `output`, and writes the text of a fault to `errors`. All
 /// memory is allocated before the first read and the first write.
 ///
-/// It does the same as [`run`] over a [`Device`] of each stream. The contract doesn't state what
-/// that leaves in the streams, since they are dropped at the end.
+/// It does the same as [`run`] over a new [`Device`] of each stream. The contract states the status
+/// of such a run, but not what it leaves in the streams, since they are dropped at the end.
 pub fn run_to_status<I: Read + Drop, O: Write + Drop, E: Write + Drop>(
     alloc: Global,
     task: Result<Task<'_>, BadArguments>,
@@ -48,7 +49,14 @@ pub fn run_to_status<I: Read + Drop, O: Write + Drop, E: Write + Drop>(
     output: O,
     mut errors: E,
 ) -> u8
-    ensures { result ≤ 3 }
+    ensures status { MatchResult task.entry
+        (λ task. (source : Change (Device I)) × (sink : Change (Device O))
+        × (done : Result (Unit {0}) AnyFault) × IsNewDevice source.old input
+        × IsNewDevice sink.old output
+        × Does ⟦<Device<I> as Source>⟧ ⟦<Device<O> as Sink>⟧ task source sink done
+        × MatchResult done (λ _. result ≡ 0) (λ fault. result ≡ fault_status fault))
+        (λ bad. (fault : AnyFault) × IsOfWords bad fault × (result ≡ fault_status fault)) }
+    ensures bound { result ≤ 3 }
 {
     let (mut input, mut output) = (Device::new(input), Device::new(output));
     match run(alloc, task, &mut input, &mut output) {
