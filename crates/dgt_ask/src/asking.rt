@@ -107,7 +107,8 @@ enum Awaited<'a> {
 
 /// The bytes of the commands that these words request, in order.
 ///
-/// A command is the text that `dgt commands` prints: as one word, or divided at its spaces.
+/// A command is the text that `dgt commands` prints, as one word, or with its operands as words of
+/// their own. The contract is about commands of one word.
 pub fn asked_bytes<'a>(alloc: Global, words: &[&'a str]) -> Result<Vec<u8>, BadAsk<'a>>
     ensures { (asked : List (List ℕ)) → AskInOrder (map (λ word. word.now) words.now) asked →
         MatchResult result (λ bytes. bytes.items ≡ concat asked)

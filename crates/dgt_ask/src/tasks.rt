@@ -1,4 +1,8 @@
 //! What the command line of the program asks for.
+
+ghost use Rattle.std.specs.Prelude.{◌≡◌};
+ghost use Rattle.dgt_ask.specs.declared.tasks.BadArguments.{BadArguments as AnyFault};
+
 use std::alloc::{AllocError, AllocFailed};
 use thiserror::Error;
 
@@ -74,12 +78,16 @@ pub enum BadArguments {
 }
 
 impl From<AllocError> for BadArguments {
+    ghost from_gives = { λ _ fault. fault ≡ AnyFault.OutOfMemory };
+
     fn from(_error: AllocError) -> Self {
         BadArguments::OutOfMemory
     }
 }
 
 impl From<AllocFailed<String>> for BadArguments {
+    ghost from_gives = { λ _ fault. fault ≡ AnyFault.OutOfMemory };
+
     fn from(_error: AllocFailed<String>) -> Self {
         BadArguments::OutOfMemory
     }

@@ -2,6 +2,7 @@
 
 ghost use Rattle.std.specs.Prelude.{◌≡◌};
 ghost use Rattle.dgt_program.specs.Faults.{IsOfWords, IsOfWorld, fault_status};
+ghost use Rattle.dgt_program.specs.declared.fault.Fault.{Fault as AnyFault};
 
 use dgt_ask::BadArguments;
 use dgt_link::WorldFault;
@@ -35,9 +36,7 @@ pub enum Fault {
 }
 
 impl From<RunFault> for Fault {
-    ghost use Rattle.dgt_program.specs.declared.fault.Fault.{Fault};
-
-    ghost from_gives = { λ error fault. fault ≡ Fault.Run error };
+    ghost from_gives = { λ error fault. fault ≡ AnyFault.Run error };
 
     fn from(error: RunFault) -> Fault {
         Fault::Run(error)
@@ -56,9 +55,7 @@ impl From<BadArguments> for Fault {
 }
 
 impl From<BadPlacement> for Fault {
-    ghost use Rattle.dgt_program.specs.declared.fault.Fault.{Fault};
-
-    ghost from_gives = { λ error fault. fault ≡ Fault.BadPlacement error.at };
+    ghost from_gives = { λ error fault. fault ≡ AnyFault.BadPlacement error.at };
 
     fn from(error: BadPlacement) -> Fault {
         Fault::BadPlacement { at: error.at }
@@ -78,12 +75,16 @@ impl From<WorldFault> for Fault {
 }
 
 impl From<AllocError> for Fault {
+    ghost from_gives = { λ _ fault. fault ≡ AnyFault.OutOfMemory };
+
     fn from(_error: AllocError) -> Fault {
         Fault::OutOfMemory
     }
 }
 
 impl From<AllocFailed<String>> for Fault {
+    ghost from_gives = { λ _ fault. fault ≡ AnyFault.OutOfMemory };
+
     fn from(_error: AllocFailed<String>) -> Fault {
         Fault::OutOfMemory
     }
