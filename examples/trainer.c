@@ -35,6 +35,7 @@ int main(int count, char **words) {
         dgt_port_faults faults = {0};
         for (int why = 0; (port = dgt_port_open(words[1])) < 0; sleep(2))
             if (errno != why) fprintf(stderr, "%s: %s\n", words[1], dgt_port_advice(why = errno));
+        dgt_port_is_disturbed(port, &faults); /* faults from before don't count */
         for (long n; (n = dgt_port_exchange(port, &board, chunk, sizeof chunk)) >= 0;) {
             for (long at = 0; at < n; show(&board, port))
                 at += (long)dgt_follower_hear(&board, dgt_port_now(), chunk + at, (size_t)(n - at),

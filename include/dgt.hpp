@@ -1297,7 +1297,7 @@ public:
     Board(const Board &) = delete;
     Board &operator=(const Board &) = delete;
 
-    /// Puts a piece, or none, on a square.
+    /// Puts a piece, or none, on a square. Throws std::invalid_argument for a piece above 15.
     void change(Square square, Piece piece) {
         if (!dgt_board_change(&board_, square.number(), static_cast<std::uint8_t>(piece)))
             throw std::invalid_argument("pieces are numbered from 0 to 15");

@@ -6,6 +6,7 @@
  *
  *     int port = dgt_port_open("/dev/ttyUSB0");
  *     if (port < 0) return fprintf(stderr, "%s\n", dgt_port_advice(errno)), 1;
+ *     dgt_port_is_disturbed(port, &faults);                   // faults from before don't count
  *     while ((n = dgt_port_exchange(port, &follower, chunk, sizeof chunk)) >= 0) {
  *         dgt_follower_hear_all(&follower, dgt_port_now(), chunk, (size_t)n);
  *         if (dgt_port_is_disturbed(port, &faults)) dgt_follower_line_disturbed(&follower);
@@ -239,8 +240,9 @@ typedef struct dgt_port_faults {
     uint64_t late_until_;
 } dgt_port_faults;
 
-/* Whether a port has lost or altered bytes since the last call. Call it once a follower has heard
- * the bytes read, and if it returns true, call dgt_follower_line_disturbed. It stays true for
+/* Whether a port has lost or altered bytes since the last call. Call it right after opening, and
+ * ignore this result, which is about the time before. Then call it once a follower has heard the
+ * bytes read, and if it returns true, call dgt_follower_line_disturbed. It stays true for
  * DGT_PORT_LATE milliseconds after a fault: bytes from before the fault may still arrive. */
 static inline bool dgt_port_is_disturbed(int port, dgt_port_faults *faults) {
     unsigned count = dgt_port_count_(port);

@@ -41,6 +41,7 @@ class Port {
 public:
     explicit Port(const std::string &name) : name_(name), port_(dgt_port_open(name.c_str())) {
         if (port_ < 0) throw PortError(name_, errno);
+        is_disturbed(); // faults from before don't count
     }
     ~Port() {
         if (port_ >= 0) dgt_port_close(port_);
@@ -62,7 +63,8 @@ public:
     }
 
     /// Waits for bytes, or until a time of dgt::now, if one is passed. Returns the bytes received,
-    /// at most `Room`: none if none arrived by then, or after a signal. Fails if the port has gone.
+    /// at most `Room`: none if none arrived by then, or after a signal. Fails if the port has gone,
+    /// and throws std::invalid_argument for a negative time.
     template <std::size_t Room = 256>
     Written<Room> read(std::optional<Milliseconds> until = std::nullopt) {
         Written<Room> chunk;
