@@ -112,4 +112,4 @@ pub use values::{
 #[cfg(feature = "std")]
 pub use following::{Away, BoardView, Views, now};
 #[cfg(all(feature = "std", target_os = "linux"))]
-pub use port::{Port, follow, ports};
+pub use port::{Port, Reopen, follow, ports};

@@ -3,6 +3,7 @@
 use crate::following::{Views, now};
 use core::mem;
 use core::time::Duration;
+use std::boxed::Box;
 use std::collections::BTreeSet;
 use std::fs::{self, File};
 use std::io::{self, ErrorKind, Read, Write};
@@ -61,6 +62,9 @@ fn paths_in(folder: &Path, is_named: impl Fn(&str) -> bool) -> Vec<PathBuf> {
     paths
 }
 
+/// Opens a port again, for [`follow`].
+pub type Reopen = Box<dyn FnMut() -> io::Result<Port> + Send>;
+
 /// Follows the board on a serial port, and reopens the port if it was unplugged.
 ///
 /// ```no_run
@@ -75,15 +79,13 @@ fn paths_in(folder: &Path, is_named: impl Fn(&str) -> bool) -> Vec<PathBuf> {
 /// # Errors
 ///
 /// Those of [`Port::open`].
-pub fn follow(
-    path: impl Into<PathBuf>,
-) -> io::Result<Views<impl FnMut() -> io::Result<Port>, Port>> {
+pub fn follow(path: impl Into<PathBuf>) -> io::Result<Views<Reopen, Port>> {
     let path = path.into();
-    Views::new(move || Port::open(&path))
+    Views::new(Box::new(move || Port::open(&path)))
 }
 
-/// A serial port that only this process can use: 9600 baud, 8 bits, no parity, 1 stop bit, raw. It
-/// is closed with the object.
+/// A serial port: 9600 baud, 8 bits, no parity, 1 stop bit, raw. It is closed with the object.
+/// Programs that lock ports with `flock` can't open it; any other could, and take its bytes.
 ///
 /// The standard library can neither set up a port nor wait for one. Therefore the commands `stty`
 /// and `flock` set it up, and a read returns `WouldBlock` if nothing was received.
