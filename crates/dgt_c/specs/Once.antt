@@ -210,6 +210,13 @@ EventsAreRead =
     (said : DgtEvent) (body : List ℕ) (event : Event) → SaysEvent said body event
     → ¬ (ReadsEvent said body None)
 
+-- from one state and one slice, a call leaves one of each, and reports one struct
+abbrev pub LeavesOne : {S R : Type 0} → (S → S → List ℕ → List ℕ → R → Type 0) → Type 0
+LeavesOne {S} {R} Leaves =
+    (before after other : S) (old new also : List ℕ) (r s : R)
+    → Leaves before after old new r → Leaves before other old also s
+    → (after ≡ other) × (new ≡ also) × (r ≡ s)
+
 -- if there is no such command, the host and the slice are unchanged
 abbrev pub RefusedCommandsStay : Type 0
 RefusedCommandsStay =

@@ -11,20 +11,24 @@ ghost use Rattle.dgt_message.specs.Content.{Content, IsMessage};
 ghost use Rattle.dgt_message.specs.declared.viewing.BodyFault.{BodyFault};
 ghost use Rattle.dgt_message.specs.declared.viewing.BodyFault.TheVariants.{WrongSize, BadPiece, BadSquare, BadReading};
 ghost use Rattle.dgt_decode.specs.Grammar.{Message, Refused, Cut, BadLength, Stray};
+ghost use Rattle.dgt_host.specs.Host.{Request};
 ghost use Rattle.dgt_names.specs.Names.{button_byte};
 ghost use Rattle.dgt_names.specs.declared.battery.BatteryState.{BatteryState as AnyState};
 ghost use Rattle.dgt_names.specs.declared.clock.Button.{Button as AnyButton};
 ghost use Rattle.dgt_names.specs.declared.clock.Signal.{Signal as AnySignal};
 ghost use Rattle.dgt_stored.specs.Stored.{StoredContent, mark_byte};
 ghost use Rattle.dgt_stored.specs.declared.stored.Mark.{Mark as AnyMark};
+ghost use Rattle.dgt_c.specs.Boards.{PollsReported};
 ghost use Rattle.dgt_c.specs.Clocks.{absence_said, time_said, times_said};
 ghost use Rattle.dgt_c.specs.Encoding.{IsMessageKind, SaysContent, SaysMessage};
-ghost use Rattle.dgt_c.specs.Once.{BusyBoardsStay, ClocksAreInRange, CommandsReserveZeros, EventsAreRead, EventsHaveTexts, IdentitiesAreInRange, MessagesAreEncoded, MessagesAreRead, NothingHasNoText, NothingIsEncoded, OneClock, OneEncoding, OneFeed, OneHearing, OneReportEach, OneStart, OneTaking, OneUse, OneWord, RefusedCommandsStay, ReportsAreSaid, ReportsReserveZeros, RoomIsLeft, TextsAreShown, ViewsReserveZeros};
+ghost use Rattle.dgt_c.specs.Followers.{AsksReported};
+ghost use Rattle.dgt_c.specs.Once.{BusyBoardsStay, ClocksAreInRange, CommandsReserveZeros, EventsAreRead, EventsHaveTexts, IdentitiesAreInRange, LeavesOne, MessagesAreEncoded, MessagesAreRead, NothingHasNoText, NothingIsEncoded, OneClock, OneEncoding, OneFeed, OneHearing, OneReportEach, OneStart, OneTaking, OneUse, OneWord, RefusedCommandsStay, ReportsAreSaid, ReportsReserveZeros, RoomIsLeft, TextsAreShown, ViewsReserveZeros};
 ghost use Rattle.dgt_c.specs.Names.{battery_reported, number_if_known, signal_reported, stored_reported};
 ghost use Rattle.dgt_c.specs.declared.header.DgtBattery.{DgtBattery};
 ghost use Rattle.dgt_c.specs.declared.header.DgtEvent.{DgtEvent};
 ghost use Rattle.dgt_c.specs.declared.header.DgtSignal.{DgtSignal};
 ghost use Rattle.dgt_c.specs.declared.header.DgtStored.{DgtStored};
+ghost use Rattle.dgt_c.specs.Sent.{SendsReported};
 ghost use Rattle.dgt_c.specs.Texts.{SaysEvent, SaysFault};
 
 pub mod header;
@@ -183,6 +187,13 @@ pub fn said_names()
     ensures stored { (said : StoredContent) → (stored_reported said).reserved ≡ replicate 7 0 }
     ensures signals { (said : AnySignal) → (signal_reported said).reserved ≡ replicate 3 0 }
     ensures batteries { (said : AnyState) → (battery_reported said).reserved ≡ replicate 6 0 }
+{}
+
+/// A sending, an asking and a polling have one report, and leave one state and one slice.
+pub fn one_sending()
+    ensures sending { (request : Request) → LeavesOne (SendsReported request) }
+    ensures asking { (now : ℕ) → LeavesOne (AsksReported now) }
+    ensures polling { LeavesOne (λ before after old new r. PollsReported r before after old new) }
 {}
 
 /// A command that is refused changes nothing, and a text is refused only for its characters.
