@@ -29,6 +29,8 @@ export class Session {
   #timer = 0;
   #wake = () => {};
   #why = "";
+  /** @type {SerialPort[]} the other ports while this one was there: those of other boards */
+  #others = [];
 
   /**
    * @param {import("./dgt.js").Library} dgt
@@ -169,6 +171,7 @@ export class Session {
       this.page.note("sent", bytes.length < 4 ? `ask ${hex(bytes)}` :
         `start over: 255 zeros, ${hex(bytes.subarray(255))}`);
       this.send(bytes);
+      this.#seeOthers();
     }
     this.#timer = setTimeout(() => {
       this.#drive();
@@ -185,7 +188,14 @@ export class Session {
     this.#isWriting = false;
   }
 
-  // Waits until the port may be back.
+  async #seeOthers() {
+    try {
+      const all = await this.ports.getPorts?.() ?? [];
+      if (all.includes(this.port)) this.#others = all.filter(port => port !== this.port);
+    } catch { /* the ports aren't known now */ }
+  }
+
+  // Waits until the port may be back, perhaps as another object.
   async #comesBack() {
     this.page.changed();
     const over = new AbortController();
@@ -196,7 +206,8 @@ export class Session {
     });
     over.abort();
     const all = await this.ports.getPorts?.() ?? [];
-    const alike = all.filter(port => JSON.stringify(port.getInfo()) === this.info);
+    const alike = all.filter(port =>
+      JSON.stringify(port.getInfo()) === this.info && !this.#others.includes(port));
     if (alike.length && !alike.includes(this.port)) this.port = alike[0];
   }
 

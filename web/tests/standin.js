@@ -1,5 +1,5 @@
-// A stand-in for navigator.serial with one port and a board. It is written from the protocol, and
-// uses nothing of the library.
+// A stand-in for navigator.serial with a port and a board, and the port of another board that is
+// off. It is written from the protocol, and uses nothing of the library.
 (() => {
   "use strict";
   const LETTERS = ".PRNBKQprnbkqXYZ";
@@ -123,6 +123,7 @@
     noise = 0;
     count = 0; // of bytes that were hurt
     port = null;
+    other = new Port(Object.assign(new Standin(), { isOn: false }));
     allowed = false;
     isRefused = false;
     async requestPort() {
@@ -131,7 +132,7 @@
       return this.port;
     }
     async getPorts() {
-      return this.allowed && this.port.isThere ? [this.port] : [];
+      return this.allowed ? [this.other, this.port].filter(port => port.isThere) : [];
     }
     hurt(bytes) {
       return bytes.flatMap(one => {
