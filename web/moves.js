@@ -208,9 +208,10 @@ export class Game {
   /**
    * Takes the next picture. It ignores a picture that isn't a position of the game, for instance
    * while a hand holds a piece. Returns whether the moves have changed.
-   * @param {string} letters
+   * @param {string} picture  64 letters, or the placement of a FEN
    */
-  see(letters) {
+  see(picture) {
+    const letters = picture.replaceAll("/", "").replace(/\d/g, n => ".".repeat(Number(n)));
     const last = this.line.at(-1);
     if (last?.position.letters === letters) return false;
     const before = this.line.at(-2);
@@ -270,7 +271,9 @@ export class Game {
   }
 
   get pgn() {
-    const day = new Date().toISOString().slice(0, 10).replaceAll("-", ".");
+    const now = new Date();
+    const day = [now.getFullYear(), now.getMonth() + 1, now.getDate()]
+      .map(part => String(part).padStart(2, "0")).join(".");
     const tags = { Event: "?", Site: "?", Date: day, Round: "?", White: "?", Black: "?",
                    Result: this.result };
     const head = Object.entries(tags).map(([name, text]) => `[${name} "${text}"]\n`).join("");

@@ -50,4 +50,15 @@ for (let round = 0; round < GAMES; round++) {
   const seen = game.line.slice(1).map(({ text }) => text);
   assert.deepEqual(seen, texts, `game ${round}`);
 }
+
+// The package gives placements. The day of a PGN is the local one.
+const game = new Game();
+game.see("rnbqkbnr/pppppppp/8/8/8/8/PPPPPPPP/RNBQKBNR");
+assert.ok(game.see("rnbqkbnr/pppppppp/8/8/4P3/8/PPPP1PPP/RNBQKBNR"));
+assert.deepEqual(game.moves, ["1. e4"]);
+for (const hours of [14, -12]) { // in one of these zones it is another day than in UTC
+  process.env.TZ = `Etc/GMT${hours < 0 ? "+" : "-"}${Math.abs(hours)}`;
+  const day = new Date(Date.now() + 3600e3 * hours).toISOString().slice(0, 10);
+  assert.ok(game.pgn.includes(`[Date "${day.replaceAll("-", ".")}"]`), game.pgn);
+}
 console.log(`the counts of ${KNOWN.length} positions, and ${plies} moves`);
