@@ -315,10 +315,14 @@ const GAME = ("e2e4 e7e5 g1f3 d7d6 d2d4 c8g4 d4e5 g4f3 d1f3 d6e5 f1c4 g8f6 f3b3 
   .split(" ");
 /** @type {{} | null} the game in progress */
 let game = null;
+/** @type {Promise<void> | null} its last move, which may hold a piece */
+let played = null;
 
-function setUp() {
+async function setUp() {
+  await played;
   const pieces = library.parsePlacement(START);
   pieces.forEach((piece, square) => simulated?.change(square, piece));
+  draw();
 }
 
 function stopGame() {
@@ -330,13 +334,13 @@ async function play() {
   if (game) return stopGame();
   const mine = game = {};
   press(find("play"), true, "Play a game", "Stop the game");
-  setUp();
+  await setUp();
   for (const ply of GAME) {
     await wait(900);
     for (const part of ply.split(",")) {
       if (game !== mine) return;
       const squares = squaresOf(part);
-      if (squares) await move(squares, 250);
+      if (squares) await (played = move(squares, 250));
     }
     clock.press();
   }
