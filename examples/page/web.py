@@ -329,4 +329,4 @@ class Server:
                 one.drop()
             for page in [each for each in self.pages if each.written + QUIET < now]:
                 if not page.is_full:
-                    page.send(b":\n\n")
+                    page.send(b"event: quiet\ndata:\n\n")

@@ -97,6 +97,7 @@ class StandIn:
         self.broker, self.pages, self.lock = True, set[queue.Queue[Said | None]](), threading.Lock()
         self.records: dict[str, Said] = {}
         self.event = self.round = ""
+        self.quiet = 15.0  # seconds after which a page is sent something, as by web.py
         self.late = 0  # milliseconds that what a page begins with is late
         self.server: http.server.ThreadingHTTPServer | None = None
         self.port = 0
@@ -154,12 +155,20 @@ class StandIn:
             self.pages.add(page)
         try:
             asked.wfile.write(b"retry: 500\n\n")
-            while event := page.get():
-                asked.wfile.write(b"data: " + json.dumps(event).encode() + b"\n\n")
+            while event := self.next(page):
+                asked.wfile.write(event)
         except OSError:
             pass  # the page was closed
         with self.lock:
             self.pages.discard(page)
+
+    def next(self, page: queue.Queue[Said | None]) -> bytes:
+        """What a page is sent next: also something if nothing is new, or nothing at the end."""
+        try:
+            event = page.get(timeout=self.quiet)
+        except queue.Empty:
+            return b"event: quiet\ndata:\n\n"
+        return b"data: " + json.dumps(event).encode() + b"\n\n" if event else b""
 
     def first(self) -> Said:
         return {"broker": self.broker, "now": now() - self.late, "event": self.event,
