@@ -161,9 +161,11 @@ def check_address(url: str) -> str:
     """An address that may get a token. Refused if it isn't one."""
     try:
         parts = urllib.parse.urlsplit(url)
+        host = (parts.hostname or "").encode("idna")
     except ValueError as fault:
         raise Refused(f"{url!r}: {fault}") from None
-    if not parts.hostname or parts.scheme not in ("http", "https") or parts.username is not None:
+    if (not host or parts.scheme not in ("http", "https") or parts.username is not None
+            or not f"{parts.path}{parts.query}".isascii()):
         raise Refused(f"not an address such as https://example.org/push: {url!r}")
     if parts.scheme == "http" and parts.hostname not in LOCAL:
         raise Refused("an address of another machine has to begin with https")

@@ -124,10 +124,11 @@ class Files(Out):
         try:
             for name, text in by_round(self.shelf).items():
                 if self.written.get(name) != text:
-                    self.write(f"round-{re.sub(r'[^0-9A-Za-z.-]', '_', name)[:100]}.pgn", text)
+                    shown = re.sub(r"[^\w.-]", "_", name).encode()[:200].decode(errors="ignore")
+                    self.write(f"round-{shown}.pgn", text)
                     self.written[name] = text
-        except OSError as fault:
-            return f"{self.folder} doesn't get the games: {fault.strerror}", 0.0
+        except (OSError, UnicodeError) as fault:
+            return f"{self.folder} doesn't get the games: {getattr(fault, 'strerror', fault)}", 0.0
         return "", 0.0
 
     def write(self, name: str, text: bytes) -> None:
@@ -193,7 +194,7 @@ class Push(Out):
         except urllib.error.HTTPError as fault:
             with fault:
                 return f"{fault.code} {fault.reason}"[:200], seconds_of(fault.headers)
-        except OSError as fault:  # such as URLError and timeouts
+        except (OSError, ValueError) as fault:  # such as URLError, timeouts and no host's name
             return str(getattr(fault, "reason", fault))[:200] or type(fault).__name__, 0.0
         except http.client.HTTPException as fault:
             return f"no HTTP answer: {type(fault).__name__}", 0.0
