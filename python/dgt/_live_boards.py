@@ -3,6 +3,7 @@
 from __future__ import annotations
 
 import asyncio
+import contextlib
 import copy
 import sys
 import time
@@ -250,5 +251,6 @@ def _seconds(time: Time) -> int:
 
 
 def say(text: str) -> None:
-    """Prints a line on standard error."""
-    print(f"dgt-livechess: {text}", file=sys.stderr, flush=True)
+    """Prints a line on standard error. Nobody may read it, or its disk may be full."""
+    with contextlib.suppress(OSError):
+        print(f"dgt-livechess: {text}", file=sys.stderr, flush=True)

@@ -107,12 +107,15 @@ def is_likely(port: SerialPort) -> bool:
 async def look_for_ports(boards: list[Board], has_clock: bool, has_lights: bool) -> None:
     """Follows each port that is likely a board's, also one that is plugged in later."""
     known, is_said = set[str](), False
+    last: set[str] | None = None
     while True:
-        for port in ports():
-            if port.path not in known and is_likely(port):
-                known.add(port.path)
-                with contextlib.suppress(OSError):  # it isn't a serial port
-                    boards.append(PortBoard(port.path, has_clock, has_lights))
+        found = {port.path for port in ports() if is_likely(port)}
+        # A new port may get its name in by-id a moment later.
+        for path in sorted(found - known if last is None else found & last - known):
+            known.add(path)
+            with contextlib.suppress(OSError):  # it isn't a serial port
+                boards.append(PortBoard(path, has_clock, has_lights))
+        last = found
         if not known and not is_said:
             say("no board yet (plug it in, or name its port: `python3 -m dgt ports` lists them)")
             is_said = True

@@ -20,7 +20,7 @@ import signal
 import sys
 import threading
 import tty
-from typing import TextIO
+from typing import BinaryIO
 
 from ._board_with_clock import _PATIENCE
 from ._port import Port
@@ -92,11 +92,10 @@ def _note_lines(recorder: Recorder) -> None:
                 recorder.note(f"did {line.decode(errors='replace')}")
 
 
-def _record(words: argparse.Namespace, file: TextIO) -> None:
+def _record(words: argparse.Namespace, file: BinaryIO) -> None:
     def write(line: str) -> None:
         try:
-            file.write(line)
-            file.flush()
+            file.write(line.encode(errors="backslashreplace"))
         except OSError as refused:
             raise SystemExit(f"dgt-record: {words.file}: {refused.strerror}") from None
 
@@ -124,7 +123,7 @@ def main(arguments: list[str] | None = None) -> None:
     signal.signal(signal.SIGTTIN, signal.SIG_IGN)  # or a read in the background stops the program
     what = words.file
     try:
-        with open(words.file, "x", encoding="utf-8", errors="backslashreplace") as file:
+        with open(words.file, "xb", buffering=0) as file:
             what = words.port
             _warn(f"recording {words.port} to {words.file} (stop with Ctrl-C)")
             _record(words, file)
