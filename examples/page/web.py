@@ -222,13 +222,14 @@ class Server:
         self.some: dict[int, tuple[bytes, int]] = {}  # events from a place on, for all pages
         self.is_woken, self.written = False, 0.0
         self.ended: asyncio.Event | None = None
+        self.is_over = False
         self.most_pages, self.most_waiting = MOST_PAGES, MOST_WAITING
 
     def serve_forever(self, begun: Callable[[], object] = lambda: None) -> None:
         """Serves until `shutdown`, and calls `begun` at the start. With few descriptors it allows
         fewer connections."""
         count, most = resource.getrlimit(resource.RLIMIT_NOFILE)
-        with contextlib.suppress(OSError):  # if that is forbidden
+        with contextlib.suppress(OSError, ValueError):  # if that is forbidden
             resource.setrlimit(resource.RLIMIT_NOFILE, (most, most))
             count = most
         if count != resource.RLIM_INFINITY:
@@ -238,11 +239,14 @@ class Server:
 
     def shutdown(self) -> None:
         """Stops serving, from another thread."""
+        self.is_over = True
         if self.ended and not self.loop.is_closed():
             self.loop.call_soon_threadsafe(self.ended.set)
 
     async def serve(self, begun: Callable[[], object]) -> None:
         self.loop, self.ended = asyncio.get_running_loop(), asyncio.Event()
+        if self.is_over:  # a thread has failed before
+            self.ended.set()
         self.loop.set_exception_handler(self.hear_fault)
         listening = await self.loop.create_server(lambda: Connection(self), sock=self.socket)
         watching = self.loop.create_task(self.watch())
