@@ -94,8 +94,10 @@ def _note_lines(recorder: Recorder) -> None:
 
 def _record(words: argparse.Namespace, file: BinaryIO) -> None:
     def write(line: str) -> None:
+        left = line.encode(errors="backslashreplace")
         try:
-            file.write(line.encode(errors="backslashreplace"))
+            while left:
+                left = left[file.write(left):]
         except OSError as refused:
             raise SystemExit(f"dgt-record: {words.file}: {refused.strerror}") from None
 
