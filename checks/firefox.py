@@ -178,8 +178,8 @@ class Firefox:
         self.folder.cleanup()
 
 
-# It has to be there before the window is, and there is one at most for a user. Its notes would wait
-# in a buffer.
+# It has to be there before the window is, and a user can have only one. Without line buffering,
+# what it says would be in the file only later.
 BEGIN_ORCA = """while pgrep -x orca; do sleep .1; done
 mkdir -p "$HOME/.local/share/orca"
 echo "import orca.debug; orca.debug.debugFile.reconfigure(line_buffering=True)" \
