@@ -104,12 +104,10 @@ class State:
         self.read = 0  # the last row that the games have read
         self.last = 1 << 62  # the last row that they may read
 
-    def add(self, journal: str, board: str, number: int, entry: Any,
-            at: float | None = None) -> None:
-        """Adds what was so at a time, or is so now. sqlite3.Error if it can't be stored."""
-        self.kept.execute("INSERT INTO heard (journal, board, number, entry, at) "
-                          "VALUES (?, ?, ?, ?, ?)",
-                          [journal, board, number, json.dumps(entry), at or time.time()])
+    def add(self, journal: str, board: str, number: int, entry: Any) -> None:
+        """sqlite3.Error if it can't be stored."""
+        self.kept.execute("INSERT INTO heard (journal, board, number, entry) VALUES (?, ?, ?, ?)",
+                          [journal, board, number, json.dumps(entry)])
 
     def add_all(self, *rows: tuple[str, str, int, Any]) -> None:
         """Adds rows, all or none of them."""
@@ -128,11 +126,6 @@ class State:
         rows = self.kept.execute("SELECT entry FROM heard WHERE journal = ? AND board = '' "
                                  "ORDER BY id", [DESK]).fetchall()
         return [entry[what] for text, in rows if what in (entry := json.loads(text))]
-
-    def day(self, row: int) -> str:
-        """The day of a row by the clock here: its publisher's may be wrong."""
-        found = self.kept.execute("SELECT at FROM heard WHERE id = ?", [row]).fetchone()
-        return time.strftime("%Y.%m.%d", time.localtime(*(found or ())))
 
     def mark(self, journal: str, board: str, number: int) -> None:
         """Notes that a journal's entries of a board up to this number aren't needed."""
@@ -646,7 +639,8 @@ class Collector:
         table.at = max(table.at, said.at + table.shift)
         while (due := table.games.due) is not None and due <= table.at:
             table.games.wait(due)
-        table.games.set_tags({"Date": self.state.day(said.row), **self.tags}, False)
+        table.games.set_tags({"Date": time.strftime("%Y.%m.%d", time.localtime(said.at)),
+                              **self.tags}, False)
         table.name_players(said.players)
         if said.is_sure and said.letters != table.letters:
             table.letters, table.row = said.letters, said.row

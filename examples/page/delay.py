@@ -27,7 +27,7 @@ class Shown(Protocol):
 
 class LateState(collector.State):
     """The rows of a state, each of which is read some seconds after its arrival. For rows from
-    before the start their times count; steps of the clock don't affect the others."""
+    before the start the machine's time counts; steps of the clock don't affect the others."""
 
     def __init__(self, state: collector.State, seconds: float) -> None:
         self.kept, self.read, self.seconds, self.last, self.newest = state.kept, 0, seconds, 0, 0

@@ -198,8 +198,7 @@ class Boards:
                 mark = log.first - 1
             for number, *said in log.entries if log.before <= mark else ():
                 if number > mark:
-                    at = (number + topics.ahead(log.now)) / 1000  # by the clock here
-                    self.state.add(log.journal, name, number, said, at)
+                    self.state.add(log.journal, name, number, said)
                     mark = number
         except sqlite3.Error as fault:
             self.fault.say(f"the state can't be written: {fault} (requesting the rest again)")
