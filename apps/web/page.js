@@ -457,7 +457,7 @@ function keep() {
 
 async function start() {
   const isNarrow = asked.has("narrow") || !isWide();
-  const text = atob(isNarrow ? DGT : DGT64); // web/build defines both
+  const text = atob(isNarrow ? DGT : DGT64); // apps/web/build defines both
   library = await load(Uint8Array.from(text, letter => letter.charCodeAt(0)));
   const parts = [1e6, 1e3, 1].map(n => Math.trunc(library.version / n) % 1000);
   write(find("version"), `version ${parts.join(".")}, ${isNarrow ? 32 : 64} bits`);

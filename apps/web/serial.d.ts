@@ -1,4 +1,4 @@
-// The part of Web Serial that the page's scripts use, and the names that web/build defines.
+// The part of Web Serial that the page's scripts use, and the names that apps/web/build defines.
 
 interface SerialPort extends EventTarget {
   readonly readable: ReadableStream<Uint8Array> | null;

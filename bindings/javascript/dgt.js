@@ -9,7 +9,7 @@
  *
  * Nothing here opens a line, waits, or makes a request, except `load` with a URL or without an
  * argument. Each returned value is a copy: no view of the module's memory leaves this file.
- * include/dgt.h documents each call.
+ * bindings/c/include/dgt.h documents each call.
  *
  * Squares are numbered from a8 (0) to h1 (63). White's pawn, rook, knight, bishop, king and queen
  * are 1 to 6, Black's are 7 to 12, and 0 is an empty square. Times are in milliseconds.

@@ -1,4 +1,4 @@
-"""Builds the package `dgt`, with the shared library of `lib/build` in its wheel.
+"""Builds the package `dgt`, with the shared library of `bindings/c/build` in its wheel.
 
 The wheel fits each CPython that the package supports, on one platform: `py3-none-PLATFORM`. Its
 bytes depend only on the sources and the library: each file has mode 0644 and the same time, which
@@ -45,7 +45,7 @@ class BuildWithLibrary(build_py):
             return super().run()
         library = Path(os.environ.get("DGT_LIBRARY") or BUILT)
         if not library.is_file():
-            raise FileError(f"{library} is missing: run lib/build, or name the library in "
+            raise FileError(f"{library} is missing: run bindings/c/build, or name the library in "
                             "DGT_LIBRARY")
         package = Path(self.build_lib, "dgt")
         shutil.rmtree(package, ignore_errors=True)  # left by an earlier build

@@ -9,18 +9,18 @@ from pygments.lexers import RustLexer
 HERE = pathlib.Path(__file__).resolve().parent
 ROOT = HERE.parent.parent
 sys.dont_write_bytecode = True
-sys.path.insert(0, str(ROOT / "python"))
+sys.path.insert(0, str(ROOT / "bindings/python"))
 
 project = html_title = "dgt"
 extensions = ["myst_parser", "sphinx.ext.autodoc", "breathe"]
 root_doc = "README"
-exclude_patterns = [".*", "**/out", "crates/dgt*", "debian", "rust/dgt"]
+exclude_patterns = [".*", "**/out", "crates/dgt*", "debian", "bindings/rust/dgt"]
 myst_heading_anchors = 6
 html_theme = "furo"
 html_copy_source = False
 breathe_default_project = "dgt"
 breathe_domain_by_extension = {"h": "c"}
-breathe_projects_source = {"dgt": (str(ROOT / "include"), ["dgt.h", "dgt_port.h"])}
+breathe_projects_source = {"dgt": (str(ROOT / "bindings/c/include"), ["dgt.h", "dgt_port.h"])}
 breathe_show_define_initializer = breathe_show_enumvalue_initializer = True
 breathe_doxygen_config_options = {
     "INPUT_FILTER": f'"sed -E -f {HERE}/comments.sed"',
@@ -37,11 +37,11 @@ breathe_doxygen_config_options = {
 
 # The order of the pages. Each stands in the first of these groups that has it.
 GROUPS = {
-    "Use": ["docs/GUIDE", "docs/PROGRAM", "docs/USING", "python/*", "rust/*", "web/*", "examples/*",
-            "adapters/*", "packaging/*"],
+    "Use": ["docs/GUIDE", "docs/PROGRAM", "docs/USING", "bindings/python/*", "bindings/rust/*", "apps/web/*", "apps/broadcast/*",
+            "apps/*", "packaging/*"],
     "Look up": ["docs/site/*", "docs/PROTOCOL", "docs/SESSIONS"],
     "Trust": ["docs/PROMISES", "crates/PROMISES", "docs/ARCHITECTURE", "docs/TESTING",
-              "docs/DECISIONS", "bench/*", "fuzz/*"],
+              "docs/DECISIONS", "tests/bench/*", "bindings/c/fuzz/*"],
     "Take part": ["CONTRIBUTING", "*"],
 }
 # What Sphinx doesn't make.

@@ -1,5 +1,5 @@
 # Makes plain Rust of library.rt.in, but for the lines of the monitor: what is timed, over the crate
-# that rust/generate makes of the proved sources.
+# that bindings/rust/generate makes of the proved sources.
 /^\/\/!/d
 /^#!\[tactic/d
 /^use dgt_text/d

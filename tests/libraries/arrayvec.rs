@@ -1,5 +1,5 @@
 //! A stand-in for the crate `arrayvec` with the calls that the crate `dgt` makes, for machines
-//! without it: checks/cargo builds `dgt` with it then, and says so.
+//! without it: tests/libraries/cargo builds `dgt` with it then, and says so.
 #![no_std]
 #![forbid(unsafe_code)]
 

@@ -6,7 +6,7 @@ import itertools
 import pathlib
 import re
 
-ROOT = pathlib.Path(__file__).resolve().parent.parent
+ROOT = pathlib.Path(__file__).resolve().parents[2]
 # All crates, lowest first.
 CRATES = re.findall(r"(?m)^(\w+)[^:\n]*:", (ROOT / "crates.txt").read_text())
 # Those of them that others use.

@@ -6,7 +6,7 @@ after it, with `of`. The long serial number is both a message and a request: eac
 it is in the list, or needs no change (STAYS). Each file that any message code concerns names it or
 its code. In each item of the list these files come before an `If`.
 
-checks/promises_stand runs it; `python3 checks/mapped.py` prints the files that any message code
+tests/repository/promises_stand runs it; `python3 tests/repository/mapped.py` prints the files that any message code
 concerns."""
 
 import itertools
@@ -15,12 +15,12 @@ import re
 import subprocess
 import sys
 
-ROOT = pathlib.Path(__file__).resolve().parent.parent
+ROOT = pathlib.Path(__file__).resolve().parents[2]
 PAGE = "crates/ONE_MORE.md"
 NAME, CODE = "long_?serial", "0x22"
 # Laws, tests and altered lines that are about it, and documents.
 STAYS = re.compile(
-    r"docs/.*|crates/\w+\.md|lib/test\.c|checks/(c_library|divisions|altered_models\.txt)"
+    r"docs/.*|crates/\w+\.md|lib/test\.c|tests/(c_library|divisions|altered_models\.txt)"
     r"|.*(\.edits?|/laws.*|/fixtures\.rt)"
 )
 # A crate and a colon, a crate after `of`, words in backticks; a sentence or a list that begins.
@@ -72,7 +72,7 @@ def check_map() -> list[str]:
     wrong += [f"{path} doesn't name it" for path in taken - naming - files(CODE)]
     wrong += [f"{path} isn't listed" for path in naming - named if not STAYS.fullmatch(path)]
     if wrong:
-        sys.exit("\n".join(f"checks/mapped.py: {PAGE}: {one}" for one in sorted(wrong)))
+        sys.exit("\n".join(f"tests/repository/mapped.py: {PAGE}: {one}" for one in sorted(wrong)))
     return sorted(taken)
 
 

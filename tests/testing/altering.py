@@ -1,4 +1,4 @@
-"""The common parts of checks/wrong_bodies and checks/definitions: edits of a crate that the prover
+"""The common parts of tests/mutants/wrong_bodies and tests/mutants/definitions: edits of a crate that the prover
 has to refuse, copies of crates to try them in, and the output of rt check. As a program it makes
 such a copy: `altering.py CRATE FOLDER`."""
 
@@ -12,7 +12,7 @@ import subprocess
 import sys
 from collections.abc import Iterable
 
-ROOT = pathlib.Path(__file__).resolve().parent.parent
+ROOT = pathlib.Path(__file__).resolve().parents[2]
 PROVED = re.compile(r"(?m)^(?:fn|impl) (\S+): proved")
 # The output of rt check for a function with a refused body. For one that only calls such a
 # function it prints something else.

@@ -1,6 +1,6 @@
 """Checks the calls of the package for Python that make commands for the clock, on a host, on a
 follower, and on a board that is followed. Their bytes are those of docs/PROTOCOL.md and
-checks/rows.txt."""
+tests/testing/rows.txt."""
 
 import pathlib
 
@@ -30,7 +30,7 @@ ROWS = [
     ("button", [], "2b 03 03 08 00"),
     ("clock_version", [], "2b 03 03 09 00"),
 ]
-# Those that a row of checks/rows.txt shows whole.
+# Those that a row of tests/testing/rows.txt shows whole.
 SHOWN = [ROWS[at][2] for at in (1, 2, 5, 8, 16, 17, 18)]
 DIGITS = "text must be at most 6 digits, spaces and hyphens: "
 ASCII = "text must be at most 8 ASCII characters: "

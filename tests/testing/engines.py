@@ -1,6 +1,6 @@
 """A UCI engine under test, a board on a pseudo-terminal for it, and the hands at the board.
 
-The board is one of the package, as in checks/ports.py. The line between them may lose and alter
+The board is one of the package, as in tests/testing/ports.py. The line between them may lose and alter
 bytes in both directions.
 """
 
@@ -16,7 +16,7 @@ import games
 import ports
 from wrong import Wrong, wanted
 
-ROOT = pathlib.Path(__file__).resolve().parent.parent
+ROOT = pathlib.Path(__file__).resolve().parents[2]
 WORDS = [sys.executable, "-m", "dgt", "uci"]
 SECONDS = 40
 # What xboard takes for the death of an engine, and what a system says of a fault.
@@ -28,7 +28,7 @@ class Engine:
     """An engine, and all lines that it has printed, each with its time."""
 
     def __init__(self, *words, before=(), command=WORDS, options=()):
-        env = os.environ | {"PYTHONPATH": str(ROOT / "python"), "PYTHONDONTWRITEBYTECODE": "1"}
+        env = os.environ | {"PYTHONPATH": str(ROOT / "bindings/python"), "PYTHONDONTWRITEBYTECODE": "1"}
         piped = dict.fromkeys(["stdin", "stdout", "stderr"], subprocess.PIPE)
         words = [*before, *command, *map(str, words)]
         self.ran = subprocess.Popen(words, text=True, bufsize=1, env=env, cwd="/", **piped)

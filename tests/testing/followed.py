@@ -1,5 +1,5 @@
 """Programs that follow a board on a port: the trainers and the programs of the pages, in each
-language. checks/c_library, checks/cargo and checks/examples run these cases. The line of the board
+language. tests/libraries/c_library, tests/libraries/cargo and tests/apps/examples run these cases. The line of the board
 is that of ports.py."""
 
 import contextlib
@@ -17,7 +17,7 @@ ANSWERED = PUT.replace("pppppppp/8/8", "ppp1pppp/8/3p4")
 FIELD = bytes([0x8E, 0, 5, 36, 1])  # a pawn on e4
 ASKED_FIRST = bytes(255) + b"\x44\x42\x4b\x41"
 CLOCK = "clock 1:00:00 0:59:30"
-ROOT = pathlib.Path(__file__).resolve().parent.parent
+ROOT = pathlib.Path(__file__).resolve().parents[2]
 PORT = "/dev/ttyUSB0"
 
 

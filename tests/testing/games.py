@@ -1,7 +1,7 @@
 """Checks the rules of chess and the recognition of moves of the package for Python.
 
 The rules: the numbers of positions after some moves (perft) of seven positions are those that are
-published. The recognition: each case of the table in adapters/dgtnix/test_moves.c, which the
+published. The recognition: each case of the table in apps/eboard/test_moves.c, which the
 adapter for eboard passes too, and random games. The hands that play these slide pieces, take moves
 back, answer before the move was put down, and put pieces on wrong squares.
 """
@@ -110,7 +110,7 @@ class Hand:
 
 # ---- The table of the adapter for eboard
 
-TABLE = pathlib.Path(__file__).resolve().parent.parent / "adapters" / "dgtnix" / "test_moves.c"
+TABLE = pathlib.Path(__file__).resolve().parents[2] / "adapters" / "dgtnix" / "test_moves.c"
 # What the recogniser reports instead of what the adapter reports, by the name of the case. It
 # also reports what is taken back and made again, and replaces moves of either side. It waits for
 # the rook of a castling and for the piece that a pawn becomes, and reports that a game begins.

@@ -1,4 +1,4 @@
-"""The harnesses of fuzz/, and their runs without libFuzzer."""
+"""The harnesses of bindings/c/fuzz/, and their runs without libFuzzer."""
 
 from __future__ import annotations
 
@@ -9,8 +9,8 @@ import subprocess
 
 from wrong import Wrong
 
-ROOT = pathlib.Path(__file__).resolve().parent.parent
-FUZZ = ROOT / "fuzz"
+ROOT = pathlib.Path(__file__).resolve().parents[2]
+FUZZ = ROOT / "bindings/c/fuzz"
 NAMES = sorted(path.stem.removeprefix("fuzz_") for path in FUZZ.glob("fuzz_*.c"))
 SHARED = ["input", *sorted(path.stem for path in FUZZ.glob("model_*.c"))]
 LATE = 120  # seconds that a machine that is busy with other things may add to a run

@@ -1,5 +1,5 @@
 """Checks the games that `python -m dgt game --log` makes of a board's log, and the log that a
-`dgt.LoggingBoard` keeps. checks/games runs these cases.
+`dgt.LoggingBoard` keeps. tests/apps/games runs these cases.
 
 A log is written as text here: `e4P` is a piece that was put on e4, and `e2.` one that was lifted
 from e2. `L1:29:50` and `R1:29:50` are times of the clock's first and second side. `7d` is a byte,
@@ -22,9 +22,9 @@ import ports
 import tables
 from wrong import Wrong, wanted
 
-ROOT = pathlib.Path(__file__).resolve().parent.parent
+ROOT = pathlib.Path(__file__).resolve().parents[2]
 PROGRAM = [sys.executable, "-m", "dgt"]
-SESSION = ROOT / "sessions" / "simulated_log.txt"
+SESSION = ROOT / "tests/sessions/simulated_log.txt"
 SECONDS = 60
 MARKS = {"nothing": 0x00, "on": 0x6A, "end": 0x6B, "rows": 0x6C, "empty": 0x6D, "sent": 0x6E,
          "begin": 0x6F, "turned": 0x7A, "tag": 0x7B, "dog": 0x7C, "erased": 0x7F}
@@ -408,7 +408,7 @@ def play(dgt, seeds, most):
 
 
 def ran(*words, seconds=SECONDS):
-    env = os.environ | {"PYTHONPATH": str(ROOT / "python"), "PYTHONDONTWRITEBYTECODE": "1"}
+    env = os.environ | {"PYTHONPATH": str(ROOT / "bindings/python"), "PYTHONDONTWRITEBYTECODE": "1"}
     got = subprocess.run([*PROGRAM, *map(str, words)], capture_output=True, text=True, check=False,
                          timeout=seconds, stdin=subprocess.DEVNULL, cwd="/", env=env)
     wanted(f"a traceback of {words}: {got.stderr}", "Traceback" in got.stderr, False)
@@ -470,7 +470,7 @@ def program_long_log(dgt):
         board.change(word[:2], word[2])
     with a_line(dgt, board) as (line, path), subprocess.Popen(
             [*PROGRAM, "game", line.path, "--log"], stdout=subprocess.PIPE, text=True, cwd="/",
-            env=os.environ | {"PYTHONPATH": str(ROOT / "python")}) as got:
+            env=os.environ | {"PYTHONPATH": str(ROOT / "bindings/python")}) as got:
         fcntl.fcntl(got.stdout, fcntl.F_SETPIPE_SZ, 4096)
         time.sleep(8)
         lines = got.stdout.read().splitlines()
@@ -523,7 +523,7 @@ def program_no_log(dgt):
         wanted(f"the third time, {got.stderr}", (got.returncode, got.stdout.splitlines()[1:]),
                (0, ["1. e4 e2e4"]))
     with a_line(dgt, dgt.Board()) as (line, path):
-        env = os.environ | {"PYTHONPATH": str(ROOT / "python")}
+        env = os.environ | {"PYTHONPATH": str(ROOT / "bindings/python")}
         with subprocess.Popen([*PROGRAM, "game", line.path, "--log"], env=env, cwd="/",
                               stderr=subprocess.PIPE, text=True) as got:
             end = time.monotonic() + SECONDS
@@ -534,8 +534,8 @@ def program_no_log(dgt):
 
 
 def replayed_log(dgt):
-    """The session of sessions/ with a log."""
-    env = os.environ | {"PYTHONPATH": str(ROOT / "python")}
+    """The session of tests/sessions/ with a log."""
+    env = os.environ | {"PYTHONPATH": str(ROOT / "bindings/python")}
     with subprocess.Popen([*PROGRAM, "replay", "--speed", "100", SESSION], env=env, cwd="/",
                           stdout=subprocess.PIPE, text=True) as replay:
         with tempfile.TemporaryDirectory() as folder:
@@ -551,9 +551,9 @@ def replayed_log(dgt):
 
 
 def example_log(dgt):
-    """examples/board.py keeps a log."""
+    """bindings/python/examples/board.py keeps a log."""
     pipes = {"stdin": subprocess.PIPE, "stdout": subprocess.PIPE}
-    with subprocess.Popen([sys.executable, ROOT / "examples" / "board.py"], text=True, **pipes,
+    with subprocess.Popen([sys.executable, ROOT / "bindings/python/examples/board.py"], text=True, **pipes,
                           env=os.environ | {"PYTHONDONTWRITEBYTECODE": "1"}) as board:
         board.stdin.write("clock 0:05:00 0:05:00\ne2e4\nclock 0:04:50 0:05:00\ne7e5\n"
                           "clock 0:04:50 0:04:51\noff\ng1f3\n")

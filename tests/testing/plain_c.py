@@ -1,6 +1,6 @@
-"""The library for C in plain Rust: crates/dgt_c with the modules that rust/generate writes.
+"""The library for C in plain Rust: crates/dgt_c with the modules that bindings/rust/generate writes.
 
-It is only made to compare it with the models of fuzz/, like the proved library.
+It is only made to compare it with the models of bindings/c/fuzz/, like the proved library.
 """
 
 from __future__ import annotations
@@ -13,7 +13,7 @@ import shutil
 import sys
 from types import ModuleType
 
-ROOT = pathlib.Path(__file__).resolve().parent.parent
+ROOT = pathlib.Path(__file__).resolve().parents[2]
 MANIFEST = """[package]
 name = "plain_c"
 version = "1.0.0"
@@ -47,8 +47,8 @@ SLICE = re.compile(r"(\w+): &(mut )?\[(\w+)\]")
 
 
 def generator() -> ModuleType:
-    """rust/generate, as a module."""
-    path = ROOT / "rust" / "generate"
+    """bindings/rust/generate, as a module."""
+    path = ROOT / "bindings/rust/generate"
     loader = importlib.machinery.SourceFileLoader("dgt_generate", str(path))
     spec = importlib.util.spec_from_loader("dgt_generate", loader)
     assert spec is not None
@@ -111,7 +111,7 @@ def stripped(generate: ModuleType, path: pathlib.Path) -> str:
 def write(folder: pathlib.Path, arrayvec: str) -> None:
     """Writes the crate `plain_c` into a folder. `arrayvec` is its line of Cargo.toml."""
     generate, crates = generator(), ROOT / "crates"
-    shutil.copytree(ROOT / "rust" / "dgt" / "src", folder / "src",
+    shutil.copytree(ROOT / "bindings/rust/dgt/src", folder / "src",
                     ignore=shutil.ignore_patterns("generated"))
     modules = folder / "src" / "generated"
     generate.write(generate.generate(crates), modules)
@@ -123,7 +123,7 @@ def write(folder: pathlib.Path, arrayvec: str) -> None:
     text = (folder / "src" / "lib.rs").read_text()
     for old, new in CHANGED:
         if text.count(old) != 1:
-            raise generate.Unknown(f"not once in rust/dgt/src/lib.rs: {old!r}")
+            raise generate.Unknown(f"not once in bindings/rust/dgt/src/lib.rs: {old!r}")
         text = text.replace(old, new)
     (folder / "src" / "lib.rs").write_text(text)
     (folder / "Cargo.toml").write_text(MANIFEST.format(arrayvec=arrayvec))

@@ -25,7 +25,7 @@ import time
 import late
 from wrong import Wrong, wanted
 
-sys.path.append(str(pathlib.Path(__file__).resolve().parent.parent / "examples" / "trial"))
+sys.path.append(str(pathlib.Path(__file__).resolve().parents[2] / "examples" / "trial"))
 import boards
 
 START = "rnbqkbnr/pppppppp/8/8/8/8/PPPPPPPP/RNBQKBNR"

@@ -1,4 +1,4 @@
-"""Properties of readers and writers of bytes: the events of checks/model.py with any chunks, and
+"""Properties of readers and writers of bytes: the events of tests/testing/model.py with any chunks, and
 decoding reverses encoding."""
 
 from __future__ import annotations
@@ -28,7 +28,7 @@ def word_texts(words: list[dgt.Word]) -> list[str]:
 
 
 class Chunks(unittest.TestCase):
-    """In any chunks the events of bytes are those of checks/model.py."""
+    """In any chunks the events of bytes are those of tests/testing/model.py."""
 
     @given(some.chunks(some.BOARDS_BYTES))
     def test_decoder(self, chunks: list[bytes]) -> None:
@@ -217,7 +217,7 @@ class Commands(unittest.TestCase):
 
 
 class Placements(unittest.TestCase):
-    """Placements are written and read as checks/model.py does it."""
+    """Placements are written and read as tests/testing/model.py does it."""
 
     @given(some.POSITIONS, some.POSITIONS)
     def test_differ(self, one: dgt.Position, other: dgt.Position) -> None:

@@ -1,4 +1,4 @@
-"""Checks the clock of examples/board.py, as seen by a host that follows this board."""
+"""Checks the clock of bindings/python/examples/board.py, as seen by a host that follows this board."""
 
 import pathlib
 import subprocess
@@ -8,7 +8,7 @@ import time
 import late
 from wrong import Wrong
 
-BOARD = pathlib.Path(__file__).resolve().parent.parent / "examples" / "board.py"
+BOARD = pathlib.Path(__file__).resolve().parents[2] / "examples" / "board.py"
 SECONDS = 20
 # Lines of its input, and the texts of the clock that follow them, in order.
 ROWS = [
@@ -90,7 +90,7 @@ def check_refusals():
 
 def check(dgt):
     """Returns how many lines were tried."""
-    if wrong := late.tried("the clock of examples/board.py", lambda: check_rows(dgt)):
-        raise Wrong(f"the clock of examples/board.py: {wrong}")
+    if wrong := late.tried("the clock of bindings/python/examples/board.py", lambda: check_rows(dgt)):
+        raise Wrong(f"the clock of bindings/python/examples/board.py: {wrong}")
     check_refusals()
     return sum(len(lines) for lines, _ in ROWS) + len(REFUSED)

@@ -1,4 +1,4 @@
-"""The random values of checks/properties: positions, clocks, the bytes of boards and of hosts,
+"""The random values of tests/libraries/properties: positions, clocks, the bytes of boards and of hosts,
 and the cuts of a line.
 
 The functions of a strategy have names: hypothesis takes long to print a lambda.

@@ -1,5 +1,5 @@
 """Checks the texts of events of the package for Python: they are those of `dgt monitor` in
-checks/rows.txt."""
+tests/testing/rows.txt."""
 
 import typing
 

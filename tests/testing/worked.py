@@ -1,4 +1,4 @@
-"""Reads the worked rows of checks/rows.txt. Its first lines describe the format."""
+"""Reads the worked rows of tests/testing/rows.txt. Its first lines describe the format."""
 
 from __future__ import annotations
 

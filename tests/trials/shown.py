@@ -1,4 +1,4 @@
-"""Reads the boards that the page of examples/page shows in a browser."""
+"""Reads the boards that the page of apps/broadcast/page shows in a browser."""
 
 from __future__ import annotations
 

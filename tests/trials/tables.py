@@ -17,7 +17,7 @@ import boards
 import running
 
 ROOT = pathlib.Path(__file__).resolve().parent.parent.parent
-sys.path.insert(0, str(ROOT / "python"))
+sys.path.insert(0, str(ROOT / "bindings/python"))
 
 SCREEN = "1240x760x24"
 # The engine as the chess program starts it. What both say is kept in two files.
@@ -151,7 +151,7 @@ class Table:
         """Runs a program on the display, with a separate home."""
         environment["DISPLAY"] = self.display
         settings = [f"{name}={value}" for name, value in environment.items()]
-        isolated = ROOT / "examples" / "trial" / "isolated"
+        isolated = ROOT / "tests/trials/isolated"
         return self.room.start(isolated, self.room.path / "home", *settings, *words)
 
     def shot(self, name):

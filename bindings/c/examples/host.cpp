@@ -1,7 +1,7 @@
 // Follows a board: reads its bytes from standard input, and prints the position after each change
 // and the board's other reports. A line with " ?" at its end may be wrong. It ends with its input:
 //
-//     c++ -std=c++17 -I include examples/host.cpp -L lib/out -l:libdgt.a -o host
+//     c++ -std=c++17 -I bindings/c/include bindings/c/examples/host.cpp -L bindings/c/out -l:libdgt.a -o host
 //     ./dgt ask dump version | ./dgt board | ./host
 //
 // If you name a file, it writes its requests there, every ten seconds and after faults of the line.

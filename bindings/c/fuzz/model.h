@@ -1,4 +1,4 @@
-/* docs/PROTOCOL.md and include/dgt.h again, as simply as possible in C. The harnesses compare the
+/* docs/PROTOCOL.md and bindings/c/include/dgt.h again, as simply as possible in C. The harnesses compare the
  * library with it after each call. */
 #ifndef MODEL_H
 #define MODEL_H

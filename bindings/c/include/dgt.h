@@ -47,7 +47,7 @@
  * written are unchanged.
  *
  * PLATFORM: Linux on x86-64 and on 64-bit ARM processors, with pointers of 64 bits (not x32, not
- * ILP32). All sizes are the same on both. lib/build compiles the library for any of these
+ * ILP32). All sizes are the same on both. bindings/c/build compiles the library for any of these
  * processors, including the first ones. On other platforms, sizes and calls would differ.
  *
  * VERSIONS. DGT_VERSION is the version of this header. The soname of the shared library contains

@@ -16,7 +16,7 @@
  *
  * dgt_port_next lists the ports that may be boards. Only one process can use a port: others are
  * refused, by flock and by TIOCEXCL. A port that is plugged in again may get another number; its
- * name in /dev/serial/by-id stays the same. examples/trainer.c waits for it.
+ * name in /dev/serial/by-id stays the same. bindings/c/examples/trainer.c waits for it.
  *
  * With -std=c99 or -std=c11, define _DEFAULT_SOURCE before the first #include. With -std=gnu11 and
  * other GNU modes, and in C++, nothing has to be defined.

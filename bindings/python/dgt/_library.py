@@ -30,7 +30,7 @@ def _load() -> ctypes.CDLL:
         library = ctypes.CDLL(place)
     except OSError as fault:
         raise ImportError(f"the library of the package dgt can't be loaded: {fault}. Make it with "
-                          "lib/build, or name it in DGT_LIBRARY") from fault
+                          "bindings/c/build, or name it in DGT_LIBRARY") from fault
     another = f"{place} is another library, not that of this package dgt"
     try:
         _declare(library)

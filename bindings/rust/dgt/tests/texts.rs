@@ -1,4 +1,4 @@
-//! The texts of messages, events and commands are the lines of checks/rows.txt, and errors say what
+//! The texts of messages, events and commands are the lines of tests/testing/rows.txt, and errors say what
 //! is wrong.
 
 use dgt::*;
