@@ -1,4 +1,5 @@
-"""Reads bindings/c/include/dgt.h: its sections, and in each the comments and the declarations in order."""
+"""Reads bindings/c/include/dgt.h: its sections, and in each the comments and the declarations in
+order."""
 
 from __future__ import annotations
 

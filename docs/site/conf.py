@@ -37,7 +37,8 @@ breathe_doxygen_config_options = {
 
 # The order of the pages. Each stands in the first of these groups that has it.
 GROUPS = {
-    "Use": ["docs/GUIDE", "docs/PROGRAM", "docs/USING", "bindings/python/*", "bindings/rust/*", "apps/web/*", "apps/broadcast/*",
+    "Use": ["docs/GUIDE", "docs/PROGRAM", "docs/USING", "bindings/python/*", "bindings/rust/*",
+            "apps/web/*", "apps/broadcast/*",
             "apps/*", "packaging/*"],
     "Look up": ["docs/site/*", "docs/PROTOCOL", "docs/SESSIONS"],
     "Trust": ["docs/PROMISES", "crates/PROMISES", "docs/ARCHITECTURE", "docs/TESTING",

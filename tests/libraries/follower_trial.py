@@ -1,10 +1,10 @@
-"""The world of tests/libraries/follower_trial.c once more, over the package for Python and with the hosts
-`follower` and `confirming` alone; and the games that both play.
+"""The world of tests/libraries/follower_trial.c once more, over the package for Python and with the
+hosts `follower` and `confirming` alone; and the games that both play.
 
 What is played and what is printed is said there. For the same arguments both print the same, to the
 last digit. So the same acts come in the same order here, and each generator of numbers is asked for
-the same ones. With bindings/python/ in PYTHONPATH, the first line writes the file GAMES, and the second one
-plays:
+the same ones. With bindings/python/ in PYTHONPATH, the first line writes the file GAMES, and the
+second one plays:
 
     python3 tests/libraries/follower_trial.py GAMES SEED
     python3 tests/libraries/follower_trial.py GAMES SEED HOST HOURS RUNS

@@ -6,8 +6,8 @@ after it, with `of`. The long serial number is both a message and a request: eac
 it is in the list, or needs no change (STAYS). Each file that any message code concerns names it or
 its code. In each item of the list these files come before an `If`.
 
-tests/repository/promises_stand runs it; `python3 tests/repository/mapped.py` prints the files that any message code
-concerns."""
+tests/repository/promises_stand runs it; `python3 tests/repository/mapped.py` prints the files that
+any message code concerns."""
 
 import itertools
 import pathlib

@@ -1,6 +1,6 @@
-"""The common parts of tests/mutants/wrong_bodies and tests/mutants/definitions: edits of a crate that the prover
-has to refuse, copies of crates to try them in, and the output of rt check. As a program it makes
-such a copy: `altering.py CRATE FOLDER`."""
+"""The common parts of tests/mutants/wrong_bodies and tests/mutants/definitions: edits of a crate
+that the prover has to refuse, copies of crates to try them in, and the output of rt check. As a
+program it makes such a copy: `altering.py CRATE FOLDER`."""
 
 import contextlib
 import dataclasses

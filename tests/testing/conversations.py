@@ -1,6 +1,6 @@
 """Conversations of a host and a board over two lines, and of a follower and a board over lines
-that lose and alter bytes. Each act is done with the package and with tests/testing/model.py, and then both
-are in the same state."""
+that lose and alter bytes. Each act is done with the package and with tests/testing/model.py, and
+then both are in the same state."""
 
 from __future__ import annotations
 

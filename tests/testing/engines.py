@@ -1,7 +1,7 @@
 """A UCI engine under test, a board on a pseudo-terminal for it, and the hands at the board.
 
-The board is one of the package, as in tests/testing/ports.py. The line between them may lose and alter
-bytes in both directions.
+The board is one of the package, as in tests/testing/ports.py. The line between them may lose and
+alter bytes in both directions.
 """
 
 import os
@@ -28,7 +28,8 @@ class Engine:
     """An engine, and all lines that it has printed, each with its time."""
 
     def __init__(self, *words, before=(), command=WORDS, options=()):
-        env = os.environ | {"PYTHONPATH": str(ROOT / "bindings/python"), "PYTHONDONTWRITEBYTECODE": "1"}
+        env = os.environ | {"PYTHONPATH": str(ROOT / "bindings/python"),
+                            "PYTHONDONTWRITEBYTECODE": "1"}
         piped = dict.fromkeys(["stdin", "stdout", "stderr"], subprocess.PIPE)
         words = [*before, *command, *map(str, words)]
         self.ran = subprocess.Popen(words, text=True, bufsize=1, env=env, cwd="/", **piped)

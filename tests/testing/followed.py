@@ -1,6 +1,6 @@
 """Programs that follow a board on a port: the trainers and the programs of the pages, in each
-language. tests/libraries/c_library, tests/libraries/cargo and tests/apps/examples run these cases. The line of the board
-is that of ports.py."""
+language. tests/libraries/c_library, tests/libraries/cargo and tests/apps/examples run these cases.
+The line of the board is that of ports.py."""
 
 import contextlib
 import pathlib

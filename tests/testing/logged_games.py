@@ -553,7 +553,8 @@ def replayed_log(dgt):
 def example_log(dgt):
     """bindings/python/examples/board.py keeps a log."""
     pipes = {"stdin": subprocess.PIPE, "stdout": subprocess.PIPE}
-    with subprocess.Popen([sys.executable, ROOT / "bindings/python/examples/board.py"], text=True, **pipes,
+    with subprocess.Popen([sys.executable, ROOT / "bindings/python/examples/board.py"], text=True,
+                          **pipes,
                           env=os.environ | {"PYTHONDONTWRITEBYTECODE": "1"}) as board:
         board.stdin.write("clock 0:05:00 0:05:00\ne2e4\nclock 0:04:50 0:05:00\ne7e5\n"
                           "clock 0:04:50 0:04:51\noff\ng1f3\n")

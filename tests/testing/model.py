@@ -1,10 +1,10 @@
 """docs/PROTOCOL.md and docs/PROGRAM.md in plain Python: the output of `dgt monitor`, `dgt
 picture`, `dgt log`, `dgt commands`, `dgt ask`, `dgt board` and `dgt simulate`.
 
-It was written from these pages and the program's help, not from its sources, so that tests/program/hostile
-can compare both. Squares are numbers, pieces their codes, a position is a list of 64 pieces. A
-clock is the seven bytes of its message's body, since each times or no-clock message has one
-encoding.
+It was written from these pages and the program's help, not from its sources, so that
+tests/program/hostile can compare both. Squares are numbers, pieces their codes, a position is a
+list of 64 pieces. A clock is the seven bytes of its message's body, since each times or no-clock
+message has one encoding.
 """
 
 import re

@@ -1,4 +1,5 @@
-"""The library for C in plain Rust: crates/dgt_c with the modules that bindings/rust/generate writes.
+"""The library for C in plain Rust: crates/dgt_c with the modules that bindings/rust/generate
+writes.
 
 It is only made to compare it with the models of bindings/c/fuzz/, like the proved library.
 """

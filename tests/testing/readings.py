@@ -1,5 +1,5 @@
-"""Properties of readers and writers of bytes: the events of tests/testing/model.py with any chunks, and
-decoding reverses encoding."""
+"""Properties of readers and writers of bytes: the events of tests/testing/model.py with any chunks,
+and decoding reverses encoding."""
 
 from __future__ import annotations
 

@@ -1,4 +1,5 @@
-"""Checks the clock of bindings/python/examples/board.py, as seen by a host that follows this board."""
+"""Checks the clock of bindings/python/examples/board.py, as seen by a host that follows this
+board."""
 
 import pathlib
 import subprocess
@@ -90,7 +91,8 @@ def check_refusals():
 
 def check(dgt):
     """Returns how many lines were tried."""
-    if wrong := late.tried("the clock of bindings/python/examples/board.py", lambda: check_rows(dgt)):
+    if wrong := late.tried("the clock of bindings/python/examples/board.py",
+                           lambda: check_rows(dgt)):
         raise Wrong(f"the clock of bindings/python/examples/board.py: {wrong}")
     check_refusals()
     return sum(len(lines) for lines, _ in ROWS) + len(REFUSED)

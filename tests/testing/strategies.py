@@ -1,5 +1,5 @@
-"""The random values of tests/libraries/properties: positions, clocks, the bytes of boards and of hosts,
-and the cuts of a line.
+"""The random values of tests/libraries/properties: positions, clocks, the bytes of boards and of
+hosts, and the cuts of a line.
 
 The functions of a strategy have names: hypothesis takes long to print a lambda.
 """

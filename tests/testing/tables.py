@@ -2,8 +2,8 @@
 in simulated time, but with a real file.
 
 The board is one of the package. Its bytes go through the steps of `dgt.follow`. Hands play as in
-tests/testing/games.py, and press the clock after each move, some at once and some later, but before the
-other player puts a piece.
+tests/testing/games.py, and press the clock after each move, some at once and some later, but before
+the other player puts a piece.
 """
 
 import os

@@ -37,9 +37,9 @@
 //!
 //! The public modules are generated from crates in Rattle, which is Rust with contracts. The
 //! contracts of those crates are proved for all inputs. The modules contain their code without the
-//! contracts, except for the few places that `bindings/rust/plain.edits` of the repository lists. Comments
-//! name contracts, `laws` and files of `specs/`, which are also in the repository. The rest of this
-//! crate, such as traits, texts and views, is written by hand, and tested.
+//! contracts, except for the few places that `bindings/rust/plain.edits` of the repository lists.
+//! Comments name contracts, `laws` and files of `specs/`, which are also in the repository. The
+//! rest of this crate, such as traits, texts and views, is written by hand, and tested.
 //!
 //! # Features
 //!

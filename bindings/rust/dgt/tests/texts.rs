@@ -1,5 +1,5 @@
-//! The texts of messages, events and commands are the lines of tests/testing/rows.txt, and errors say what
-//! is wrong.
+//! The texts of messages, events and commands are the lines of tests/testing/rows.txt, and errors
+//! say what is wrong.
 
 use dgt::*;
 
