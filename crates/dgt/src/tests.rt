@@ -1,6 +1,7 @@
-//! Whole runs of the program over words and streams in memory: those that fail, and the helps.
-//! `checks/rows` compares all other output.
-mod helps;
+//! Whole runs of the program with streams in memory: refused writes, and long inputs.
+//! `tests/program/rows` compares all other output.
+//!
+//! Each row is a call: the same rows in an array take ten times as long to prove.
 
 use crate::run_words;
 use dgt_link::WorldFault;
@@ -18,67 +19,11 @@ const ROOM: usize = 8192;
 /// More reads than 2^20, and whole texts of five bytes.
 const READS: usize = 5 * 209_716;
 
-/// What a run returned and wrote.
-#[derive(Drop)]
-struct Ran {
-    status: u8,
-    output: Vec<u8>,
-    errors: Vec<u8>,
-}
-
 // The words of a line, separated by single spaces.
 fn words(alloc: Global, line: &str) -> Result<Vec<String>, AllocError> {
     line.split(' ')
         .map(|word| word.to_string(alloc))
         .try_collect(alloc)
-}
-
-// Runs the words of a line, with an output that takes `room` bytes and flushes or not.
-fn run<I: Read + Drop>(
-    alloc: Global,
-    line: &str,
-    input: I,
-    room: usize,
-    flushes: bool,
-) -> Result<Ran, AllocError> {
-    let mut output = Vec::with_capacity(alloc, ROOM)?;
-    let mut errors = Vec::with_capacity(alloc, ROOM)?;
-    let taking = Taking {
-        taken: &mut output,
-        room,
-        flushes,
-    };
-    let status = run_words(alloc, words(alloc, line)?, input, taking, &mut errors);
-    Ok(Ran {
-        status,
-        output,
-        errors,
-    })
-}
-
-// Compares all that a run of this line returned and wrote.
-fn compare(rt: &impl Abort, line: &str, ran: &Ran, status: u8, output: &[u8], errors: &str) {
-    assert_eq!(rt; ran.output.as_slice(), output, "output of {line}");
-    assert_eq!(rt;
-        ran.errors.as_slice(),
-        errors.as_bytes(),
-        "errors of {line}"
-    );
-    assert_eq!(rt; ran.status, status, "status of {line}");
-}
-
-// Runs the words of a line with an input that refuses each read, and compares all that the run
-// returned and wrote.
-fn check(
-    rt: &(impl Abort + AllocGlobal),
-    line: &str,
-    status: u8,
-    output: &str,
-    errors: &str,
-) -> Result<(), Fail> {
-    let ran = run(rt.alloc(), line, Broken, ROOM, true)?;
-    compare(rt, line, &ran, status, output.as_bytes(), errors);
-    Ok(())
 }
 
 /// A writer that takes `room` bytes, and then refuses each write. It refuses each flush unless
@@ -110,99 +55,72 @@ impl Write for Taking<'_> {
     }
 }
 
-/// A reader that refuses each read.
-#[derive(Drop)]
-struct Broken;
+// Asserts that a run ended with this status and these errors.
+fn assert_ended(rt: &impl Abort, what: &str, ended: (u8, &[u8]), right: (u8, &str)) {
+    let (status, errors) = right;
+    assert_eq!(rt; ended, (status, errors.as_bytes()), "end of {what}");
+}
 
-impl Read for Broken {
-    fn read(&mut self, _buf: &mut [u8]) -> io::Result<usize> {
-        Err(io::Error::from(io::ErrorKind::Other))
-    }
+// Runs the words of a line, and asserts that a write or flush is refused once `output` was taken.
+fn check_refused(
+    rt: &(impl Abort + AllocGlobal),
+    line: &str,
+    input: &[u8],
+    room: usize,
+    flushes: bool,
+    output: &str,
+) -> Result<(), Fail> {
+    let alloc = rt.alloc();
+    let mut taken = Vec::with_capacity(alloc, ROOM)?;
+    let mut errors = Vec::with_capacity(alloc, ROOM)?;
+    let taking = Taking {
+        taken: &mut taken,
+        room,
+        flushes,
+    };
+    let words = words(alloc, line)?;
+    let status = run_words(alloc, words, Cursor::new(input), taking, &mut errors);
+    assert!(rt; taken.as_slice() == output.as_bytes(), "output of {line}");
+    let ended = (status, errors.as_slice());
+    assert_ended(rt, line, ended, (1, "dgt: write failed\n"));
+    Ok(())
 }
 
 #[test]
 fn stops_at_a_refused_write(rt: HostRuntime) -> Result<(), Fail> {
-    let alloc = rt.alloc();
-    let bytes: &[u8] = &[0x8e, 0x00, 0x02, 0x05];
-    let lines = "00000003 badlength\n00000004 stray 05\n";
-    let rows = [
-        ("dgt show 8e000205", bytes, 0, true, ""),
-        ("dgt show 8e000205", bytes, 9, true, "00000003 "),
-        ("dgt show 8e000205", bytes, 19, true, "00000003 badlength\n"),
-        ("dgt show 8e000205", bytes, ROOM, false, lines),
-        ("dgt monitor", bytes, 9, true, "00000003 "),
-        ("dgt monitor", bytes, ROOM, false, lines),
-        ("dgt monitor --names", bytes, ROOM, false, lines),
-        (
-            "dgt show --names 9200054447",
-            bytes,
-            26,
-            true,
-            "00000005 trademark 4447: D",
-        ),
-        ("dgt commands", b"\x42", 9, true, "00000001 "),
-        ("dgt commands", b"\x42", ROOM, false, "00000001 dump\n"),
-        ("dgt board", b"\x45", 0, true, ""),
-        ("dgt ask dump version", b"", 0, true, ""),
-        ("dgt ask dump version", b"", 1, true, "B"),
-        ("dgt ask dump version", b"", ROOM, false, "BM"),
-        ("dgt ask dump --help", b"", 6, true, "Writes"),
-        ("dgt simulate", b"send\nsend\n", 4, true, "noth"),
-        ("dgt simulate", b"send\nsend\n", 8, true, "nothing\n"),
-        ("dgt simulate --faults", b"boardlost\n", 4, true, "done"),
-        (
-            "dgt simulate",
-            b"send\nsend\n",
-            ROOM,
-            false,
-            "nothing\nnothing\n",
-        ),
-        ("dgt simulate", b"sned\n", ROOM, false, ""),
-        ("dgt --help", b"", 5, true, "Reads"),
-        ("dgt show --help", b"", 0, false, ""),
-    ];
-    for (line, input, room, flushes, output) in rows {
-        let ran = run(alloc, line, Cursor::new(input), room, flushes)?;
-        compare(&rt, line, &ran, 1, output.as_bytes(), "dgt: write failed\n");
-    }
-    Ok(())
+    let strays: &[u8] = &[0x8e, 0x00, 0x02, 0x05];
+    let line = "00000003 badlength\n";
+    check_refused(&rt, "dgt show 8e000205", b"", 0, true, "")?;
+    check_refused(&rt, "dgt show 8e000205", b"", 9, true, "00000003 ")?;
+    check_refused(&rt, "dgt show 8e000205", b"", 19, true, line)?;
+    check_refused(&rt, "dgt monitor", strays, 9, true, "00000003 ")?;
+    let named = "00000005 trademark 4447: D";
+    check_refused(&rt, "dgt show --names 9200054447", b"", 26, true, named)?;
+    check_refused(&rt, "dgt commands", b"\x42", 9, true, "00000001 ")?;
+    check_refused(&rt, "dgt board", b"\x45", 0, true, "")?;
+    check_refused(&rt, "dgt ask dump version", b"", 0, true, "")?;
+    check_refused(&rt, "dgt ask dump version", b"", 1, true, "B")?;
+    check_refused(&rt, "dgt ask dump --help", b"", 6, true, "Writes")?;
+    check_refused(&rt, "dgt simulate", b"send\nsend\n", 4, true, "noth")?;
+    check_refused(&rt, "dgt simulate", b"send\nsend\n", 8, true, "nothing\n")?;
+    let faults = "dgt simulate --faults";
+    check_refused(&rt, faults, b"boardlost\n", 4, true, "done")?;
+    check_refused(&rt, "dgt --help", b"", 5, true, "Reads")
 }
 
 #[test]
-fn stops_at_a_refused_read(rt: HostRuntime) -> Result<(), Fail> {
-    let field = "00000005 field e4 P\n";
-    check(&rt, "dgt show 8e00052401", 0, field, "")?;
-    for line in [
-        "dgt monitor",
-        "dgt monitor --names",
-        "dgt picture",
-        "dgt picture --doubt",
-        "dgt picture --clock",
-        "dgt picture --doubt --clock",
-        "dgt commands",
-        "dgt board",
-        "dgt simulate",
-        "dgt simulate --faults",
-    ] {
-        check(&rt, line, 1, "", "dgt: read failed\n")?;
-    }
-    let version: &[u8] = &[0x93, 0x00, 0x05, 0x01, 0x03];
-    let rows = [
-        (
-            "dgt monitor",
-            b"\x8e\x00\x05\x24\x01\x8e".as_slice(),
-            field.as_bytes(),
-        ),
-        ("dgt commands", b"\x42\x2b", b"00000001 dump\n"),
-        ("dgt board", b"\x4d\x2b\x04", version),
-        ("dgt simulate", b"send\nsen", b"nothing\n"),
-    ];
-    for (line, input, output) in rows {
-        let input = Cursor::new(input).chain(Broken);
-        let ran = run(rt.alloc(), line, input, ROOM, true)?;
-        compare(&rt, line, &ran, 1, output, "dgt: read failed\n");
-    }
-    Ok(())
+fn stops_at_a_refused_flush(rt: HostRuntime) -> Result<(), Fail> {
+    let strays: &[u8] = &[0x8e, 0x00, 0x02, 0x05];
+    let lines = "00000003 badlength\n00000004 stray 05\n";
+    check_refused(&rt, "dgt show 8e000205", b"", ROOM, false, lines)?;
+    check_refused(&rt, "dgt monitor", strays, ROOM, false, lines)?;
+    check_refused(&rt, "dgt monitor --names", strays, ROOM, false, lines)?;
+    check_refused(&rt, "dgt commands", b"\x42", ROOM, false, "00000001 dump\n")?;
+    check_refused(&rt, "dgt ask dump version", b"", ROOM, false, "BM")?;
+    let outcomes = "nothing\nnothing\n";
+    check_refused(&rt, "dgt simulate", b"send\nsend\n", ROOM, false, outcomes)?;
+    check_refused(&rt, "dgt simulate", b"sned\n", ROOM, false, "")?;
+    check_refused(&rt, "dgt show --help", b"", 0, false, "")
 }
 
 /// A reader that gives these bytes again and again, one a read, until it gave `READS` of them.
@@ -230,50 +148,39 @@ const FIELD: &[u8; 5] = b"\x8e\x00\x05\x24\x01";
 
 const BEEP: &[u8; 5] = b"\x2b\x03\x03\x09\x00";
 
-// Runs these lines, each over a million reads of one byte, to their end.
+// Runs the words of a line over a million reads of one byte, to their end.
 fn check_long(
     rt: &(impl Abort + AllocGlobal),
-    rows: &[(&str, &'static [u8; 5])],
+    line: &str,
+    bytes: &'static [u8; 5],
 ) -> Result<(), Fail> {
-    for (line, bytes) in rows {
-        let input = Dripping { bytes, given: 0 };
-        let mut errors = Vec::with_capacity(rt.alloc(), ROOM)?;
-        let words = words(rt.alloc(), line)?;
-        let status = run_words(rt.alloc(), words, input, sink(), &mut errors);
-        assert_eq!(rt; errors.as_slice(), b"".as_slice(), "errors of {line}");
-        assert_eq!(rt; status, 0, "status of {line}");
-    }
+    let input = Dripping { bytes, given: 0 };
+    let mut errors = Vec::with_capacity(rt.alloc(), ROOM)?;
+    let words = words(rt.alloc(), line)?;
+    let status = run_words(rt.alloc(), words, input, sink(), &mut errors);
+    assert_ended(rt, line, (status, errors.as_slice()), (0, ""));
     Ok(())
 }
 
 #[test]
 fn reads_on_after_a_million_reads(rt: HostRuntime) -> Result<(), Fail> {
-    let rows = [
-        ("dgt monitor", FIELD),
-        ("dgt commands", BEEP),
-        ("dgt board", BEEP),
-    ];
-    check_long(&rt, &rows)
+    check_long(&rt, "dgt monitor", FIELD)?;
+    check_long(&rt, "dgt commands", BEEP)?;
+    check_long(&rt, "dgt board", BEEP)
 }
 
 #[test]
 fn plays_on_after_a_million_reads(rt: HostRuntime) -> Result<(), Fail> {
-    let rows = [
-        ("dgt simulate", b"send\n"),
-        ("dgt simulate --faults", b"send\n"),
-    ];
-    check_long(&rt, &rows)
+    check_long(&rt, "dgt simulate", b"send\n")?;
+    check_long(&rt, "dgt simulate --faults", b"send\n")
 }
 
 #[test]
 fn shows_pictures_after_a_million_reads(rt: HostRuntime) -> Result<(), Fail> {
-    let rows = [
-        ("dgt picture", FIELD),
-        ("dgt picture --doubt", FIELD),
-        ("dgt picture --clock", FIELD),
-        ("dgt picture --doubt --clock", FIELD),
-    ];
-    check_long(&rt, &rows)
+    check_long(&rt, "dgt picture", FIELD)?;
+    check_long(&rt, "dgt picture --doubt", FIELD)?;
+    check_long(&rt, "dgt picture --clock", FIELD)?;
+    check_long(&rt, "dgt picture --doubt --clock", FIELD)
 }
 
 // Reports a fault, and compares the status and the text.
@@ -284,8 +191,8 @@ fn check_reported(
     text: &str,
 ) -> Result<(), Fail> {
     let mut errors = Vec::with_capacity(rt.alloc(), ROOM)?;
-    assert_eq!(rt; fault.report(&mut errors), status, "status of {text}");
-    assert_eq!(rt; errors.as_slice(), text.as_bytes());
+    let reported = fault.report(&mut errors);
+    assert_ended(rt, text, (reported, errors.as_slice()), (status, text));
     Ok(())
 }
 
@@ -298,45 +205,4 @@ fn reports_what_no_run_here_meets(rt: HostRuntime) -> Result<(), Fail> {
     let refused = Fault::from(WorldFault::OutOfMemory);
     check_reported(&rt, refused, 3, "dgt: out of memory\n")?;
     check_reported(&rt, Fault::OutOfMemory, 3, "dgt: out of memory\n")
-}
-
-/// A game's first move, made while the board reports nothing, and reported afterwards.
-const FIRST_MOVE: &str = "\
-host 42
-toboard 1
-send
-tohost 67
-change e2 .
-change e4 P
-send
-host 44
-toboard 1
-send
-send
-send
-tohost 10
-";
-
-#[test]
-fn program_has_memory(rt: HostRuntime) -> Result<(), Fail> {
-    let commands = hex::decode(rt.alloc(), "45474d4c2b03030900")?;
-    let rows = [
-        ("dgt board", commands.as_slice()),
-        ("dgt simulate", FIRST_MOVE.as_bytes()),
-        ("dgt simulate --faults", FIRST_MOVE.as_bytes()),
-        ("dgt monitor", b"\x8e"),
-        ("dgt picture", b"\x8e"),
-        ("dgt picture --doubt", b"\x8e"),
-        ("dgt picture --clock", b"\x8e"),
-        ("dgt picture --clock --doubt", b"\x8e"),
-        ("dgt commands", b"\x42\x2b"),
-        ("dgt show 8e00052401", b""),
-        ("dgt --help", b""),
-    ];
-    for (line, input) in rows {
-        let ran = run(rt.alloc(), line, Cursor::new(input), ROOM, true)?;
-        assert_eq!(rt; ran.errors.as_slice(), b"".as_slice(), "errors of {line}");
-        assert_eq!(rt; ran.status, 0, "status of {line}");
-    }
-    Ok(())
 }

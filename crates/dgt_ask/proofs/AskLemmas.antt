@@ -1,5 +1,6 @@
 -- The words of commands.
-use Rattle.std.proofs.Common.{◌≡◌, ◌≢◌, ◌+◌, ◌*◌, ◌/◌, ◌<◌, ◌≤◌, ℕ, zero, suc, false, List, [], ◌∷◌, ◌++◌, length, get_or, take, map, Bor, add-one, subst, Result, Ok, Err, Some, ap, arith, inl, inr, refl, sym, ◌∙◌, slice_index as nth}
+use Rattle.std.proofs.Common.{◌≡◌, ◌≢◌, ◌+◌, ◌/◌, ◌<◌, ◌≤◌, ℕ, zero, suc, false, List, [], ◌∷◌, ◌++◌, length, get_or, take, map, Bor, add-one, Result, Ok, Err, Some, ap, arith, refl, sym, ◌∙◌, slice_index as nth}
+use Rattle.std.proofs.Common.{rules}
 use Rattle.std.specs.Prelude.{OnErr, IfOk, IsErrAnd, MatchResult, Bool, true, not, codes, decimal, ◌==◌}
 use Rattle.std.specs.List.{list_all}
 use Rattle.std.specs.Result.{is_ok, result_ok}
@@ -10,7 +11,7 @@ use Rattle.hex.proofs.HexLemmas.{IsOk-decode_sized, decode_of-ok}
 use Rattle.dgt_values.specs.Segment.{IsShownBy}
 use Rattle.dgt_command.specs.declared.clock.ClockCommand.{ClockCommand}
 use Rattle.dgt_command.specs.declared.ids.KnownId.{KnownId}
-use Rattle.dgt_command.specs.Content.{ClockContent, CommandContent, Reset, Clock, Dump, Update, UpdateBoard, UpdateNice, Serial, Trademark, Battery, Version, LongSerial, ClockMessage, Leds, clock_content, known_clock}
+use Rattle.dgt_command.specs.Content.{ClockContent, CommandContent, Clock, ClockMessage, clock_content, known_clock}
 use Rattle.dgt_command.specs.Display.{HasNoSegments, Shows}
 use Rattle.dgt_ask.specs.declared.details.Detail.TheVariants as detail
 use Rattle.dgt_ask.specs.declared.details.Detail.{Detail}
@@ -21,6 +22,7 @@ use Rattle.std.specs.List.{concat}
 use Rattle.std.proofs.lemmas.List.Folds.{concat-append}
 use Rattle.std.proofs.lemmas.List.{append-nil, get_or-map, length-map}
 use Rattle.std.proofs.Math.Seq.{take-suc}
+use Rattle.std.proofs.lemmas.Grind.{common_steps}
 
 -- a number of a beep, and its command
 pub record Beeps (word : List ℕ) (asked : CommandContent) : Type 0 where
@@ -30,9 +32,7 @@ pub record Beeps (word : List ℕ) (asked : CommandContent) : Type 0 where
   pub is : asked ≡ ClockMessage (known_clock KnownId.Beep (number ∷ []))
 
 pub beeps : (word : List ℕ) (asked : CommandContent) → DetailAsks detail.Beep word asked → Beeps word asked
-beeps word (ClockMessage message) asks =
-    record { number = asks.0; small = asks.1; said = asks.2; is = ap ClockMessage asks.3 }
-beeps word _ asks = absurd asks
+beeps word asked asks = search rules
 
 -- a decimal number begins with a digit, and only one of a single digit with a zero
 pub record BeginsWell (text : List ℕ) : Type 0 where
@@ -41,15 +41,10 @@ pub record BeginsWell (text : List ℕ) : Type 0 where
   pub single : get_or text 0 0 ≡ 48 → length text ≤ 1
 
 some_first : (text : List ℕ) → 48 < get_or text 0 0 → 0 < length text
-some_first [] first = omega (arith, first)
-some_first (x ∷ text) first = omega arith
+some_first text first = grind (arith, common_steps)
 
 pub begins_well : (number : ℕ) → number < 256 → BeginsWell (decimal number)
-begins_well zero small =
-    rw (decimal_digit 0 (omega arith)) (record { some = omega arith; digit = omega arith; single = λ _. omega arith })
-begins_well (suc number) small =
-    let first : 48 < get_or (decimal (suc number)) 0 0 = first_decimal (suc number) (omega arith) (omega arith) in
-    record { some = some_first _ first; digit = omega arith; single = λ zero. absurd (omega (arith, first, zero)) }
+begins_well number small = search (rules, decimal_digit, first_decimal, some_first)
 
 -- the number of a beep is parsed
 pub parsed : {E : Type 0} (word : List ℕ) (number : ℕ) (r : Result ℕ E) → number < 256 → word ≡ decimal number
@@ -58,9 +53,7 @@ parsed word number r small said parses = parse-decimal 8 number word r (omega ar
 
 -- the bytes of digits are half as many
 pub half : (text bytes : List ℕ) → HasBytes text bytes → text ≢ codes "-" → length text / 2 ≡ length bytes
-half text bytes (inl hyphen) other = absurd (other hyphen.0)
-half text bytes (inr digits) other =
-    let sized : length text ≡ 2 * length bytes = (decode_of-ok text bytes digits.2).2 in omega arith
+half text bytes h2 other = search (rules, decode_of-ok)
 
 pub inside : {A : Type 0} (x y : A) → Some x ≡ Some y → x ≡ y
 inside x y e = cc
@@ -84,8 +77,7 @@ pub eight : (xs : List ℕ) → length xs ≡ 8
     ≡ xs ++ 0 ∷ []
 eight [] e = absurd (omega (arith, e))
 eight (a ∷ []) e = absurd (omega (arith, e))
-eight (a ∷ b ∷ xs) e =
-    ap (λ more. a ∷ b ∷ (more ++ 0 ∷ [])) (six xs (omega (arith, e)))
+eight (a ∷ b ∷ xs) e = ap (λ more. a ∷ b ∷ (more ++ 0 ∷ [])) (six xs (omega (arith, e)))
 
 -- segments show one character each
 one_place : (character byte other : ℕ) → IsShownBy character byte → IsShownBy character other → byte ≡ other
@@ -131,85 +123,36 @@ digits_lack_space high low bytes decoded i small e =
 abbrev pub is_unspaced : List ℕ → Bool
 is_unspaced word = list_all (λ byte. not (byte == 32)) word
 
-has_space : (name rest : List ℕ) → is_unspaced (name ++ 32 ∷ rest) ≡ false
-has_space [] rest = refl
-has_space (byte ∷ name) rest = rw (has_space name rest) (grind arith)
-
 -- a name has no space
 named_is_unspaced : (word : List ℕ) (command : CommandContent) → IsNamed word command → is_unspaced word ≡ true
-named_is_unspaced word Reset named = rw named refl
-named_is_unspaced word Clock named = rw named refl
-named_is_unspaced word Dump named = rw named refl
-named_is_unspaced word Update named = rw named refl
-named_is_unspaced word UpdateBoard named = rw named refl
-named_is_unspaced word UpdateNice named = rw named refl
-named_is_unspaced word Serial named = rw named refl
-named_is_unspaced word LongSerial named = rw named refl
-named_is_unspaced word Trademark named = rw named refl
-named_is_unspaced word Battery named = rw named refl
-named_is_unspaced word Version named = rw named refl
-named_is_unspaced word (ClockMessage message) (inl end) = rw end.0 refl
-named_is_unspaced word (ClockMessage message) (inr (inl button)) = rw button.0 refl
-named_is_unspaced word (ClockMessage message) (inr (inr version)) = rw version.0 refl
-named_is_unspaced word (Leds leds) named = absurd named
+named_is_unspaced word command named = search rules
 
 pub not_named : (word name rest : List ℕ) (command : CommandContent) → word ≡ name ++ 32 ∷ rest
     → IsNamed word command → ⊥
-not_named word name rest command split named =
-    let spaced = rw split at (named_is_unspaced word command named) in
-    let unspaced = has_space name rest in cc
+not_named word name rest command split named = grind (arith, common_steps, named_is_unspaced)
 
 -- the operands of `clockmessage` are a clock message without another word
 pub raw_name : (each : Detail) → detail_text each ≡ codes "clockmessage" → each ≡ detail.ClockMessage
-raw_name detail.Beep name = absurd (omega (arith, ap length name))
-raw_name detail.Display name = absurd (omega (arith, ap length name))
-raw_name detail.Text name = absurd (omega (arith, ap length name))
-raw_name detail.Icons name = absurd (omega (arith, ap length name))
-raw_name detail.SetAndRun name = absurd (omega (arith, ap length name))
-raw_name detail.ClockMessage name = refl
-raw_name detail.Leds name = absurd (omega (arith, ap length name))
-raw_name detail.Stray name = absurd (omega (arith, ap length name))
+raw_name each name = search rules
 
 pub raw_command : (text : List ℕ) (command : CommandContent) → DetailAsks detail.ClockMessage text command
     → (message : ClockContent) × (command ≡ ClockMessage message) × IsRaw text message
-raw_command text (ClockMessage message) asks = (message, refl, asks)
-raw_command text _ asks = absurd asks
-
--- the names of words with an operand have no space
-unspaced_items : (word : List ℕ) → is_unspaced word ≡ true → (i : ℕ) → i < length word → get_or word i 0 ≢ 32
-unspaced_items [] all i small e = omega (arith, small)
-unspaced_items (byte ∷ word) all zero small e = let spaced = rw e at all in cc
-unspaced_items (byte ∷ word) all (suc i) small e =
-    let rest : is_unspaced word ≡ true = grind (arith, all) in unspaced_items word rest i (omega (arith, small)) e
-
-detail_is_unspaced : (each : Detail) → is_unspaced (detail_text each) ≡ true
-detail_is_unspaced detail.Beep = refl
-detail_is_unspaced detail.Display = refl
-detail_is_unspaced detail.Text = refl
-detail_is_unspaced detail.Icons = refl
-detail_is_unspaced detail.SetAndRun = refl
-detail_is_unspaced detail.ClockMessage = refl
-detail_is_unspaced detail.Leds = refl
-detail_is_unspaced detail.Stray = refl
+raw_command text command asks = search rules
 
 pub name_lacks_space : (each : Detail) (i : ℕ) → i < length (detail_text each) → get_or (detail_text each) i 0 ≢ 32
-name_lacks_space each = unspaced_items (detail_text each) (detail_is_unspaced each)
+name_lacks_space each = search rules
 
 -- ---- words in a row
 
 -- a call is refused if a call in it is refused
 pub refused : {A : Type 0} (P : A → Type 0) (r : Result A BadAsk) (fault : BadAsk) → IsErrAnd r (λ e. e ≡ fault)
     → fault ≡ OutOfMemory → MatchResult r P (λ e. e ≡ OutOfMemory)
-refused P (Err e) fault is none = is ∙ none
-refused P (Ok _) fault is none = absurd is
+refused P r fault is none = search rules
 
 pub asks_at : (words : List (Bor (List ℕ))) (asked : List (List ℕ)) (i : ℕ)
     → AskInOrder (map (λ word. word.now) words) asked → i < length words
     → AsksBytes (get_or words i (record { ref_ptr = (0, 0); now = [] })).now (get_or asked i [])
-asks_at words asked i order small =
-    subst (λ word. AsksBytes word (get_or asked i []))
-    (get_or-map (λ (word : Bor (List ℕ)). word.now) words i (record { ref_ptr = (0, 0); now = [] }) [] small)
-    (order.each i (rw length-map small))
+asks_at words asked i order small = search (rules, get_or-map, length-map)
 
 pub next_bytes : (asked : List (List ℕ)) (i : ℕ) → i < length asked
     → concat (take (i + 1) asked) ≡ concat (take i asked) ++ get_or asked i []

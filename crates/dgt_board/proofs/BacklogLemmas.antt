@@ -1,5 +1,6 @@
 -- A backlog falls with each sending, and rises by at most one with each command taken.
-use Rattle.std.proofs.Common.{arith, ◌≡◌, refl, ℕ, ◌+◌, ◌<◌, ◌≤◌, List, [], ◌∷◌, ◌++◌, Some, Bool, true, false, cond, not, length, length-append}
+use Rattle.std.proofs.Common.{arith, ◌≡◌, ℕ, ◌+◌, ◌<◌, ◌≤◌, List, [], ◌∷◌, ◌++◌, Some, Bool, true, false, cond, not, length, length-append}
+use Rattle.std.proofs.Common.{rules}
 use Rattle.std.specs.Prelude.{filter}
 use Rattle.dgt_values.specs.declared.kinds.Kind.{Kind}
 use Rattle.dgt_message.specs.Clock.{ClockState}
@@ -20,16 +21,13 @@ backlog-at_most board = left-at_most (record board { mode = Mode.Update })
 
 pub backlog_lowers : (board : BoardState) (message : Content) → length board.reported_squares ≡ 64
     → next_message board ≡ Some message → backlog (after_sending board message) < backlog board
-backlog_lowers board message all next =
-    rw (backlog_is board, backlog_is (after_sending board message))
-    (next_lowers true board message (λ _. refl) all next)
+backlog_lowers board message all next = search (rules, backlog_is, next_lowers)
 
 -- ---- a taking
 
 acknowledgements-few : (clock : ClockState) (identity : IdentityContent) (message : ClockContent)
     → length (acknowledgements clock identity message) ≤ 1
-acknowledgements-few (ClockState.times readings) identity message = omega arith
-acknowledgements-few (ClockState.no_clock absence) identity message = omega arith
+acknowledgements-few clock identity message = search rules
 
 -- a command that adds a reply doesn't change the clock
 reply_raises : (owed added : List Reply) (squares news : ℕ) → length added ≤ 1
@@ -83,6 +81,4 @@ pub effects_raise : (board : BoardState) (events : List EventContent)
     → backlog (effects board events) ≤ backlog board + length events
 effects_raise board [] = omega arith
 effects_raise board (event ∷ events) =
-    let one = effect_raises board event in
-    let rest = effects_raise (effect board event) events in
-    omega (arith, one, rest, backlog_is board, backlog_is (effect board event))
+    search (rules, effect_raises, backlog_is, effects_raise (effect board event) events)

@@ -1,11 +1,11 @@
 -- Squares are reported in the order of their numbers.
-use Rattle.std.proofs.Common.{arith, ◌≡◌, refl, sym, ℕ, zero, suc, ◌+◌, ◌<◌, ◌≤◌, List, [], ◌∷◌, ◌++◌, Some, Bool, true, false, cond, not, inl, inr}
+use Rattle.std.proofs.Common.{arith, ◌≡◌, refl, ℕ, zero, suc, ◌+◌, ◌<◌, ◌≤◌, List, [], ◌∷◌, ◌++◌, Some, Bool, true, false, cond, inl, inr}
+use Rattle.std.proofs.Common.{rules}
 use Rattle.std.proofs.lemmas.Bool.{eqb-true}
 use Rattle.std.proofs.lemmas.Bool.Decides.{eqb_tells}
 use Rattle.std.specs.Prelude.{◌==◌, ◌≢◌, ◌⊎◌, filter, map, slice_get}
 use Rattle.std.specs.List.{range_with_len}
 use Rattle.dgt_values.specs.declared.pieces.Piece.{Piece}
-use Rattle.dgt_values.specs.Board.{piece_code}
 use Rattle.dgt_values.proofs.PieceCodes.{same_code}
 use Rattle.dgt_message.specs.Clock.{ClockState}
 use Rattle.dgt_message.specs.Content.{Content, clock_message}
@@ -40,22 +40,12 @@ before_square false test at lower rest e below = cc
 -- a square that doesn't differ has the piece that was reported
 same_piece : (board : BoardState) (square : ℕ) → differs board square ≡ false
     → piece_on board.squares square ≡ piece_on board.reported_squares square
-same_piece board square same =
-    let reported = piece_code (piece_on board.reported_squares square) in
-    go (reported == piece_code (piece_on board.squares square)) refl same
-  where
-    go : (equal : Bool)
-        → (piece_code (piece_on board.reported_squares square) == piece_code (piece_on board.squares square)) ≡ equal
-        → not equal ≡ false → piece_on board.squares square ≡ piece_on board.reported_squares square
-    go true e h = sym (same_code _ _ (eqb-true _ _ e))
-    go false e h = cc
+same_piece board square same = search (rules, same_code, eqb-true)
 
 -- the message of the clock isn't a field update
 no_field : (owed : Bool) (clock : ClockState) (square : ℕ) (piece : Piece)
     → slice_get (cond owed (clock_message clock ∷ []) []) 0 ≡ Some (Content.field square piece) → ⊥
-no_field false clock square piece e = cc
-no_field true (ClockState.times readings) square piece e = cc
-no_field true (ClockState.no_clock absence) square piece e = cc
+no_field owed clock square piece e = search rules
 
 -- no square before the one of the next field differs
 pub lower_same : (board : BoardState) (square lower : ℕ) (piece : Piece) → board.owed ≡ []

@@ -1,5 +1,6 @@
 -- The squares that differ from what was reported, and the first of them.
 use Rattle.std.proofs.Common.{arith, ◌≡◌, refl, ap, sym, ◌∙◌, ◌^◌, ℕ, zero, suc, ◌+◌, ◌<◌, [], Some, None, Bool, true, false, not, add-zero, zero-add}
+use Rattle.std.proofs.Common.{rules}
 use Rattle.std.proofs.lemmas.Bool.{eq-eqb, ne_eqb, false≢true}
 use Rattle.std.proofs.lemmas.Nat.{bit_set_by_shift}
 use Rattle.std.proofs.lemmas.Nat.Bits.{bit_at-trailing_zeros, bit_at-zero, shr_and_one}
@@ -26,9 +27,7 @@ none_passes test a (suc n) h =
 first_passes : (test : ℕ → Bool) (a n k : ℕ) → k < n → ((j : ℕ) → j < k → test (a + j) ≡ false)
     → test (a + k) ≡ true → slice_get (filter test (range_with_len a n)) 0 ≡ Some (a + k)
 first_passes test a zero k within before holds = absurd (omega arith)
-first_passes test a (suc n) zero within before holds =
-    let here : test a ≡ true = rw (← add-zero a) holds in
-    rw (here, add-zero a) refl
+first_passes test a (suc n) zero within before holds = search (rules, add-zero)
 first_passes test a (suc n) (suc k) within before holds =
     let here : test a ≡ false = rw (← add-zero a) (before 0 (omega arith)) in
     let next : (j : ℕ) → a + 1 + j ≡ a + suc j = λ j. omega arith in

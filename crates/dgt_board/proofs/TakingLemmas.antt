@@ -1,5 +1,6 @@
 -- The bytes that a board has taken.
-use Rattle.std.proofs.Common.{◌≡◌, refl, sym, ap, ◌∙◌, ℕ, List, [], ◌∷◌, ◌++◌, Some, append-nil, append_assoc}
+use Rattle.std.proofs.Common.{◌≡◌, refl, ap, ℕ, List, [], ◌∷◌, ◌++◌, Some, append-nil, append_assoc}
+use Rattle.std.proofs.Common.{rules}
 use Rattle.dgt_command.specs.Content.{EventContent}
 use Rattle.dgt_command.specs.Laws.{DivisionsAppend}
 use Rattle.dgt_command.specs.Words.{IsPartial, IsWord}
@@ -14,13 +15,7 @@ takes_word nothing before after bytes event word state rest = (
   rw (← state, ← rest) refl,
   record {
     events = event ∷ [];
-    divided = (
-      before.partial ++ bytes,
-      [],
-      word,
-      sym (append-nil (before.partial ++ bytes)),
-      (sym rest, rw rest nothing),
-    );
+    divided = search (rules, append-nil);
     state = state;
   },
 )
@@ -34,12 +29,8 @@ effects-append board (event ∷ events) more = effects-append (effect board even
 -- taking in parts is taking together
 pub takes_on : DivisionsAppend → (before between after : BoardView) (bytes more : List ℕ)
     → HasTaken before bytes between → HasTaken between more after → HasTaken before (bytes ++ more) after
-takes_on append before between after bytes more first next =
-    record {
-      events = first.events ++ next.events;
-      divided = rw (← append_assoc before.partial bytes more)
-          (append (before.partial ++ bytes) more first.events next.events between.partial after.partial first.divided
-          next.divided);
-      state = next.state ∙ ap (λ (board : BoardState). effects board next.events) first.state
-          ∙ sym (effects-append before.state first.events next.events);
-    }
+takes_on append before between after bytes more first next = record {
+  events = first.events ++ next.events;
+  divided = search (rules, append_assoc);
+  state = search (rules, effects-append);
+}

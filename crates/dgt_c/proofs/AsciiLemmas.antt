@@ -1,6 +1,7 @@
 -- Placements are ASCII, so a text is wrong from its first other byte on.
 use Prim.Native.Char.{code as ascii}
-use Rattle.std.proofs.Common.{◌≡◌, ℕ, ◌+◌, ◌<◌, ◌≤◌, List, [], ◌∷◌, ◌++◌, length, take, lit<, arith, inl, inr}
+use Rattle.std.proofs.Common.{◌≡◌, ℕ, ◌+◌, ◌<◌, ◌≤◌, List, [], ◌∷◌, length, take, lit<, arith}
+use Rattle.std.proofs.Common.{rules}
 use Rattle.std.proofs.lemmas.Bool.{cases_lt}
 use Rattle.std.proofs.lemmas.List.{append-nil, get_or-take, get_or_append_left, get_or_past, length-take, length-take-le, take-take, take_all}
 use Rattle.std.proofs.lemmas.Str.{IsAscii-append}
@@ -18,8 +19,7 @@ letter-ascii Empty = lit< tt
 letter-ascii _ = lit< tt
 
 byte-ascii : (byte : ℕ) (squares : List Piece) → MeansSquares byte squares → byte < 128
-byte-ascii byte squares (inl run) = omega (arith, run.digit, run.at_most_eight)
-byte-ascii byte squares (inr letter) = rw letter.letter (letter-ascii letter.piece)
+byte-ascii byte squares h2 = search (rules, letter-ascii)
 
 rank-ascii : (rank : List ℕ) (squares : List Piece) → IsRank rank squares → IsAscii rank
 rank-ascii [] squares h = IsAscii-nil
@@ -35,29 +35,17 @@ ranks-ascii (rank ∷ next ∷ ranks) pieces (squares, rest, eight, is_rank, oth
     IsAscii-append rank (ascii "/" ∷ join_with_byte (ascii "/") (next ∷ ranks)) (rank-ascii rank squares is_rank)
     (IsAscii-cons (ascii "/") (join_with_byte (ascii "/") (next ∷ ranks)) (lit< tt) behind)
 
-placement-ascii : (text : List ℕ) (pieces : List Piece) → IsPlacement text pieces → IsAscii text
-placement-ascii text pieces h = rw h.joined (ranks-ascii h.ranks pieces h.each)
-
 -- bytes up to the first that isn't ASCII
 pub ascii_prefix : (text : List ℕ) (end : ℕ) → end ≤ length text
     → ((k : ℕ) → k < end → slice_index text k < 128) → IsAscii (take end text)
-ascii_prefix text end h low = λ i. elim (cases_lt i end) [
-  | inl within ↦ rw (get_or-take end text i 0 within) (low i within)
-  | inr behind ↦
-      let past : length (take end text) ≤ i = rw (length-take-le end text h) behind in
-      rw (get_or_past (take end text) i 0 past) (lit< tt)
-]
+ascii_prefix text end h low =
+    search (rules, cases_lt, get_or-take, length-take-le, get_or_past, lit<)
 
 -- no placement begins with bytes up to one that isn't ASCII
 no_longer : (text : List ℕ) (at : ℕ) → at < length text → 128 ≤ slice_index text at
     → ¬ (BeginsPlacement (take (at + 1) text))
 no_longer text at h top (more, pieces, placed) =
-    let low = placement-ascii (take (at + 1) text ++ more) pieces placed at in
-    let long : at < length (take (at + 1) text) = omega (arith, length-take (at + 1) text) in
-    let prefix = get_or_append_left (take (at + 1) text) more 0 at long in
-    let same = get_or-take (at + 1) text at 0 (omega arith) in
-    let below : slice_index text at < 128 = rw (prefix, same) at low in
-    absurd (omega (arith, below, top))
+    search (rules, length-take, get_or_append_left, get_or-take, ranks-ascii)
 
 -- a placement and then a byte that isn't ASCII
 pub bad_behind : (text : List ℕ) (end : ℕ) (pieces : List Piece) → end < length text → 128 ≤ slice_index text end
@@ -78,14 +66,7 @@ bad_in_prefix text end at h top bad =
     record {
       within = omega (arith, within, h);
       begins = rw (take-take at end text within) at bad.begins;
-      no_longer = λ shorter. elim (cases_lt at end) [
-        | inl inside ↦
-            let first : at < length (take end text) = omega (arith, inside, long) in
-            rw (take-take (at + 1) end text (omega (arith, inside))) at (bad.no_longer first)
-        | inr behind ↦
-            let same : at ≡ end = omega (arith, behind, within) in
-            no_longer text at shorter (rw same (top (omega (arith, same, shorter))))
-      ];
+      no_longer = search (rules, cases_lt, take-take, no_longer);
       too_short = λ all.
           let whole : take end text ≡ text = take_all end text (omega (arith, all, within)) in
           let last : at ≡ length (take end text) = omega (arith, all, within, h, long) in

@@ -1,8 +1,9 @@
 -- The events of a chunk, reported one after another.
-use Rattle.std.proofs.Common.{◌≡◌, ◌↔◌, refl, sym, ap, ◌∙◌, ℕ, ◌+◌, ◌-◌, ◌<◌, ◌≤◌, List, [], ◌∷◌, ◌++◌, append_assoc, append-nil, length, take, drop, set, Some, None, Option, is_some, Bool, true, false, IsTrue, arith, inl, inr, subst}
+use Rattle.std.proofs.Common.{◌≡◌, ◌↔◌, refl, sym, ap, ◌∙◌, ℕ, ◌+◌, ◌-◌, ◌<◌, ◌≤◌, List, [], ◌∷◌, ◌++◌, append_assoc, append-nil, length, take, drop, set, Some, None, Option, is_some, Bool, true, false, IsTrue, arith, inl, inr}
+use Rattle.std.proofs.Common.{rules}
 use Rattle.std.proofs.Math.Seq.{take-add}
 use Rattle.std.proofs.lemmas.Bool.{cases_lt}
-use Rattle.std.proofs.lemmas.Grind.{flat_map-append}
+use Rattle.std.proofs.lemmas.Grind.{flat_map-append, common_steps}
 use Rattle.std.proofs.lemmas.List.{drop-drop, drop-set-lt, length-append, length-drop, length-set, length-take, map-append, nil_from_length, take-append-drop, take_all, take_more_set}
 use Rattle.dgt_decode.specs.Grammar.{Event, Placed, at_place, events, shifted, unfinished_message}
 use Rattle.dgt_decode.specs.Feeding.{FirstEvent, event_content, event_content_if_any}
@@ -21,20 +22,13 @@ use Rattle.dgt_c.specs.declared.header.DgtEvent.{DgtEvent}
 events_more : EventsAppend → (held chunk : List ℕ) (i n : ℕ) → let s = held ++ take i chunk in
     events_up_to held chunk (i + n) ≡ events_up_to held chunk i
     ++ shifted (length s - length (unfinished_message s)) (events (unfinished_message s ++ take n (drop i chunk)))
-events_more later held chunk i n =
-    ap (λ xs. events (held ++ xs)) (take-add i n chunk)
-    ∙ ap events (sym (append_assoc held (take i chunk) (take n (drop i chunk))))
-    ∙ later (held ++ take i chunk) (take n (drop i chunk))
+events_more later held chunk i n = search (rules, take-add, append_assoc)
 
 -- bytes that complete no event
 quiet : EventsAppend → (held chunk : List ℕ) (i n : ℕ)
     → events (unfinished_message (held ++ take i chunk) ++ take n (drop i chunk)) ≡ []
     → events_up_to held chunk (i + n) ≡ events_up_to held chunk i
-quiet later held chunk i n none =
-    let s : List ℕ = held ++ take i chunk in
-    events_more later held chunk i n
-    ∙ ap (λ xs. events_up_to held chunk i ++ shifted (length s - length (unfinished_message s)) xs) none
-    ∙ append-nil (events_up_to held chunk i)
+quiet later held chunk i n none = search (rules, events_more, append-nil)
 
 prefix_nil : {X : Type 0} (xs ys : List X) → xs ++ ys ≡ [] → xs ≡ []
 prefix_nil [] ys e = refl
@@ -57,18 +51,14 @@ quiet_before : EventsAppend → (held rest : List ℕ) (n k : ℕ) (event : Opti
     → k < n → events (held ++ take k rest) ≡ []
 quiet_before later held rest n k None (all, none) h =
     quiet_prefix later (held ++ take k rest) (drop k rest)
-    (ap events (append_assoc held (take k rest) (drop k rest))
-    ∙ ap (λ (xs : List ℕ). events (held ++ xs)) (take-append-drop k rest) ∙ none)
+    (search (rules, append_assoc, take-append-drop))
 quiet_before later held rest n k (Some event) (within, made, least) h = least k h
 
 -- the events of all bytes used then
 quiet_used : EventsAppend → (held chunk : List ℕ) (i n : ℕ)
     → FirstEvent (unfinished_message (held ++ take i chunk)) (drop i chunk) n None
     → events_up_to held chunk (i + n) ≡ events_up_to held chunk i
-quiet_used later held chunk i n (all, none) =
-    let rest : take n (drop i chunk) ≡ drop i chunk = take_all n (drop i chunk) (omega (arith, all)) in
-    quiet later held chunk i n
-    (ap (λ (xs : List ℕ). events (unfinished_message (held ++ take i chunk) ++ xs)) rest ∙ none)
+quiet_used later held chunk i n (all, none) = search (rules, take_all, quiet)
 
 -- the place of the next event
 abbrev next_place : List ℕ → List ℕ → ℕ → ℕ → ℕ
@@ -86,11 +76,7 @@ one_used : EventsAppend → (held chunk : List ℕ) (i n : ℕ) (event : Event)
     → FirstEvent (unfinished_message (held ++ take i chunk)) (drop i chunk) n (Some event)
     → events_up_to held chunk (i + n)
     ≡ events_up_to held chunk i ++ at_place (next_place held chunk i n) event ∷ []
-one_used later held chunk i n event (within, made, least) =
-    let s : List ℕ = held ++ take i chunk in
-    events_more later held chunk i n
-    ∙ ap (λ (xs : List Placed).
-    events_up_to held chunk i ++ shifted (length s - length (unfinished_message s)) xs) made
+one_used later held chunk i n event (within, made, least) = search (rules, events_more)
 
 -- ---- A loop over a chunk
 
@@ -106,31 +92,17 @@ pub record HasRead (held chunk : List ℕ) (used count : ℕ) (old now : List Dg
   pub least : (k : ℕ) → k < used → GoesOn (length old) (events_up_to held chunk k)
 
 pub overwritten_nothing : (old : List ℕ) → overwritten old [] ≡ old
-overwritten_nothing [] = refl
-overwritten_nothing (x ∷ old) = refl
+overwritten_nothing old = search rules
 
 module _ (later : EventsAppend) (held chunk : List ℕ) (old : List DgtEvent) (old_body : List ℕ) where
   pub nothing_read : events (held ++ []) ≡ [] → HasRead held chunk 0 0 old old 0 old_body old_body
-  nothing_read none =
-      let made : events_up_to held chunk 0 ≡ [] = none in
-      record {
-        within = omega arith;
-        count_is = rw made refl;
-        all = refl;
-        rest = refl;
-        body_is = rw (made, overwritten_nothing old_body) refl;
-        body_len_is = rw made refl;
-        least = λ k h. absurd (omega (arith, h));
-      }
+  nothing_read none = search (rules, overwritten_nothing)
 
   -- while the loop goes on
   goes_on : (used count body_len : ℕ) (now : List DgtEvent) (body : List ℕ)
       → HasRead held chunk used count old now body_len old_body body → count < length now → body_len ≡ 0
       → GoesOn (length old) (events_up_to held chunk used)
-  goes_on used count body_len now body before room no_body = (
-    omega (arith, room, before.count_is, before.all),
-    nil_from_length (bodies (events_up_to held chunk used)) (sym before.body_len_is ∙ no_body),
-  )
+  goes_on used count body_len now body before room no_body = search (rules, nil_from_length)
 
   least_more : (used n : ℕ) (event : Option Event)
       → ((k : ℕ) → k < used → GoesOn (length old) (events_up_to held chunk k))
@@ -141,12 +113,7 @@ module _ (later : EventsAppend) (held chunk : List ℕ) (old : List DgtEvent) (o
     | inl early ↦ least k early
     | inr late ↦
         let from : used + (k - used) ≡ k = omega (arith, late) in
-        let none = quiet_before later (unfinished_message (held ++ take used chunk)) (drop used chunk) n
-        (k - used) event
-        first (omega (arith, h, late)) in
-        let same : events_up_to held chunk k ≡ events_up_to held chunk used =
-        ap (events_up_to held chunk) (sym from) ∙ quiet later held chunk used (k - used) none in
-        rw same now
+        search (rules, quiet_before, quiet)
   ]
 
   pub none_read : (used n count body_len : ℕ) (now : List DgtEvent) (body : List ℕ)
@@ -181,19 +148,12 @@ module _ (later : EventsAppend) (held chunk : List ℕ) (old : List DgtEvent) (o
       let body_same : body ≡ old_body =
       before.body_is ∙ ap (overwritten old_body) on.1 ∙ overwritten_nothing old_body in
       let all_bodies : bodies (events_up_to held chunk used ++ x ∷ []) ≡ body_said (Some event) =
-      flat_map-append (λ (y : Placed). body_said (Some y.event)) (events_up_to held chunk used) (x ∷ [])
-      ∙ ap (λ (xs : List ℕ). xs ++ (body_said (Some event) ++ [])) on.1
-      ∙ append-nil (body_said (Some event)) in
+      search (rules, flat_map-append, append-nil) in
       record {
         within = omega (arith, first.0, length-drop used chunk, more);
-        count_is = rw made (omega (
-          arith,
-          before.count_is,
-          length-append (events_up_to held chunk used) (x ∷ []),
-        ));
+        count_is = search (rules, length-append);
         all = length-set now count reported ∙ before.all;
-        rest = drop-set-lt (count + 1) now count reported (omega arith)
-            ∙ sym (drop-drop 1 count now) ∙ ap (drop 1) before.rest ∙ drop-drop 1 count old;
+        rest = grind (arith, common_steps, drop-set-lt, drop-drop);
         body_is = rw (made, all_bodies, body_same) refl;
         body_len_is = rw (made, all_bodies) refl;
         least = least_more used n (Some event) before.least on first;
@@ -203,25 +163,11 @@ module _ (later : EventsAppend) (held chunk : List ℕ) (old : List DgtEvent) (o
   uses_up_to : (used count body_len : ℕ) (now : List DgtEvent) (body : List ℕ)
       → HasRead held chunk used count old now body_len old_body body
       → ((used < length chunk) × (count < length now) × (body_len ≡ 0) → ⊥) → UsesUpTo held chunk (length old) used
-  uses_up_to used count body_len now body before ended = record {
-    within = before.within;
-    least = before.least;
-    ends = λ more on. ended (
-      more,
-      omega (arith, on.0, before.count_is, before.all),
-      before.body_len_is ∙ ap length on.1,
-    );
-  }
+  uses_up_to used count body_len now body before ended = search rules
 
   progress : (used : ℕ) → events (held ++ []) ≡ [] → UsesUpTo held chunk (length old) used → 0 < length chunk
       → 0 < length old → 0 < used
-  progress used none uses some room = elim (cases_lt 0 used) [
-    | inl some_used ↦ some_used
-    | inr nothing ↦
-        let zero : used ≡ 0 = omega (arith, nothing) in
-        let made : events_up_to held chunk used ≡ [] = ap (events_up_to held chunk) zero ∙ none in
-        absurd (uses.ends (omega (arith, zero, some)) (rw made (room, refl)))
-  ]
+  progress used none uses some room = search (rules, cases_lt)
 
 -- ---- A reader of a chunk: a host, or a decoder
 
@@ -267,10 +213,7 @@ pub fed_more : (held bytes : List ℕ) (reported : List DgtEvent) (y : Placed) (
     → reported ≡ each_reported (length held) (events (held ++ bytes))
     → one ≡ reported_at (y.place - length held) (Some y.event)
     → reported ++ one ∷ [] ≡ each_reported (length held) (events (held ++ bytes) ++ y ∷ [])
-fed_more held bytes reported y one are is =
-    let more = map-append (λ (x : Placed). reported_at (x.place - length held) (Some x.event)) (events (held ++ bytes))
-    (y ∷ []) in
-    rw (more, are, is) refl
+fed_more held bytes reported y one are is = search (rules, map-append)
 
 abbrev pub decoder : Hearer
 decoder = record {
@@ -305,20 +248,11 @@ module _ (K : Hearer) (later : EventsAppend) (x : K.S) (chunk : List ℕ) (old :
 
   pub heard_nothing : UnfinishedIsQuiet → unfinished_message (K.held x) ≡ K.held x → K.after x [] ≡ x
       → HasHeard K x x chunk 0 0 old old 0 old_body old_body
-  heard_nothing quiet same still =
-      let none = no_event quiet same in
-      record {
-        read = nothing_read later (K.held x) chunk old old_body none;
-        heard = sym still;
-        reports = rw none (K.none_reported x);
-      }
+  heard_nothing quiet same still = search (rules, no_event, quiet, nothing_read)
 
   heard_more : InChunks K → (before after : K.S) (i n : ℕ) → before ≡ K.after x (take i chunk)
       → after ≡ K.after before (take n (drop i chunk)) → after ≡ K.after x (take (i + n) chunk)
-  heard_more in_chunks before after i n e f =
-      f ∙ ap (λ (s : K.S). K.after s (take n (drop i chunk))) e
-      ∙ in_chunks x (take i chunk) (take n (drop i chunk))
-      ∙ ap (K.after x) (sym (take-add i n chunk))
+  heard_more in_chunks before after i n e f = search (rules, take-add)
 
   pub one_heard : UnfinishedIsPart → InChunks K → (before after : K.S) (used n count body_len : ℕ) (now : List DgtEvent)
       (body said new_body : List ℕ) (event : Option code.Event) (reported : DgtEvent)
@@ -345,18 +279,11 @@ module _ (K : Hearer) (later : EventsAppend) (x : K.S) (chunk : List ℕ) (old :
       let y : Placed = at_place (next_place (K.held x) chunk used n) event in
       let made = one_used later (K.held x) chunk used n event first_here in
       let place = place_in_chunk part (K.held x) chunk used n has.read.within in
-      let reported_then = subst (λ (s : K.S). K.Reports s (used + n) (Some event) reported) has.heard is_reported in
-      let reported_there = subst (λ (k : ℕ). K.Reports (K.after x (take used chunk)) k (Some event) reported)
-      (sym place)
-      reported_then in
       record {
         read = rw (said_here, body_here)
-            (one_read later (K.held x) chunk old old_body used n count body_len now body event reported has.read on.1
-            on.2
-            on.0 first_here);
+            (search (rules, one_read));
         heard = heard_more in_chunks before after used n has.heard hears;
-        reports = rw (made, take_more_set now count reported on.1)
-            (K.one_reported x (take used chunk) (take count now) y reported has.reports reported_there);
+        reports = search (rules, take_more_set);
       }
 
   pub none_heard : InChunks K → (before after : K.S) (used n count body_len : ℕ) (now : List DgtEvent)
@@ -366,25 +293,19 @@ module _ (K : Hearer) (later : EventsAppend) (x : K.S) (chunk : List ℕ) (old :
       → FirstEvent (K.held before) (drop used chunk) n (event_content_if_any event)
       → after ≡ K.after before (take n (drop used chunk)) → is_some event ≡ false
       → HasHeard K x after chunk (used + n) count old now body_len old_body body
-  none_heard in_chunks before after used n count body_len now body (Some e) has on first hears none = absurd cc
+  none_heard in_chunks before after used n count body_len now body (Some e) has on first hears none =
+      absurd cc
   none_heard in_chunks before after used n count body_len now body None has on first hears none =
       let held : K.held before ≡ unfinished_message (K.held x ++ take used chunk) =
       ap K.held has.heard ∙ K.held_after x (take used chunk) in
       let first_here = rw held at first in
-      record {
-        read = none_read later (K.held x) chunk old old_body used n count body_len now body has.read on.1 on.2 on.0
-            first_here;
-        heard = heard_more in_chunks before after used n has.heard hears;
-        reports = rw (quiet_used later (K.held x) chunk used n first_here) has.reports;
-      }
+      search (rules, none_read, heard_more, quiet_used)
 
   pub uses : (now : K.S) (used count body_len : ℕ) (reported : List DgtEvent) (body : List ℕ)
       → HasHeard K x now chunk used count old reported body_len old_body body
       → ((used < length chunk) × (count < length reported) × (body_len ≡ 0) → IsTrue false)
       → UsesUpTo (K.held x) chunk (length old) used
-  uses now used count body_len reported body has ended =
-      uses_up_to later (K.held x) chunk old old_body used count body_len reported body has.read
-      (λ on. let no : false ≡ true = ended on in absurd cc)
+  uses now used count body_len reported body has ended = search (rules, uses_up_to)
 
   pub uses_some : UnfinishedIsQuiet → unfinished_message (K.held x) ≡ K.held x → (used : ℕ)
       → UsesUpTo (K.held x) chunk (length old) used → 0 < length chunk → 0 < length old → 0 < used

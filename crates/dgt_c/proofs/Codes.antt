@@ -12,5 +12,4 @@ one_more_in_prefix f xs old i d h k =
     let prefix : length (map f (take i xs)) ≡ i = omega (arith, length-map (take i xs) f, length-take i xs) in
     let a = set-append_seam (map f (take i xs)) (get_or old i 0) (drop (suc i) old) (f (get_or xs i d)) in
     let b = drop-cons old i 0 k in
-    let e = take_more xs i d h in
-    grind (arith, common_steps, a, b, e, prefix)
+    grind (arith, common_steps, take_more)

@@ -1,7 +1,8 @@
 -- What a struct of C describes, and what it doesn't.
-use Rattle.std.proofs.Common.{◌≡◌, ◌≢◌, ◌⊎◌, ◌+◌, refl, ℕ, ◌<◌, ◌≤◌, List, [], ◌∷◌, length, map, Option, Some, None, ap, arith, subst, sym}
+use Rattle.std.proofs.Common.{◌≡◌, ◌≢◌, ◌⊎◌, ◌+◌, refl, ℕ, ◌<◌, ◌≤◌, List, length, map, Option, Some, None, ap, arith, subst}
+use Rattle.std.proofs.Common.{rules}
 use Rattle.std.specs.List.{AllByRecursion}
-use Rattle.std.proofs.lemmas.List.Elements.{All-from_recursion, All-map}
+use Rattle.std.proofs.lemmas.List.Elements.{All-map}
 use Rattle.std.specs.Prelude.{IfSome, IsTrue, is_some, slice_index, slice_index_or}
 use Rattle.dgt_values.specs.declared.pieces.Piece.{Piece}
 use Rattle.dgt_values.specs.Board.{piece_code}
@@ -9,7 +10,6 @@ use Rattle.dgt_message.specs.declared.known.KnownCode.{KnownCode}
 use Rattle.dgt_message.specs.Clock.{ClockState}
 use Rattle.dgt_message.specs.Code.{known_total, known_with}
 use Rattle.dgt_message.specs.Content.{Content, IsCarried}
-use Rattle.dgt_message.specs.Layout.{known_layout}
 use Rattle.dgt_message.proofs.Codes.{piece_code-below}
 use Rattle.dgt_c.specs.Clocks.{SaysClock}
 use Rattle.dgt_c.specs.Encoding.{IsMessageKind, SaysMessage, carried_said, kinds_of_messages}
@@ -17,6 +17,7 @@ use Rattle.dgt_c.specs.Starting.{ArePieces}
 use Rattle.dgt_c.specs.Reported.{body_apart, carried_reported, message_reported}
 use Rattle.dgt_c.specs.declared.header.DgtEvent.{DgtEvent}
 use Rattle.dgt_c.specs.declared.header.TheConstants.{EVENT_DUMP, EVENT_NO_CLOCK, EVENT_OTHER, EVENT_TIMES}
+use Rattle.std.proofs.lemmas.Grind.{common_steps}
 
 -- the codes of pieces are codes of pieces
 pub are_pieces : (pieces : List Piece) (codes : List ℕ) → map piece_code pieces ≡ codes → ArePieces codes
@@ -26,9 +27,7 @@ are_pieces pieces codes same =
 
 -- the kind of a message that is carried unread is that of a serial number or a later one
 carried_least : (known : Option KnownCode) (code : ℕ) (body : List ℕ) → 6 ≤ (carried_reported known code body).kind
-carried_least None code body = omega arith
-carried_least (Some KnownCode.Dump) code body = omega arith
-carried_least (Some _) code body = omega arith
+carried_least known code body = search rules
 
 -- each message has a kind of messages
 carried_kinds : (known : Option KnownCode) (code : ℕ) (body : List ℕ)
@@ -52,10 +51,7 @@ message_kinds (Content.carried code body) = carried_kinds (known_with code) code
 -- an event of a kind that isn't a message's describes none
 pub no_message : (said : DgtEvent) (body : List ℕ) → AllByRecursion (λ kind. kind ≢ said.kind) kinds_of_messages
     → (message : Content) → SaysMessage said body message → ⊥
-no_message said body none message says =
-    let kind = message_kinds message in
-    All-from_recursion (λ each. each ≢ said.kind) kinds_of_messages none kind.0 said.kind kind.1
-    (subst (λ is. slice_index_or kinds_of_messages kind.0 is ≡ is) (sym says.1.0) kind.2)
+no_message said body none message says = search (rules, message_kinds)
 
 -- an event of a dump with a number that isn't a piece describes none
 pub no_dump : (said : DgtEvent) (body : List ℕ) → said.kind ≡ EVENT_DUMP → (ArePieces said.pieces → ⊥)
@@ -77,46 +73,26 @@ no_clock said body least most none _ says = absurd (omega (arith, least, most, s
 -- a struct of the kind of other messages has their code
 pub other_code : (known : Option KnownCode) (code : ℕ) (body : List ℕ)
     → (carried_reported known code body).kind ≡ EVENT_OTHER → code ≡ (carried_reported known code body).code
-other_code None code body other = refl
-other_code (Some KnownCode.Serial) code body other = cc
-other_code (Some KnownCode.Version) code body other = cc
-other_code (Some _) code body other = refl
-
--- two bytes are those of a list of two
-two : (body : List ℕ) → length body + 3 ≡ 5 → body ≡ slice_index body 0 ∷ slice_index body 1 ∷ []
-two (a ∷ b ∷ []) size = refl
-two (a ∷ b ∷ c ∷ body) size = absurd (omega arith)
-two (a ∷ []) size = absurd (omega arith)
-two [] size = absurd (omega arith)
+other_code known code body other = search rules
 
 -- its members or the body are the bytes
 pub carried_bytes : (place : ℕ) (known : Option KnownCode) (code : ℕ) (body : List ℕ)
     → IfSome (known_total known) (λ total. length body + 3 ≡ total)
     → body ≡ carried_said known (record (carried_reported known code body) { place = place }) (body_apart known body)
-carried_bytes place None code body size = refl
-carried_bytes place (Some KnownCode.Serial) code body size = refl
-carried_bytes place (Some KnownCode.Version) code body size = two body size
-carried_bytes place (Some _) code body size = refl
+carried_bytes place known code body size = grind (arith, common_steps)
 
 -- the bytes of a message of a kind without a member for them are the body
 pub said_apart : (said : DgtEvent) (body : List ℕ) (known : Option KnownCode) (code : ℕ) (bytes : List ℕ)
     → (said.kind ≡ 7) ⊎ (said.kind ≡ 9) ⊎ (said.kind ≡ 10) ⊎ (said.kind ≡ 11)
     → said.kind ≡ (carried_reported known code bytes).kind → carried_said known said body ≡ body
-said_apart said body None code bytes kind is = refl
-said_apart said body (Some KnownCode.Serial) code bytes kind is = absurd (omega (arith, kind, is))
-said_apart said body (Some KnownCode.Version) code bytes kind is = absurd (omega (arith, kind, is))
-said_apart said body (Some _) code bytes kind is = refl
+said_apart said body known code bytes kind is = search rules
 
 -- a code without a variant is none of the known ones
 pub no_case : (known : Option KnownCode) → (IsTrue (is_some known) → ⊥) → known ≡ None
-no_case None none = refl
-no_case (Some code) none = absurd (none refl)
+no_case known none = search rules
 
 -- a struct of the kind of other messages, with their code, describes one
 pub other_said : (said : DgtEvent) (body bytes : List ℕ) (code : ℕ) → code < 128 → known_with code ≡ None
     → said.kind ≡ EVENT_OTHER → code ≡ said.code → bytes ≡ body → IsCarried bytes
     → SaysMessage said body (Content.carried code bytes)
-other_said said body bytes code small none kind is same carried = (
-  (small, ap (λ known. known_layout known bytes) none, rw none tt, carried),
-  (rw none kind, ((λ other. is), rw none same)),
-)
+other_said said body bytes code small none kind is same carried = search rules

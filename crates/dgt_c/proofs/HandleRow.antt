@@ -1,11 +1,11 @@
 -- A handle of C's as a row: a struct of one pointer, which owns the value there.
-use Rattle.std.proofs.Common.{◌≡◌, ℕ, List, [], ◌∷◌}
+use Rattle.std.proofs.Common.{◌≡◌, ℕ, List, [], ◌∷◌, rules}
 use base.Fraction.{full_share}
 use base.Shift.{Keyless}
 use base.Stored.{Coded}
 use mir.Syntax.{Sym, Fn, Local, Body}
 use denote.Param.Laws.{Laws}
-use denote.Param.Send.{IsSend, owning_send, part_keyless, sendable}
+use denote.Param.Send.{IsSend, part_keyless}
 use denote.RattleType.{RattleType}
 use denote.RawPtr.{Ptr, block_ptr, null_ptr, lies_at}
 use denote.Struct.Field.{RawPtr-field}
@@ -90,5 +90,4 @@ module _ (K : Handle) where
 
   -- it can be sent to another thread if the value can
   pub sends : IsSend K.inside_row → IsSend handle_row
-  sends s =
-      owning_send handle_type (search sendable, tt) (λ d. lies K.inside_row s (K.at d) (K.inside d)) (λ k x w. tt)
+  sends s = search (rules, lies)

@@ -1,5 +1,5 @@
 -- How a listener changes by the one event that is heard, if there is one.
-use Rattle.std.proofs.Common.{Option, Some, None, ℕ}
+use Rattle.std.proofs.Common.{Option, Some, None, ℕ, rules}
 use Rattle.std.specs.List.{FoldsTo}
 use Rattle.dgt_decode.specs.Grammar.{Event, Placed, at_place}
 use Rattle.dgt_decode.specs.Feeding.{at_place_if_any}
@@ -8,6 +8,4 @@ pub heard_at_most_once : {A : Type 0} (Hears : A → Placed → A → Type 0) (H
     (place : ℕ) (event : Option Event) (old new : A) → FoldsTo Hears old (at_place_if_any place event) new
     → Holds None old → ((said : Event) (mid : A) → Hears old (at_place place said) mid → Holds (Some said) mid)
     → Holds event new
-heard_at_most_once Hears Holds place None old new folds nothing one = rw (← folds) nothing
-heard_at_most_once Hears Holds place (Some said) old new (mid, heard, same) nothing one =
-    rw (← same) (one said mid heard)
+heard_at_most_once Hears Holds place event old new folds nothing one = search rules

@@ -1,8 +1,8 @@
 //! A host, a follower, a decoder, a decoder of commands and a board for C, and through C for other
 //! languages.
 //!
-//! The header `include/dgt.h` documents each call and the rules for callers. `lib/build` builds the
-//! archive and the shared library.
+//! The header `bindings/c/include/dgt.h` documents each call and the rules for callers.
+//! `bindings/c/build` builds the archive and the shared library.
 //!
 //! ```c
 //! #include <dgt.h>

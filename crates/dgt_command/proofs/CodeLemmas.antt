@@ -1,17 +1,17 @@
 -- A number belongs to one known id, and a byte is the code of one command of one byte.
-use Rattle.std.proofs.Common.{◌≡◌, ◌≢◌, ℕ, Bool, true, false, cond, refl, sym, ap, subst, List, [], ◌∷◌, Some}
-use Rattle.std.proofs.Common.{None}
+use Rattle.std.proofs.Common.{◌≡◌, ◌≢◌, ℕ, Bool, true, false, cond, refl, sym, List, [], ◌∷◌, Some}
+use Rattle.std.proofs.Common.{None, arith, rules}
 use Rattle.std.specs.List.{list_all}
 use Rattle.std.specs.Prelude.{◌==◌, ◌↔◌, find}
 use Rattle.std.proofs.lemmas.Bool.{and_parts, eqb-true}
 use Rattle.dgt_command.specs.declared.command.Command.{Command}
 use Rattle.dgt_command.specs.declared.command.Command.TheVariants as command
 use Rattle.dgt_command.specs.declared.ids.KnownId.{KnownId}
-use Rattle.dgt_command.specs.declared.ids.KnownId.TheVariants.{Display}
-use Rattle.dgt_command.specs.Encoding.{bare_command, bare_commands, command_code}
+use Rattle.dgt_command.specs.Encoding.{bare_command, command_code}
 use Rattle.dgt_command.specs.Content.{command_content, ClockMessage, Leds, Read}
 use Rattle.dgt_command.specs.Ids.{id_number, id_with, known_ids}
 use Rattle.dgt_command.specs.Words.{BeginsNoCommand, HasForm}
+use Rattle.std.proofs.lemmas.Grind.{common_steps}
 
 -- the result of a search passes its test, and each test that all members pass
 found_passes : {X : Type 0} (listed test : X → Bool) (xs : List X) (x : X) → list_all listed xs ≡ true
@@ -33,8 +33,7 @@ found_id number known e =
 
 -- the id of its number
 id_found : (known : KnownId) → id_with (id_number known) ≡ Some known
-id_found Display = refl
-id_found _ = refl
+id_found known = search rules
 
 -- a number has only one id
 pub one_id : (number : ℕ) (known : KnownId) → (id_with number ≡ Some known) ↔ (number ≡ id_number known)
@@ -49,17 +48,12 @@ is_bare _ = true
 -- such a command is encoded by its code
 encoded_by_code : (each : Command) → is_bare each ≡ true
     → HasForm (Read (command_content each)) (command_code (command_content each) ∷ [])
-encoded_by_code (command.ClockMessage message) h = cc
-encoded_by_code (command.Leds leds) h = cc
-encoded_by_code _ h = refl
+encoded_by_code each h = search rules
 
 -- the command that is found is encoded by the byte
 pub bare_form : (byte : ℕ) (each : Command) → bare_command byte ≡ Some each
     → HasForm (Read (command_content each)) (byte ∷ [])
-bare_form byte each e =
-    let found = found_passes is_bare (λ other. command_code (command_content other) == byte) bare_commands each refl e
-    in
-    rw (← eqb-true _ _ found.0) (encoded_by_code each found.1)
+bare_form byte each e = grind (arith, common_steps, found_passes, eqb-true, encoded_by_code)
 
 -- the first byte, or 0
 abbrev pub first_byte : List ℕ → ℕ
@@ -68,7 +62,4 @@ first_byte (b ∷ rest) = b
 
 -- a byte that is no command of one byte begins no command but the longer ones
 pub no_command : (byte : ℕ) → bare_command byte ≡ None → byte ≢ 0x2b → byte ≢ 0x60 → BeginsNoCommand byte
-no_command byte none not_clock not_leds (ClockMessage message) rest h = not_clock (sym (ap first_byte h))
-no_command byte none not_clock not_leds (Leds leds) rest h = not_leds (sym (ap first_byte h))
-no_command byte none not_clock not_leds c rest h = let gone = subst (λ (x : ℕ). bare_command x ≡ None)
-    (sym (ap first_byte h)) none in cc
+no_command byte none not_clock not_leds = search rules

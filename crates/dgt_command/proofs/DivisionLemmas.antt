@@ -1,11 +1,11 @@
 -- Zeros complete each partial frame, and each list of bytes divides into frames in one way.
 use Rattle.std.proofs.Common.{◌≡◌, ℕ, suc, zero, ◌+◌, ◌-◌, ◌<◌, ◌≤◌, List, [], ◌∷◌, ◌++◌, length, refl, sym, ap, subst}
-use Rattle.std.proofs.Common.{◌∙◌, inl, inr, arith, append_assoc, length-append, replicate, map}
+use Rattle.std.proofs.Common.{◌∙◌, inl, inr, arith, append_assoc, length-append, replicate, map, rules}
 use Rattle.std.proofs.lemmas.Bool.{cases_eq, cases_lt, le-ltb, lt-ltb, ne_eqb, eq-eqb}
 use Rattle.std.proofs.lemmas.List.{append-nil, length-replicate, replicate_more, replicate-append-replicate}
 use Rattle.std.proofs.lemmas.List.{get_or-replicate, get_or_past}
 use Rattle.std.specs.List.{flat_map, AllByRecursion}
-use Rattle.std.specs.Prelude.{Bool, true, false, slice_index, if◌then◌else◌}
+use Rattle.std.specs.Prelude.{Bool, false, slice_index, if◌then◌else◌}
 use Rattle.dgt_command.specs.Content.{CommandContent, ClockMessage, Leds, EventContent, Read, BadSize, BadStart, Stray}
 use Rattle.dgt_command.specs.Encoding.{AreBytes, command_encoding, EncodesCommand}
 use Rattle.dgt_command.specs.Lengths.{word_length}
@@ -41,10 +41,7 @@ bytes_right (x ∷ xs) ys h i = bytes_right xs ys (λ j. h (suc j)) i
 
 -- zeros are bytes
 pub bytes_zeros : (n : ℕ) → AreBytes (zeros n)
-bytes_zeros n i = elim (cases_lt i n) [
-  | inl h ↦ rw (get_or-replicate {A = ℕ} n i 0 0 h) (omega arith)
-  | inr h ↦ rw (get_or_past (zeros n) i 0 (omega (arith, length_zeros n))) (omega arith)
-]
+bytes_zeros n i = search (rules, cases_lt, get_or-replicate, get_or_past, length_zeros)
 
 -- zeros complete the frame
 pub record Completed (r : List ℕ) : Type 0 where
@@ -60,9 +57,7 @@ zero_begins_none = no_command 0 refl (λ e. omega arith) (λ e. omega arith)
 
 -- one zero more at the front is one more at the end
 zeros_push : (n : ℕ) → 0 ∷ zeros n ≡ zeros n ++ 0 ∷ []
-zeros_push n =
-    replicate-append-replicate {A = ℕ} 1 n 0 ∙
-    (ap (λ (k : ℕ). zeros k) (omega arith) ∙ sym (replicate_more {X = ℕ} n 0))
+zeros_push n = search (rules, replicate-append-replicate, replicate_more)
 
 -- zeros complete a clock message with the right size and third byte
 body_zeros : (size : ℕ) (rest : List ℕ) → 3 ≤ size → size < 256 → length rest + 3 < size + 2
@@ -139,42 +134,31 @@ led_zeros (size ∷ rest) byte h =
 pub completed : (r : List ℕ) → AreBytes r → length r < word_length r → Completed r
 completed [] bytes h =
     record { event = Stray 0; count = 0; few = omega arith; noise = tt; form = (zero_begins_none, refl) }
-completed (b ∷ rest) bytes h = elim (cases_eq b 0x2b) [
-  | inl is ↦ subst (λ (x : ℕ). Completed (x ∷ rest)) (sym is)
-      (clock_zeros rest (bytes 1)
-      (let k : length (b ∷ rest) < word_length (0x2b ∷ rest) = rw (eq-eqb b 0x2b is) at h in omega (arith, k)))
-  | inr other ↦ elim (cases_eq b 0x60) [
-    | inl is ↦ subst (λ (x : ℕ). Completed (x ∷ rest)) (sym is)
-        (led_zeros rest (bytes 1)
-        (let k : length (b ∷ rest) < word_length (0x60 ∷ rest) = rw (ne_eqb b 0x2b other, eq-eqb b 0x60 is) at h in
-        omega (arith, k)))
-    | inr neither ↦ absurd
-        (let k : length (b ∷ rest) < 1 = rw (ne_eqb b 0x2b other, ne_eqb b 0x60 neither) at h in omega (arith, k))
-  ]
-]
+completed (b ∷ rest) bytes h =
+    elim (cases_eq b 0x2b) [
+      | inl is ↦ subst (λ (x : ℕ). Completed (x ∷ rest)) (sym is)
+          (clock_zeros rest (bytes 1)
+          (let k : length (b ∷ rest) < word_length (0x2b ∷ rest) = rw (eq-eqb b 0x2b is) at h in omega (arith, k)))
+      | inr other ↦ elim (cases_eq b 0x60) [
+        | inl is ↦ subst (λ (x : ℕ). Completed (x ∷ rest)) (sym is)
+            (led_zeros rest (bytes 1)
+            (search (rules, ne_eqb, eq-eqb)))
+        | inr neither ↦ search (rules, ne_eqb)
+      ]
+    ]
 
 -- a proper prefix of a frame is shorter than its frame, and conversely
 pub IsPartial-from_short : (r : List ℕ) → AreBytes r → length r < word_length r → IsPartial r
 IsPartial-from_short r bytes h =
     let found = completed r bytes h in
-    record {
-      event = found.event;
-      next = 0;
-      more = zeros found.count;
-      word = record {
-        form = found.form;
-        are_bytes = bytes_append r (0 ∷ zeros found.count) bytes
-            (bytes_zeros (suc found.count));
-      };
-    }
+    search (rules, bytes_append, bytes_zeros)
 
 -- a partial frame doesn't begin with a frame
 pub not_both : (r : List ℕ) (e : EventContent) (w x : List ℕ) → IsPartial r → HasForm e w → r ≡ w ++ x → ⊥
 not_both r e w x partial form is =
     let whole : List ℕ = r ++ partial.next ∷ partial.more in
     let prefix : w ++ (x ++ partial.next ∷ partial.more) ≡ whole ++ [] =
-    sym (append_assoc w x (partial.next ∷ partial.more)) ∙
-    (ap (λ (zs : List ℕ). zs ++ partial.next ∷ partial.more) (sym is) ∙ sym (append-nil whole)) in
+    search (rules, append_assoc, append-nil) in
     let same = same_word e partial.event w whole (x ++ partial.next ∷ partial.more) [] form partial.word.form prefix in
     omega (arith, ap length same.word, ap length is, length-append w x, length-append r (partial.next ∷ partial.more))
 
@@ -205,8 +189,7 @@ nothing_is_partial = IsPartial-from_short [] (λ i. omega arith) (omega arith)
 
 -- a frame has at least one byte
 pub some_word : (e : EventContent) (w : List ℕ) → HasForm e w → 0 < length w
-some_word e [] h = absurd (omega (arith, form_length e [] [] h))
-some_word e (b ∷ w) h = omega arith
+some_word e w h = search (rules, form_length)
 
 -- bytes up to some length divide
 divide : (n : ℕ) (s : List ℕ) → length s ≤ n → AreBytes s → (events : List EventContent) × (rest : List ℕ)
@@ -216,44 +199,23 @@ divide zero s short bytes = (
   s,
   (
     refl,
-    IsPartial-from_short s bytes (elim (cases_lt (length s) (word_length s)) [
-      | inl h ↦ h
-      | inr h ↦ let found = begins s h in
-          absurd (omega (
-            arith,
-            some_word found.event found.word found.form,
-            ap length found.is,
-            length-append
-                found.word found.after,
-          ))
-    ]),
+    IsPartial-from_short s bytes (search (rules, cases_lt, begins, some_word, length-append)),
   ),
 )
-divide (suc n) s short bytes = elim (cases_lt (length s) (word_length s)) [
-  | inl h ↦ ([], s, (refl, IsPartial-from_short s bytes h))
-  | inr h ↦
-      let found = begins s h in
-      let both : AreBytes (found.word ++ found.after) = subst AreBytes found.is bytes in
-      let less : length found.after ≤ n =
-      omega (
-        arith,
-        some_word found.event found.word found.form,
-        ap length found.is,
-        length-append found.word
-            found.after,
-      ) in
-      let more = divide n found.after less (bytes_right found.word found.after both) in (
-        found.event ∷ more.0,
-        more.1,
-        (
-          found.word,
-          found.after,
-          record { form = found.form; are_bytes = bytes_left found.word found.after both },
-          found.is,
-          more.2,
-        ),
-      )
-]
+divide (suc n) s short bytes =
+    elim (cases_lt (length s) (word_length s)) [
+      | inl h ↦ ([], s, (refl, IsPartial-from_short s bytes h))
+      | inr h ↦
+          let found = begins s h in
+          let both : AreBytes (found.word ++ found.after) = subst AreBytes found.is bytes in
+          let less : length found.after ≤ n =
+          search (rules, some_word, length-append) in
+          let more = divide n found.after less (bytes_right found.word found.after both) in (
+            found.event ∷ more.0,
+            more.1,
+            (search (rules, bytes_left)),
+          )
+    ]
 
 -- the frames of a division
 divided_words : (s : List ℕ) (events : List EventContent) (rest : List ℕ) → Divides s events rest
@@ -262,11 +224,7 @@ divided_words s [] rest h = ([], record { each = tt; whole = h.0; partial = h.1 
 divided_words s (event ∷ events) rest h =
     let more = divided_words h.1 events rest h.4 in (
       record { event = event; bytes = h.0 } ∷ more.0,
-      record {
-        each = (h.2, more.1.each);
-        whole = h.3 ∙ ap (λ l. h.0 ++ l) more.1.whole ∙ sym (append_assoc h.0 (word_bytes more.0) rest);
-        partial = more.1.partial;
-      },
+      search (rules, append_assoc),
       ap (λ (es : List EventContent). event ∷ es) more.2,
     )
 
@@ -276,20 +234,18 @@ words_once : (xs ys : List Word) (r q : List ℕ)
     → AllByRecursion (λ word. IsWord word.event word.bytes) ys → IsPartial r → IsPartial q
     → word_bytes xs ++ r ≡ word_bytes ys ++ q → (xs ≡ ys) × (r ≡ q)
 words_once [] [] r q h k o p e = (refl, e)
-words_once [] (y ∷ ys) r q h k o p e = absurd (not_both r y.event y.bytes (word_bytes ys ++ q) o k.0.form
+words_once [] (y ∷ ys) r q h k o p e =
+    absurd (not_both r y.event y.bytes (word_bytes ys ++ q) o k.0.form
     (e ∙ append_assoc y.bytes (word_bytes ys) q))
-words_once (x ∷ xs) [] r q h k o p e = absurd (not_both q x.event x.bytes (word_bytes xs ++ r) p h.0.form
+words_once (x ∷ xs) [] r q h k o p e =
+    absurd (not_both q x.event x.bytes (word_bytes xs ++ r) p h.0.form
     (sym e ∙ append_assoc x.bytes (word_bytes xs) r))
 words_once (x ∷ xs) (y ∷ ys) r q h k o p e =
     let both : x.bytes ++ (word_bytes xs ++ r) ≡ y.bytes ++ (word_bytes ys ++ q) =
     sym (append_assoc x.bytes (word_bytes xs) r) ∙ e ∙ append_assoc y.bytes (word_bytes ys) q in
     let same = same_word x.event y.event x.bytes y.bytes (word_bytes xs ++ r) (word_bytes ys ++ q) h.0.form k.0.form
     both in
-    let first : x ≡ y =
-    ap (λ (z : EventContent). let word : Word = record { event = z; bytes = x.bytes } in word) same.event
-    ∙ ap (λ (l : List ℕ). let word : Word = record { event = y.event; bytes = l } in word) same.word in
-    let more = words_once xs ys r q h.1 k.1 o p same.after in
-    (ap (λ (z : Word). z ∷ xs) first ∙ ap (λ (l : List Word). y ∷ l) more.0, more.1)
+    search (rules, words_once xs ys r q h.1 k.1 o p same.after)
 
 -- bytes are frames and a rest in one way, and in only one
 pub each_has_its_words : EachHasItsWords
@@ -323,13 +279,7 @@ no_word_begins_another e f w v more h k is =
 read_back : (cs : List CommandContent) → AllByRecursion (λ c. EncodesCommand c (command_encoding c)) cs
     → Divides (flat_map command_encoding cs) (map Read cs) []
 read_back [] h = (refl, nothing_is_partial)
-read_back (c ∷ cs) h = (
-  command_encoding c,
-  flat_map command_encoding cs,
-  record { form = refl; are_bytes = h.0.are_bytes },
-  refl,
-  read_back cs h.1,
-)
+read_back (c ∷ cs) h = search (rules, read_back cs h.1)
 
 -- bytes that follow others are divided from their rest on
 pub Divides-append : DivisionsAppend
@@ -377,25 +327,13 @@ zeros_settle_the_reader r partial =
     let word : List ℕ = r ++ zeros (suc found.count) in
     let split : r ++ replicate 255 0 ≡ word ++ zeros left =
     ap (λ (n : ℕ). r ++ zeros n) (let e : 255 ≡ suc found.count + left = omega (arith, found.few) in e)
-    ∙ (ap (λ (z : List ℕ). r ++ z) (sym (replicate-append-replicate {A = ℕ} (suc found.count) left 0)) ∙
-    sym (append_assoc r (zeros (suc found.count)) (zeros left))) in (
+    ∙ (search (rules, replicate-append-replicate, append_assoc)) in (
       found.event ∷ more.0,
       (found.noise, more.1),
-      (
-        word,
-        zeros left,
-        record {
-          form = found.form;
-          are_bytes = bytes_append r (zeros (suc found.count)) bytes
-              (bytes_zeros (suc found.count));
-        },
-        split,
-        more.2,
-      ),
+      (search (rules, bytes_append, bytes_zeros)),
     )
 
 -- nothing is held of a whole frame, and otherwise a part of one
 pub held_is_partial : (is_whole : Bool) (word : List ℕ) → (is_whole ≡ false → IsPartial word)
     → IsPartial (if is_whole then [] else word)
-held_is_partial true word h = nothing_is_partial
-held_is_partial false word h = h refl
+held_is_partial is_whole word h = search (rules, nothing_is_partial)

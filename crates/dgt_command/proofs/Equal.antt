@@ -1,13 +1,12 @@
 -- The derived `==` of clock messages.
-use Rattle.std.proofs.Common.{◌≡◌, ℕ, nat_eq, refl, ap, sym, ◌∙◌, List, [], ◌∷◌, length, true, false}
+use Rattle.std.proofs.Common.{◌≡◌, ℕ, nat_eq, refl, ap, sym, ◌∙◌, List, [], ◌∷◌, length, true, false, rules}
 use Rattle.std.specs.Prelude.{◌↔◌, IsTrue, slice_index}
 use Rattle.std.proofs.lemmas.Bool.Decides.{Decides-and, Decides-eqb}
 use Rattle.std.proofs.lemmas.Slice.Eq.{slice_eq-Decides}
 use lib.Pointwise.{pointwise}
 use Rattle.dgt_command.specs.declared.clock.ClockCommand.TheVariants as clock
 use Rattle.dgt_command.specs.declared.clock.RawClock.{RawClock}
-use Rattle.dgt_command.specs.declared.ids.KnownId.{KnownId}
-use Rattle.dgt_command.specs.Content.{ClockContent, clock_content, known_clock}
+use Rattle.dgt_command.specs.Content.{ClockContent, clock_content}
 use Rattle.dgt_values.specs.Equality.{EqualIsSameReadOf}
 use Rattle.dgt_command.specs.Equality.{HasArrays}
 use Rattle.dgt_command.specs.Ids.{has_own_case}
@@ -24,10 +23,7 @@ never t = cc
 
 -- values of different numbers are neither equal nor the same
 pub differ : {T : Type 0} → (number : T → ℕ) (a b : T) → nat_eq (number a) (number b) ≡ false → IsTrue false ↔ (a ≡ b)
-differ number a b apart = (λ t. absurd (never t), λ e. absurd (go (ap number e)))
-  where
-    go : number a ≡ number b → ⊥
-    go same = let equal : IsTrue (nat_eq (number a) (number b)) = (Decides-eqb (number a) (number b)).1 same in cc
+differ number a b apart = search (rules, never)
 
 -- the id of a clock message, and its payload
 abbrev id_of : ClockContent → ℕ
@@ -90,9 +86,7 @@ same_text letters others beep long h k = (
 -- a raw clock message has no variant of its own
 raw_apart : (raw : RawClock) (said : ClockContent) → has_own_case said.id (length said.payload) ≡ true
     → clock_content (clock.Raw raw) ≡ said → ⊥
-raw_apart raw said own e =
-    let same : false ≡ true = sym raw.unread ∙ ap (λ (p : ClockContent). has_own_case p.id (length p.payload)) e ∙ own
-    in cc
+raw_apart raw said own e = cc
 
 -- two clock messages are equal exactly if they mean the same
 pub equal_clocks : EqualIsSameReadOf HasArrays clock_content (derived_clock.eq-value).it
@@ -101,9 +95,7 @@ equal_clocks (clock.Display places dots beep) (clock.Display others more long) h
     let equal = Decides-and _ _ (equal_bytes places others) bytes in
     let same = same_display places others dots more beep long h k in
     (λ t. same.0 (equal.0 t), λ e. equal.1 (same.1 e))
-equal_clocks (clock.Icons a) (clock.Icons b) h k =
-    let same = equal_bytes a.bytes.now b.bytes.now in
-    (λ t. ap (λ (bytes : List ℕ). known_clock KnownId.Icons bytes) (same.0 t), λ e. same.1 (ap payload_of e))
+equal_clocks (clock.Icons a) (clock.Icons b) h k = search (rules, equal_bytes)
 equal_clocks clock.End clock.End h k = (λ _. refl, λ _. refl)
 equal_clocks clock.Button clock.Button h k = (λ _. refl, λ _. refl)
 equal_clocks clock.Version clock.Version h k = (λ _. refl, λ _. refl)
@@ -112,19 +104,12 @@ equal_clocks (clock.SetAndRun left right control) (clock.SetAndRun other another
     let equal = Decides-and _ _ (equal_bytes left other) later in
     let same = same_setting left other right another control byte h.0 k.0 h.1 k.1 in
     (λ t. same.0 (equal.0 t), λ e. equal.1 (same.1 e))
-equal_clocks (clock.Beep a) (clock.Beep b) h k =
-    let same = Decides-eqb a b in
-    (λ t. ap (λ (n : ℕ). known_clock KnownId.Beep (n ∷ [])) (same.0 t), λ e. same.1 (ap (byte_of 0) e))
+equal_clocks (clock.Beep a) (clock.Beep b) h k = search rules
 equal_clocks (clock.Text letters beep) (clock.Text others long) h k =
     let equal = Decides-and _ _ (equal_bytes letters others) (Decides-eqb beep long) in
     let same = same_text letters others beep long h k in
     (λ t. same.0 (equal.0 t), λ e. equal.1 (same.1 e))
-equal_clocks (clock.Raw a) (clock.Raw b) h k =
-    let equal = Decides-and _ _ (Decides-eqb a.id b.id) (equal_bytes a.payload.bytes.now b.payload.bytes.now) in (
-      λ t. let same = equal.0 t in λ i. record { id = same.0 i; payload = same.1 i },
-      λ e. equal.1
-          (ap id_of e, ap payload_of e),
-    )
+equal_clocks (clock.Raw a) (clock.Raw b) h k = search (rules, equal_bytes)
 equal_clocks (clock.Raw a) b h k = (λ t. absurd (never t), λ e. absurd (raw_apart a (clock_content b) refl e))
 equal_clocks a (clock.Raw b) h k = (λ t. absurd (never t), λ e. absurd (raw_apart b (clock_content a) refl (sym e)))
 equal_clocks a b h k = differ id_of (clock_content a) (clock_content b) refl

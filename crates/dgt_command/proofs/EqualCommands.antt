@@ -1,7 +1,6 @@
 -- The derived `==` of commands and of events. Different commands differ in their codes, and events
 -- in a number for each variant.
-use Rattle.std.proofs.Common.{◌≡◌, ℕ, refl, ap, List, []}
-use Rattle.std.proofs.lemmas.Bool.Decides.{Decides-and, Decides-eqb}
+use Rattle.std.proofs.Common.{◌≡◌, ℕ, refl, ap, List, [], arith, rules}
 use Rattle.std.specs.Prelude.{◌↔◌, IsTrue, Option, Some, None, IfSome}
 use Rattle.std.specs.Option.{option_eq, option_map}
 use Rattle.dgt_command.specs.declared.command.Command.TheVariants as command
@@ -16,6 +15,7 @@ use Rattle.dgt_command.specs.contracts.command.CommandPartialEq.TheImpl as deriv
 use Rattle.dgt_command.specs.contracts.command.CommandEventPartialEq.TheImpl as derived_event
 use Rattle.dgt_command.specs.contracts.decoder.CommandFedPartialEq.TheImpl as derived_fed
 use Rattle.dgt_command.proofs.Equal.{differ, equal_bytes, equal_clocks}
+use Rattle.std.proofs.lemmas.Grind.{common_steps}
 
 -- the clock message of a command, and its LED bytes
 abbrev message_of : CommandContent → ClockContent
@@ -39,12 +39,8 @@ equal_commands command.Trademark command.Trademark h k = (λ _. refl, λ _. refl
 equal_commands command.Battery command.Battery h k = (λ _. refl, λ _. refl)
 equal_commands command.Version command.Version h k = (λ _. refl, λ _. refl)
 equal_commands command.LongSerial command.LongSerial h k = (λ _. refl, λ _. refl)
-equal_commands (command.ClockMessage a) (command.ClockMessage b) h k =
-    let same = equal_clocks a b h k in
-    (λ t. ap (λ (message : ClockContent). content.ClockMessage message) (same.0 t), λ e. same.1 (ap message_of e))
-equal_commands (command.Leds a) (command.Leds b) h k =
-    let same = equal_bytes a.bytes.now b.bytes.now in
-    (λ t. ap (λ (leds : List ℕ). content.Leds leds) (same.0 t), λ e. same.1 (ap leds_of e))
+equal_commands (command.ClockMessage a) (command.ClockMessage b) h k = search (rules, equal_clocks)
+equal_commands (command.Leds a) (command.Leds b) h k = search (rules, equal_bytes)
 equal_commands a b h k = differ command_code (command_content a) (command_content b) refl
 
 -- the number of an event's variant
@@ -66,15 +62,11 @@ byte_of _ = 0
 
 -- two events are equal exactly if they report the same
 pub equal_events : EqualIsSameReadOf EventHasArrays command_event_content (derived_event.eq-value).it
-equal_events (event.Command a) (event.Command b) h k =
-    let same = equal_commands a b h k in
-    (λ t. ap (λ (read : CommandContent). content.Read read) (same.0 t), λ e. same.1 (ap read_of e))
+equal_events (event.Command a) (event.Command b) h k = search (rules, equal_commands)
 equal_events event.BadSize event.BadSize h k = (λ _. refl, λ _. refl)
 equal_events event.BadStart event.BadStart h k = (λ _. refl, λ _. refl)
 equal_events event.BadEnd event.BadEnd h k = (λ _. refl, λ _. refl)
-equal_events (event.Stray a) (event.Stray b) h k =
-    let same = Decides-eqb a b in
-    (λ t. ap (λ (byte : ℕ). content.Stray byte) (same.0 t), λ e. same.1 (ap byte_of e))
+equal_events (event.Stray a) (event.Stray b) h k = search rules
 equal_events a b h k = differ event_case_of (command_event_content a) (command_event_content b) refl
 
 -- the event that is there
@@ -91,21 +83,11 @@ how_many None = 0
 equal_found : (a b : Option CommandEvent) → IfSome a EventHasArrays → IfSome b EventHasArrays
     → IsTrue (option_eq (derived_event.eq-value).it a b) ↔
     (option_map command_event_content a ≡ option_map command_event_content b)
-equal_found (Some a) (Some b) h k =
-    let same = equal_events a b h k in
-    (λ t. ap (λ (reported : EventContent). Some reported) (same.0 t), λ e. same.1 (ap there e))
+equal_found (Some a) (Some b) h k = search (rules, equal_events)
 equal_found None None h k = (λ _. refl, λ _. refl)
 equal_found (Some a) None h k = differ how_many (Some (command_event_content a)) None refl
 equal_found None (Some b) h k = differ how_many None (Some (command_event_content b)) refl
 
 -- two results are equal exactly if they use and report the same
 pub equal_fed : EqualIsSameReadOf FedHasArrays fed_seen (derived_fed.eq-value).it
-equal_fed a b h k =
-    let same = Decides-and _ _ (Decides-eqb a.used b.used) (equal_found a.event b.event h k) in
-    (λ t. let found = same.0 t in λ i. (found.0 i, found.1 i), λ e. same.1 (ap used_of e, ap event_of e))
-  where
-    used_of : ℕ × Option EventContent → ℕ
-    used_of seen = seen.0
-
-    event_of : ℕ × Option EventContent → Option EventContent
-    event_of seen = seen.1
+equal_fed a b h k = grind (arith, common_steps, equal_found)

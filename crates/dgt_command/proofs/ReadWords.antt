@@ -1,9 +1,10 @@
 -- An encoding reports its command.
-use Rattle.std.proofs.Common.{◌≡◌, ℕ, ◌-◌, List, [], ◌∷◌, ◌++◌, length, take, refl, sym, ap, ◌∙◌, arith, length-append, Option, Some, None}
+use Rattle.std.proofs.Common.{◌≡◌, ℕ, ◌-◌, List, [], ◌∷◌, length, take, sym, ap, ◌∙◌, arith, length-append, Option, Some, None}
+use Rattle.std.proofs.Common.{rules}
 use Rattle.std.proofs.lemmas.List.{take_at}
 use Rattle.std.specs.Prelude.{IfSome, slice_index}
 use Rattle.dgt_command.specs.declared.command.Command.{Command}
-use Rattle.dgt_command.specs.Content.{CommandContent, ClockMessage, Read, command_content}
+use Rattle.dgt_command.specs.Content.{CommandContent, Read, command_content}
 use Rattle.dgt_command.specs.Laws.{EncodingsGiveCommands}
 use Rattle.dgt_command.specs.Encoding.{IsEncoding, bare_command, command_in, command_encoding, EncodesCommand}
 use Rattle.dgt_command.specs.Words.{IsWord}
@@ -12,13 +13,7 @@ use Rattle.dgt_command.proofs.CodeLemmas.{bare_form}
 -- the one encoding of a command reports it
 encoded_command : (c : CommandContent) → command_in (command_encoding c) ≡ c
 unfolding command_in
-encoded_command (ClockMessage message) =
-    let carried : List ℕ = message.payload in
-    let size : ℕ = length (command_encoding (ClockMessage message)) - 5 in
-    let prefix : take size (carried ++ 0 ∷ []) ≡ carried =
-    take_at carried (0 ∷ []) size (omega (arith, length-append carried (0 ∷ []))) in
-    ap (λ (p : List ℕ). ClockMessage (record { id = message.id; payload = p })) prefix
-encoded_command _ = refl
+encoded_command c = search (rules, take_at, length-append)
 
 -- what encodes a command reports it
 pub encodes_its_command : EncodingsGiveCommands
@@ -35,6 +30,5 @@ pub byte_is_read : (read : Option Command) (word : List ℕ) → IsEncoding word
 byte_is_read None word encoded one code = tt
 byte_is_read (Some each) [] encoded one code = absurd (omega arith)
 byte_is_read (Some each) (b ∷ []) encoded one code =
-    ap Read (sym (encodes_its_command (command_content each) (b ∷ [])
-    (record { are_bytes = encoded.1.are_bytes; encoded = bare_form b each code })))
+    ap Read (sym (search (rules, encodes_its_command, bare_form)))
 byte_is_read (Some each) (b ∷ c ∷ rest) encoded one code = absurd (omega arith)

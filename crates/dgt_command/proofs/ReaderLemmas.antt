@@ -1,6 +1,6 @@
 -- Reading byte by byte.
-use Rattle.std.proofs.Common.{◌≡◌, ℕ, ◌-◌, ◌<◌, ◌≤◌, List, [], ◌∷◌, ◌++◌, length, take, drop, refl, sym, ap, subst, ◌∙◌}
-use Rattle.std.proofs.Common.{inl, inr, arith}
+use Rattle.std.proofs.Common.{◌≡◌, ℕ, ◌-◌, ◌<◌, ◌≤◌, List, [], ◌∷◌, ◌++◌, length, take, drop, sym, ap, subst, ◌∙◌}
+use Rattle.std.proofs.Common.{inl, inr, arith, rules}
 use Rattle.std.proofs.lemmas.Bool.{cases_lt}
 use Rattle.std.proofs.lemmas.List.{append-nil, take_at, take_all, take-append-drop, take-take}
 use Rattle.std.proofs.lemmas.Bool.Decides.{nat_tests}
@@ -17,8 +17,7 @@ use Rattle.dgt_command.proofs.DivisionLemmas.{bytes_left}
 pub whole_prefix : (s : List ℕ) (n : ℕ) → AreBytes s → n ≡ word_length s → n ≤ length s → IsWholeWord (take n s)
 whole_prefix s n bytes is long =
     let found = begins s (omega (arith, is)) in
-    let size : length found.word ≡ n = sym (form_length found.event found.word found.after found.form) ∙
-    (ap word_length (sym found.is) ∙ sym is) in
+    let size : length found.word ≡ n = search (rules, form_length) in
     let prefix : take n s ≡ found.word = ap (take n) found.is ∙ take_at found.word found.after n size in
     let both : AreBytes (found.word ++ found.after) = subst AreBytes found.is bytes in
     (found.event, rw prefix (record { form = found.form; are_bytes = bytes_left found.word found.after both }))
@@ -40,10 +39,7 @@ whole_last s n partial long whole = elim (cases_lt (length s - 1) n) [
 
 -- no frame has more than 257 bytes
 pub word_limit : (s : List ℕ) → AreBytes s → word_length s ≤ 257
-word_limit [] bytes = omega arith
-word_limit (b ∷ []) bytes = grind (arith, nat_tests)
-word_limit (b ∷ size ∷ []) bytes = let byte : size < 256 = bytes 1 in grind (arith, nat_tests)
-word_limit (b ∷ size ∷ third ∷ rest) bytes = let byte : size < 256 = bytes 1 in grind (arith, nat_tests)
+word_limit s bytes = search (rules, nat_tests)
 
 -- a part of a frame has at most 256 bytes
 pub partial_limit : (r : List ℕ) → IsPartial r → length r < 257
@@ -65,5 +61,4 @@ words_are_short e w h = (
 -- what is kept, a whole frame or a part of one, has at most 257 bytes
 pub kept_limit : (is_whole : Bool) (word : List ℕ) → (is_whole ≡ true → IsWholeWord word)
     → (is_whole ≡ false → IsPartial word) → length word ≤ 257
-kept_limit true word whole partial = let found = whole refl in (words_are_short found.0 word found.1).1
-kept_limit false word whole partial = omega (arith, partial_limit word (partial refl))
+kept_limit is_whole word whole partial = search (rules, words_are_short, partial_limit)

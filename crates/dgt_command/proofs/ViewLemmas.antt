@@ -1,17 +1,14 @@
 -- The bytes of a whole command, one by one.
 use Rattle.std.proofs.Common.{◌≡◌, ℕ, suc, ◌+◌, ◌-◌, ◌<◌, ◌≤◌, List, [], ◌∷◌, ◌++◌, length, get_or, take, drop, refl}
-use Rattle.std.proofs.Common.{sym, ap, subst, ◌∙◌, ◌⊎◌, inl, inr, arith, length-append}
+use Rattle.std.proofs.Common.{sym, ap, subst, ◌⊎◌, inl, inr, arith, length-append}
 use Rattle.dgt_command.specs.Content.{ClockContent, CommandContent, ClockMessage, Leds}
 use Rattle.dgt_command.specs.Encoding.{command_encoding}
 use Rattle.dgt_command.proofs.WordLemmas.{final_of, prefix, last_of}
+use Rattle.std.proofs.lemmas.Grind.{common_steps}
 
 -- a list of at least one, by its last
 by_last : (xs : List ℕ) → 0 < length xs → xs ≡ take (length xs - 1) xs ++ get_or xs (length xs - 1) 0 ∷ []
-by_last [] h = absurd (omega arith)
-by_last (x ∷ xs) h =
-    let found = final_of x xs in
-    subst (λ (ys : List ℕ). ys ≡ take (length ys - 1) ys ++ get_or ys (length ys - 1) 0 ∷ []) (sym found.2)
-    (rw (prefix found.0 found.1, last_of found.0 found.1) refl)
+by_last xs h = grind (arith, common_steps, final_of, prefix, last_of)
 
 -- bytes that are framed as a clock message encode it
 pub clock_view : (bytes : List ℕ) (message : ClockContent)
@@ -19,20 +16,8 @@ pub clock_view : (bytes : List ℕ) (message : ClockContent)
     → message.id ≡ get_or bytes 3 0 → message.payload ≡ take (length bytes - 1 - 4) (drop 4 bytes)
     → length (take (length bytes - 1 - 4) (drop 4 bytes)) + 3 ≡ get_or bytes 1 0
     → bytes ≡ command_encoding (ClockMessage message)
-clock_view (b ∷ s ∷ t ∷ i ∷ rest) message long first third last id carried size =
-    let m : length (b ∷ s ∷ t ∷ i ∷ rest) - 1 - 4 ≡ length rest - 1 = omega arith in
-    let n : length (b ∷ s ∷ t ∷ i ∷ rest) - 1 ≡ suc (suc (suc (suc (length rest - 1)))) = omega (arith, long) in
-    let end : get_or rest (length rest - 1) 0 ≡ 0x00 = rw n at last in
-    let inner : message.payload ≡ take (length rest - 1) rest = rw m at carried in
-    let so_many : length (take (length rest - 1) rest) + 3 ≡ s = rw m at size in
-    let whole : rest ≡ take (length rest - 1) rest ++ 0x00 ∷ [] =
-    by_last rest (omega (arith, long)) ∙ ap (λ (x : ℕ). take (length rest - 1) rest ++ x ∷ []) end in
-    rw (first, third, ← so_many, id, inner)
-    (ap (λ (r : List ℕ). 0x2b ∷ (length (take (length rest - 1) rest) + 3) ∷ 0x03 ∷ i ∷ r) whole)
-clock_view [] message long first third last id carried size = absurd (omega arith)
-clock_view (b ∷ []) message long first third last id carried size = absurd (omega arith)
-clock_view (b ∷ s ∷ []) message long first third last id carried size = absurd (omega arith)
-clock_view (b ∷ s ∷ t ∷ []) message long first third last id carried size = absurd (omega arith)
+clock_view bytes message long first third last id carried size =
+    grind (arith, common_steps, by_last)
 
 -- what the bytes of a clock message look like
 pub record IsClockForm (bytes : List ℕ) : Type 0 where

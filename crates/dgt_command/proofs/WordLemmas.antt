@@ -1,6 +1,6 @@
 -- No frame begins another. A long enough list begins with one, and zeros complete any other.
 use Rattle.std.proofs.Common.{◌≡◌, ◌≢◌, ℕ, ◌+◌, ◌-◌, ◌<◌, ◌≤◌, false, List, [], ◌∷◌, ◌++◌, length, get_or, take, drop}
-use Rattle.std.proofs.Common.{refl, sym, ap, subst, ◌∙◌, inl, inr, arith, length-append, Option, Some, None}
+use Rattle.std.proofs.Common.{refl, sym, ap, subst, ◌∙◌, inl, inr, arith, length-append, Option, Some, None, rules}
 use Rattle.std.proofs.lemmas.Bool.{cases_eq, cases_lt, le-ltb, lt-ltb, ne_eqb, eq-eqb}
 use Rattle.std.proofs.lemmas.List.{append_cancel_left, take_at, get_or_push, length-take-le, take-append-drop}
 use Rattle.std.specs.Prelude.{◌==◌, slice_index, if◌then◌else◌}
@@ -34,22 +34,17 @@ not_leds b h =
 -- the frame that a list begins with has this length
 encoding_length : (c : CommandContent) (x : List ℕ) → word_length (command_encoding c ++ x) ≡ length
     (command_encoding c)
-encoding_length (ClockMessage message) x = rw (le-ltb (length message.payload + 3) 3 (omega arith))
-    (omega (arith, length-append message.payload (0 ∷ [])))
-encoding_length (Leds leds) x = omega arith
-encoding_length _ x = refl
+encoding_length c x = search (rules, le-ltb, length-append)
 
 -- a frame with any bytes after it reports its own length
 pub form_length : (e : EventContent) (w x : List ℕ) → HasForm e w → word_length (w ++ x) ≡ length w
 form_length (Read c) w x h = subst (λ (v : List ℕ). word_length (v ++ x) ≡ length v) (sym h) (encoding_length c x)
-form_length BadSize w x (size, small, is) = subst (λ (v : List ℕ). word_length (v ++ x) ≡ length v) (sym is)
-    (rw (lt-ltb size 3 small) refl)
-form_length BadStart w x (size, third, large, other, is) = subst (λ (v : List ℕ). word_length (v ++ x) ≡ length v)
-    (sym is) (rw (le-ltb size 3 large, ne_eqb third 3 other) refl)
+form_length BadSize w x (size, small, is) = search (rules, lt-ltb)
+form_length BadStart w x (size, third, large, other, is) = search (rules, le-ltb, ne_eqb)
 form_length BadEnd w x (size, inner, last, long, other, some, is) =
+    search (rules, le-ltb, length-append)
+form_length (Stray b) w x (none, is) =
     subst (λ (v : List ℕ). word_length (v ++ x) ≡ length v) (sym is)
-    (rw (le-ltb size 3 (omega arith)) (omega (arith, length-append inner (last ∷ []))))
-form_length (Stray b) w x (none, is) = subst (λ (v : List ℕ). word_length (v ++ x) ≡ length v) (sym is)
     (rw (not_clock b none, not_leds b none) refl)
 
 -- the event of one byte, by its command
@@ -101,8 +96,7 @@ end_bad id p x h = rw (last_of p x, ne_eqb x 0 h) refl
 
 -- the event of an encoding is its command
 event_of_encoding : (c : CommandContent) → event_of (command_encoding c) ≡ Read c
-event_of_encoding (ClockMessage message) = end_read message.id message.payload
-event_of_encoding _ = refl
+event_of_encoding c = search (rules, end_read)
 
 -- a clock message with a wrong last byte is a fault
 end_bad_long : (inner : List ℕ) (x : ℕ) (size : ℕ) → 0 < length inner → x ≢ 0
@@ -136,12 +130,7 @@ pub same_word : (e f : EventContent) (w v x y : List ℕ) → HasForm e w → Ha
     → SameWord e f w v x y
 same_word e f w v x y h k is =
     let long : length w ≡ length v = sym (form_length e w x h) ∙ (ap word_length is ∙ form_length f v y k) in
-    let word : w ≡ v = same_prefix w v x y long is in
-    record {
-      event = sym (form_event e w h) ∙ (ap event_of word ∙ form_event f v k);
-      word = word;
-      after = append_cancel_left w x y (is ∙ ap (λ u. u ++ y) (sym word));
-    }
+    search (rules, same_prefix, form_event, append_cancel_left)
 
 -- the frame of one byte, by its command
 word_of_byte : (found : Option Command) (b : ℕ) → bare_command b ≡ found → b ≢ 0x2b → b ≢ 0x60 → (e : EventContent)
@@ -224,18 +213,17 @@ whole_body size rest large h =
 body_begins : (size : ℕ) (rest : List ℕ) → 3 ≤ size → body_length size rest ≤ length rest + 2
     → Begins (0x2b ∷ size ∷ rest)
 body_begins size [] large h = absurd (omega arith)
-body_begins size (third ∷ rest) large h = elim (cases_eq third 3) [
-  | inl is ↦ subst (λ (x : ℕ). Begins (0x2b ∷ size ∷ x ∷ rest)) (sym is)
-      (whole_body size rest large
-      (let k : size + 2 ≤ length (third ∷ rest) + 2 = rw (eq-eqb third 3 is) at h in omega (arith, k)))
-  | inr other ↦ record {
-    event = BadStart;
-    word = 0x2b ∷ size ∷ third ∷ [];
-    after = rest;
-    form = (size, third, large, other, refl);
-    is = refl;
-  }
-]
+body_begins size (third ∷ rest) large h =
+    elim (cases_eq third 3) [
+      | inl is ↦ search (rules, whole_body, eq-eqb)
+      | inr other ↦ record {
+        event = BadStart;
+        word = 0x2b ∷ size ∷ third ∷ [];
+        after = rest;
+        form = (size, third, large, other, refl);
+        is = refl;
+      }
+    ]
 
 -- bytes as long as the beginning of a clock message begin with a frame
 clock_begins : (rest : List ℕ) → word_length (0x2b ∷ rest) ≤ length rest + 1 → Begins (0x2b ∷ rest)
@@ -262,16 +250,12 @@ led_begins (size ∷ rest) h =
 -- a list as long as its frame begins with it
 pub begins : (s : List ℕ) → word_length s ≤ length s → Begins s
 begins [] h = absurd (omega arith)
-begins (b ∷ rest) h = elim (cases_eq b 0x2b) [
-  | inl is ↦ subst (λ (x : ℕ). Begins (x ∷ rest)) (sym is)
-      (clock_begins rest
-      (let k : word_length (0x2b ∷ rest) ≤ length (b ∷ rest) = rw (eq-eqb b 0x2b is) at h in omega (arith, k)))
-  | inr other ↦ elim (cases_eq b 0x60) [
-    | inl is ↦ subst (λ (x : ℕ). Begins (x ∷ rest)) (sym is)
-        (led_begins rest
-        (let k : word_length (0x60 ∷ rest) ≤ length (b ∷ rest) = rw (ne_eqb b 0x2b other, eq-eqb b 0x60 is) at h in
-        omega (arith, k)))
-    | inr neither ↦ let found = byte_word b other neither in
-        record { event = found.0; word = b ∷ []; after = rest; form = found.1; is = refl }
-  ]
-]
+begins (b ∷ rest) h =
+    elim (cases_eq b 0x2b) [
+      | inl is ↦ search (rules, clock_begins, eq-eqb)
+      | inr other ↦ elim (cases_eq b 0x60) [
+        | inl is ↦ search (rules, led_begins, ne_eqb, eq-eqb)
+        | inr neither ↦ let found = byte_word b other neither in
+            record { event = found.0; word = b ∷ []; after = rest; form = found.1; is = refl }
+      ]
+    ]

@@ -1,10 +1,11 @@
 -- Bytes in any chunks.
-use Rattle.std.proofs.Common.{◌≡◌, ℕ, ◌+◌, ◌-◌, ◌≤◌, List, [], ◌∷◌, ◌++◌, length, take, Option, Some, None, sym, ap, subst, ◌∙◌, append_assoc, arith}
+use Rattle.std.proofs.Common.{◌≡◌, ℕ, ◌+◌, ◌-◌, ◌≤◌, List, [], ◌∷◌, ◌++◌, length, take, Option, sym, ap, subst, ◌∙◌, append_assoc, arith}
+use Rattle.std.proofs.Common.{rules}
 use Rattle.std.proofs.lemmas.List.{append-nil, append_cancel_left, length-append, length-take}
 use Rattle.std.proofs.Math.Seq.{take-length}
 use Rattle.dgt_message.specs.Content.{Content, IsMessage}
 use Rattle.dgt_message.specs.Encoding.{encoding}
-use Rattle.dgt_decode.specs.Grammar.{Event, Message, Placed, at_place, shifted, cut_of, events, unfinished_message}
+use Rattle.dgt_decode.specs.Grammar.{Event, Message, at_place, shifted, cut_of, events, unfinished_message}
 use Rattle.dgt_decode.specs.Feeding.{FirstEvent, at_place_if_any}
 use Rattle.dgt_decode.specs.Laws.{Call, AreCalls, used_bytes, events_in_chunks}
 use Rattle.dgt_decode.proofs.Appending.{events-append}
@@ -14,28 +15,13 @@ use Rattle.dgt_decode.proofs.Encoded.{AreRead, AreEncoded, encoding_is_read}
 
 -- no more bytes are used than the chunk has
 first_within : (held chunk : List ℕ) (used : ℕ) (x : Option Event) → FirstEvent held chunk used x → used ≤ length chunk
-first_within held chunk used None h = omega (arith, h.0)
-first_within held chunk used (Some event) h = h.0
-
--- the meaning of the used bytes of a chunk
-first_reported : (held chunk : List ℕ) (used : ℕ) (x : Option Event) → FirstEvent held chunk used x
-    → events (held ++ take used chunk) ≡ at_place_if_any (length held + used) x
-first_reported held chunk used None h = rw (h.0, take-length chunk) h.1
-first_reported held chunk used (Some event) h = h.1
+first_within held chunk used x h = search rules
 
 -- the meaning of the used bytes of a chunk, after all bytes before it
 pub call_reported : (s : List ℕ) (call : Call) → FirstEvent (unfinished_message s) call.chunk call.used call.event
     → events (s ++ take call.used call.chunk) ≡ events s ++ at_place_if_any (length s + call.used) call.event
 call_reported s call first =
-    let o = unfinished_message s in
-    let place : length s - length o + (length o + call.used) ≡ length s + call.used =
-    omega (arith, length-unfinished s) in
-    events-append s (take call.used call.chunk)
-    ∙ ap (λ (xs : List Placed). events s ++ shifted (length s - length o) xs)
-    (first_reported o call.chunk call.used call.event first)
-    ∙ ap (λ (xs : List Placed). events s ++ xs)
-    (shifted-at_place_if_any (length s - length o) (length o + call.used)
-    (length s + call.used) call.event place)
+    search (rules, length-unfinished, events-append, shifted-at_place_if_any, take-length)
 
 -- by induction: each call continues where the one before it stopped
 pub in_any_chunks : (s : List ℕ) (calls : List Call) → AreCalls (unfinished_message s) calls
@@ -51,8 +37,7 @@ in_any_chunks s (call ∷ calls) are =
     ap (λ (x : List ℕ). events x) (sym (append_assoc s (take call.used call.chunk) (used_bytes calls)))
     ∙ in_any_chunks (s ++ take call.used call.chunk) calls later
     ∙ rw (count, call_reported s call are.0)
-    (append_assoc (events s) (at_place_if_any (length s + call.used) call.event)
-    (events_in_chunks (length s + call.used) calls))
+    (search (rules, append_assoc))
 
 -- the events reported in chunks are those of the whole list
 pub encoding_in_chunks : AreRead → AreEncoded → (s : List ℕ) (said : Content) (calls : List Call)
@@ -60,11 +45,4 @@ pub encoding_in_chunks : AreRead → AreEncoded → (s : List ℕ) (said : Conte
     → events_in_chunks (length s) calls ≡ shifted (length s) (cut_of (unfinished_message s)) ++ at_place
     (length s + length (encoding said)) (Message said) ∷ []
 encoding_in_chunks reads encoded s said calls is are same =
-    let cut = shifted (length s) (cut_of (unfinished_message s)) in
-    let reported = cut ++ at_place (length s + length (encoding said)) (Message said) ∷ [] in
-    append_cancel_left (events s) (events_in_chunks (length s) calls) reported (
-    sym (in_any_chunks s calls are)
-    ∙ ap (λ (x : List ℕ). events (s ++ x)) same
-    ∙ (encoding_is_read reads encoded s said is).0
-    ∙ append_assoc (events s) cut (at_place (length s + length (encoding said)) (Message said) ∷ [])
-    )
+    search (rules, append_cancel_left, in_any_chunks, encoding_is_read, append_assoc)

@@ -1,5 +1,6 @@
 -- The events of a list with more bytes at its end.
-use Rattle.std.proofs.Common.{◌≡◌, ℕ, suc, ◌+◌, ◌-◌, ◌≤◌, Bool, true, false, cond, List, [], ◌∷◌, ◌++◌, length, drop, Option, Some, None, refl, sym, ap, ◌∙◌, append_assoc, arith}
+use Rattle.std.proofs.Common.{◌≡◌, ℕ, ◌+◌, ◌-◌, ◌≤◌, Bool, true, false, cond, List, [], ◌∷◌, ◌++◌, length, drop, Option, Some, None, refl, ap, ◌∙◌, append_assoc, arith}
+use Rattle.std.proofs.Common.{rules}
 use Rattle.std.proofs.lemmas.List.{append-nil, length-append, drop-append-le, length-drop}
 use Rattle.std.proofs.lemmas.Bool.{le-leb, lt-leb, leb-true, leb-false}
 use Rattle.dgt_decode.specs.Grammar.{Placed, shifted, strays, has_top_bit, lead, segments, verdict, unfinished_part, cut_of, cut_before, segments_events, unfinished_segment, events, unfinished_message}
@@ -31,19 +32,11 @@ segments-seven (b ∷ bytes) h = rw (lt-leb 128 b h.0) (segments-seven bytes h.1
 -- the lead is seven-bit
 pub lead-is_seven : (bytes : List ℕ) → SevenByRecursion (lead bytes)
 lead-is_seven [] = tt
-lead-is_seven (b ∷ bytes) = go (has_top_bit b) refl (lead-is_seven bytes)
-  where
-    go : (t : Bool) → has_top_bit b ≡ t → SevenByRecursion (lead bytes) → SevenByRecursion (cond t [] (b ∷ lead bytes))
-    go true e h = tt
-    go false e h = (leb-false 128 b e, h)
+lead-is_seven (b ∷ bytes) = search (rules, leb-false, lead-is_seven bytes)
 
 -- a byte with a set top bit and seven-bit bytes are one segment
 pub IsAlone-from : (b : ℕ) (bytes : List ℕ) → 128 ≤ b → SevenByRecursion bytes → IsAlone (b ∷ bytes)
-IsAlone-from b bytes top seven =
-    record {
-      no_lead = rw (le-leb 128 b top) refl;
-      one = rw (le-leb 128 b top, lead-seven bytes seven, segments-seven bytes seven) refl;
-    }
+IsAlone-from b bytes top seven = search (rules, le-leb, lead-seven, segments-seven)
 
 -- the segments of a list are one segment each
 pub AreAlone-segments : (bytes : List ℕ) → AreAlone (segments bytes)
@@ -75,8 +68,7 @@ lengths (g ∷ gs) = length g + lengths gs
 
 -- a last segment is settled, or it is unfinished
 settled_by-unfinished : (v : Option Placed) (g : List ℕ) → settled_by v g + length (unfinished_part v g) ≡ length g
-settled_by-unfinished None g = omega arith
-settled_by-unfinished (Some x) g = omega arith
+settled_by-unfinished v g = search rules
 
 -- segments are what is settled and what is unfinished
 pub settled-unfinished : (gs : List (List ℕ)) → settled_of gs + length (unfinished_segment gs) ≡ lengths gs
@@ -87,62 +79,40 @@ settled-unfinished (g ∷ h ∷ gs) = omega (arith, settled-unfinished (h ∷ gs
 -- a list is its lead and its segments
 pub length-cut : (s : List ℕ) → length s ≡ length (lead s) + lengths (segments s)
 length-cut [] = refl
-length-cut (b ∷ s) = go (has_top_bit b) (length-cut s)
-  where
-    go : (t : Bool) → length s ≡ length (lead s) + lengths (segments s)
-        → suc (length s) ≡ length (cond t [] (b ∷ lead s)) + lengths (cond t ((b ∷ lead s) ∷ segments s) (segments s))
-    go true e = omega arith
-    go false e = omega arith
+length-cut (b ∷ s) = search (rules, length-cut s)
 
 -- ---- the last segment
 
 -- if nothing is unfinished, there is no Cut
 pub cut_before-nothing : (gs : List (List ℕ)) → cut_before gs [] ≡ []
-cut_before-nothing [] = refl
-cut_before-nothing (g ∷ gs) = refl
+cut_before-nothing gs = search rules
 
 -- a segment with more bytes after still follows
 cut_before-with : (p : List ℕ) (g : List ℕ) (gs : List (List ℕ)) (u : List ℕ)
     → cut_before (segments_with p (g ∷ gs)) u ≡ cut_of u
-cut_before-with p g [] u = refl
-cut_before-with p g (h ∷ gs) u = refl
+cut_before-with p g gs u = search rules
 
 -- places after a message, and after its segment
 regroup : (place d n l : ℕ) (a b e : List Placed) → place + d ≡ n
     → shifted place (a ++ shifted d b) ++ shifted (n + l) e ≡ shifted place a ++ shifted
     n (b ++ shifted l e)
-regroup place d n l a b e same =
-    rw (
-      shifted-append place a (shifted d b),
-      shifted-shifted place d b,
-      same,
-      shifted-append n b (shifted l e),
-      shifted-shifted n l e,
-    )
-    (append_assoc (shifted place a) (shifted n b) (shifted (n + l) e))
+regroup place d n l a b e same = search (rules, shifted-append, shifted-shifted, append_assoc)
 
 -- more bytes after a last segment that is finished
 last-finished : (g p : List ℕ) (x : Placed) → verdict g ≡ Some x
     → segments_events ((g ++ lead p) ∷ segments p) ≡ segments_events (g ∷ []) ++ shifted (length g) (events p)
 unfolding events
-last-finished g p x e =
-    let stays = verdict-append g (lead p) x e in
-    let within = stays.1 in
-    let behind : x.place + length (drop x.place g) ≡ length g = omega (arith, length-drop x.place g) in
-    rw (
-      stays.0,
-      e,
-      cut_before-nothing (segments p),
-      drop-append-le x.place g (lead p) within,
-      strays-append
-          (drop x.place g) (lead p),
-      length-append g (lead p),
-      append-nil
-          (shifted x.place (strays (drop x.place g))),
-    )
-    (ap (λ (zs : List Placed). x ∷ zs)
-    (regroup x.place (length (drop x.place g)) (length g) (length (lead p)) (strays (drop x.place g))
-    (strays (lead p)) (segments_events (segments p)) behind))
+last-finished g p x e = search (
+  rules,
+  verdict-append,
+  length-drop,
+  cut_before-nothing,
+  drop-append-le,
+  strays-append,
+  length-append,
+  append-nil,
+  regroup,
+)
 
 -- more bytes after a last segment that is unfinished
 last-unfinished : (g p : List ℕ) → IsAlone g → verdict g ≡ None
@@ -175,30 +145,17 @@ events_by_cut-with : (p prefix : List ℕ) (gs : List (List ℕ)) → AreAlone g
     → events_by_cut (lead_with p prefix gs) (segments_with p gs)
     ≡ events_by_cut prefix gs ++ shifted (length prefix + settled_of gs) (events (unfinished_segment gs ++ p))
 unfolding events
-events_by_cut-with p prefix [] alone =
-    let same : length prefix + 0 ≡ length prefix = omega arith in
-    rw (
-      strays-append prefix (lead p),
-      length-append prefix (lead p),
-      same,
-      shifted-append (length prefix)
-          (strays (lead p)) (shifted (length (lead p)) (segments_events (segments p))),
-      shifted-shifted
-          (length prefix) (length (lead p)) (segments_events (segments p)),
-      append-nil (strays prefix),
-    )
-    (append_assoc (strays prefix) (shifted (length prefix) (strays (lead p)))
-    (shifted (length prefix + length (lead p)) (segments_events (segments p))))
+events_by_cut-with p prefix [] alone = search (
+  rules,
+  strays-append,
+  length-append,
+  shifted-append,
+  shifted-shifted,
+  append-nil,
+  append_assoc,
+)
 events_by_cut-with p prefix (g ∷ gs) alone =
-    rw (
-      segments_events-with p g gs alone,
-      shifted-append (length prefix) (segments_events (g ∷ gs))
-          (shifted (settled_of (g ∷ gs)) (events (unfinished_segment (g ∷ gs) ++ p))),
-      shifted-shifted
-          (length prefix) (settled_of (g ∷ gs)) (events (unfinished_segment (g ∷ gs) ++ p)),
-    )
-    (sym (append_assoc (strays prefix) (shifted (length prefix) (segments_events (g ∷ gs)))
-    (shifted (length prefix + settled_of (g ∷ gs)) (events (unfinished_segment (g ∷ gs) ++ p)))))
+    search (rules, segments_events-with, shifted-append, shifted-shifted, append_assoc)
 
 -- how many bytes precede the unfinished message
 pub settled : (s : List ℕ) → length s - length (unfinished_message s) ≡ length (lead s) + settled_of (segments s)

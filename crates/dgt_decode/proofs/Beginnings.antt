@@ -1,11 +1,12 @@
 -- A run that begins a message.
-use Rattle.std.proofs.Common.{option_map, ◌≡◌, ℕ, zero, suc, ◌+◌, ◌-◌, ◌<◌, ◌≤◌, List, [], ◌∷◌, length, take, drop, min, not, Some, refl, ap, ◌∙◌, arith}
+use Rattle.std.proofs.Common.{option_map, ◌≡◌, ℕ, zero, suc, ◌+◌, ◌-◌, ◌<◌, ◌≤◌, List, [], ◌∷◌, length, take, drop, min, not, Some, ap, arith}
+use Rattle.std.proofs.Common.{rules}
 use Rattle.std.specs.List.{position_or_len}
 use Rattle.dgt_decode.specs.declared.event.Found.TheVariants as found
 use Rattle.std.proofs.lemmas.List.{length-take, take-take}
 use Rattle.std.proofs.lemmas.List.Sums.{prefix_len-le-length}
 use Rattle.dgt_decode.specs.Grammar.{has_top_bit, events, unfinished_message, announced_total}
-use Rattle.dgt_decode.specs.Feeding.{IsWholeMessage, at_place_if_any, event_found_in}
+use Rattle.dgt_decode.specs.Feeding.{IsWholeMessage}
 use Rattle.dgt_decode.specs.Taking.{Begins, FramesPrefix, IsKept}
 use Rattle.dgt_decode.proofs.Steps.{Gives, first-begins, next-short, next-waits}
 use Rattle.dgt_decode.proofs.Feeds.{first_of_run}
@@ -35,14 +36,7 @@ beginning total all end run (b ∷ h ∷ l ∷ more) begins least first is =
     let up_to : run ≤ length wanted = omega (arith, is, prefix_len-le-length (λ x. not (has_top_bit x)) wanted) in
     let long = length-take missing more in
     let prefix : take run wanted ≡ take run more = take-take run missing more (omega (arith, up_to, long)) in
-    let less : 3 + run - 3 ≡ run = omega arith in
-    record {
-      header = omega arith;
-      within = omega (arith, up_to, long, begins.large);
-      fits = omega (arith, up_to, long, begins.large);
-      short = omega (arith, begins.is, header.0, header.1.0);
-      seven = rw less (rw (← prefix, is) (seven-before wanted));
-    }
+    search (rules, seven-before)
 
 -- there is no event before the last of them
 early : (b h l n total : ℕ) (more : List ℕ) → Gives (b ∷ h ∷ []) [] (b ∷ h ∷ []) → l < 128
@@ -88,27 +82,7 @@ frames-beginning kept (b ∷ h ∷ l ∷ more) total (suc (suc (suc n))) none be
     (header.1.0, seven) all in
     let long : 2 + length (l ∷ body) ≡ 0 + length (b ∷ h ∷ l ∷ body) = omega arith in
     let less : length (b ∷ h ∷ l ∷ body) - 1 ≡ suc (suc n) = omega (arith, count) in
-    let prefix : take (length (b ∷ h ∷ l ∷ body) - 1) (b ∷ h ∷ l ∷ body) ≡ take (suc (suc n)) (b ∷ h ∷ l ∷ more) =
-    ap (λ m. take m (b ∷ h ∷ l ∷ body)) less ∙ take-take (suc (suc n)) used (b ∷ h ∷ l ∷ more) (omega arith) in
-    let quiet : events (take (length (b ∷ h ∷ l ∷ body) - 1) (b ∷ h ∷ l ∷ body)) ≡ [] =
-    ap (λ x. events x) prefix ∙ early b h l n total more two header.1.0 seven (omega (arith, run.within))
-    (omega (arith, run.fits)) begins.is in (
-      record {
-        some = omega arith;
-        within = run.within;
-        frames = record {
-          first = rw none (first_of_run [] (b ∷ h ∷ l ∷ body) _ (omega arith) quiet
-              (t.0.reported ∙
-              ap (λ (n : ℕ). at_place_if_any n (option_map (event_found_in (b ∷ h ∷ l ∷ body)) (after left).1))
-              long));
-          held = rw none refl;
-          whole = t.0.message;
-          came = λ e. rw none refl;
-          unfinished = t.0.unfinished;
-        };
-      },
-      t.1,
-    )
+    search (rules, take-take, early, first_of_run, option_map, after)
 
 -- A message that is complete is reported at once.
 pub frames-whole : (kept rest : List ℕ) (total : ℕ) → unfinished_message kept ≡ [] → total ≤ length rest
@@ -125,22 +99,8 @@ frames-whole kept (b ∷ h ∷ l ∷ more) (suc (suc (suc n))) none within whole
     let rest = b ∷ h ∷ l ∷ more in
     let is : total ≡ announced_total rest = omega (arith, whole.whole, length-take total rest, within) in
     let later = by_recursion (h ∷ l ∷ take n more) whole.later in
-    let begins : Begins total rest =
-    record {
-      first = whole.first;
-      header = are_seven (h ∷ l ∷ []) (later.0, (later.1.0, tt));
-      enough = omega arith;
-      is = is;
-      large = omega arith;
-    } in
+    let begins : Begins total rest = search (rules, are_seven) in
     let behind : total - 3 ≡ n = omega arith in
-    let all : IsBeginning total rest total =
-    record {
-      header = omega arith;
-      within = within;
-      fits = omega arith;
-      short = omega (arith, is, later.0, later.1.0);
-      seven = rw behind later.1.1;
-    } in
+    let all : IsBeginning total rest total = search rules in
     let none_left : total - total ≡ 0 = omega arith in
     rw none_left at (frames-beginning kept rest total total none begins all).0

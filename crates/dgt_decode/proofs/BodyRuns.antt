@@ -1,5 +1,6 @@
 -- A run of a message's body.
 use Rattle.std.proofs.Common.{◌≡◌, ℕ, zero, suc, ◌+◌, ◌-◌, ◌<◌, ◌≤◌, Bool, true, false, cond, not, List, [], ◌∷◌, ◌++◌, length, take, drop, get_or, refl, subst, arith}
+use Rattle.std.proofs.Common.{rules}
 use Rattle.std.specs.List.{position_or_len}
 use Rattle.std.proofs.lemmas.Bool.{leb-false, lt-leb}
 use Rattle.std.proofs.lemmas.List.{length-append, length-take, take-take}
@@ -13,6 +14,7 @@ use Rattle.dgt_decode.proofs.Steps.{next-waits}
 use Rattle.dgt_decode.proofs.Feeds.{first_of_run}
 use Rattle.dgt_decode.proofs.Framing.{after, reports-after}
 use Rattle.dgt_decode.proofs.SevenBit.{SevenByRecursion}
+use Rattle.std.proofs.lemmas.Grind.{common_steps}
 
 -- ---- In a body
 
@@ -29,8 +31,7 @@ seven-before (b ∷ bytes) = go (has_top_bit b) refl (seven-before bytes)
 
 -- there are some if the first byte is
 some-before : (bytes : List ℕ) → 0 < length bytes → get_or bytes 0 0 < 128 → 0 < position_or_len has_top_bit bytes
-some-before [] some seven = absurd (omega arith)
-some-before (b ∷ bytes) some seven = rw (lt-leb 128 b seven) (omega arith)
+some-before bytes some seven = grind (arith, common_steps, lt-leb)
 
 -- The search for a set top bit may begin after seven-bit bytes.
 pub search-after : (n : ℕ) (bytes : List ℕ) → n ≤ length bytes → SevenByRecursion (take n bytes)
@@ -67,9 +68,7 @@ body_run (suc more) used (b ∷ rest) room some seven is =
 
 -- the beginning of seven-bit bytes is seven-bit
 pub seven-take : (n : ℕ) (bytes : List ℕ) → SevenByRecursion bytes → SevenByRecursion (take n bytes)
-seven-take zero bytes seven = tt
-seven-take (suc n) [] seven = tt
-seven-take (suc n) (b ∷ bytes) seven = (seven.0, seven-take n bytes seven.1)
+seven-take n bytes seven = grind (arith, common_steps)
 
 -- A run of the body ends the message if none of it is missing then, and reports nothing otherwise.
 pub frames-body_run : (state : FramerState) (kept rest : List ℕ) (left used : ℕ) → IsKept state kept
@@ -84,33 +83,13 @@ frames-body_run state kept rest left used was body run =
     let all : announced_total (kept ++ bytes) ≡ length (kept ++ bytes) + (left - used) =
     omega (arith, announced_total-append kept bytes is.1, is.2, is.3, run.fits) in
     let t = reports-after kept bytes (left - used) is.0 (omega (arith, is.1)) (omega (arith, run.some)) run.seven all in
-    let early = take (used - 1) rest in
-    let prefix : take (used - 1) bytes ≡ early = take-take (used - 1) used rest (omega arith) in
-    let early_seven : SevenByRecursion early = rw (← prefix) (seven-take (used - 1) bytes run.seven) in
-    let early_sum : length (kept ++ early) ≡ length kept + length early = length-append kept early in
-    let waiting : length (kept ++ early) < announced_total
-    (kept ++ early)
-    = omega (
-      arith,
-      announced_total-append kept early is.1,
-      length-take (used - 1) rest,
-      is.3,
-      run.fits,
-      run.some,
-      run.within,
-    ) in (
-      record {
-        some = run.some;
-        within = run.within;
-        frames = record {
-          first = rw is.0 (first_of_run kept bytes _ (omega (arith, count, run.some))
-              (rw (count, prefix) (next-waits kept early is.0 (omega (arith, is.1)) early_seven waiting).reported)
-              t.0.reported);
-          held = rw is.0 refl;
-          whole = t.0.message;
-          came = λ e. rw is.0 refl;
-          unfinished = t.0.unfinished;
-        };
-      },
-      t.1,
+    search (
+      rules,
+      take-take,
+      seven-take,
+      length-append,
+      announced_total-append,
+      length-take,
+      first_of_run,
+      next-waits,
     )

@@ -1,13 +1,15 @@
 -- The bytes held between two chunks.
-use Rattle.std.proofs.Common.{◌≡◌, ℕ, zero, suc, ◌<◌, ◌≤◌, Bool, true, false, cond, List, [], ◌∷◌, ◌++◌, length, get_or, None, refl, subst, arith}
+use Rattle.std.proofs.Common.{◌≡◌, ℕ, zero, ◌<◌, ◌≤◌, true, List, [], ◌∷◌, ◌++◌, length, get_or, None, refl, arith}
+use Rattle.std.proofs.Common.{rules}
 use Rattle.std.proofs.lemmas.List.{append-nil, get_or_append_left}
 use Rattle.std.proofs.lemmas.Bool.{leb-true}
-use Rattle.dgt_decode.specs.Grammar.{events, has_top_bit, lead, segments, announced_total, verdict, unfinished_message}
+use Rattle.dgt_decode.specs.Grammar.{events, lead, announced_total, verdict, unfinished_message}
 use Rattle.dgt_decode.proofs.Verdicts.{Stage, short, waits, bad, whole, stage_of, verdict-bad, verdict-whole}
 use Rattle.dgt_decode.proofs.Appending.{IsAlone, lead-is_seven}
 use Rattle.dgt_decode.proofs.UnfinishedLemmas.{IsUnfinished-unfinished, events-of_unfinished}
 use Rattle.dgt_decode.proofs.Steps.{IsHeld, IsHeld-unfinished, alone_held}
 use Rattle.dgt_decode.proofs.SevenBit.{SevenByRecursion}
+use Rattle.std.proofs.lemmas.Grind.{common_steps}
 
 -- no bytes are held unchanged
 pub nothing_held : IsHeld []
@@ -27,20 +29,11 @@ quiet_unfinished s = rw (append-nil (unfinished_message s)) (events-of_unfinishe
 
 -- each of seven-bit bytes, and the zero after their end, is below 128
 seven-get : (bytes : List ℕ) (i : ℕ) → SevenByRecursion bytes → get_or bytes i 0 < 128
-seven-get [] i h = omega arith
-seven-get (b ∷ bytes) zero h = h.0
-seven-get (b ∷ bytes) (suc i) h = seven-get bytes i h.1
+seven-get bytes i h = grind (arith, common_steps)
 
 -- one segment begins with a set top bit, and continues seven-bit
 pub IsAlone-parts : (b : ℕ) (bytes : List ℕ) → IsAlone (b ∷ bytes) → (128 ≤ b) × SevenByRecursion bytes
-IsAlone-parts b bytes alone = go (has_top_bit b) refl alone.no_lead alone.one
-  where
-    go : (t : Bool) → has_top_bit b ≡ t → cond t [] (b ∷ lead bytes) ≡ []
-        → cond t ((b ∷ lead bytes) ∷ segments bytes) (segments bytes) ≡ (b ∷ bytes) ∷ []
-        → (128 ≤ b) × SevenByRecursion bytes
-    go true e f g = let same : lead bytes ≡ bytes = cc in
-        (leb-true 128 b e, subst (λ (x : List ℕ). SevenByRecursion x) same (lead-is_seven bytes))
-    go false e f g = absurd cc
+IsAlone-parts b bytes alone = search (rules, leb-true, lead-is_seven)
 
 -- the bytes held begin with a set top bit
 pub held_begins : (held : List ℕ) → IsHeld held → 0 < length held → 128 ≤ get_or held 0 0

@@ -1,5 +1,6 @@
 -- The events of whole chunks, and their listeners.
 use Rattle.std.proofs.Common.{◌≡◌, ℕ, ◌+◌, ◌-◌, ◌<◌, ◌≤◌, List, [], ◌∷◌, ◌++◌, length, map, take, drop, Option, Some, None, refl, sym, ap, subst, ◌∙◌, append_assoc, arith, inl, inr}
+use Rattle.std.proofs.Common.{rules}
 use Rattle.std.proofs.lemmas.List.{append-nil, length-append, length-drop, length-take-le}
 use Rattle.std.proofs.lemmas.Bool.{cases_lt}
 use Rattle.std.proofs.Math.Seq.{drop-length, take-add}
@@ -12,6 +13,7 @@ use Rattle.dgt_decode.proofs.Places.{shifted-append, shifted-shifted, shifted-ze
 use Rattle.dgt_decode.proofs.Appending.{events-append}
 use Rattle.dgt_decode.proofs.UnfinishedLemmas.{IsUnfinished, nothing, waiting, IsUnfinished-unfinished, events-of_unfinished, length-unfinished, unfinished-append}
 use Rattle.dgt_decode.proofs.Steps.{IsHeld, IsHeld-unfinished, next-begins, next-seven, verdict-new}
+use Rattle.std.proofs.lemmas.Grind.{common_steps}
 
 -- These are events after n bytes.
 record IsBehind (n : ℕ) (reported : List Placed) : Type 0 where
@@ -59,15 +61,7 @@ one_behind : (s : List ℕ) (b : ℕ) → AreBehind s (b ∷ [])
 one_behind s b =
     let o = unfinished_message s in
     let byte = behind_byte_held o b (IsHeld-unfinished s) (IsUnfinished-unfinished s) in
-    let place : length s - length o + length o ≡ length s = omega (arith, length-unfinished s) in
-    record {
-      early = byte.early;
-      is = events-append s (b ∷ [])
-          ∙ ap (λ (xs : List Placed). events s ++ shifted (length s - length o) xs) byte.is
-          ∙ ap (λ (xs : List Placed). events s ++ xs)
-          (shifted-shifted (length s - length o) (length o) byte.early
-          ∙ ap (λ (n : ℕ). shifted n byte.early) place);
-    }
+    search (rules, length-unfinished, events-append, shifted-shifted)
 
 -- any bytes, one after another
 all_behind : (s p : List ℕ) → AreBehind s p
@@ -78,15 +72,7 @@ all_behind s (b ∷ p) =
     let count : length (s ++ b ∷ []) ≡ length s + 1 = length-append s (b ∷ []) in
     record {
       early = one.early ++ shifted 1 later.early;
-      is = ap events (sym (append_assoc s (b ∷ []) p))
-          ∙ later.is
-          ∙ rw (
-            count,
-            one.is,
-            shifted-append (length s) one.early (shifted 1 later.early),
-            shifted-shifted (length s) 1 later.early,
-          )
-          (append_assoc (events s) (shifted (length s) one.early) (shifted (length s + 1) later.early));
+      is = search (rules, append_assoc, shifted-append, shifted-shifted);
     }
 
 -- ---- the events of a chunk
@@ -97,13 +83,10 @@ nearer n reported = map (λ x. at_place (x.place - n) x.event) reported
 
 nearer-behind : (n : ℕ) (reported : List Placed) → nearer n (shifted n reported) ≡ reported
 nearer-behind n [] = refl
-nearer-behind n (x ∷ reported) =
-    let same : n + x.place - n ≡ x.place = omega arith in
-    rw (same, nearer-behind n reported) refl
+nearer-behind n (x ∷ reported) = search (rules, nearer-behind n reported)
 
 nearer-append : (n : ℕ) (xs ys : List Placed) → nearer n (xs ++ ys) ≡ nearer n xs ++ nearer n ys
-nearer-append n [] ys = refl
-nearer-append n (x ∷ xs) ys = ap (λ (zs : List Placed). at_place (x.place - n) x.event ∷ zs) (nearer-append n xs ys)
+nearer-append n xs ys = grind (arith, common_steps)
 
 -- they are the events after the held bytes
 held_behind : (s p : List ℕ) → events (unfinished_message s ++ p)
@@ -119,14 +102,7 @@ held_behind s p =
 -- the events of a chunk come after those of all bytes before it
 pub behind : (s p : List ℕ) → events (s ++ p) ≡ events s ++ shifted (length s)
     (chunk_events (unfinished_message s) p)
-behind s p =
-    let o = unfinished_message s in
-    let place : length s - length o + length o ≡ length s = omega (arith, length-unfinished s) in
-    events-append s p
-    ∙ ap (λ (xs : List Placed). events s ++ shifted (length s - length o) xs) (held_behind s p)
-    ∙ ap (λ (xs : List Placed). events s ++ xs)
-    (shifted-shifted (length s - length o) (length o) (chunk_events o p)
-    ∙ ap (λ (n : ℕ). shifted n (chunk_events o p)) place)
+behind s p = search (rules, length-unfinished, events-append, held_behind, shifted-shifted)
 
 -- in two parts, after the held bytes
 held_in_two : (o p q : List ℕ) → chunk_events o (p ++ q)
@@ -137,18 +113,10 @@ held_in_two o p q =
     ∙ ap (nearer (length o)) (behind (o ++ p) q)
     ∙ nearer-append (length o) (events (o ++ p)) (shifted (length (o ++ p)) more)
     ∙ ap (λ (xs : List Placed). chunk_events o p ++ xs)
-    (ap (λ (n : ℕ). nearer (length o) (shifted n more)) (length-append o p)
-    ∙ ap (nearer (length o)) (sym (shifted-shifted (length o) (length p) more))
-    ∙ nearer-behind (length o) (shifted (length p) more))
+    (search (rules, length-append, shifted-shifted, nearer-behind))
 
 pub pieces_add : ChunksAdd
-pieces_add = record {
-  behind = behind;
-  in_two = λ s prefix rest. held_in_two (unfinished_message s) prefix rest
-      ∙ ap (λ (o : List ℕ). chunk_events (unfinished_message s) prefix
-      ++ shifted (length prefix) (chunk_events o rest))
-      (sym (unfinished-append s prefix));
-}
+pieces_add = search (rules, behind, held_in_two, unfinished-append)
 
 -- any chunks
 pub in_a_row : (s : List ℕ) (chunks : List (List ℕ))
@@ -196,11 +164,7 @@ FoldsTo-one hears a b c (y ∷ reported) x p q = (p.0, p.1, FoldsTo-one hears p.
 module _ {L : Type 0} (hears : L → Placed → L → Type 0) where
   -- nothing yet
   pub heard_none : (held chunk : List ℕ) (old : L) → IsHeld held → HasHeard hears held chunk 0 old old held
-  heard_none held chunk old h = record {
-    within = omega arith;
-    holds = sym (ap unfinished_message (append-nil held) ∙ h);
-    reported = rw (held_none held h) refl;
-  }
+  heard_none held chunk old h = search (rules, append-nil, held_none)
 
   -- the bytes that a call uses complete one more event
   next_reported : (held chunk : List ℕ) (i used : ℕ) (now : List ℕ) (event : Option Event) → i ≤ length chunk
@@ -228,9 +192,7 @@ module _ {L : Type 0} (hears : L → Placed → L → Type 0) where
       → new ≡ unfinished_message (now ++ take used (drop i chunk))
       → new ≡ unfinished_message (held ++ take (i + used) chunk)
   next_holds held chunk i used now new e f =
-      f ∙ ap (λ (o : List ℕ). unfinished_message (o ++ take used (drop i chunk))) e
-      ∙ sym (ap (λ (xs : List ℕ). unfinished_message (held ++ xs)) (take-add i used chunk)
-      ∙ ap unfinished_message (sym (append_assoc held (take i chunk) _)) ∙ unfinished-append (held ++ take i chunk) _)
+      search (rules, take-add, append_assoc, unfinished-append)
 
   -- a call without an event
   pub heard_quiet : (held chunk : List ℕ) (i used : ℕ) (old now : L) (before new : List ℕ)

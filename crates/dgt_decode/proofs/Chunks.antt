@@ -1,5 +1,6 @@
 -- The first element that passes a test, found this many at a time.
-use Rattle.std.proofs.Common.{◌≡◌, ℕ, ◌+◌, ◌%◌, ◌^◌, ◌<◌, ◌≤◌, Bool, not, cond, eqb, zero, suc, true, false, List, [], ◌∷◌, map, length, drop, replicate, sym, ap, ◌∙◌, arith, w8}
+use Rattle.std.proofs.Common.{◌≡◌, ℕ, ◌+◌, ◌%◌, ◌^◌, ◌<◌, ◌≤◌, Bool, not, cond, eqb, zero, suc, List, [], ◌∷◌, map, length, drop, replicate, sym, ap, ◌∙◌, arith, w8}
+use Rattle.std.proofs.Common.{rules}
 use Rattle.std.proofs.lemmas.Simd.{chunk-drop, length-chunk, tops_compared, zip2_splat_left, mask_l-mod}
 use Rattle.std.proofs.lemmas.List.{length-drop, length-map, take_all}
 use Rattle.std.proofs.lemmas.List.Folds.{prefix_len-append}
@@ -11,8 +12,7 @@ use Rattle.std.specs.Simd.Lanes.{chunk, mask_l, top, zip2}
 pub splat_mask : (test : ℕ → ℕ → Bool) (y n : ℕ) (lanes : List ℕ) → length lanes ≡ n → n ≤ 64
     → mask_l (map (top 7) (zip2 (λ a b. cond (test a b) 255 0) (replicate n y) lanes)) % 2 ^ 64 ≡ mask_l
     (map (test y) lanes)
-splat_mask test y n lanes long few =
-    ap (λ bits. mask_l bits % 2 ^ 64)
+splat_mask test y n lanes long few = ap (λ bits. mask_l bits % 2 ^ 64)
     (tops_compared w8 test (replicate n y) lanes ∙ zip2_splat_left test y n lanes long)
     ∙ mask_l-mod (map (test y) lanes) 64 (omega (arith, length-map lanes (test y)))
 
@@ -28,19 +28,12 @@ module _ (test : ℕ → Bool) (xs : List ℕ) (at n : ℕ) (room : at + n ≤ l
   -- the first is among the next n
   pub first_within : position_or_len test (chunk at n xs) < n
       → position_or_len test (drop at xs) ≡ position_or_len test (chunk at n xs)
-  first_within short =
-      let c = chunk at n xs in
-      joined ∙ ap (λ b. cond b (length c + position_or_len test (drop (at + n) xs)) (position_or_len test c))
-      (ne_eqb _ _ (λ (e : position_or_len test c ≡ length c). omega (arith, length-chunk at n xs room)))
+  first_within short = search (rules, joined, ne_eqb, length-chunk)
 
   -- the first is past the next n
   pub first_past : position_or_len test (chunk at n xs) ≡ n
       → position_or_len test (drop at xs) ≡ n + position_or_len test (drop (at + n) xs)
-  first_past whole =
-      let c = chunk at n xs in
-      joined ∙ ap (λ b. cond b (length c + position_or_len test (drop (at + n) xs)) (position_or_len test c))
-      (eq-eqb _ _ (whole ∙ sym (length-chunk at n xs room)))
-      ∙ ap (λ k. k + position_or_len test (drop (at + n) xs)) (length-chunk at n xs room)
+  first_past whole = search (rules, joined, eq-eqb, length-chunk)
 
 -- The search may start again at a place before the one that it has reached.
 pub passed_before : (test : ℕ → Bool) (xs : List ℕ) (at from : ℕ) → from ≤ at → at ≤ length xs
@@ -50,15 +43,7 @@ passed_before test xs at zero before within passed = omega arith
 passed_before test [] at (suc from) before within passed = absurd (omega (arith, before, within))
 passed_before test (x ∷ xs) zero (suc from) before within passed = absurd (omega (arith, before))
 passed_before test (x ∷ xs) (suc at) (suc from) before within passed =
-    go (test x) passed (passed_before test xs at from (omega (arith, before)) (omega (arith, within)))
-  where
-    go : (t : Bool)
-        → suc at + position_or_len test (drop at xs) ≡ cond (not t) (1 + position_or_len test xs) 0
-        → (at + position_or_len test (drop at xs) ≡ position_or_len test xs
-        → from + position_or_len test (drop from xs) ≡ position_or_len test xs)
-        → suc from + position_or_len test (drop from xs) ≡ cond (not t) (1 + position_or_len test xs) 0
-    go true p more = absurd (omega (arith, p))
-    go false p more = omega (arith, more (omega (arith, p)))
+    search (rules, passed_before test xs)
 
 -- the search among the last n is the search from there on
 pub first_in_last : (test : ℕ → Bool) (xs : List ℕ) (at n : ℕ) → at + n ≡ length xs

@@ -1,5 +1,6 @@
 -- A message that is cut off a few bytes after its first.
 use Rattle.std.proofs.Common.{◌≡◌, ◌≢◌, ℕ, zero, suc, ◌+◌, ◌*◌, ◌-◌, ◌<◌, ◌≤◌, not, List, [], ◌∷◌, ◌++◌, length, take, get_or, Some, true, sym, ap, ◌∙◌, arith}
+use Rattle.std.proofs.Common.{rules}
 use Rattle.std.specs.List.{position_or_len}
 use Rattle.std.proofs.lemmas.Bool.{leb-true}
 use Rattle.std.proofs.lemmas.List.{length-take, length-take-le, take-take, take_more}
@@ -7,7 +8,6 @@ use Rattle.std.proofs.lemmas.List.Sums.{prefix_len-le-length}
 use Rattle.std.proofs.lemmas.Simd.{run_in_chunk_stops}
 use Rattle.dgt_decode.specs.declared.event.Found.TheVariants as found
 use Rattle.dgt_decode.specs.declared.framer.FramerState.{FramerState}
-use Rattle.dgt_decode.specs.declared.framer.FramerState.TheVariants.{Hunting, Head, Body, Whole}
 use Rattle.dgt_decode.specs.Grammar.{Cut, has_top_bit, announced_total, at_place, events, unfinished_message}
 use Rattle.dgt_decode.specs.Taking.{FramesPrefix, IsKept}
 use Rattle.dgt_decode.proofs.Steps.{Gives, IsHeld, first-begins, next-begins, next-short, next-waits}
@@ -17,10 +17,7 @@ use Rattle.dgt_decode.proofs.SevenBit.{SevenByRecursion}
 
 -- if one byte is kept, it is held
 one_held : (state : FramerState) (k : ℕ) → IsKept state (k ∷ []) → IsHeld (k ∷ [])
-one_held Hunting k is = absurd cc
-one_held Head k is = is.0
-one_held (Body left) k is = is.0
-one_held Whole k is = absurd (omega (arith, is.long))
+one_held state k is = search rules
 
 -- with seven-bit bytes that are fewer than the header says nothing is reported
 quiet_run : (k : ℕ) (rest : List ℕ) (run : ℕ) → IsHeld (k ∷ []) → SevenByRecursion (take run rest) → run ≤ length rest

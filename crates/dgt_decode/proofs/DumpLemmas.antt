@@ -1,5 +1,6 @@
 -- The messages that are dumps: 67 bytes, of which the last 64 are pieces.
-use Rattle.std.proofs.Common.{◌≡◌, ℕ, ◌-◌, ◌<◌, List, [], ◌∷◌, Ok, ap, arith, drop, get_or, length, map, refl, slice_index}
+use Rattle.std.proofs.Common.{◌≡◌, ℕ, ◌-◌, ◌<◌, List, [], ◌∷◌, Ok, ap, arith, drop, get_or, length, map, slice_index}
+use Rattle.std.proofs.Common.{rules}
 use Rattle.std.proofs.lemmas.List.{get_or-map, length-map}
 use Rattle.std.proofs.lemmas.List.Elements.{All-drop}
 use Rattle.dgt_values.specs.Bytes.{AreSevenBit}
@@ -19,11 +20,7 @@ use Rattle.dgt_decode.proofs.FieldLemmas.{IsRead, read_of}
 dump_read : IsRead → (body : List ℕ) (pieces : List Piece) → AreSevenBit body → length body ≡ 64
     → body ≡ map piece_code pieces → reading 6 body ≡ Ok (dump pieces)
 dump_read exact body pieces seven long are =
-    (exact 6 body (dump pieces) (omega arith) (omega (arith, long), seven)).1 record {
-      is_message = omega (arith, long, ap length are, length-map pieces piece_code);
-      code_is = refl;
-      encoded = are;
-    }
+    (exact 6 body (dump pieces) (omega arith) (omega (arith, long), seven)).1 search (rules, length-map)
 
 pub dump_reported : IsRead → (bytes : List ℕ) (pieces : List Piece) → IsWholeMessage bytes → length bytes ≡ 67
     → slice_index bytes 0 ≡ 134 → drop 3 bytes ≡ map piece_code pieces

@@ -1,5 +1,6 @@
 -- Messages that are encoded one after another.
 use Rattle.std.proofs.Common.{◌≡◌, ℕ, ◌+◌, ◌-◌, List, [], ◌∷◌, ◌++◌, length, drop, Ok, refl, sym, ap, ◌∙◌, append_assoc, arith}
+use Rattle.std.proofs.Common.{rules}
 use Rattle.std.specs.Prelude.{slice_index}
 use Rattle.std.specs.List.{AllByRecursion}
 use Rattle.std.proofs.lemmas.List.{append-nil}
@@ -34,16 +35,10 @@ record IsRead (m : Sent) : Type 0 where
 
 -- a message that is encoded is read
 is_read : AreRead → (m : Sent) → Encodes m.said m.bytes → IsRead m
-is_read reads m h =
-    record {
-      whole = record {
-        first = omega (arith, h.header.code_is);
-        later = h.header.seven_bit;
-        long = h.header.long_enough;
-        whole = h.header.total_is;
-      };
-      reports = rw (reads m.said m.bytes h) refl;
-    }
+is_read reads m h = record {
+  whole = search rules;
+  reports = rw (reads m.said m.bytes h) refl;
+}
 
 -- messages that are encoded are read
 are_read : AreRead → (ms : List Sent) → AllByRecursion (λ m. Encodes m.said m.bytes) ms → AllByRecursion IsRead ms
@@ -80,15 +75,14 @@ segments-sent (m ∷ ms) h =
 -- their events are the messages
 segments_events-encodings : (ms : List Sent) → AllByRecursion IsRead ms → segments_events (encodings ms) ≡ arrivals ms
 segments_events-encodings [] h = refl
-segments_events-encodings (m ∷ ms) h =
-    rw (
-      verdict-of_whole m.bytes h.0.whole,
-      drop-length m.bytes,
-      cut_before-nothing
-          (encodings ms),
-      segments_events-encodings ms h.1,
-      h.0.reports,
-    ) refl
+segments_events-encodings (m ∷ ms) h = rw (
+  verdict-of_whole m.bytes h.0.whole,
+  drop-length m.bytes,
+  cut_before-nothing
+      (encodings ms),
+  segments_events-encodings ms h.1,
+  h.0.reports,
+) refl
 
 -- ---- After any bytes
 
@@ -98,14 +92,13 @@ behind_unfinished : (o : List ℕ) → IsUnfinished o → (m : Sent) (ms : List 
 unfolding events
 behind_unfinished o nothing m ms h =
     rw (lead-sent (m ∷ ms) h, segments-sent (m ∷ ms) h, segments_events-encodings (m ∷ ms) h) refl
-behind_unfinished o (waiting g alone e) m ms h =
-    rw (
-      lead-before g (sent_bytes (m ∷ ms)) alone,
-      segments-before g (sent_bytes (m ∷ ms)) alone
-          (lead-sent (m ∷ ms) h),
-      segments-sent (m ∷ ms) h,
-      shifted-zero,
-    )
+behind_unfinished o (waiting g alone e) m ms h = rw (
+  lead-before g (sent_bytes (m ∷ ms)) alone,
+  segments-before g (sent_bytes (m ∷ ms)) alone
+      (lead-sent (m ∷ ms) h),
+  segments-sent (m ∷ ms) h,
+  shifted-zero,
+)
     (rw (e, segments_events-encodings (m ∷ ms) h) refl)
 
 -- after any bytes
@@ -122,8 +115,7 @@ events-sent s m more h =
     ∙ ap (λ (zs : List Placed). events s ++ shifted (length s - length o) zs)
     (behind_unfinished o (IsUnfinished-unfinished s) m more h)
     ∙ ap (λ (zs : List Placed). events s ++ zs)
-    (shifted-shifted (length s - length o) (length o)
-    (a ++ b) ∙ ap (λ (n : ℕ). shifted n (a ++ b)) here ∙ shifted-append (length s) a b)
+    (search (rules, shifted-shifted, shifted-append))
     ∙ sym (append_assoc (events s) (shifted (length s) a) (shifted (length s) b))
 
 -- a whole message after what is unfinished leaves nothing unfinished
@@ -137,13 +129,11 @@ behind_whole o w (waiting g before e) whole =
 -- they leave nothing unfinished
 unfinished-sent : (s : List ℕ) (m : Sent) (more : List Sent) → AllByRecursion IsRead (m ∷ more)
     → unfinished_message (s ++ sent_bytes (m ∷ more)) ≡ []
-unfinished-sent s m [] h =
-    ap (λ (x : List ℕ). unfinished_message (s ++ x)) (append-nil m.bytes)
+unfinished-sent s m [] h = ap (λ (x : List ℕ). unfinished_message (s ++ x)) (append-nil m.bytes)
     ∙ unfinished-append s m.bytes
     ∙ behind_whole (unfinished_message s) m.bytes (IsUnfinished-unfinished s) h.0.whole
 unfinished-sent s m (k ∷ more) h =
-    ap (λ (x : List ℕ). unfinished_message x) (sym (append_assoc s m.bytes (sent_bytes (k ∷ more))))
-    ∙ unfinished-sent (s ++ m.bytes) k more h.1
+    search (rules, append_assoc, unfinished-sent (s ++ m.bytes) k more h.1)
 
 -- ---- The laws
 
@@ -154,14 +144,11 @@ pub recovery : AreRead → (s : List ℕ) (m : Sent) (more : List Sent) → AllB
     ≡ events s ++ shifted (length s) (cut_of (unfinished_message s))
     ++ shifted (length s) (arrivals (m ∷ more)))
     × (unfinished_message (s ++ sent_bytes (m ∷ more)) ≡ [])
-recovery reads s m more h =
-    let read = are_read reads (m ∷ more) h in
-    (events-sent s m more read, unfinished-sent s m more read)
+recovery reads s m more h = search (rules, are_read, events-sent, unfinished-sent)
 
 -- one message, as it is written
 pub encoding_is_read : AreRead → AreEncoded → EncodingIsRead
 encoding_is_read reads encoded s said is =
     let m : Sent = record { said = said; bytes = encoding said } in
     let one = recovery reads s m [] (encoded said is, tt) in
-    let same : encoding said ++ [] ≡ encoding said = append-nil (encoding said) in
-    (rw same at one.0, rw same at one.1)
+    search (rules, append-nil)

@@ -10,9 +10,7 @@ use Rattle.dgt_decode.specs.contracts.event.EventPartialEq.TheImpl as event
 module _ (equal_messages : EqualIsSameRead content (message.eq-value).it) where
   -- two events are equal exactly if they report the same
   pub equal_events : EqualIsSameRead event_content (event.eq-value).it
-  equal_events (code_events.Message a) (code_events.Message b) =
-      let same = equal_messages a b in
-      (λ t. let said = same.0 t in cc, λ e. same.1 cc)
+  equal_events (code_events.Message a) (code_events.Message b) = search rules
   equal_events (code_events.Refused code fault) (code_events.Refused other second) = search rules
   equal_events (code_events.Cut have) (code_events.Cut other) = search rules
   equal_events code_events.BadLength code_events.BadLength = search rules

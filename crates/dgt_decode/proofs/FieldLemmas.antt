@@ -1,5 +1,5 @@
 -- The messages that are field updates: five bytes, of which the last two are a square and a piece.
-use Rattle.std.proofs.Common.{◌≡◌, ℕ, ◌<◌, List, [], ◌∷◌, Result, Ok, ap, arith, drop, length, refl, slice_index}
+use Rattle.std.proofs.Common.{◌≡◌, ℕ, ◌<◌, List, [], ◌∷◌, Result, Ok, ap, arith, drop, length, slice_index, rules}
 use Rattle.std.specs.Prelude.{◌↔◌, ◌-◌}
 use Rattle.std.proofs.lemmas.List.Elements.{All-drop, All-from_recursion}
 use Rattle.dgt_values.specs.Bytes.{AreSevenBit}
@@ -14,6 +14,7 @@ use Rattle.dgt_message.specs.declared.viewing.BodyFault.{BodyFault}
 use Rattle.dgt_message.proofs.Codes.{piece_code-below}
 use Rattle.dgt_decode.specs.Grammar.{Message, message_event, reading_event}
 use Rattle.dgt_decode.specs.Feeding.{IsWholeMessage}
+use Rattle.std.proofs.Common.{refl}
 
 -- a message that fits a code and a body is their reading
 abbrev pub IsRead : Type 0
@@ -22,8 +23,7 @@ IsRead = (code : ℕ) (body : List ℕ) (said : Content) → code < 128 → IsCa
 
 -- the reading of a body of two bytes that are a square and the code of a piece
 field_read : IsRead → (square : Square) (piece : Piece) (s p : ℕ) → s < 64 → p < 128 → square_number square ≡ s
-    → piece_code piece ≡ p
-    → reading 14 (s ∷ p ∷ []) ≡ Ok (field (square_number square) piece)
+    → piece_code piece ≡ p → reading 14 (s ∷ p ∷ []) ≡ Ok (field (square_number square) piece)
 field_read exact square piece s p small small' e f =
     (exact 14 (s ∷ p ∷ []) (field (square_number square) piece) (omega arith)
     (omega arith, All-from_recursion (λ byte. byte < 128) (s ∷ p ∷ []) (omega (arith, small), (small', tt)))).1 record {
@@ -60,12 +60,8 @@ only_field exact (a ∷ b ∷ c ∷ body) square piece byte w e =
     let carried : IsCarried body =
     (omega (arith, w.whole, w.later 0 0 (omega arith), w.later 1 0 (omega arith)), seven) in
     let fits : Fits (field square piece) (a - 128) body =
-    (exact (a - 128) body (field square piece) (omega arith) carried).0 (read_of _ _ _ e) in (
-      omega (arith, fits.code_is, w.first),
-      omega (arith, ap length fits.encoded),
-      rw fits.encoded fits.is_message,
-      rw fits.encoded (piece_code-below piece),
-    )
+    (exact (a - 128) body (field square piece) (omega arith) carried).0 (read_of _ _ _ e) in
+    (search (rules, piece_code-below))
 only_field exact [] square piece byte w e = absurd (omega (arith, w.long))
 only_field exact (a ∷ []) square piece byte w e = absurd (omega (arith, w.long))
 only_field exact (a ∷ b ∷ []) square piece byte w e = absurd (omega (arith, w.long))

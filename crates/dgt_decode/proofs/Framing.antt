@@ -1,5 +1,6 @@
 -- The states of a framer, byte by byte.
-use Rattle.std.proofs.Common.{option_map, ◌≡◌, ◌≢◌, ℕ, zero, suc, ◌+◌, ◌*◌, ◌-◌, ◌<◌, ◌≤◌, ◌⊎◌, inl, inr, false, List, [], ◌∷◌, ◌++◌, length, drop, Option, Some, None, refl, sym, ap, subst, ◌∙◌, arith, nat_eq}
+use Rattle.std.proofs.Common.{option_map, ◌≡◌, ◌≢◌, ℕ, zero, suc, ◌+◌, ◌*◌, ◌-◌, ◌<◌, ◌≤◌, ◌⊎◌, inl, List, [], ◌∷◌, ◌++◌, length, drop, Option, Some, None, refl, sym, ap, subst, ◌∙◌, arith}
+use Rattle.std.proofs.Common.{rules}
 use Rattle.std.specs.Prelude.{◌==◌, if◌then◌else◌, slice_index}
 use Rattle.std.proofs.lemmas.Bool.{ne_eqb}
 use Rattle.std.proofs.lemmas.List.{length-append, nil_from_length}
@@ -7,7 +8,7 @@ use Rattle.dgt_decode.specs.declared.event.Found.{Found}
 use Rattle.dgt_decode.specs.declared.event.Found.TheVariants as found
 use Rattle.dgt_decode.specs.declared.framer.FramerState.{FramerState}
 use Rattle.dgt_decode.specs.declared.framer.FramerState.TheVariants.{Hunting, Head, Body, Whole}
-use Rattle.dgt_decode.specs.Grammar.{BadLength, Cut, Stray, at_place, message_event, announced_total, events, unfinished_message}
+use Rattle.dgt_decode.specs.Grammar.{BadLength, Cut, Stray, at_place, announced_total, events, unfinished_message}
 use Rattle.dgt_decode.specs.Feeding.{IsWholeMessage, at_place_if_any, event_found_in}
 use Rattle.dgt_decode.specs.Taking.{Frames, FramesPrefix, IsKept}
 use Rattle.dgt_decode.proofs.Verdicts.{announced_total-append}
@@ -17,24 +18,19 @@ use Rattle.dgt_decode.proofs.Feeds.{first_of_run}
 use Rattle.dgt_decode.proofs.Steps.{IsHeld, IsHeld-unfinished, IsAlone-more, alone_held, first-begins, first-stray, next-begins, next-short, next-bad, next-waits, next-whole}
 use Rattle.dgt_decode.proofs.Bytes.{IsAlone-parts, nothing_held, quiet_unfinished, held_begins_more, held_room}
 use Rattle.dgt_decode.proofs.SevenBit.{SevenByRecursion, are_seven}
+use Rattle.std.proofs.lemmas.Grind.{common_steps}
 
 -- ---- What is unfinished
 
 -- between messages nothing is unfinished
 pub closed : (state : FramerState) (kept : List ℕ) → IsKept state kept → (state ≡ Hunting) ⊎ (state ≡ Whole)
     → unfinished_message kept ≡ []
-closed state kept is here = elim here [
-  | inl e ↦ (let none : IsKept Hunting kept = subst (λ s. IsKept s kept) e is in rw none nothing_held)
-  | inr e ↦ whole_unfinished kept (subst (λ s. IsKept s kept) e is)
-]
+closed state kept is here = search (rules, nothing_held, whole_unfinished)
 
 -- within a message, all bytes kept are unfinished
 pub kept_unfinished : (state : FramerState) (kept : List ℕ) → IsKept state kept → (state ≡ Head)
     ⊎ ((left : ℕ) × (state ≡ Body left)) → unfinished_message kept ≡ kept
-kept_unfinished state kept is here = elim here [
-  | inl e ↦ (let head : IsKept Head kept = subst (λ s. IsKept s kept) e is in head.0)
-  | inr (left, e) ↦ (let body : IsKept (Body left) kept = subst (λ s. IsKept s kept) e is in body.0)
-]
+kept_unfinished state kept is here = search rules
 
 -- ---- A byte that begins a message
 
@@ -48,8 +44,7 @@ pub frames-first : (kept : List ℕ) (b : ℕ) → length (unfinished_message ke
 frames-first kept b none top =
     let nothing : unfinished_message kept ≡ [] = nil_from_length (unfinished_message kept) none in
     record {
-      first = first_of_run (unfinished_message kept) (b ∷ []) None (omega arith) (quiet_unfinished kept)
-          (rw nothing (first-begins b top).reported);
+      first = search (rules, first_of_run, quiet_unfinished, first-begins);
       held = rw nothing refl;
       whole = λ e. absurd cc;
       came = λ e. absurd cc;
@@ -62,9 +57,7 @@ pub frames-cut : (kept : List ℕ) (b : ℕ) → 0 < length (unfinished_message 
 frames-cut kept b some top =
     let g = next-begins (unfinished_message kept) b (IsHeld-unfinished kept) some top in
     record {
-      first = first_of_run (unfinished_message kept) (b ∷ []) (Some (Cut (length (unfinished_message kept))))
-          (omega arith)
-          (quiet_unfinished kept) g.reported;
+      first = search (rules, first_of_run, quiet_unfinished);
       held = (first-begins b top).leaves ∙ sym g.leaves;
       whole = λ e. absurd cc;
       came = λ e. absurd cc;
@@ -78,25 +71,13 @@ pub frames-stray : (kept : List ℕ) (b : ℕ) → unfinished_message kept ≡ [
     → Frames kept (b ∷ []) [] (Some (found.Stray b))
 frames-stray kept b none seven =
     let g = first-stray b seven in
-    record {
-      first = first_of_run (unfinished_message kept) (b ∷ []) (Some (Stray b)) (omega arith) (quiet_unfinished kept)
-          (rw none g.reported);
-      held = rw none (nothing_held ∙ sym g.leaves);
-      whole = λ e. absurd cc;
-      came = λ e. absurd cc;
-      unfinished = λ e. nothing_held;
-    }
+    search (rules, first_of_run, quiet_unfinished, nothing_held)
 
 -- a stray byte is taken on its own
 pub prefix-stray : (kept rest : List ℕ) → unfinished_message kept ≡ [] → 0 < length rest → slice_index rest 0 < 128
     → FramesPrefix kept rest 1 [] (Some (found.Stray (slice_index rest 0)))
 prefix-stray kept [] none some seven = absurd (omega (arith, some))
-prefix-stray kept (b ∷ rest) none some seven =
-    record {
-      some = omega arith;
-      within = omega arith;
-      frames = frames-stray kept b none seven;
-    }
+prefix-stray kept (b ∷ rest) none some seven = search (rules, frames-stray)
 
 -- ---- A byte of the header
 
@@ -106,17 +87,8 @@ pub frames-short : (state : FramerState) (kept : List ℕ) (b : ℕ) → IsKept 
 frames-short state kept b is head one seven =
     let h = kept_unfinished state kept is (inl head) in
     let long : length (kept ++ b ∷ []) ≡ 2 = omega (arith, length-append kept (b ∷ [])) in
-    let g = next-short kept (b ∷ []) h (omega arith) (seven, tt) (omega arith) in (
-      record {
-        first = first_of_run (unfinished_message kept) (b ∷ []) None (omega arith) (quiet_unfinished kept)
-            (rw h g.reported);
-        held = rw h refl;
-        whole = λ e. absurd cc;
-        came = λ e. absurd cc;
-        unfinished = λ e. g.leaves;
-      },
-      (g.leaves, omega arith, omega arith),
-    )
+    let g = next-short kept (b ∷ []) h (omega arith) (seven, tt) (omega arith) in
+    (search (rules, first_of_run, quiet_unfinished))
 
 -- after the first byte there are two
 two_kept : (state : FramerState) (kept : List ℕ) → IsKept state kept → state ≡ Head → length kept ≢ 1
@@ -127,10 +99,7 @@ two_kept state kept is head more =
 -- the third byte ends the total
 pub head_total : (kept : List ℕ) (b : ℕ) → length kept ≡ 2
     → announced_total (kept ++ b ∷ []) ≡ 128 * slice_index kept 1 + b
-head_total (x ∷ y ∷ []) b two = refl
-head_total (x ∷ y ∷ z ∷ kept) b two = absurd (omega arith)
-head_total (x ∷ []) b two = absurd (omega arith)
-head_total [] b two = absurd (omega arith)
+head_total kept b two = grind (arith, common_steps)
 
 -- a total below 3 is reported as a bad length
 pub frames-bad : (state : FramerState) (kept : List ℕ) (b : ℕ) → IsKept state kept → state ≡ Head → length kept ≢ 1
@@ -139,15 +108,7 @@ frames-bad state kept b is head more seven small =
     let (h, two) = two_kept state kept is head more in
     let long : length (kept ++ b ∷ []) ≡ 3 = omega (arith, length-append kept (b ∷ [])) in
     let g = next-bad kept (b ∷ []) h (omega arith) (seven, tt) long (omega (arith, head_total kept b two)) in
-    let place : 3 ≡ length kept + 1 = omega arith in
-    record {
-      first = first_of_run (unfinished_message kept) (b ∷ []) (Some BadLength) (omega arith) (quiet_unfinished kept)
-          (rw h (g.reported ∙ ap (λ (n : ℕ). at_place n BadLength ∷ []) place));
-      held = rw h (nothing_held ∙ sym g.leaves);
-      whole = λ e. absurd cc;
-      came = λ e. absurd cc;
-      unfinished = λ e. nothing_held;
-    }
+    search (rules, first_of_run, quiet_unfinished, nothing_held)
 
 -- ---- A later byte
 
@@ -169,8 +130,7 @@ pub record ReportsRun (kept run : List ℕ) (what : Option Found) : Type 0 where
 
 -- they end it if none is left, and report nothing otherwise
 pub reports-after : (kept run : List ℕ) (left : ℕ) → IsHeld kept → 2 ≤ length kept → 0 < length run
-    → SevenByRecursion run
-    → announced_total (kept ++ run) ≡ length (kept ++ run) + left
+    → SevenByRecursion run → announced_total (kept ++ run) ≡ length (kept ++ run) + left
     → ReportsRun kept run (after left).1 × IsKept (after left).0 (kept ++ run)
 reports-after kept run zero h two more seven all =
     let some : 0 < length kept = omega arith in
@@ -179,50 +139,19 @@ reports-after kept run zero h two more seven all =
     let same : announced_total (kept ++ run) ≡ length (kept ++ run) = omega (arith, all) in
     let g = next-whole kept run h some seven long same in
     let alone = IsAlone-more kept run (alone_held kept h some).0 seven in
-    let whole :
-    IsWholeMessage
-    (kept ++ run) = record {
-      first = held_begins_more kept run h some;
-      later = are_seven (drop 1 (kept ++ run)) (later_seven (kept ++ run) alone);
-      long = long;
-      whole = same;
-    } in (
-      record {
-        reported = g.reported ∙ ap (λ (n : ℕ). at_place n (message_event (kept ++ run)) ∷ []) count;
-        message = λ e. whole;
-        unfinished = λ other. absurd (other refl);
-      },
-      whole,
-    )
+    search (rules, held_begins_more, are_seven, later_seven)
 reports-after kept run (suc left) h two more seven all =
     let count : length (kept ++ run) ≡ length kept + length run = length-append kept run in
     let g = next-waits kept run h (omega arith) seven (omega (arith, all)) in
-    let waits : nat_eq (suc left) 0 ≡ false = ne_eqb (suc left) 0 (λ (z : suc left ≡ 0). absurd (omega (arith, z))) in
-    rw waits (
-      record {
-        reported = g.reported;
-        message = λ e. absurd cc;
-        unfinished = λ other. g.leaves;
-      },
-      (g.leaves, omega arith, omega arith, all),
-    )
+    search (rules, ne_eqb)
 
 -- so does one byte
 pub frames-after : (kept : List ℕ) (b left : ℕ) → IsHeld kept → 2 ≤ length kept → b < 128
     → announced_total (kept ++ b ∷ []) ≡ length (kept ++ b ∷ []) + left
     → Frames kept (b ∷ []) (kept ++ b ∷ []) (after left).1 × IsKept (after left).0 (kept ++ b ∷ [])
 frames-after kept b left h two seven all =
-    let t = reports-after kept (b ∷ []) left h two (omega arith) (seven, tt) all in (
-      record {
-        first = first_of_run (unfinished_message kept) (b ∷ []) _ (omega arith) (quiet_unfinished kept)
-            (rw h t.0.reported);
-        held = rw h refl;
-        whole = t.0.message;
-        came = λ e. rw h refl;
-        unfinished = t.0.unfinished;
-      },
-      t.1,
-    )
+    let t = reports-after kept (b ∷ []) left h two (omega arith) (seven, tt) all in
+    (search (rules, first_of_run, quiet_unfinished))
 
 -- a byte of the body does
 pub frames-body : (state : FramerState) (kept : List ℕ) (b left : ℕ) → IsKept state kept → state ≡ Body left → b < 128

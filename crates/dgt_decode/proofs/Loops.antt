@@ -1,5 +1,6 @@
 -- A loop over the bytes of a chunk, which takes them one by one or run by run.
-use Rattle.std.proofs.Common.{◌≡◌, ◌≢◌, ℕ, ◌+◌, ◌-◌, ◌<◌, ◌≤◌, true, false, List, [], ◌∷◌, ◌++◌, length, take, drop, get_or, option_map, Option, Some, None, refl, sym, ap, ◌∙◌, append_assoc, arith}
+use Rattle.std.proofs.Common.{◌≡◌, ◌≢◌, ℕ, ◌+◌, ◌-◌, ◌<◌, ◌≤◌, true, false, List, [], ◌∷◌, ◌++◌, length, take, drop, get_or, option_map, Option, Some, None, sym, ap, ◌∙◌, append_assoc, arith}
+use Rattle.std.proofs.Common.{rules}
 use Rattle.std.specs.Prelude.{is_some}
 use Rattle.std.proofs.Math.Seq.{drop-cons, take-add, take-length}
 use Rattle.dgt_decode.specs.declared.event.Found.{Found}
@@ -17,20 +18,14 @@ use Rattle.dgt_decode.proofs.Division.{quiet_held}
 -- the place of an event after bytes is the sum of the places
 pub shifted-at_place_if_any : (n m k : ℕ) (event : Option Event) → n + m ≡ k
     → shifted n (at_place_if_any m event) ≡ at_place_if_any k event
-shifted-at_place_if_any n m k None e = refl
-shifted-at_place_if_any n m k (Some event) e = ap (λ (p : ℕ). at_place p event ∷ []) e
+shifted-at_place_if_any n m k event e = search rules
 
 -- The event of p after s, which has none, is that of p after what s leaves unfinished.
 pub events-more : (s p : List ℕ) (n : ℕ) (event : Option Event) → events s ≡ []
     → events (unfinished_message s ++ p) ≡ at_place_if_any (length (unfinished_message s) + n) event
     → events (s ++ p) ≡ at_place_if_any (length s + n) event
 events-more s p n event quiet now =
-    let place : length s - length (unfinished_message s) + (length (unfinished_message s) + n) ≡ length s + n =
-    omega (arith, length-unfinished s) in
-    events-append s p
-    ∙ rw (quiet, now)
-    (shifted-at_place_if_any (length s - length (unfinished_message s)) (length (unfinished_message s) + n)
-    (length s + n) event place)
+    search (rules, length-unfinished, events-append, shifted-at_place_if_any)
 
 -- Such a reader has taken i bytes of the chunk without an event, and holds this.
 pub record HasTaken (held chunk : List ℕ) (i : ℕ) (now : List ℕ) : Type 0 where
@@ -39,11 +34,10 @@ pub record HasTaken (held chunk : List ℕ) (i : ℕ) (now : List ℕ) : Type 0 
 
 -- at first no byte of the chunk is taken
 pub taken_none : (held chunk : List ℕ) → IsHeld held → HasTaken held chunk 0 held
-taken_none held chunk h =
-    record {
-      holds = rw (append-nil held) (sym h);
-      quiet = rw (append-nil held) (events-of_unfinished held (IsUnfinished-held held h));
-    }
+taken_none held chunk h = record {
+  holds = rw (append-nil held) (sym h);
+  quiet = rw (append-nil held) (events-of_unfinished held (IsUnfinished-held held h));
+}
 
 -- ---- a run of bytes: from i to j
 
@@ -62,18 +56,15 @@ pub run_reported : (held chunk : List ℕ) (i j n : ℕ) (now run : List ℕ) (e
     → HasTaken held chunk i now
     → events (now ++ run) ≡ at_place_if_any (length now + n) event → events (held ++ take j chunk) ≡ at_place_if_any
     (length (held ++ take i chunk) + n) event
-run_reported held chunk i j n now run event r t reported =
-    rw (r, ← append_assoc held (take i chunk) run)
-    (events-more (held ++ take i chunk) run n event t.quiet (rw (← t.holds) reported))
+run_reported held chunk i j n now run event r t reported = search (rules, append_assoc, events-more)
 
 -- a run without an event continues
 pub run_quiet : (held chunk : List ℕ) (i j : ℕ) (now run : List ℕ) → IsRun chunk i run j → HasTaken held chunk i now
     → events (now ++ run) ≡ [] → HasTaken held chunk j (unfinished_message (now ++ run))
-run_quiet held chunk i j now run r t reported =
-    record {
-      holds = run_holds held chunk i j now run r t;
-      quiet = run_reported held chunk i j 0 now run None r t reported;
-    }
+run_quiet held chunk i j now run r t reported = record {
+  holds = run_holds held chunk i j now run r t;
+  quiet = run_reported held chunk i j 0 now run None r t reported;
+}
 
 -- the held bytes and a run are the earlier held bytes and all bytes to its end
 pub run_came : (held chunk : List ℕ) (i j : ℕ) (now run : List ℕ) → IsRun chunk i run j → HasTaken held chunk i now
@@ -85,27 +76,13 @@ run_came held chunk i j now run r t =
 
 -- one byte is a step
 pub one_byte : (kept chunk : List ℕ) (i : ℕ) (new : List ℕ) (what : Option Found) → i < length chunk
-    → Frames kept (get_or chunk i 0 ∷ []) new what
-    → FramesPrefix kept (drop i chunk) 1 new what
-one_byte kept chunk i new what within byte =
-    let prefix : take 1 (drop i chunk) ≡ get_or chunk i 0 ∷ [] = rw (drop-cons chunk i 0 within) refl in
-    record {
-      some = omega arith;
-      within = omega (arith, length-drop i chunk);
-      frames = rw prefix byte;
-    }
+    → Frames kept (get_or chunk i 0 ∷ []) new what → FramesPrefix kept (drop i chunk) 1 new what
+one_byte kept chunk i new what within byte = search (rules, drop-cons, length-drop)
 
 -- the first bytes of a prefix are those of the whole
 pub prefix_of_prefix : (kept rest : List ℕ) (n used : ℕ) (new : List ℕ) (what : Option Found)
     → FramesPrefix kept (take n rest) used new what → FramesPrefix kept rest used new what
-prefix_of_prefix kept rest n used new what f =
-    let up_to = length-take n rest in
-    let same : take used (take n rest) ≡ take used rest = take-take used n rest (omega (arith, f.within, up_to)) in
-    record {
-      some = f.some;
-      within = omega (arith, f.within, up_to);
-      frames = rw same at f.frames;
-    }
+prefix_of_prefix kept rest n used new what f = search (rules, length-take, take-take)
 
 -- A framer that kept these bytes has taken the first ones of a chunk without an event, and takes some more.
 module _ (kept chunk : List ℕ) (at used : ℕ) (now new : List ℕ) (what : Option Found)
@@ -120,13 +97,11 @@ module _ (kept chunk : List ℕ) (at used : ℕ) (now new : List ℕ) (what : Op
 
   -- what it holds then
   pub step_held : unfinished_message new ≡ unfinished_message (unfinished_message kept ++ take (at + used) chunk)
-  step_held = step.frames.held ∙ run_holds (unfinished_message kept) chunk at (at + used) (unfinished_message now)
-      (take used (drop at chunk)) (next used) taken
+  step_held = search (rules, run_holds, next)
 
   -- the bytes received
   pub step_came : what ≡ Some found.Message → new ≡ unfinished_message kept ++ take (at + used) chunk
-  step_came e = step.frames.came e ∙ run_came (unfinished_message kept) chunk at (at + used) (unfinished_message now)
-      (take used (drop at chunk)) (next used) taken
+  step_came e = search (rules, run_came, next)
 
   -- the step that makes the first event ends the call
   event_first : (event : Event) → at ≤ length chunk → FirstEvent (unfinished_message now) (take used (drop at chunk))
@@ -145,8 +120,7 @@ module _ (kept chunk : List ℕ) (at used : ℕ) (now new : List ℕ) (what : Op
       rw early at (first.2 (used - 1) (omega (arith, count, step.some))) in
       let reported : events (unfinished_message now ++ run)
       ≡ at_place (length (unfinished_message now) + used) event ∷ [] =
-      ap (λ x. events (unfinished_message now ++ x))
-      (sym (take-length run)) ∙ first.1 ∙ ap (λ n. at_place (length (unfinished_message now) + n) event ∷ []) count in
+      search (rules, take-length) in
       FirstEvent-some held chunk (at + (used - 1)) (at + used) event last (step_within within)
       (run_reported held chunk at (at + (used - 1)) 0 (unfinished_message now) (take (used - 1) (drop at chunk)) None
       (next (used - 1)) taken quiet)
@@ -168,16 +142,13 @@ pub found_none : (kept chunk : List ℕ) (at used : ℕ) (now new : List ℕ) (w
     → HasTaken (unfinished_message kept) chunk at (unfinished_message now)
     → FramesPrefix now (drop at chunk) used new what
     → is_some what ≡ false → HasTaken (unfinished_message kept) chunk (at + used) (unfinished_message new)
-found_none kept chunk at used now new None taken step none =
-    rw step.frames.held
-    (run_quiet (unfinished_message kept) chunk at (at + used) (unfinished_message now) (take used (drop at chunk))
-    (take-add at used chunk) taken step.frames.first.1)
+found_none kept chunk at used now new None taken step none = rw step.frames.held
+    (search (rules, run_quiet, take-add))
 found_none kept chunk at used now new (Some it) taken step none = absurd cc
 
 -- nor a message
 pub not_found : (what : Option Found) → is_some what ≡ false → what ≢ Some found.Message
-not_found None none e = absurd cc
-not_found (Some it) none e = absurd cc
+not_found what none = search rules
 
 -- ---- What a loop over bytes has framed
 
@@ -185,18 +156,7 @@ not_found (Some it) none e = absurd cc
 pub frames_none : (kept bytes now : List ℕ) (n : ℕ) → 0 < n → n ≤ length bytes
     → HasTaken (unfinished_message kept) bytes n (unfinished_message now) → IsHeld now
     → FramesPrefix kept bytes n now None
-frames_none kept bytes now n some within taken unfinished =
-    record {
-      some = some;
-      within = within;
-      frames = record {
-        first = (refl, taken.quiet);
-        held = taken.holds;
-        whole = λ e. absurd cc;
-        came = λ e. absurd cc;
-        unfinished = λ other. unfinished;
-      };
-    }
+frames_none kept bytes now n some within taken unfinished = search rules
 
 -- something at its last byte
 pub frames_found : (kept bytes : List ℕ) (n : ℕ) (new : List ℕ) (it : Found)
@@ -207,18 +167,4 @@ pub frames_found : (kept bytes : List ℕ) (n : ℕ) (new : List ℕ) (it : Foun
     → (it ≡ found.Message → new ≡ unfinished_message kept ++ take n bytes) → (it ≢ found.Message → IsHeld new)
     → FramesPrefix kept bytes n new (Some it)
 frames_found kept bytes n new it first some held whole came unfinished =
-    let run = take n bytes in
-    let count : length run ≡ n = length-take-le n bytes first.0 in
-    let early : take (n - 1) run ≡ take (n - 1) bytes = take-take (n - 1) n bytes (omega arith) in
-    record {
-      some = some;
-      within = first.0;
-      frames = record {
-        first = first_of_run (unfinished_message kept) run (Some (event_found_in new it)) (omega (arith, count, some))
-            (rw (count, early) (first.2 (n - 1) (omega (arith, some)))) (rw count first.1);
-        held = held;
-        whole = λ e. whole cc;
-        came = λ e. came cc;
-        unfinished = λ other. unfinished (λ e. other (ap Some e));
-      };
-    }
+    search (rules, length-take-le, take-take, first_of_run)

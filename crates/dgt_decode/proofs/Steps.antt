@@ -1,5 +1,6 @@
 -- The effect of one more byte, or a run of seven-bit bytes, on the unfinished message.
 use Rattle.std.proofs.Common.{◌≡◌, ℕ, ◌+◌, ◌<◌, ◌≤◌, List, [], ◌∷◌, ◌++◌, length, drop, Option, Some, None, refl, sym, ap, subst, ◌∙◌, arith, inl, inr}
+use Rattle.std.proofs.Common.{rules}
 use Rattle.std.proofs.lemmas.List.{append-nil, length-append}
 use Rattle.std.proofs.lemmas.Bool.{le-leb, lt-leb, cases_lt}
 use Rattle.std.proofs.Math.Seq.{drop-length}
@@ -7,7 +8,7 @@ use Rattle.dgt_decode.specs.Grammar.{Cut, BadLength, Stray, Placed, at_place, sh
 use Rattle.dgt_decode.proofs.Places.{shifted-zero}
 use Rattle.dgt_decode.proofs.Cuts.{lead-append, segments-append}
 use Rattle.dgt_decode.proofs.Verdicts.{verdict-short, verdict-bad, verdict-waits, verdict-whole, verdict-full, Stage, short, waits, bad, whole, stage_of, announced_total-append}
-use Rattle.dgt_decode.proofs.Appending.{IsAlone, IsAlone-from, lead-seven, segments-seven}
+use Rattle.dgt_decode.proofs.Appending.{IsAlone, lead-seven, segments-seven}
 use Rattle.dgt_decode.proofs.UnfinishedLemmas.{IsUnfinished, nothing, waiting, IsUnfinished-unfinished, unfinished-of_unfinished, events-of_unfinished, events-alone, unfinished-alone}
 use Rattle.dgt_decode.proofs.SevenBit.{SevenByRecursion}
 
@@ -33,11 +34,7 @@ pub record Gives (bytes : List ℕ) (es : List Placed) (left : List ℕ) : Type 
 -- a byte with a set top bit is held
 pub first-begins : (b : ℕ) → 128 ≤ b → Gives (b ∷ []) [] (b ∷ [])
 first-begins b top =
-    let unfinished_one = waiting (b ∷ []) (IsAlone-from b [] top tt) (verdict-short (b ∷ []) (omega arith)) in
-    record {
-      reported = events-of_unfinished (b ∷ []) unfinished_one;
-      leaves = unfinished-of_unfinished (b ∷ []) unfinished_one;
-    }
+    search (rules, waiting, verdict-short, events-of_unfinished, unfinished-of_unfinished)
 
 -- a seven-bit byte is stray
 pub first-stray : (b : ℕ) → b < 128 → Gives (b ∷ []) (at_place 1 (Stray b) ∷ []) []
@@ -49,10 +46,7 @@ first-stray b seven = record { reported = rw (lt-leb 128 b seven) refl; leaves =
 -- a segment continues with seven-bit bytes
 pub IsAlone-more : (g run : List ℕ) → IsAlone g → SevenByRecursion run → IsAlone (g ++ run)
 IsAlone-more g run alone seven =
-    record {
-      no_lead = rw (lead-append g run, alone.no_lead, alone.one) refl;
-      one = rw (segments-append g run, alone.one, lead-seven run seven, segments-seven run seven) refl;
-    }
+    search (rules, lead-append, segments-append, lead-seven, segments-seven)
 
 -- a held message is one unfinished segment
 pub alone_held : (held : List ℕ) → IsHeld held → 0 < length held → IsAlone held × (verdict held ≡ None)
@@ -96,22 +90,18 @@ pub next-short : (held run : List ℕ) → IsHeld held → 0 < length held → S
     → Gives (held ++ run) [] (held ++ run)
 next-short held run h some seven few =
     let gives = next-seven held run h some seven in
-    let e = verdict-short (held ++ run) few in
-    record { reported = gives.reported ∙ rw e refl; leaves = gives.leaves ∙ rw e refl }
+    search (rules, verdict-short)
 
 -- as long as it is shorter than its total
 pub next-waits : (held run : List ℕ) → IsHeld held → 0 < length held → SevenByRecursion run
-    → length (held ++ run) < announced_total (held ++ run)
-    → Gives (held ++ run) [] (held ++ run)
+    → length (held ++ run) < announced_total (held ++ run) → Gives (held ++ run) [] (held ++ run)
 next-waits held run h some seven less =
     let gives = next-seven held run h some seven in
-    let e = verdict-waits (held ++ run) less in
-    record { reported = gives.reported ∙ rw e refl; leaves = gives.leaves ∙ rw e refl }
+    search (rules, verdict-waits)
 
 -- if the total in the header is too small
 pub next-bad : (held run : List ℕ) → IsHeld held → 0 < length held → SevenByRecursion run → length (held ++ run) ≡ 3
-    → announced_total (held ++ run) < 3
-    → Gives (held ++ run) (at_place 3 BadLength ∷ []) []
+    → announced_total (held ++ run) < 3 → Gives (held ++ run) (at_place 3 BadLength ∷ []) []
 next-bad held run h some seven three small =
     let gives = next-seven held run h some seven in
     let long : 3 ≤ length (held ++ run) = omega arith in
@@ -159,14 +149,13 @@ verdict-new h b x e new = go (stage_of h) (stage_of (h ++ b ∷ []))
     ]
     go (waits less) (whole large enough) = elim (cases_lt (length h) 3) [
       | inl few ↦ omega (arith, one_more, place_is _ (verdict-whole (h ++ b ∷ []) large enough))
-      | inr many ↦
-          omega (
-            arith,
-            one_more,
-            place_is _ (verdict-whole (h ++ b ∷ []) large enough),
-            announced_total-append h
-                (b ∷ []) many,
-          )
+      | inr many ↦ omega (
+        arith,
+        one_more,
+        place_is _ (verdict-whole (h ++ b ∷ []) large enough),
+        announced_total-append h
+            (b ∷ []) many,
+      )
     ]
     go (bad long small) s = let no = verdict-bad h long small in absurd cc
     go (whole large enough) s = let no = verdict-whole h large enough in absurd cc
@@ -174,16 +163,14 @@ verdict-new h b x e new = go (stage_of h) (stage_of (h ++ b ∷ []))
 -- the byte with a verdict has no Stray after it
 segment_events-new : (h : List ℕ) (b : ℕ) → verdict h ≡ None → (v : Option Placed) → verdict (h ++ b ∷ []) ≡ v
     → length (segment_events v (h ++ b ∷ [])) ≤ 1
-segment_events-new h b e None f = omega arith
-segment_events-new h b e (Some x) f = rw (verdict-new h b x e f, drop-length (h ++ b ∷ [])) (omega arith)
+segment_events-new h b e v f = search (rules, verdict-new, drop-length)
 
 -- one more byte after held bytes completes at most one event
 one_event_held : (held : List ℕ) (b : ℕ) → IsHeld held → IsUnfinished held → length (events (held ++ b ∷ [])) ≤ 1
-one_event_held held b h nothing =
-    elim (cases_lt b 128) [
-      | inl seven ↦ rw (first-stray b seven).reported (omega arith)
-      | inr top ↦ rw (first-begins b top).reported (omega arith)
-    ]
+one_event_held held b h nothing = elim (cases_lt b 128) [
+  | inl seven ↦ rw (first-stray b seven).reported (omega arith)
+  | inr top ↦ rw (first-begins b top).reported (omega arith)
+]
 one_event_held held b h (waiting [] alone e) = absurd (let no = alone.one in cc)
 one_event_held held b h (waiting (x ∷ g) alone e) =
     let some : 0 < length (x ∷ g) = omega arith in

@@ -1,5 +1,6 @@
-//! Examples of programs that use the libraries. docs/USING.md and the front pages of the crates
-//! contain these files, and `checks/readme` finds each of their Rust blocks in one of them.
+//! Examples of programs that use the crates. crates/README.md and the front pages of the crates
+//! contain these files, and `tests/repository/readme` finds each of their Rust blocks in one of
+//! them.
 //!
 //! The program itself, `pictures`, prints the position after each change that the board on standard
 //! input reports. The other examples are:

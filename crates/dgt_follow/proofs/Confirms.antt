@@ -1,39 +1,32 @@
 -- What a follower records of the messages that it hears.
-use Rattle.std.proofs.Common.{◌≡◌, Bool, true, false, not, ◌&&◌, Option, refl, ap, ◌∙◌, ℕ, List, [], ◌∷◌, ◌++◌}
+use Rattle.std.proofs.Common.{◌≡◌, Bool, true, not, ◌&&◌, refl, ℕ, List, [], ◌∷◌, ◌++◌, rules}
 use Rattle.dgt_values.specs.declared.pieces.Piece.{Piece}
-use Rattle.dgt_message.specs.Content.{Content, answered_kind}
+use Rattle.dgt_message.specs.Content.{Content}
 use Rattle.dgt_message.specs.Picture.{picture_after, picture_after_all}
 use Rattle.dgt_message.specs.declared.viewing.BodyFault.TheVariants.{WrongSize, BadPiece, BadSquare, BadReading}
 use Rattle.dgt_decode.specs.Grammar.{Event, Message, Refused, Cut, BadLength, Stray, Placed, events}
 use Rattle.dgt_host.specs.Confirmed.{confirmed_after, confirmed_after_all, message_in, messages}
 use Rattle.dgt_host.proofs.ConfirmedLemmas.{confirms_more, first_of}
 use Rattle.dgt_follow.specs.declared.asking.Asking.{Asking}
-use Rattle.dgt_follow.specs.Pace.{PaceView, confirmed_by, is_overdue, is_unasked, pace_at}
+use Rattle.dgt_follow.specs.Pace.{confirmed_by}
 use Rattle.dgt_follow.specs.Follower.{AskingsConfirmNothing, ConfirmedAsHeard, FollowerView, follower_after_event, follower_after_events}
 
 Heard : FollowerView → FollowerView → List Content → Type 0
-Heard before after said =
-    (after.host.picture ≡ picture_after_all before.host.picture said)
+Heard before after said = (after.host.picture ≡ picture_after_all before.host.picture said)
     × (after.pace.confirmed ≡ true → confirmed_after_all before.pace.confirmed before.host.picture said ≡ true)
 
 -- an event that isn't a message confirms nothing
 kept : (f between after : FollowerView) (said : List Content) → between.host.picture ≡ f.host.picture
     → (between.pace.confirmed ≡ true → f.pace.confirmed ≡ true) → Heard between after said → Heard f after said
 unfolding Heard
-kept f between after said same less (picture, confirmed) = (
-  picture ∙ ap (λ (p : Option (List Piece)). picture_after_all p said) same,
-  λ e. confirms_more between.pace.confirmed f.pace.confirmed less f.host.picture said
-      (rw same at (confirmed e)),
-)
+kept f between after said same less (picture, confirmed) = search (rules, confirms_more)
 
 nothing_heard : (f : FollowerView) → Heard f f []
 unfolding Heard
 nothing_heard f = (refl, λ e. e)
 
 middle_of : (a b c : Bool) → (a && (b && c)) ≡ true → b ≡ true
-middle_of true true c e = refl
-middle_of true false c e = cc
-middle_of false b c e = cc
+middle_of a b c e = search rules
 
 one_event : (f after : FollowerView) (now : ℕ) (event : Event) (more : List Content)
     → Heard (follower_after_event f now event) after more → Heard f after (message_in event ++ more)
@@ -43,8 +36,7 @@ one_event f after now (Message said) more (picture, confirmed) = (
   λ e. confirms_more
       (confirmed_by f.pace.confirmed f.pace.settling f.host.awaited f.host.picture (Message said))
       (confirmed_after f.pace.confirmed f.host.picture said)
-      (middle_of (not (is_unasked f.host.awaited (answered_kind said)))
-      (confirmed_after f.pace.confirmed f.host.picture said) _)
+      (search (rules, middle_of))
       (picture_after f.host.picture said) more (confirmed e),
 )
 one_event f after now (Refused code WrongSize) more heard =
@@ -66,18 +58,11 @@ heard_events : (f : FollowerView) (now : ℕ) (xs : List Placed)
     → Heard f (follower_after_events f now xs) (messages xs)
 heard_events f now [] = nothing_heard f
 heard_events f now (x ∷ xs) =
-    one_event f (follower_after_events (follower_after_event f now x.event) now xs) now x.event (messages xs)
-    (heard_events (follower_after_event f now x.event) now xs)
+    search (rules, one_event, heard_events (follower_after_event f now x.event) now xs)
 
 pub as_heard : ConfirmedAsHeard
 unfolding Heard
 as_heard follower now bytes = heard_events follower now (events (follower.host.unread ++ bytes))
 
-by_now : (pace : PaceView) (now : ℕ) → (pace_at pace now).confirmed ≡ true → pace.confirmed ≡ true
-by_now pace now e = first_of pace.confirmed _ (first_of (pace.confirmed && not (is_overdue pace now)) _ e)
-
 pub confirm_nothing : AskingsConfirmNothing
-confirm_nothing Asking.Nothing pace now e = by_now pace now e
-confirm_nothing Asking.Identify pace now e = by_now pace now e
-confirm_nothing Asking.Heartbeat pace now e = by_now pace now (first_of (pace_at pace now).confirmed _ e)
-confirm_nothing Asking.Anew pace now e = by_now pace now (first_of (pace_at pace now).confirmed _ e)
+confirm_nothing = search (rules, first_of)

@@ -1,9 +1,9 @@
 -- How a follower changes by the events of bytes in chunks.
-use Rattle.std.proofs.Common.{◌≡◌, ◌+◌, Option, Some, None, Bool, is_some, option_map, refl, sym, ap, ◌∙◌, ℕ, List, [], ◌∷◌, ◌++◌, append_assoc, append-nil, length, ◌-◌, take, drop, rules}
+use Rattle.std.proofs.Common.{◌≡◌, ◌+◌, Option, Bool, is_some, option_map, refl, sym, ap, ◌∙◌, ℕ, List, [], ◌∷◌, ◌++◌, append_assoc, append-nil, ◌-◌, take, drop, rules}
 use Rattle.std.proofs.Math.Seq.{take-add}
 use Rattle.std.proofs.lemmas.List.{take_all}
-use Rattle.dgt_decode.specs.Grammar.{Event, Message, Placed, events, shifted, unfinished_message}
-use Rattle.dgt_decode.specs.Feeding.{FirstEvent, at_place_if_any}
+use Rattle.dgt_decode.specs.Grammar.{Event, Placed, events, shifted, unfinished_message}
+use Rattle.dgt_decode.specs.Feeding.{FirstEvent}
 use Rattle.dgt_decode.specs.Laws.{EventsAppend, UnfinishedAppend}
 use Rattle.dgt_values.specs.declared.kinds.Kind.{Kind}
 use Rattle.dgt_values.specs.declared.pieces.Piece.{Piece}
@@ -27,8 +27,7 @@ follower_after_events-behind f now n (x ∷ xs) =
 follower_after_event-unread : (f : FollowerView) (now : ℕ) (unread : List ℕ) (event : Event)
     → follower_after_event (with_unread f unread) now event
     ≡ with_unread (follower_after_event f now event) unread
-follower_after_event-unread f now unread (Message said) = refl
-follower_after_event-unread f now unread _ = refl
+follower_after_event-unread f now unread event = search rules
 
 -- a part that is restored after them, and that none of them reads, doesn't matter
 follower_after_events-part : {X : Type 0} (put : FollowerView → X → FollowerView)
@@ -46,12 +45,7 @@ follower_after_events-part put last same f now before after (x ∷ xs) =
 both : EventsAppend → (f : FollowerView) (now : ℕ) (s more : List ℕ)
     → follower_after_events (follower_after_events f now (events s)) now (events (unfinished_message s ++ more))
     ≡ follower_after_events f now (events (s ++ more))
-both later f now s more =
-    sym (follower_after_events-behind (follower_after_events f now (events s)) now
-    (length s - length (unfinished_message s)) (events (unfinished_message s ++ more)))
-    ∙ sym (follower_after_events-append f now (events s)
-    (shifted (length s - length (unfinished_message s)) (events (unfinished_message s ++ more))))
-    ∙ ap (follower_after_events f now) (sym (later s more))
+both later f now s more = search (rules, follower_after_events-behind, follower_after_events-append)
 
 in_two : EventsAppend → UnfinishedAppend → (f : FollowerView) (now : ℕ) (s more whole : List ℕ) → s ++ more ≡ whole
     → with_unread (follower_after_events (with_unread (follower_after_events f now (events s)) (unfinished_message s))
@@ -73,8 +67,7 @@ in_two later still f now s more whole e =
 follower_after_event-unfinished : (f : FollowerView) (now : ℕ) (unfinished : Option ℕ) (event : Event)
     → follower_after_event (with_unfinished f unfinished) now event
     ≡ with_unfinished (follower_after_event f now event) unfinished
-follower_after_event-unfinished f now unfinished (Message said) = refl
-follower_after_event-unfinished f now unfinished _ = refl
+follower_after_event-unfinished f now unfinished event = search rules
 
 hearing-unfinished : (f : FollowerView) (now : ℕ) (before after : Option ℕ) (bytes : List ℕ)
     → with_unfinished (follower_hearing (with_unfinished f before) now bytes) after
@@ -84,32 +77,13 @@ hearing-unfinished f now before after bytes =
     (follower_after_events-part with_unfinished (λ f first last. refl) follower_after_event-unfinished
     f now before after (events (f.host.unread ++ bytes)))
 
-any_bytes : (before other : Option ℕ) (now a b : ℕ) (bytes more unread : List ℕ)
-    → unfinished_by before now (a ∷ bytes) unread ≡ unfinished_by other now (b ∷ more) unread
-any_bytes before other now a b bytes more [] = refl
-any_bytes before other now a b bytes more (first ∷ rest) = refl
-
-unfinished_in_two : (before : Option ℕ) (now : ℕ) (bytes more first last : List ℕ) → (more ≡ [] → first ≡ last)
-    → unfinished_by (unfinished_by before now bytes first) now more last
-    ≡ unfinished_by before now (bytes ++ more) last
-unfinished_in_two before now [] [] first last same = refl
-unfinished_in_two before now (byte ∷ bytes) [] first last same =
-    ap (unfinished_by before now (byte ∷ bytes)) (same refl)
-    ∙ any_bytes before before now byte byte bytes (bytes ++ []) last
-unfinished_in_two before now [] (byte ∷ more) first last same = refl
-unfinished_in_two before now (byte ∷ bytes) (next ∷ more) first last same =
-    any_bytes (unfinished_by before now (byte ∷ bytes) first) before now next byte more (bytes ++ next ∷ more) last
-
 hearing_in_two : EventsAppend → UnfinishedAppend → (f : FollowerView) (now : ℕ) (bytes more : List ℕ)
     → follower_hearing (follower_hearing f now bytes) now more ≡ follower_hearing f now (bytes ++ more)
-hearing_in_two later still f now bytes more = in_two later still f now (f.host.unread ++ bytes) more
-    (f.host.unread ++ (bytes ++ more)) (append_assoc f.host.unread bytes more)
+hearing_in_two later still f now bytes more = search (rules, in_two, append_assoc)
 
 nothing_more : UnfinishedAppend → (s more : List ℕ) → more ≡ []
     → unfinished_message s ≡ unfinished_message (unfinished_message s ++ more)
-nothing_more still s more none =
-    sym (sym (still s more) ∙ ap (λ (m : List ℕ). unfinished_message (s ++ m)) none
-    ∙ ap unfinished_message (append-nil s))
+nothing_more still s more none = search (rules, append-nil)
 
 pub followed_in_chunks : EventsAppend → UnfinishedAppend → FollowedInChunks
 followed_in_chunks later still f now bytes more =
@@ -121,48 +95,21 @@ followed_in_chunks later still f now bytes more =
     hearing-unfinished (follower_hearing f now bytes) now before after more
     ∙ ap (λ (g : FollowerView). with_unfinished g after) (hearing_in_two later still f now bytes more)
     ∙ ap (with_unfinished (follower_hearing f now (bytes ++ more)))
-    (unfinished_in_two f.pace.unfinished now bytes more first last (nothing_more still s more)
-    ∙ ap (unfinished_by f.pace.unfinished now (bytes ++ more))
-    (sym (still s more) ∙ ap unfinished_message (append_assoc f.host.unread bytes more)))
+    (search (rules, nothing_more, append_assoc))
 
 -- some more bytes of a chunk
 pub heard_more : FollowedInChunks → (f before after : FollowerView) (now : ℕ) (chunk : List ℕ) (i n : ℕ)
     → before ≡ follower_after f now (take i chunk) → after ≡ follower_after before now (take n (drop i chunk))
     → after ≡ follower_after f now (take (i + n) chunk)
-heard_more in_chunks f before after now chunk i n e g =
-    g ∙ ap (λ (h : FollowerView). follower_after h now (take n (drop i chunk))) e
-    ∙ in_chunks f now (take i chunk) (take n (drop i chunk))
-    ∙ ap (follower_after f now) (sym (take-add i n chunk))
+heard_more in_chunks f before after now chunk i n e g = search (rules, take-add)
 
 -- ---- one call
-
--- the bytes that a call uses complete the event that it returns, and no other
-first_event_heard : (held chunk : List ℕ) (used : ℕ) (event : Option Event) → FirstEvent held chunk used event
-    → events (held ++ take used chunk) ≡ at_place_if_any (length held + used) event
-first_event_heard held chunk used None (all, none) =
-    ap (λ (bytes : List ℕ). events (held ++ bytes)) (take_all used chunk (search rules)) ∙ none
-first_event_heard held chunk used (Some event) (within, found, earlier) = found
-
-one_event : (f : FollowerView) (now place : ℕ) (bytes : List ℕ) (event : Option Event)
-    → events (f.host.unread ++ bytes) ≡ at_place_if_any place event
-    → follower_hearing f now bytes
-    ≡ following (host_after f.host bytes) (pace_after_event_if_any f.pace now f.host.awaited f.host.picture event)
-one_event f now place bytes None e =
-    let rest : List ℕ = unfinished_message (f.host.unread ++ bytes) in
-    ap (λ (xs : List Placed). with_unread (follower_after_events f now xs) rest) e
-    ∙ sym (ap (λ (xs : List Placed). following (record (host_after_events f.host xs) { unread = rest }) f.pace) e)
-one_event f now place bytes (Some event) e =
-    let rest : List ℕ = unfinished_message (f.host.unread ++ bytes) in
-    let pace : PaceView = pace_after_event_if_any f.pace now f.host.awaited f.host.picture (Some event) in
-    ap (λ (xs : List Placed). with_unread (follower_after_events f now xs) rest) e
-    ∙ sym (ap (λ (xs : List Placed). following (record (host_after_events f.host xs) { unread = rest }) pace) e)
 
 -- no event says whether a message is unfinished
 pub same_unfinished : (pace : PaceView) (now : ℕ) (awaited : List Kind) (picture : Option (List Piece))
     (event : Option Event)
     → (pace_after_event_if_any pace now awaited picture event).unfinished ≡ pace.unfinished
-same_unfinished pace now awaited picture None = refl
-same_unfinished pace now awaited picture (Some event) = refl
+same_unfinished pace now awaited picture event = search rules
 
 -- the host after a call, with the pace's record of the event and of the bytes, is the follower
 -- after it
@@ -172,11 +119,7 @@ pub heard_once : (host : HostView) (pace : PaceView) (now used : ℕ) (chunk : L
     (pace_after_event_if_any pace now host.awaited host.picture event))
     (unfinished_by pace.unfinished now (take used chunk) (unfinished_message (host.unread ++ take used chunk)))
     ≡ follower_after (following host pace) now (take used chunk)
-heard_once host pace now used chunk event first =
-    ap (λ (g : FollowerView). with_unfinished g
-    (unfinished_by pace.unfinished now (take used chunk) (unfinished_message (host.unread ++ take used chunk))))
-    (sym (one_event (following host pace) now (length host.unread + used) (take used chunk) event
-    (first_event_heard host.unread chunk used event first)))
+heard_once host pace now used chunk event first = search (rules, take_all)
 
 -- ---- the effect on the host and on the counts
 
@@ -187,9 +130,7 @@ host_of_events f now (x ∷ xs) = host_of_events (follower_after_event f now x.e
 
 pub host_of_heard : (f : FollowerView) (now : ℕ) (bytes : List ℕ)
     → (follower_after f now bytes).host ≡ host_after f.host bytes
-host_of_heard f now bytes =
-    ap (λ (h : HostView). record h { unread = unfinished_message (f.host.unread ++ bytes) })
-    (host_of_events f now (events (f.host.unread ++ bytes)))
+host_of_heard f now bytes = search (rules, host_of_events)
 
 counts_of_events : (f : FollowerView) (now : ℕ) (xs : List Placed)
     → KeepsCount f.pace (follower_after_events f now xs).pace
@@ -203,5 +144,4 @@ counts_of_heard f now bytes = assumption (counts_of_events f now (events (f.host
 -- a value exists if its view exists
 pub is_some_seen : {A B : Type 0} (see : A → B) (value : Option A) (seen : Option B) (known : Bool)
     → known ≡ is_some value → option_map see value ≡ seen → known ≡ is_some seen
-is_some_seen see None seen known e same = rw (← same) e
-is_some_seen see (Some a) seen known e same = rw (← same) e
+is_some_seen see value seen known e same = search rules

@@ -1,5 +1,6 @@
 -- How consecutive calls of a follower change its picture.
-use Rattle.std.proofs.Common.{◌≡◌, Bool, true, Option, refl, sym, ap, ◌∙◌, ℕ, List, [], ◌∷◌, ◌++◌, append_assoc, append-nil, length, ◌-◌}
+use Rattle.std.proofs.Common.{◌≡◌, Bool, true, Option, refl, ap, ℕ, List, [], ◌∷◌, ◌++◌, append_assoc, append-nil, ◌-◌}
+use Rattle.std.proofs.Common.{rules}
 use Rattle.dgt_values.specs.declared.pieces.Piece.{Piece}
 use Rattle.dgt_message.specs.Content.{Content}
 use Rattle.dgt_message.specs.Picture.{picture_after, picture_after_all}
@@ -21,8 +22,7 @@ confirmed_append confirmed picture (m ∷ said) more =
 
 -- the picture, and how it is confirmed, of messages that were heard
 abbrev Made : FollowerView → FollowerView → List Content → Type 0
-Made before after said =
-    (after.host.picture ≡ picture_after_all before.host.picture said)
+Made before after said = (after.host.picture ≡ picture_after_all before.host.picture said)
     × (after.pace.confirmed ≡ true
     → confirmed_after_all before.pace.confirmed before.host.picture said ≡ true)
 
@@ -34,25 +34,12 @@ Keeps before after =
 
 asking_keeps : AskingsConfirmNothing → (what : Asking) (f : FollowerView) (now : ℕ)
     → Keeps f (follower_asking what f now)
-asking_keeps none Asking.Nothing f now = (refl, refl, none Asking.Nothing f.pace now)
-asking_keeps none Asking.Identify f now = (refl, refl, none Asking.Identify f.pace now)
-asking_keeps none Asking.Heartbeat f now = (refl, refl, none Asking.Heartbeat f.pace now)
-asking_keeps none Asking.Anew f now = (refl, refl, none Asking.Anew f.pace now)
+asking_keeps none what f now = search rules
 
 module _ (later : EventsAppend) (still : UnfinishedAppend) (quiet : UnfinishedIsQuiet)
     (heard : ConfirmedAsHeard) (none : AskingsConfirmNothing) where
-  said_later : (s more : List ℕ)
-      → messages (events (s ++ more)) ≡ messages (events s) ++ messages (events (unfinished_message s ++ more))
-  said_later s more =
-      ap messages (later s more)
-      ∙ messages_append (events s) _
-      ∙ ap (λ (m : List Content). messages (events s) ++ m)
-      (messages_behind (length s - length (unfinished_message s)) (events (unfinished_message s ++ more)))
-
   nothing_more : (unread : List ℕ) → unfinished_message unread ≡ unread → messages (events (unread ++ [])) ≡ []
-  nothing_more unread held =
-      ap (λ (s : List ℕ). messages (events s)) (append-nil unread ∙ sym held)
-      ∙ ap messages (quiet.no_event unread)
+  nothing_more unread held = search (rules, append-nil)
 
   -- the messages heard after some bytes
   joined : (f between after : FollowerView) (bytes more : List ℕ)
@@ -61,44 +48,27 @@ module _ (later : EventsAppend) (still : UnfinishedAppend) (quiet : UnfinishedIs
       → Made between after (messages (events (between.host.unread ++ more)))
       → Made f after (messages (events (f.host.unread ++ (bytes ++ more))))
   joined f between after bytes more unread first next =
-      let one = messages (events (f.host.unread ++ bytes)) in
-      let two = messages (events (between.host.unread ++ more)) in
-      let all : messages (events (f.host.unread ++ (bytes ++ more))) ≡ one ++ two =
-      ap (λ (s : List ℕ). messages (events s)) (sym (append_assoc f.host.unread bytes more))
-      ∙ said_later (f.host.unread ++ bytes) more
-      ∙ ap (λ (u : List ℕ). one ++ messages (events (u ++ more))) (sym unread) in
-      let picture : after.host.picture ≡ picture_after_all f.host.picture (one ++ two) =
-      next.0 ∙ ap (λ (p : Option (List Piece)). picture_after_all p two) first.0
-      ∙ sym (pictures_append f.host.picture one two) in
-      let confirmed : after.pace.confirmed ≡ true
-      → confirmed_after_all f.pace.confirmed f.host.picture (one ++ two) ≡ true =
-      λ e. confirmed_append f.pace.confirmed f.host.picture one two
-      ∙ confirms_more between.pace.confirmed (confirmed_after_all f.pace.confirmed f.host.picture one) first.1
-      (picture_after_all f.host.picture one) two
-      (ap (λ (p : Option (List Piece)). confirmed_after_all between.pace.confirmed p two) (sym first.0) ∙ next.1 e) in
-      rw all (picture, confirmed)
+      search (
+        rules,
+        append_assoc,
+        pictures_append,
+        confirmed_append,
+        confirms_more,
+        messages_append,
+        messages_behind,
+      )
 
   kept : (f between after : FollowerView) (bytes : List ℕ) → Keeps f between
       → Made between after (messages (events (between.host.unread ++ bytes)))
       → Made f after (messages (events (f.host.unread ++ bytes)))
-  kept f between after bytes (picture, unread, less) next =
-      let said = messages (events (f.host.unread ++ bytes)) in
-      let same : messages (events (between.host.unread ++ bytes)) ≡ said =
-      ap (λ (u : List ℕ). messages (events (u ++ bytes))) unread in
-      let made : Made between after said = rw same at next in (
-        made.0 ∙ ap (λ (p : Option (List Piece)). picture_after_all p said) picture,
-        λ e. confirms_more between.pace.confirmed f.pace.confirmed less f.host.picture said
-            (ap (λ (p : Option (List Piece)). confirmed_after_all between.pace.confirmed p said) (sym picture)
-            ∙ made.1 e),
-      )
+  kept f between after bytes (picture, unread, less) next = search (rules, confirms_more)
 
   unread_after : (f : FollowerView) (now : ℕ) (bytes : List ℕ)
       → unfinished_message (follower_after f now bytes).host.unread ≡ (follower_after f now bytes).host.unread
   unread_after f now bytes = quiet.stays (f.host.unread ++ bytes)
 
   pub over_calls : ConfirmedOverCalls
-  over_calls f [] held =
-      let no = nothing_more f.host.unread held in rw no (refl, λ e. e)
+  over_calls f [] held = let no = nothing_more f.host.unread held in rw no (refl, λ e. e)
   over_calls f (Hears now bytes ∷ more) held =
       joined f (follower_after f now bytes) (follower_after_calls (follower_after f now bytes) more) bytes
       (bytes_heard more) refl (heard f now bytes)

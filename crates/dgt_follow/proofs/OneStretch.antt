@@ -1,7 +1,7 @@
 -- One stretch of faulty bytes among whole messages.
-use Rattle.std.proofs.Common.{◌≡◌, ◌≤◌, ◌+◌, true, false, Option, Some, refl, sym, ap, ◌∙◌, ℕ, List, [], ◌∷◌, ◌++◌, map, option_to_list, arith}
+use Rattle.std.proofs.Common.{◌≡◌, ◌≤◌, ◌+◌, true, false, Option, Some, refl, ap, ◌∙◌, ℕ, List, [], ◌∷◌, ◌++◌, map, option_to_list, arith}
+use Rattle.std.proofs.Common.{rules}
 use Rattle.dgt_message.specs.Content.{Content}
-use Rattle.dgt_message.specs.Content.Content.{dump}
 use Rattle.dgt_message.specs.Picture.{picture_after_all}
 use Rattle.dgt_decode.specs.Grammar.{events, unfinished_message}
 use Rattle.dgt_host.specs.Confirmed.{ConfirmedIsReported, Passage, Whole, Faulty, StretchIsOne, confirmed_after_all, faults_after, faults_after_all, heard, messages, sent}
@@ -30,8 +30,7 @@ line_heard [] after a b = ap (λ (s : List Content). option_to_list b ++ s) (hea
 line_heard (m ∷ before) after a b = ap (λ (s : List Content). m ∷ s) (line_heard before after a b)
 
 no_more : (faults : ℕ) (m : Content) → faults_after faults (Whole m) ≤ faults
-no_more faults (dump pieces) = omega arith
-no_more faults _ = omega arith
+no_more faults m = search rules
 
 whole_faults : (faults : ℕ) (said : List Content) → faults ≤ 1 → faults_after_all faults (map Whole said) ≤ 1
 whole_faults faults [] few = few
@@ -53,17 +52,12 @@ one_stretch stretch is called follower calls reported before after bytes meant t
     unconfirmed right says stream restated confirmed =
     let line : List Passage = one_line before meant there after in
     let all : messages (events (follower.host.unread ++ bytes_heard calls)) ≡ heard line =
-    ap (λ (u : List ℕ). messages (events (u ++ bytes_heard calls))) whole
-    ∙ ap (λ (s : List ℕ). messages (events s)) stream
-    ∙ stretch before after bytes are_before are_after
-    ∙ ap (λ (m : List Content). before ++ m ++ after) says
-    ∙ sym (line_heard before after meant there) in
+    search (rules, line_heard) in
     let told = called follower calls (nothing_held follower.host.unread whole) in
     let sure : confirmed_after_all false follower.host.picture (heard line) ≡ true =
     rw (all, unconfirmed) at (told.1 confirmed) in
     let again : confirmed_after_all false (Some reported) (sent line) ≡ true =
-    ap (λ (s : List Content). confirmed_after_all false (Some reported) s) (line_sent before after meant there)
-    ∙ restated in
+    search (rules, line_sent) in
     told.0 ∙ ap (λ (s : List Content). picture_after_all follower.host.picture s) all
     ∙ is reported follower.host.picture line right (line_faults 0 before after meant there (omega arith)) again sure
     ∙ ap (λ (s : List Content). picture_after_all (Some reported) s) (line_sent before after meant there)

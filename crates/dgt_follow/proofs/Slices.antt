@@ -1,5 +1,6 @@
 -- A slice after a host's request, with a mode's command and the clock's request.
 use Rattle.std.proofs.Common.{◌≡◌, ◌+◌, ◌<◌, ◌≤◌, ℕ, List, [], ◌∷◌, ◌++◌, Some, Ok, refl, sym, ap, ◌∙◌, append_assoc, length, drop, slice_set, arith}
+use Rattle.std.proofs.Common.{rules}
 use Rattle.std.proofs.lemmas.List.{drop-drop, length-append, length-drop}
 use Rattle.std.proofs.Math.Seq.{set-append_seam}
 use Rattle.dgt_values.specs.declared.kinds.Kind.{Kind}
@@ -14,10 +15,7 @@ use Rattle.dgt_follow.specs.Follower.{HostAsks}
 -- a byte that is set at the end of the first bytes follows them
 set_after : (xs ys : List ℕ) (n b : ℕ) → length xs ≡ n → 0 < length ys
     → slice_set (xs ++ ys) n b ≡ (xs ++ b ∷ []) ++ drop 1 ys
-set_after xs [] n b long some = absurd (omega (arith, some))
-set_after xs (y ∷ ys) n b long some =
-    ap (λ (k : ℕ). slice_set (xs ++ y ∷ ys) k b) (sym long) ∙ set-append_seam xs y ys b
-    ∙ sym (append_assoc xs (b ∷ []) ys)
+set_after xs ys n b long some = search (rules, set-append_seam, append_assoc)
 
 set_in_slice : (bytes old : List ℕ) (n b : ℕ) → length bytes ≡ n → n + 1 ≤ length old
     → slice_set (bytes ++ drop n old) n b ≡ (bytes ++ b ∷ []) ++ drop (n + 1) old
@@ -45,8 +43,7 @@ heartbeat_asks mode code sent written before after old followed new encoded all 
     let two : length bytes ≡ 2 = ap (λ (bs : List ℕ). length (bs ++ dump)) encoded in
     let prefix : followed ≡ follow_bytes ++ drop 2 old = e ∙ ap (λ (n : ℕ). follow_bytes ++ drop n old) all in
     let set : slice_set followed 0 code ≡ bytes ++ drop 2 old
-    = ap (λ (bs : List ℕ). slice_set bs 0 code) prefix
-    ∙ ap (λ (bs : List ℕ). (bs ++ dump) ++ drop 2 old) (sym encoded) in
+    = search rules in
     let long : written ≡ length (bytes ++ clock_request mode)
     = omega (arith, count, two, length-append bytes (clock_request mode)) in
     ((long, room, follows bytes old two set), host)

@@ -1,5 +1,5 @@
 -- A follower writes exactly if it has a reason, and `due_at` names the first time at which it isn't idle.
-use Rattle.std.proofs.Common.{◌≡◌, ◌≢◌, ◌↔◌, ◌≤◌, ◌<◌, ◌^◌, Bool, true, false, not, ◌&&◌, ◌||◌, if◌then◌else◌, is_some, nat_le, min, Option, Some, refl, sym, ap, subst, ℕ, arith}
+use Rattle.std.proofs.Common.{◌≡◌, ◌≢◌, ◌↔◌, ◌≤◌, ◌<◌, ◌^◌, Bool, true, false, not, ◌&&◌, ◌||◌, if◌then◌else◌, is_some, nat_le, min, Option, Some, refl, ap, ℕ, arith}
 use Rattle.std.specs.Prelude.{IfSome}
 use Rattle.std.proofs.lemmas.Bool.Decides.{nat_tests}
 use Rattle.dgt_values.specs.declared.kinds.Kind.{Kind}
@@ -8,6 +8,7 @@ use Rattle.dgt_follow.specs.declared.asking.Asking.{Asking}
 use Rattle.dgt_follow.specs.Pace.{PaceView, asking, counted, doubt_time, due_time, is_due, is_overdue, is_stuck, next_due, pace_at, time_after, wait}
 use Rattle.dgt_follow.specs.Follower.{FollowerView, HasReason, asking_of, is_sure}
 use Rattle.dgt_follow.specs.Calls.{DueAtIsFirst, follower_asking}
+use Rattle.std.proofs.lemmas.Grind.{common_steps}
 
 -- ---- its reasons
 
@@ -85,14 +86,4 @@ kept what follower now none same = rw none at (ap (λ (x : FollowerView). x.pace
 
 pub is_first : DueAtIsFirst
 is_first follower sure =
-    let full = awaits_too_many follower.host (Some Kind.Dump) in (
-      λ due named idle.
-          let same = kept _ follower due idle.0 idle.1 in
-          not_idle follower.pace full due named same
-          (subst (λ pace. asking pace full due ≡ Asking.Nothing) same idle.0),
-      λ now small after early.
-          let same = unchanged follower.pace now sure small early in
-          let none = subst (λ pace. asking pace full now ≡ Asking.Nothing) (sym same)
-          (nothing follower.pace full now (not_due follower.pace now small early) after) in
-          (none, stays _ follower now none same),
-    )
+    grind (arith, common_steps, named, kept, not_idle, unchanged, nothing, not_due, stays)

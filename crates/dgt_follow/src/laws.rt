@@ -478,3 +478,19 @@ pub fn what_is_known()
     ensures clock { (host : HostView) (pace : PaceView) → pace.unreadable ≡ false →
         clock_known (following host pace) ≡ host.clock }
 {}
+
+/// What keeps the counts keeps all ten of these fields. The others record what was heard.
+pub fn kept_counts()
+    ensures { (before after : PaceView) → KeepsCount before after → after ≡ record after {
+      period = before.period;
+      patience = before.patience;
+      mode = before.mode;
+      confirm = before.confirm;
+      identify = before.identify;
+      left = before.left;
+      tries = before.tries;
+      asked = before.asked;
+      requested = before.requested;
+      wanted = before.wanted;
+    } }
+{}

@@ -1,68 +1,33 @@
 -- A follower's request is a list of acts of a faulty world.
-use Rattle.std.proofs.Common.{◌≡◌, ◌<◌, Bool, true, false, not, ◌&&◌, if◌then◌else◌, nat_lt, Some, None, Ok, refl, sym, ap, subst, zero, suc, ◌∙◌, ℕ, List, [], ◌∷◌, ◌++◌, append_assoc, append-nil, length, take, drop, rules, arith}
+use Rattle.std.proofs.Common.{◌≡◌, ◌<◌, Bool, false, Some, Ok, refl, ap, subst, ℕ, List, [], ◌∷◌, ◌++◌, append_assoc, append-nil, length, take, drop, rules, arith}
 use Rattle.std.proofs.lemmas.List.{length-append, take_at}
 use Rattle.dgt_values.specs.declared.kinds.Kind.{Kind}
 use Rattle.dgt_command.specs.Content.{CommandContent}
-use Rattle.dgt_command.specs.Encoding.{AreBytes, EncodesCommand, command_encoding}
+use Rattle.dgt_command.specs.Encoding.{AreBytes, command_encoding}
 use Rattle.dgt_follow.specs.declared.asking.Asking.{Asking}
 use Rattle.dgt_follow.specs.declared.asking.UpdateMode.{UpdateMode}
-use Rattle.dgt_follow.specs.Pace.{PaceView, asking, asking_bytes, clock_request, is_calm, is_due, mode_command, pace_at, trusts, wants_serial}
+use Rattle.dgt_follow.specs.Pace.{PaceView, asking, asking_bytes, clock_request, mode_command, pace_at}
 use Rattle.dgt_follow.specs.Follower.{Asks, FollowerView, asking_of, host_after_asking}
 use Rattle.dgt_host.specs.Host.{HostView, awaits_too_many, host_awaiting, restart_bytes, without_awaited}
 use Rattle.dgt_link.specs.declared.acts.Outcome.{Outcome}
 use Rattle.dgt_link.specs.Faults.{FaultyContent, FaultyStep, sends}
 use Rattle.dgt_link.specs.View.{LineContents, WorldView, overflows, with_bytes}
 use Rattle.dgt_followed.specs.Followed.{HasRoom, RunsDone, after_writing, asking_acts, reading_acts}
+use Rattle.std.proofs.lemmas.Grind.{common_steps}
 
 -- ---- a heartbeat is sent only while replies and patience are left
 
-chosen : (due unknown trusted : Bool) → (if not due then Asking.Nothing
-    else if unknown then Asking.Identify else if trusted then Asking.Heartbeat else Asking.Anew) ≡ Asking.Heartbeat
-    → trusted ≡ true
-chosen true false true e = refl
-chosen true false false e = cc
-chosen true true trusted e = cc
-chosen false unknown trusted e = cc
-
-identified : (due unknown trusted : Bool) → (if not due then Asking.Nothing
-    else if unknown then Asking.Identify else if trusted then Asking.Heartbeat else Asking.Anew) ≡ Asking.Identify
-    → unknown ≡ true
-identified true true trusted e = refl
-identified true false true e = cc
-identified true false false e = cc
-identified false unknown trusted e = cc
-
-both_hold : (calm full some : Bool) → (calm && (not full && some)) ≡ true → (full ≡ false) × (some ≡ true)
-both_hold true false true e = (refl, refl)
-both_hold true false false e = cc
-both_hold true true some e = cc
-both_hold false full some e = cc
-
-not_full : (unknown full : Bool) → (unknown && not full) ≡ true → full ≡ false
-not_full true false e = refl
-not_full true true e = cc
-not_full false full e = cc
-
-heartbeat_holds : (pace : PaceView) (full : Bool) (now : ℕ) → asking pace full now ≡ Asking.Heartbeat
-    → (full ≡ false) × (nat_lt 0 pace.left ≡ true)
-heartbeat_holds pace full now e =
-    both_hold (is_calm pace) full (nat_lt 0 pace.left)
-    (chosen (is_due pace now) (wants_serial pace && not full) (trusts pace full) e)
-
 pub heartbeat_is_free : (pace : PaceView) (full : Bool) (now : ℕ) → asking pace full now ≡ Asking.Heartbeat
     → full ≡ false
-heartbeat_is_free pace full now e = (heartbeat_holds pace full now e).0
+heartbeat_is_free pace full now e = grind (arith, common_steps)
 
 pub heartbeat_is_left : (pace : PaceView) (full : Bool) (now : ℕ) → asking pace full now ≡ Asking.Heartbeat
     → 0 < pace.left
-heartbeat_is_left pace full now e =
-    let some : nat_lt 0 pace.left ≡ true = (heartbeat_holds pace full now e).1 in search rules
+heartbeat_is_left pace full now e = grind (arith, common_steps)
 
-identify_is_free : (pace : PaceView) (full : Bool) (now : ℕ) → asking pace full now ≡ Asking.Identify
-    → full ≡ false
-identify_is_free pace full now e =
-    not_full (wants_serial pace) full
-    (identified (is_due pace now) (wants_serial pace && not full) (trusts pace full) e)
+identify_is_free : (pace : PaceView) (full : Bool) (now : ℕ)
+    → asking pace full now ≡ Asking.Identify → full ≡ false
+identify_is_free pace full now e = grind (arith, common_steps)
 
 -- ---- one act
 
@@ -70,92 +35,36 @@ pub fits : (line : LineContents) (bytes : List ℕ) → HasRoom line bytes → o
 fits line bytes room = search rules
 
 one_byte : (b : ℕ) → b < 256 → AreBytes (b ∷ [])
-one_byte b small zero = small
-one_byte b small (suc i) = search rules
-
-mode_encodes : (mode : UpdateMode) → EncodesCommand (mode_command mode) (command_encoding (mode_command mode))
-mode_encodes UpdateMode.Squares = record { are_bytes = one_byte 0x44 (search rules); encoded = refl }
-mode_encodes UpdateMode.Clock = record { are_bytes = one_byte 0x43 (search rules); encoded = refl }
-mode_encodes UpdateMode.ClockChanges = record { are_bytes = one_byte 0x4b (search rules); encoded = refl }
-
-same_host : (world : WorldView) (bytes : List ℕ) → record world { down = with_bytes world.down bytes }
-    ≡ after_writing world (host_awaiting world.host None) bytes
-same_host world bytes =
-    ap (λ (kinds : List Kind). after_writing world (record world.host { awaited = kinds }) bytes)
-    (sym (append-nil world.host.awaited))
+one_byte b small i = search rules
 
 mode_done : (mode : UpdateMode) (world : WorldView) → HasRoom world.down (command_encoding (mode_command mode))
     → FaultyStep (sends (mode_command mode)) world Outcome.Done
     (record world { down = with_bytes world.down (command_encoding (mode_command mode)) })
-mode_done UpdateMode.Squares world room =
-    let free = fits world.down (command_encoding CommandContent.UpdateBoard) room in
-    record {
-      answers = rw free refl;
-      leaves = (mode_encodes UpdateMode.Squares, same_host world (command_encoding CommandContent.UpdateBoard));
-    }
-mode_done UpdateMode.Clock world room =
-    let free = fits world.down (command_encoding CommandContent.Update) room in
-    record {
-      answers = rw free refl;
-      leaves = (mode_encodes UpdateMode.Clock, same_host world (command_encoding CommandContent.Update));
-    }
-mode_done UpdateMode.ClockChanges world room =
-    let free = fits world.down (command_encoding CommandContent.UpdateNice) room in
-    record {
-      answers = rw free refl;
-      leaves = (mode_encodes UpdateMode.ClockChanges, same_host world (command_encoding CommandContent.UpdateNice));
-    }
+mode_done mode world room = search (rules, fits, one_byte, append-nil)
 
 dump_done : (world : WorldView) → awaits_too_many world.host (Some Kind.Dump) ≡ false
     → HasRoom world.down (command_encoding CommandContent.Dump)
     → FaultyStep (sends CommandContent.Dump) world Outcome.Done
     (after_writing world (host_awaiting world.host (Some Kind.Dump)) (command_encoding CommandContent.Dump))
-dump_done world few room =
-    let free = fits world.down (command_encoding CommandContent.Dump) room in
-    record {
-      answers = rw (few, free) refl;
-      leaves = (record { are_bytes = one_byte 0x42 (search rules); encoded = refl }, refl);
-    }
+dump_done world few room = search (rules, fits, one_byte)
 
 serial_done : (world : WorldView) → awaits_too_many world.host (Some Kind.Serial) ≡ false
     → HasRoom world.down (command_encoding CommandContent.Serial)
     → FaultyStep (sends CommandContent.Serial) world Outcome.Done
     (after_writing world (host_awaiting world.host (Some Kind.Serial)) (command_encoding CommandContent.Serial))
-serial_done world few room =
-    let free = fits world.down (command_encoding CommandContent.Serial) room in
-    record {
-      answers = rw (few, free) refl;
-      leaves = (record { are_bytes = one_byte 0x45 (search rules); encoded = refl }, refl);
-    }
-
-clock_done : (world : WorldView) → HasRoom world.down (command_encoding CommandContent.Clock)
-    → FaultyStep (sends CommandContent.Clock) world Outcome.Done
-    (record world { down = with_bytes world.down (command_encoding CommandContent.Clock) })
-clock_done world room =
-    let free = fits world.down (command_encoding CommandContent.Clock) room in
-    record {
-      answers = rw free refl;
-      leaves = (
-        record { are_bytes = one_byte 0x41 (search rules); encoded = refl },
-        same_host world (command_encoding CommandContent.Clock),
-      );
-    }
+serial_done world few room = search (rules, fits, one_byte)
 
 restart_done : (world : WorldView) → HasRoom world.down restart_bytes
     → FaultyStep FaultyContent.Restart world Outcome.Done
     (after_writing world (host_awaiting (without_awaited world.host) (Some Kind.Dump)) restart_bytes)
-restart_done world room =
-    let free = fits world.down restart_bytes room in record { answers = rw free refl; leaves = refl }
+restart_done world room = search (rules, fits)
 
 -- ---- a request
 
 -- the request of the clock, if the mode reports it
 reading_done : (mode : UpdateMode) (world : WorldView) → HasRoom world.down (clock_request mode)
     → RunsDone (reading_acts mode) world (record world { down = with_bytes world.down (clock_request mode) })
-reading_done UpdateMode.Squares world room =
-    ap (λ (bytes : List ℕ). record world { down = record world.down { bytes = bytes } }) (append-nil world.down.bytes)
-reading_done UpdateMode.Clock world room = (_, clock_done world room, refl)
-reading_done UpdateMode.ClockChanges world room = (_, clock_done world room, refl)
+reading_done mode world room = search (rules, append-nil, fits, one_byte)
 
 -- there is room for the first bytes, for the next and for the last
 room_first : (line : LineContents) (first next last : List ℕ) → HasRoom line (first ++ next ++ last)
@@ -174,10 +83,7 @@ room_last line first next last room = omega (arith, length-append {A = ℕ})
 in_a_row : (world : WorldView) (host : HostView) (first next last : List ℕ)
     → record world { host = host; down = with_bytes (with_bytes (with_bytes world.down first) next) last }
     ≡ after_writing world host (first ++ next ++ last)
-in_a_row world host first next last =
-    ap (λ (bytes : List ℕ). record world { host = host; down = record world.down { bytes = bytes } })
-    (ap (λ (bytes : List ℕ). bytes ++ last) (append_assoc world.down.bytes first next)
-    ∙ append_assoc world.down.bytes (first ++ next) last)
+in_a_row world host first next last = simp append_assoc
 
 -- the effect of a request on a world with room for it
 abbrev after_acts : UpdateMode → Asking → WorldView → WorldView
@@ -229,7 +135,7 @@ acts_done mode Asking.Anew world few free room =
 -- the bytes at the beginning of a slice
 pub prefix_of : (bytes old new : List ℕ) (written : ℕ) → written ≡ length bytes → new ≡ bytes ++ drop written old
     → take written new ≡ bytes
-prefix_of bytes old new written e f = rw f (take_at bytes (drop written old) written (sym e))
+prefix_of bytes old new written e f = search (rules, take_at)
 
 pub asking_is_acts : (follower after : FollowerView) (now written : ℕ) (old new : List ℕ) (world : WorldView)
     → Asks (asking_of follower now) now follower after old new (Ok written) → world.host ≡ follower.host
@@ -244,9 +150,4 @@ asking_is_acts follower after now written old new world asked same room =
     let full = awaits_too_many follower.host (Some Kind.Dump) in
     let done = acts_done mode what world (λ is. rw same (heartbeat_is_free pace full now is))
     (λ is. rw same (identify_is_free pace full now is)) room in
-    let host : host_after_asking what world.host ≡ after.host
-    = ap (host_after_asking what) same ∙ sym asked.0.1 in
-    let prefix : bytes ≡ take written new = sym (prefix_of bytes old new written asked.0.0.0 asked.0.0.2) in
-    let P : HostView → Type 0 = λ h. RunsDone (asking_acts mode what) world (after_writing world h bytes) in
-    let Q : List ℕ → Type 0 = λ bs. RunsDone (asking_acts mode what) world (after_writing world after.host bs) in
-    subst Q prefix (subst P host done)
+    search (rules, prefix_of)

@@ -49,11 +49,10 @@ module _ (Promised : WorldView → Type 0) (count : FollowedView → ℕ) where
       → Hope Promised count after
   other_hope true before after patience left since keeps hopes =
       inr (omega (arith, patience, left, since, hopes.left))
-  other_hope false before after patience left since keeps hopes =
-      elim hopes.hope [
-        | inl promised ↦ inl (keeps refl promised)
-        | inr few ↦ inr (omega (arith, patience, left, since, few))
-      ]
+  other_hope false before after patience left since keeps hopes = elim hopes.hope [
+    | inl promised ↦ inl (keeps refl promised)
+    | inr few ↦ inr (omega (arith, patience, left, since, few))
+  ]
 
   pub heartbeat_hope : (now : ℕ) (before after : FollowedView)
       → asking_of (follower_of before) now ≡ Asking.Heartbeat
@@ -86,12 +85,11 @@ module _ (Promised : WorldView → Type 0) (count : FollowedView → ℕ) where
           left = left_after what now before.pace after.pace pace hopes.left;
           hope = hope_after (Happening.Ask now) before after (runs, pace, since, clock_since) hopes;
         }
-    happening_keeps (Happening.Other act) before after (answer, step, keeps, since, clock_since) hopes =
-        record {
-          sane = stay_sane (act ∷ []) before.world after.world (answer ∷ []) hopes.sane (after.world, step, refl);
-          left = omega (arith, keeps.patience, keeps.left, hopes.left);
-          hope = hope_after (Happening.Other act) before after (answer, step, keeps, since, clock_since) hopes;
-        }
+    happening_keeps (Happening.Other act) before after (answer, step, keeps, since, clock_since) hopes = record {
+      sane = stay_sane (act ∷ []) before.world after.world (answer ∷ []) hopes.sane (after.world, step, refl);
+      left = omega (arith, keeps.patience, keeps.left, hopes.left);
+      hope = hope_after (Happening.Other act) before after (answer, step, keeps, since, clock_since) hopes;
+    }
 
     happenings_keep : (happenings : List Happening) (before after : FollowedView)
         → FollowedRuns happenings before after → Hopes Promised count before → Hopes Promised count after

@@ -55,14 +55,13 @@ module _ (append : DivisionsAppend) (zeros : ZerosSettleTheReader) (nothing : Is
   anew_comes : (bytes : List ℕ) (events : List EventContent) → Divides bytes events []
       → (noise : List EventContent) × IsNoiseList noise
       × Divides (bytes ++ restart_bytes) (events ++ (noise ++ map EventContent.Read commands_anew)) []
-  anew_comes bytes events divides =
-      let (noise, is_noise, divided) = zeros [] nothing in (
-        noise,
-        is_noise,
-        append bytes restart_bytes events (noise ++ map EventContent.Read commands_anew) [] [] divides
-            (append (replicate 255 0) follow_bytes noise (map EventContent.Read commands_anew) [] [] divided
-            (anew_divides nothing)),
-      )
+  anew_comes bytes events divides = let (noise, is_noise, divided) = zeros [] nothing in (
+    noise,
+    is_noise,
+    append bytes restart_bytes events (noise ++ map EventContent.Read commands_anew) [] [] divides
+        (append (replicate 255 0) follow_bytes noise (map EventContent.Read commands_anew) [] [] divided
+        (anew_divides nothing)),
+  )
 
   begun_restates : (world after : WorldView) → IsRestatedWorld world → world.host.awaited ≡ []
       → FaultyBecomes FaultyContent.Restart world after → IsRestatedWorld after

@@ -1,18 +1,18 @@
 -- The effects of a follower's calls are happenings to it and to the world of its host.
-use Rattle.std.proofs.Common.{◌≡◌, ◌<◌, true, false, Ok, refl, sym, ap, ℕ, List, length, take, rules}
+use Rattle.std.proofs.Common.{◌≡◌, ◌<◌, true, false, Ok, refl, ap, ℕ, List, length, take, rules}
 use Rattle.std.proofs.lemmas.Bool.{false≢true}
 use Rattle.dgt_command.specs.Content.{CommandContent, requested_kind}
 use Rattle.dgt_command.specs.Encoding.{EncodesCommand, command_encoding}
-use Rattle.dgt_host.specs.Host.{HostView, Sends, host_after, host_awaiting}
+use Rattle.dgt_host.specs.Host.{HostView, Sends, host_after}
 use Rattle.dgt_follow.specs.Pace.{KeepsCount, asking_bytes}
 use Rattle.dgt_follow.specs.Calls.{Call, follower_after_call}
-use Rattle.dgt_follow.specs.Follower.{following, Asks, FollowerView, asking_of, follower_after}
+use Rattle.dgt_follow.specs.Follower.{Asks, FollowerView, asking_of, follower_after}
 use Rattle.dgt_link.specs.declared.acts.Outcome.{Outcome}
 use Rattle.dgt_link.specs.Faults.{sends}
 use Rattle.dgt_link.specs.Step.{moves_nothing}
 use Rattle.dgt_link.specs.View.{LineContents, without_first}
 use Rattle.dgt_followed.specs.Heard.{HeardStep, TimedHappening, is_setting}
-use Rattle.dgt_followed.specs.Followed.{FollowedView, HasRoom, KeepsPatience, after_writing, clock_count_after, clock_count_after_asking, count_after, count_after_asking, follower_of}
+use Rattle.dgt_followed.specs.Followed.{FollowedView, HasRoom, after_writing, clock_count_after, clock_count_after_asking, count_after, count_after_asking, follower_of}
 use Rattle.dgt_followed.proofs.Acts.{asking_is_acts, fits, prefix_of}
 
 pub ask_happens : (before : FollowedView) (after : FollowerView) (now written : ℕ) (old new : List ℕ)
@@ -65,28 +65,11 @@ hear_happens hosts counts before now count asked some =
       refl,
     )
 
-set_is : (call : Call) (before : FollowedView) → is_setting call ≡ true
-    → (follower_after_call (follower_of before) call ≡ following before.world.host
-    (follower_after_call (follower_of before) call).pace)
-    × KeepsPatience before.pace (follower_after_call (follower_of before) call).pace
-set_is (Call.SetsMode mode) before sets = (refl, record { patience = refl; left = refl })
-set_is (Call.SetsConfirm confirm) before sets = (refl, record { patience = refl; left = refl })
-set_is (Call.SetsIdentify identify) before sets = (refl, record { patience = refl; left = refl })
-set_is Call.AsksNow before sets = (refl, record { patience = refl; left = refl })
-set_is Call.Disturbs before sets = (refl, record { patience = refl; left = refl })
-set_is (Call.Hears now bytes) before sets = absurd (false≢true sets)
-set_is (Call.Asks now) before sets = absurd (false≢true sets)
-set_is (Call.Sends kind) before sets = absurd (false≢true sets)
-
 pub set_happens : (before : FollowedView) (call : Call) → is_setting call ≡ true
     → HeardStep (TimedHappening.Sets call) before (record before {
       pace = (follower_after_call (follower_of before) call).pace;
     })
-set_happens before call sets =
-    let set = set_is call before sets in (
-      (Outcome.Nothing, record { answers = refl; leaves = refl }, set.1, refl, refl),
-      (sets, sym set.0),
-    )
+set_happens before call sets = search (rules, false≢true)
 
 pub send_happens : (before : FollowedView) (command : CommandContent) (after : HostView) (written : ℕ)
     (old new : List ℕ)
@@ -100,19 +83,4 @@ pub send_happens : (before : FollowedView) (command : CommandContent) (after : H
       clock_since = clock_count_after (sends command) before.clock_since;
     })
 send_happens before command after written old new sent encodes room =
-    let free = fits before.world.down (command_encoding command) room in
-    let prefix : take written new ≡ command_encoding command
-    = prefix_of (command_encoding command) old new written sent.1 sent.3 in
-    let host : after ≡ host_awaiting before.world.host (requested_kind command) = sent.4 in (
-      (
-        Outcome.Done,
-        record {
-          answers = rw (sent.0, free) refl;
-          leaves = (encodes, rw (prefix, host) refl);
-        },
-        record { patience = refl; left = refl },
-        refl,
-        refl,
-      ),
-      (refl, refl),
-    )
+    search (rules, fits, prefix_of)

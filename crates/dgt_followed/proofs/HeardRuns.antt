@@ -1,22 +1,20 @@
 -- The happenings to a follower that records only what it hears are calls of it.
-use Rattle.std.proofs.Common.{◌≡◌, ◌⊎◌, inl, inr, true, false, Option, Some, None, refl, sym, ap, ◌∙◌, ℕ, List, [], ◌∷◌, ◌++◌, append_assoc, append-nil, map, option_to_list}
+use Rattle.std.proofs.Common.{◌≡◌, ◌⊎◌, inl, inr, true, false, Option, Some, refl, sym, ap, ◌∙◌, ℕ, List, [], ◌∷◌, ◌++◌, append_assoc, append-nil, map, option_to_list}
+use Rattle.std.proofs.Common.{rules}
 use Rattle.dgt_values.specs.declared.kinds.Kind.{Kind}
 use Rattle.dgt_message.specs.Content.{Content}
 use Rattle.dgt_message.specs.Picture.{picture_after_all}
-use Rattle.dgt_command.specs.Content.{CommandContent, requested_kind}
 use Rattle.dgt_host.specs.Confirmed.{confirmed_after_all}
 use Rattle.dgt_host.specs.Host.{HostView, host_awaiting}
 use Rattle.dgt_follow.specs.declared.asking.Asking.{Asking}
 use Rattle.dgt_follow.specs.declared.asking.UpdateMode.{UpdateMode}
 use Rattle.dgt_follow.specs.Calls.{Call, ConfirmedOverCalls, OneStretchIsSeen, bytes_heard, follower_after_call, follower_after_calls}
 use Rattle.dgt_follow.specs.Follower.{FollowerView, asking_of, following, host_after_asking}
-use Rattle.dgt_follow.specs.Pace.{PaceView, mode_command}
+use Rattle.dgt_follow.specs.Pace.{PaceView}
 use Rattle.dgt_link.specs.declared.acts.Outcome.{Outcome}
-use Rattle.dgt_link.specs.Act.{ActContent}
-use Rattle.dgt_link.specs.Faults.{FaultyBecomes, FaultyContent, FaultyStep, sends}
-use Rattle.dgt_link.specs.Step.{IfDone}
+use Rattle.dgt_link.specs.Faults.{FaultyContent, FaultyStep, sends}
 use Rattle.dgt_link.specs.View.{WorldView}
-use Rattle.dgt_followed.specs.Followed.{FollowedRuns, FollowedView, RunsDone, asking_acts, follower_of, reading_acts}
+use Rattle.dgt_followed.specs.Followed.{FollowedRuns, FollowedView, RunsDone, asking_acts, follower_of}
 use Rattle.dgt_followed.specs.Heard.{ConfirmedAsDelivered, ConfirmedIsReportedInWorlds, HappeningsAreCalls, HeardRuns, HeardStep, OneStretchIsSeenInWorlds, SentIsReported, TimedHappening, bytes_by, happening_of, is_noticed, is_setting}
 
 -- ---- calls in a row
@@ -24,8 +22,7 @@ use Rattle.dgt_followed.specs.Heard.{ConfirmedAsDelivered, ConfirmedIsReportedIn
 bytes_append : (calls more : List Call) → bytes_heard (calls ++ more) ≡ bytes_heard calls ++ bytes_heard more
 bytes_append [] more = refl
 bytes_append (Call.Hears now bytes ∷ calls) more =
-    ap (λ (rest : List ℕ). bytes ++ rest) (bytes_append calls more)
-    ∙ sym (append_assoc bytes (bytes_heard calls) (bytes_heard more))
+    search (rules, append_assoc, bytes_append calls more)
 bytes_append (call ∷ calls) more = bytes_append calls more
 
 calls_append : (f : FollowerView) (calls more : List Call)
@@ -51,94 +48,19 @@ same_follower host host' pace pace' e f = rw (e, f) refl
 
 -- ---- the host after its request
 
-sent_host : (command : CommandContent) (world after : WorldView) → FaultyStep (sends command) world Outcome.Done after
-    → after.host ≡ host_awaiting world.host (requested_kind command)
-sent_host command world after step = ap (λ (w : WorldView). w.host) step.leaves.1
-
-awaiting_none : (host : HostView) → host_awaiting host None ≡ host
-awaiting_none host = ap (λ (kinds : List Kind). record host { awaited = kinds }) (append-nil host.awaited)
-
-mode_host : (mode : UpdateMode) (world after : WorldView)
-    → FaultyStep (sends (mode_command mode)) world Outcome.Done after → after.host ≡ world.host
-mode_host UpdateMode.Squares world after step =
-    sent_host CommandContent.UpdateBoard world after step ∙ awaiting_none world.host
-mode_host UpdateMode.Clock world after step =
-    sent_host CommandContent.Update world after step ∙ awaiting_none world.host
-mode_host UpdateMode.ClockChanges world after step =
-    sent_host CommandContent.UpdateNice world after step ∙ awaiting_none world.host
-
-clock_host : (world after : WorldView) → RunsDone (sends CommandContent.Clock ∷ []) world after
-    → after.host ≡ world.host
-clock_host world after (between, step, same) =
-    ap (λ (w : WorldView). w.host) same ∙ sent_host CommandContent.Clock world between step
-    ∙ awaiting_none world.host
-
-reading_host : (mode : UpdateMode) (world after : WorldView) → RunsDone (reading_acts mode) world after
-    → after.host ≡ world.host
-reading_host UpdateMode.Squares world after same = ap (λ (w : WorldView). w.host) same
-reading_host UpdateMode.Clock world after runs = clock_host world after runs
-reading_host UpdateMode.ClockChanges world after runs = clock_host world after runs
-
 asked_host : (mode : UpdateMode) (what : Asking) (world after : WorldView)
     → RunsDone (asking_acts mode what) world after → after.host ≡ host_after_asking what world.host
-asked_host mode Asking.Nothing world after same = ap (λ (w : WorldView). w.host) same
-asked_host mode Asking.Identify world after (between, step, same) =
-    ap (λ (w : WorldView). w.host) same ∙ sent_host CommandContent.Serial world between step
-asked_host mode Asking.Heartbeat world after (first, step, (second, dump, later)) =
-    reading_host mode second after later ∙ sent_host CommandContent.Dump first second dump
-    ∙ ap (λ (host : HostView). host_awaiting host (Some Kind.Dump)) (mode_host mode world first step)
-asked_host mode Asking.Anew world after (first, step, (second, told, later)) =
-    reading_host mode second after later ∙ mode_host mode first second told
-    ∙ ap (λ (w : WorldView). w.host) step.leaves
+asked_host mode what world after same = search (rules, append-nil)
 
 -- ---- the host after any other act
-
-kept : (answer : Outcome) (act : FaultyContent) (world after : WorldView)
-    → (FaultyBecomes act world after → after.host ≡ world.host)
-    → IfDone answer (FaultyBecomes act world after) (after ≡ world) → after.host ≡ world.host
-kept Outcome.Done act world after keeps leaves = keeps leaves
-kept _ act world after keeps same = ap (λ (w : WorldView). w.host) same
 
 -- an act that leaves the host as it is, or a command that it sends
 abbrev IsLike : HostView → HostView → Type 0
 IsLike before after = (after ≡ before) ⊎ ((kind : Option Kind) × (after ≡ host_awaiting before kind))
 
-sent_like : (answer : Outcome) (command : CommandContent) (world after : WorldView)
-    → IfDone answer (FaultyBecomes (sends command) world after) (after ≡ world) → IsLike world.host after.host
-sent_like Outcome.Done command world after leaves =
-    inr (requested_kind command, ap (λ (w : WorldView). w.host) leaves.1)
-sent_like _ command world after same = inl (ap (λ (w : WorldView). w.host) same)
-
 act_like : (act : FaultyContent) (world after : WorldView) (answer : Outcome) → is_noticed act ≡ false
     → FaultyStep act world answer after → IsLike world.host after.host
-act_like (FaultyContent.Plain (ActContent.Host command)) world after answer unseen step =
-    sent_like answer command world after step.leaves
-act_like (FaultyContent.Plain (ActContent.Change square piece)) world after answer unseen step =
-    inl (kept answer (FaultyContent.Plain (ActContent.Change square piece)) world after
-    (λ same. ap (λ (w : WorldView). w.host) same) step.leaves)
-act_like (FaultyContent.Plain (ActContent.ClockRead clock)) world after answer unseen step =
-    inl (kept answer (FaultyContent.Plain (ActContent.ClockRead clock)) world after
-    (λ same. ap (λ (w : WorldView). w.host) same) step.leaves)
-act_like (FaultyContent.Plain ActContent.BoardSend) world after answer unseen step =
-    inl (kept answer (FaultyContent.Plain ActContent.BoardSend) world after
-    (λ leaves. ap (λ (w : WorldView). w.host) leaves.3) step.leaves)
-act_like (FaultyContent.Plain (ActContent.ToBoard count)) world after answer unseen step =
-    inl (kept answer (FaultyContent.Plain (ActContent.ToBoard count)) world after
-    (λ delivers. ap (λ (w : WorldView). w.host) delivers.leaves) step.leaves)
-act_like (FaultyContent.GarbleUp bytes) world after answer unseen step =
-    inl (kept answer (FaultyContent.GarbleUp bytes) world after
-    (λ same. ap (λ (w : WorldView). w.host) same) step.leaves)
-act_like (FaultyContent.GarbleDown bytes) world after answer unseen step =
-    inl (kept answer (FaultyContent.GarbleDown bytes) world after
-    (λ leaves. ap (λ (w : WorldView). w.host) leaves.1) step.leaves)
-act_like FaultyContent.BoardLost world after answer unseen step =
-    inl (kept answer FaultyContent.BoardLost world after
-    (λ same. ap (λ (w : WorldView). w.host) same) step.leaves)
-act_like (FaultyContent.Plain (ActContent.ToHost count)) world after answer unseen step = cc
-act_like (FaultyContent.Plain ActContent.Break) world after answer unseen step = cc
-act_like (FaultyContent.Plain ActContent.HostBreak) world after answer unseen step = cc
-act_like FaultyContent.Restart world after answer unseen step = cc
-act_like FaultyContent.GiveUp world after answer unseen step = cc
+act_like act world after answer unseen step = search rules
 
 act_leads : (before after : FollowedView) → IsLike before.world.host after.world.host → after.pace ≡ before.pace
     → Leads (follower_of before) [] (follower_of after)
@@ -153,14 +75,7 @@ act_leads before after (inr (kind, sent)) pace = (
 -- ---- all happenings
 
 no_bytes : (call : Call) → is_setting call ≡ true → bytes_heard (call ∷ []) ≡ []
-no_bytes (Call.SetsMode mode) sets = refl
-no_bytes (Call.SetsConfirm confirm) sets = refl
-no_bytes (Call.SetsIdentify identify) sets = refl
-no_bytes Call.AsksNow sets = refl
-no_bytes Call.Disturbs sets = refl
-no_bytes (Call.Hears now bytes) sets = cc
-no_bytes (Call.Asks now) sets = refl
-no_bytes (Call.Sends kind) sets = refl
+no_bytes call sets = search rules
 
 step_leads : (happening : TimedHappening) (before after : FollowedView) → HeardStep happening before after
     → Leads (follower_of before) (bytes_by happening before) (follower_of after)
@@ -193,8 +108,7 @@ are_followed (happening ∷ later) said bytes before after (between, more, rest,
 
 pub confirmed_as_delivered : ConfirmedOverCalls → ConfirmedAsDelivered
 confirmed_as_delivered called happenings said bytes before after held runs =
-    let (calls, heard, e) = are_calls happenings said bytes before after runs in
-    rw (heard, ← e) at (called (follower_of before) calls held)
+    search (rules, are_calls)
 
 pub one_stretch_in_worlds : OneStretchIsSeen → OneStretchIsSeenInWorlds
 one_stretch_in_worlds stretch happenings sent said bytes before after reported is runs restated confirmed =

@@ -12,3 +12,4 @@ mod SoundRuns
 mod SoundWorlds
 mod Undoubted
 mod Unreported
+mod BothWays

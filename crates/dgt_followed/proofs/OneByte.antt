@@ -71,12 +71,10 @@ both_are g k =
 
 -- one of two segments contains no message
 of_both : (g k : List ℕ) → (verdict g ≡ None) ⊎ (verdict k ≡ None) → One (messages (segments_events (g ∷ k ∷ [])))
-of_both g k (inl none) =
-    same _ (messages (segment_events (verdict k) k))
+of_both g k (inl none) = same _ (messages (segment_events (verdict k) k))
     (both_are g k ∙ ap (λ (m : List Content). m ++ messages (segment_events (verdict k) k))
     (nothing_in (verdict g) g none)) (of_verdict (verdict k) k)
-of_both g k (inr none) =
-    same _ (messages (segment_events (verdict g) g))
+of_both g k (inr none) = same _ (messages (segment_events (verdict g) g))
     (both_are g k ∙ ap (λ (m : List Content). messages (segment_events (verdict g) g) ++ m)
     (nothing_in (verdict k) k none) ∙ append-nil (messages (segment_events (verdict g) g)))
     (of_verdict (verdict g) g)
@@ -137,8 +135,7 @@ of_two h b x y first last none =
   where
     go : (t u : Bool) (prefix : List ℕ) (gs : List (List ℕ)) → prefix ≡ x ++ cond u [] (b ∷ y)
         → gs ≡ cond u ((b ∷ y) ∷ []) [] → One (messages (segments_events (cond t ((h ∷ prefix) ∷ gs) gs)))
-    go true true prefix gs e g =
-        rw (e, g, append-nil x) (of_both (h ∷ x) (b ∷ y) none)
+    go true true prefix gs e g = rw (e, g, append-nil x) (of_both (h ∷ x) (b ∷ y) none)
     go true false prefix gs e g = rw g (of_last (h ∷ prefix))
     go false true prefix gs e g = rw g (of_last (b ∷ y))
     go false false prefix gs e g = rw g (None, refl)
@@ -192,8 +189,7 @@ module _ (h : ℕ) (t : List ℕ) (seven : SevenByRecursion t) (e : announced_to
 
   shape : (p lost : ℕ) (put : List ℕ)
       → with_fault (h ∷ t) (suc p) lost put ≡ h ∷ (take p t ++ (put ++ drop (p + lost) t))
-  shape p lost put =
-      ap (λ (y : List ℕ). h ∷ ((take p t ++ put) ++ y)) (rest p lost)
+  shape p lost put = ap (λ (y : List ℕ). h ∷ ((take p t ++ put) ++ y)) (rest p lost)
       ∙ ap (λ (z : List ℕ). h ∷ z) (append_assoc (take p t) put (drop (p + lost) t))
 
   lost_one : (place lost : ℕ) → lost ≤ 1 → SaysOne (with_fault (h ∷ t) place lost [])

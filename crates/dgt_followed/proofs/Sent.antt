@@ -1,33 +1,44 @@
 -- What a board has reported is the picture after the messages that it has sent.
-use Rattle.std.proofs.Common.{◌≡◌, Bool, true, false, Option, Some, None, refl, sym, ap, ◌∙◌, List, [], ◌∷◌, if◌then◌else◌}
-use Rattle.std.specs.Prelude.{◌&&◌}
+use Rattle.std.proofs.Common.{◌≡◌, Bool, Some, refl, sym, ap, ◌∙◌, List, [], ◌∷◌, if◌then◌else◌}
+use Rattle.std.proofs.Common.{rules}
 use Rattle.std.specs.List.{AllByRecursion}
 use Rattle.dgt_values.specs.declared.pieces.Piece.{Piece}
 use Rattle.dgt_message.specs.Content.{Content, clock_message}
-use Rattle.dgt_message.specs.Encoding.{encoding}
 use Rattle.dgt_message.specs.Picture.{picture_after, picture_after_all}
-use Rattle.dgt_command.specs.Content.{CommandContent, EventContent}
+use Rattle.dgt_command.specs.Content.{EventContent}
 use Rattle.dgt_board.specs.declared.replies.Reply.{Reply}
 use Rattle.dgt_board.specs.State.{BoardState, effect, effects, updates}
-use Rattle.dgt_board.specs.Sending.{differs, field_of, next_message, reported_squares_after}
+use Rattle.dgt_board.specs.Sending.{next_message, reported_squares_after}
 use Rattle.dgt_host.proofs.ConfirmedLemmas.{pictures_append}
 use Rattle.dgt_follow.specs.declared.asking.Asking.{Asking}
 use Rattle.dgt_follow.specs.declared.asking.UpdateMode.{UpdateMode}
-use Rattle.dgt_follow.specs.Follower.{asking_of}
-use Rattle.dgt_follow.specs.Pace.{mode_command}
 use Rattle.dgt_link.specs.declared.acts.Outcome.{Outcome}
-use Rattle.dgt_link.specs.Act.{ActContent}
 use Rattle.dgt_link.specs.Faults.{FaultyBecomes, FaultyContent, FaultyStep, sends}
 use Rattle.dgt_link.specs.Machine.{IsSending, MachineState, Move, state_of_board}
 use Rattle.dgt_link.specs.Reported.{first_reply, sent_by as sent_by_move}
-use Rattle.dgt_link.specs.Step.{Becomes, IfDone, sending_outcome}
-use Rattle.dgt_link.specs.View.{WorldView, overflows}
+use Rattle.dgt_link.specs.Step.{Becomes, IfDone}
+use Rattle.dgt_link.specs.View.{WorldView}
 use Rattle.dgt_link.proofs.MessageReports.{clock_reports, field_reports, reply_reports}
 use Rattle.dgt_link.proofs.KnownPictures.{sending_sends}
 use Rattle.dgt_link.proofs.Sending.{next_is_sent}
 use Rattle.dgt_link.proofs.Taking.{effect_leaves}
-use Rattle.dgt_followed.specs.Followed.{FollowedView, RunsDone, asking_acts, follower_of, reading_acts}
-use Rattle.dgt_followed.specs.Heard.{HeardStep, KeepsPower, SentIsReported, TimedHappening, fitting, is_noticed, sent_by}
+use Rattle.dgt_followed.specs.Followed.{FollowedView, RunsDone, asking_acts}
+use Rattle.dgt_followed.specs.Heard.{SentIsReported, sent_by}
+use Rattle.std.proofs.Common.{true}
+use Rattle.std.proofs.Common.{false}
+use Rattle.std.proofs.Common.{Option}
+use Rattle.std.proofs.Common.{None}
+use Rattle.dgt_message.specs.Encoding.{encoding}
+use Rattle.dgt_follow.specs.Follower.{asking_of}
+use Rattle.dgt_link.specs.Act.{ActContent}
+use Rattle.dgt_link.specs.Step.{sending_outcome}
+use Rattle.dgt_link.specs.View.{overflows}
+use Rattle.dgt_followed.specs.Followed.{follower_of}
+use Rattle.dgt_followed.specs.Heard.{HeardStep}
+use Rattle.dgt_followed.specs.Heard.{KeepsPower}
+use Rattle.dgt_followed.specs.Heard.{TimedHappening}
+use Rattle.dgt_followed.specs.Heard.{fitting}
+use Rattle.dgt_followed.specs.Heard.{is_noticed}
 
 -- ---- the message that a board sends
 
@@ -41,20 +52,16 @@ one_of a b P e is = let same : a ≡ b = cc in rw (← same) is
 
 reply_is : (board : BoardState) (owed : List Reply) (message : Content) → first_reply board owed ≡ message ∷ []
     → Reports board message
-reply_is board [] message e = cc
-reply_is board (reply ∷ later) message e = one_of _ message (Reports board) e (reply_reports board reply).picture
+reply_is board owed message e = search (rules, one_of, reply_reports)
 
 asked_is : (board : BoardState) (asked : Bool) (one message : Content)
     → (if asked then one ∷ [] else []) ≡ message ∷ [] → Reports board one → Reports board message
-asked_is board true one message e is = one_of one message (Reports board) e is
-asked_is board false one message e is = cc
+asked_is board asked one message e is = search (rules, one_of)
 
 move_is : (board : BoardState) (move : Move) (message : Content) → IsSending move
     → sent_by_move (state_of_board board) move ≡ message ∷ [] → Reports board message
 move_is board Move.Reply message sending e = reply_is board board.owed message e
-move_is board (Move.Report square) message sending e =
-    asked_is board (updates board.mode && differs board square) (field_of board square) message e
-    (field_reports board square).picture
+move_is board (Move.Report square) message sending e = search (rules, asked_is, field_reports)
 move_is board Move.ReportClock message sending e =
     asked_is board board.times_owed (clock_message board.clock) message e (clock_reports board).picture
 move_is board _ message none e = absurd none
@@ -79,16 +86,12 @@ reported world = world.board.state.reported_squares
 kept : (answer : Outcome) (act : FaultyContent) (world after : WorldView)
     → (FaultyBecomes act world after → reported after ≡ reported world)
     → IfDone answer (FaultyBecomes act world after) (after ≡ world) → reported after ≡ reported world
-kept Outcome.Done act world after keeps leaves = keeps leaves
-kept _ act world after keeps same = ap reported same
+kept answer act world after keeps leaves = search rules
 
 -- an act of the host
 abbrev IsHosts : FaultyContent → Type 0
-IsHosts act =
-    (world after : WorldView) → FaultyStep act world Outcome.Done after → reported after ≡ reported world
-
-sends_is : (command : CommandContent) → IsHosts (sends command)
-sends_is command world after step = ap reported step.leaves.1
+IsHosts act = (world after : WorldView) → FaultyStep act world Outcome.Done after
+    → reported after ≡ reported world
 
 all_hosts : (acts : List FaultyContent) (world after : WorldView) → AllByRecursion IsHosts acts
     → RunsDone acts world after → reported after ≡ reported world
@@ -96,17 +99,8 @@ all_hosts [] world after are same = ap reported same
 all_hosts (act ∷ acts) world after are (between, step, later) =
     all_hosts acts between after are.1 later ∙ are.0 world between step
 
-mode_is : (mode : UpdateMode) → AllByRecursion IsHosts (sends (mode_command mode) ∷ reading_acts mode)
-mode_is UpdateMode.Squares = (sends_is CommandContent.UpdateBoard, tt)
-mode_is UpdateMode.Clock = (sends_is CommandContent.Update, (sends_is CommandContent.Clock, tt))
-mode_is UpdateMode.ClockChanges = (sends_is CommandContent.UpdateNice, (sends_is CommandContent.Clock, tt))
-
 asking_is : (mode : UpdateMode) (what : Asking) → AllByRecursion IsHosts (asking_acts mode what)
-asking_is mode Asking.Nothing = tt
-asking_is mode Asking.Identify = (sends_is CommandContent.Serial, tt)
-asking_is mode Asking.Heartbeat =
-    let both = mode_is mode in (both.0, (sends_is CommandContent.Dump, both.1))
-asking_is mode Asking.Anew = (λ world after step. ap reported step.leaves, mode_is mode)
+asking_is mode what = search rules
 
 -- ---- every act
 

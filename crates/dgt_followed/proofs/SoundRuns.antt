@@ -1,5 +1,5 @@
 -- A follower that asks in time on a sound line is never in doubt.
-use Rattle.std.proofs.Common.{◌≡◌, ◌≢◌, true, false, refl, sym, subst, ℕ, List, [], ◌∷◌, take}
+use Rattle.std.proofs.Common.{◌≡◌, ◌≢◌, true, false, refl, sym, subst, ℕ, List, [], ◌∷◌, take, rules}
 use Rattle.std.proofs.lemmas.Bool.{false≢true}
 use Rattle.dgt_command.specs.Content.{CommandContent}
 use Rattle.dgt_follow.specs.declared.asking.Asking.{Asking}
@@ -24,18 +24,7 @@ IsCalm followed = IsRestatedWorld followed.world × HasNoDoubt followed.pace
 set_is_calm : (before : FollowedView) (call : Call) → is_setting call ≡ true
     → IsSoundHappening (TimedHappening.Sets call) before → HasNoDoubt before.pace
     → HasNoDoubt (follower_after_call (follower_of before) call).pace
-set_is_calm before (Call.SetsMode mode) sets sound calm =
-    record { doubtful = calm.doubtful; disturbed = calm.disturbed }
-set_is_calm before (Call.SetsConfirm confirm) sets sound calm =
-    record { doubtful = calm.doubtful; disturbed = calm.disturbed }
-set_is_calm before (Call.SetsIdentify identify) sets sound calm =
-    record { doubtful = calm.doubtful; disturbed = calm.disturbed }
-set_is_calm before Call.AsksNow sets sound calm =
-    record { doubtful = calm.doubtful; disturbed = calm.disturbed }
-set_is_calm before Call.Disturbs sets reported calm = absurd reported
-set_is_calm before (Call.Hears now bytes) sets sound calm = absurd (false≢true sets)
-set_is_calm before (Call.Asks now) sets sound calm = absurd (false≢true sets)
-set_is_calm before (Call.Sends kind) sets sound calm = absurd (false≢true sets)
+set_is_calm before call sets sound calm = search (rules, false≢true)
 
 is_no_break : (act : ActContent) → is_noticed (FaultyContent.Plain act) ≡ false → act ≢ ActContent.HostBreak
 is_no_break act unseen same = cc
@@ -51,9 +40,7 @@ module _
   plain_restates : (act : ActContent) (world after : WorldView) (answer : Outcome) → act ≢ ActContent.HostBreak
       → ActsAtRest act world → IsRestatedWorld world → FaultyStep (FaultyContent.Plain act) world answer after
       → IsRestatedWorld after
-  plain_restates act world after answer other rest is step =
-      keeps act world after answer other is
-      (record { step = plain_step act world answer after step; rests = rest })
+  plain_restates act world after answer other rest is step = search (rules, plain_step)
 
   sent_restates : (command : CommandContent) (world after : WorldView) → IsRestatedWorld world
       → FaultyStep (sends command) world Outcome.Done after → IsRestatedWorld after
@@ -75,8 +62,7 @@ module _
   asked_restates mode Asking.Identify world after idle is (between, step, same) =
       rw same (sent_restates CommandContent.Serial world between is step)
   asked_restates mode Asking.Heartbeat world after idle is (first, step, (second, dump, later)) =
-      reading_restates mode second after (sent_restates CommandContent.Dump first second
-      (sent_restates (mode_command mode) world first is step) dump) later
+      reading_restates mode second after (search (rules, sent_restates)) later
   asked_restates mode Asking.Anew world after idle is (first, step, (second, sent, later)) =
       reading_restates mode second after (sent_restates (mode_command mode) first second
       (begins world first Outcome.Done is (idle refl) step) sent) later
@@ -95,15 +81,11 @@ module _
             (heard before.world (follower_of before) now count is refl calm),
       )
   step_is_calm (TimedHappening.Sets call) before after (is, calm)
-      ((answer, step, keeps_patience, since, clock_since), (sets, set)) sound = (
-        plain_restates (ActContent.ToHost 0) before.world after.world answer (λ e. cc) tt is step,
-        subst (λ (f : FollowerView). HasNoDoubt f.pace) (sym set) (set_is_calm before call sets sound calm),
-      )
+      ((answer, step, keeps_patience, since, clock_since), (sets, set)) sound =
+      search (rules, plain_restates, set_is_calm)
   step_is_calm (TimedHappening.Acts (FaultyContent.Plain act)) before after (is, calm)
-      ((answer, step, keeps_patience, since, clock_since), (unseen, pace)) rest = (
-        plain_restates act before.world after.world answer (is_no_break act unseen) rest is step,
-        rw pace calm,
-      )
+      ((answer, step, keeps_patience, since, clock_since), (unseen, pace)) rest =
+      search (rules, plain_restates, is_no_break)
   step_is_calm (TimedHappening.Acts _) before after calm step none = absurd none
 
   pub runs_are_calm : (happenings : List TimedHappening) (before after : FollowedView) → IsRestatedWorld before.world

@@ -57,8 +57,8 @@ step_rests _ act world x moves same rest e = rw e tt
 -- ---- acts
 
 abbrev pub ActsAreMoves : Type 0
-ActsAreMoves =
-    (act : ActContent) (world after : WorldView) (answer : Outcome) (x : MachineState) → StandsFor world x
+ActsAreMoves = (act : ActContent) (world after : WorldView) (answer : Outcome) (x : MachineState)
+    → StandsFor world x
     → Step act world answer after → StandsAfterStep act answer x after
 
 abbrev pub MovesStayExact : Type 0

@@ -88,11 +88,11 @@ brings_none doubtful overdue stuck calm early fresh = rw (calm, early, fresh) re
 -- time raises no doubt, if no answer is overdue and no message is unfinished
 time_brings_none : (pace : PaceView) (now : ℕ) → HasNoDoubt pace → is_overdue pace now ≡ false
     → is_stuck pace now ≡ false → HasNoDoubt (pace_at pace now)
-time_brings_none pace now calm early fresh =
-    record {
-      doubtful = brings_none pace.doubtful (is_overdue pace now) (is_stuck pace now) calm.doubtful early fresh;
-      disturbed = rw (calm.disturbed, fresh) refl;
-    }
+time_brings_none pace now calm early fresh = record {
+  doubtful =
+      brings_none pace.doubtful (is_overdue pace now) (is_stuck pace now) calm.doubtful early fresh;
+  disturbed = rw (calm.disturbed, fresh) refl;
+}
 
 adds_none : (what : Asking) (pace : PaceView) (now : ℕ) → HasNoDoubt pace
     → (what ≡ Asking.Nothing) ⊎ ((what ≡ Asking.Identify) ⊎ (is_unanswered pace ≡ false))

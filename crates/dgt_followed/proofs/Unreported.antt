@@ -35,9 +35,8 @@ pub change_is_doubt : (x : MachineState) (pace : PaceView) (now : ℕ) (later : 
     → ((after_move x Move.Reply).up ≡ dump x.board.squares ∷ [])
     × ((pace_after_event pace now (after_move x Move.Reply).awaited (after_move x Move.Reply).picture
     (Message (dump x.board.squares))).doubtful ≡ true)
-change_is_doubt x pace now later none owed known other =
-    rw (owed, none, known) (
-      refl,
-      doubts (disturbs pace.pardons x.awaited (Some x.board.reported_squares) (Message (dump x.board.squares))) _
-          (contradicted pace.pardons x.awaited x.board.reported_squares x.board.squares (λ e. other (sym e))),
-    )
+change_is_doubt x pace now later none owed known other = rw (owed, none, known) (
+  refl,
+  doubts (disturbs pace.pardons x.awaited (Some x.board.reported_squares) (Message (dump x.board.squares))) _
+      (contradicted pace.pardons x.awaited x.board.reported_squares x.board.squares (λ e. other (sym e))),
+)

@@ -25,7 +25,7 @@
 //! The front page of dgt_follow contains a program that uses a follower.
 #![tactic(auto)]
 
-ghost use Rattle.std.specs.Prelude.{◌≡◌, ◌≢◌, ◌⊎◌, ◌<◌, ◌≤◌, ◌+◌, [], ◌∷◌, ◌++◌, ℕ, Bool, List, Option, None, Some, length, map, option_to_list, slice_set, take, false, true};
+ghost use Rattle.std.specs.Prelude.{◌≡◌, ◌≢◌, ◌⊎◌, ◌↔◌, Contains, ◌<◌, ◌≤◌, ◌+◌, [], ◌∷◌, ◌++◌, ℕ, Bool, List, Option, None, Some, length, map, option_to_list, slice_set, take, false, true, IsTrue};
 ghost use Rattle.std.specs.List.{AllByRecursion, flat_map};
 ghost use Rattle.dgt_values.specs.declared.kinds.Kind.{Kind};
 ghost use Rattle.dgt_values.specs.declared.pieces.Piece.{Piece};
@@ -454,3 +454,52 @@ pub fn patience_and_one_more_heal()
     askings_heal();
     clocks_heal();
 }
+
+/// Which acts a host notices, and which calls set or record something: these, and no other.
+pub fn what_is_noticed()
+    ensures acts { (act : FaultyContent) → (is_noticed act ≡ true)
+        ↔ (((count : ℕ) × (act ≡ FaultyContent.Plain (ActContent.ToHost count)))
+        ⊎ Contains (FaultyContent.Plain ActContent.Break ∷ FaultyContent.Plain ActContent.HostBreak
+        ∷ FaultyContent.Restart ∷ FaultyContent.GiveUp ∷ []) act) }
+    ensures unheard { (act : FaultyContent) (before after : FollowedView) →
+        is_noticed act ≡ false → FollowedStep (Happening.Other act) before after →
+        (after.world.host.picture ≡ before.world.host.picture)
+        × (after.world.host.clock ≡ before.world.host.clock)
+        × (after.world.host.unread ≡ before.world.host.unread) }
+    ensures power { (happening : TimedHappening) →
+        happening ≢ TimedHappening.Acts FaultyContent.BoardLost → KeepsPower happening }
+    ensures lost { (happening : TimedHappening) → KeepsPower happening →
+        happening ≢ TimedHappening.Acts FaultyContent.BoardLost }
+{}
+
+/// What is enough for a sound happening: a follower asks in time, or a board is at rest when it
+/// sends a dump.
+pub fn what_is_sound()
+    ensures asks { (now : ℕ) (before : FollowedView) → is_overdue before.pace now ≡ false →
+        is_stuck before.pace now ≡ false → let what = asking_of (follower_of before) now in
+        (what ≡ Asking.Nothing) ⊎ ((what ≡ Asking.Identify) ⊎ (is_unanswered before.pace ≡ false))
+        → (what ≡ Asking.Anew → before.world.host.awaited ≡ []) →
+        IsSoundHappening (TimedHappening.Asks now) before }
+    ensures acts { (act : ActContent) (world : WorldView) → act ≢ ActContent.BoardSend →
+        ActsAtRest act world }
+    ensures sends { (world : WorldView) → IsAtRest world.board.state world.board.state.owed →
+        ActsAtRest ActContent.BoardSend world }
+    ensures moves { (x : MachineState) (move : Move) → move ≢ Move.Reply → SendsAtRest x move }
+    ensures reported { (board : BoardState) (owed : List Reply) →
+        board.squares ≡ board.reported_squares → IsAtRest board owed }
+    ensures others { (board : BoardState) (reply : Reply) (later : List Reply) →
+        reply ≢ Reply.Of Kind.Dump → IsAtRest board (reply ∷ later) }
+    ensures none { (board : BoardState) → IsAtRest board [] }
+    ensures dump { (board : BoardState) (later : List Reply) →
+        IsAtRest board (Reply.Of Kind.Dump ∷ later) → board.squares ≡ board.reported_squares }
+{}
+
+/// What holds after requests holds after each list of happenings that contains more of them than
+/// the patience.
+pub fn what_holds_after_askings()
+    ensures { (count : FollowedView → ℕ) (holds : WorldView → Bool) (happenings : List Happening)
+        (before after : FollowedView) → AfterAskings count (λ world. IsTrue (holds world)) →
+        IsSane before.world → before.pace.left ≤ before.pace.patience → count before ≡ 0 →
+        FollowedRuns happenings before after → after.pace.patience < count after →
+        IsTrue (holds after.world) }
+{}

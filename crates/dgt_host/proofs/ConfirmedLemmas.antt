@@ -1,6 +1,7 @@
 -- The effect of a faulty line on a confirmed picture.
 use Rattle.std.proofs.Common.{◌≡◌, ◌⊎◌, inl, inr, ◌+◌, ◌≤◌, Bool, true, false, not, ◌&&◌, nat_eq, Option, Some, None, refl, sym, ap, ◌∙◌, ℕ, List, [], ◌∷◌, ◌++◌, append_assoc, zero, suc, slice_get, slice_set, option_to_list, arith}
-use Rattle.std.specs.Prelude.{◌↔◌, ◌≢◌, IsSome, IsTrue}
+use Rattle.std.proofs.Common.{rules}
+use Rattle.std.specs.Prelude.{◌↔◌, ◌≢◌, IsTrue}
 use Rattle.std.proofs.Math.Bool.{and-true}
 use Rattle.std.proofs.lemmas.Bool.{eqb-true, eq-eqb, false≢true}
 use Rattle.dgt_values.specs.declared.pieces.Piece.{Piece}
@@ -13,24 +14,21 @@ use Rattle.dgt_values.specs.declared.squares.Square.{Square}
 use Rattle.dgt_message.specs.Content.Content.{dump, field}
 use Rattle.dgt_message.specs.Picture.{picture_after, picture_after_all}
 use Rattle.dgt_host.specs.Confirmed.{same_pieces, differ, changes, repeats, confirmed_after, confirmed_after_all, AllLeave, Passage, Whole, Faulty, heard_in, sent, heard, faults_after, faults_after_all, IsRight, reported_by, ConfirmedWasReported, ConfirmedIsReported, TwoFaultsSuffice, LateFaultsSuffice, UnconfirmedIsWrong, ConfirmedByDump, ChangesIsExact, FaultlessIsRight}
+use Rattle.std.proofs.lemmas.Grind.{common_steps}
 
 -- ---- Booleans
 
 pub first_of : (a b : Bool) → (a && b) ≡ true → a ≡ true
-first_of true b e = refl
-first_of false b e = cc
+first_of a b e = search rules
 
 pub second_of : (a b : Bool) → (a && b) ≡ true → b ≡ true
-second_of true b e = e
-second_of false b e = cc
+second_of a b e = search rules
 
 not_true : (a : Bool) → not a ≡ true → a ≡ false
-not_true false e = refl
-not_true true e = cc
+not_true a e = search rules
 
 not_false : (a : Bool) → not a ≡ false → a ≡ true
-not_false true e = refl
-not_false false e = cc
+not_false a e = search rules
 
 -- ---- Pictures
 
@@ -51,33 +49,24 @@ is_same (x ∷ a) = rw (eq-eqb (piece_code x) (piece_code x) refl) (is_same a)
 -- whether two pictures are compared as equal
 pub compared : (equal : Bool) (a b : List Piece) → IsTrue equal ↔ (a ≡ b) → not equal ≡ not (same_pieces a b)
 compared true a b iff = rw (iff.0 refl, is_same b) refl
-compared false a b iff = go (same_pieces a b) refl
-  where
-    go : (same : Bool) → same_pieces a b ≡ same → true ≡ not same
-    go false e = refl
-    go true e = absurd (false≢true (iff.1 (same_is a b e)))
+compared false a b iff = search (rules, false≢true, same_is)
 
 -- one square is set
 pub same_set : (a : List Piece) (square : ℕ) (before after : Piece) → slice_get a square ≡ Some before
     → same_pieces a (slice_set a square after) ≡ nat_eq (piece_code before) (piece_code after)
 same_set [] square before after e = cc
-same_set (x ∷ a) zero before after e =
-    let is : x ≡ before = cc in
-    rw (is_same a, and-true, is) refl
+same_set (x ∷ a) zero before after e = search (rules, is_same, and-true)
 same_set (x ∷ a) (suc square) before after e =
     rw (eq-eqb (piece_code x) (piece_code x) refl) (same_set a square before after e)
 
 pub unmoved : (picture : Option (List Piece)) → differ picture picture ≡ false
-unmoved None = refl
-unmoved (Some known) = rw (is_same known) refl
+unmoved picture = search (rules, is_same)
 
 -- a message that is neither a dump nor a field update
 pub quiet : (picture : Option (List Piece)) (m : Message) → ((x : Position) → m ≡ Message.Dump x → ⊥)
     → ((x : Square) (y : Piece) → m ≡ Message.Field x y → ⊥)
     → (picture ≡ picture_after picture (content m)) × (false ≡ changes picture (content m))
-quiet picture (Message.Dump x) no_one no_other = absurd (no_one x refl)
-quiet picture (Message.Field x y) no_one no_other = absurd (no_other x y refl)
-quiet picture _ no_one no_other = (refl, sym (unmoved picture))
+quiet picture m no_one no_other = search (rules, unmoved)
 
 -- a known picture that a message doesn't change
 unchanged : (known : List Piece) (said : Content) → changes (Some known) said ≡ false
@@ -90,24 +79,11 @@ unchanged known _ e = refl
 abbrev Known : Option (List Piece) → Type 0
 Known shown = (known : List Piece) × (shown ≡ Some known)
 
-by_rest : (confirmed : Bool) (shown : Option (List Piece)) (said : Content)
-    → (confirmed ≡ true → Known shown) → (confirmed && not (changes shown said)) ≡ true
-    → Known shown × (picture_after shown said ≡ shown)
-by_rest confirmed shown said is e =
-    go (is (first_of confirmed _ e)) (not_true _ (second_of confirmed _ e))
-  where
-    go : Known shown → changes shown said ≡ false → Known shown × (picture_after shown said ≡ shown)
-    go (known, known_is) same =
-        ((known, known_is), rw known_is (unchanged known said (rw known_is at same)))
-
 -- a message after which a picture is confirmed leaves it as it was, and it was known
 stays : (confirmed : Bool) (shown : Option (List Piece)) (said : Content)
     → (confirmed ≡ true → Known shown) → confirmed_after confirmed shown said ≡ true
     → Known shown × (picture_after shown said ≡ shown)
-stays confirmed (Some known) (dump pieces) is e =
-    ((known, refl), ap Some (sym (same_is known pieces e)))
-stays confirmed None (dump pieces) is e = cc
-stays confirmed shown said is e = by_rest confirmed shown said is e
+stays confirmed shown said is e = search (rules, same_is, first_of, not_true, second_of, unchanged)
 
 -- a known picture stays known
 known_after : (known : List Piece) (said : Content) → Known (picture_after (Some known) said)
@@ -124,8 +100,7 @@ record NoDump (said : Content) : Type 0 where
 
 -- a message is a dump, or it isn't
 kinds : (said : Content) → ((pieces : List Piece) × (said ≡ dump pieces)) ⊎ NoDump said
-kinds (dump pieces) = inl (pieces, refl)
-kinds _ = inr (record { none = refl; rest = λ c s. refl; faults = λ n. refl })
+kinds said = search rules
 
 some_after : (picture : Option (List Piece)) (said : Content) → Known picture → Known (picture_after picture said)
 some_after picture said (known, is) = rw is (known_after known said)
@@ -136,14 +111,11 @@ abbrev Right : Option (List Piece) → Option (List Piece) → Type 0
 Right reported shown = (shown ≡ None) ⊎ (shown ≡ reported)
 
 right_known : (reported shown : Option (List Piece)) → Right reported shown → Known shown → shown ≡ reported
-right_known reported shown (inl none) (known, is) = cc
-right_known reported shown (inr same) is = same
+right_known reported shown h2 is = search rules
 
 right_after : (reported shown : Option (List Piece)) (said : Content) → NoDump said → Right reported shown
     → Right (picture_after reported said) (picture_after shown said)
-right_after reported shown said no_dump (inl none) =
-    inl (ap (λ (p : Option (List Piece)). picture_after p said) none ∙ no_dump.none)
-right_after reported shown said no_dump (inr same) = inr (ap (λ (p : Option (List Piece)). picture_after p said) same)
+right_after reported shown said no_dump h4 = search rules
 
 -- ---- What always holds
 
@@ -156,55 +128,10 @@ record Holds (reported : Option (List Piece)) (restated : Bool) (shown : Option 
 
 module _ (reported : Option (List Piece)) (restated : Bool) (shown : Option (List Piece)) (confirmed : Bool)
     (faults : ℕ) (holds : Holds reported restated shown confirmed faults) where
-  -- a whole dump
-  dump_holds : (pieces : List Piece)
-      → Holds (Some pieces) (repeats reported pieces) (Some pieces) (repeats shown pieces) 0
-  dump_holds pieces =
-      record {
-        reports = (pieces, refl);
-        known = λ e. (pieces, refl);
-        right = λ e. inr refl;
-        is = λ e again few. refl;
-      }
-
-  -- another whole message
-  other_holds : (said : Content) → NoDump said
-      → Holds (picture_after reported said) (confirmed_after restated reported said) (picture_after shown said)
-      (confirmed_after confirmed shown said) (faults_after faults (Whole said))
-  other_holds said no_dump =
-      record {
-        reports = some_after reported said holds.reports;
-        known = λ e. let kept = stays confirmed shown said holds.known e in (kept.0.0, kept.1 ∙ kept.0.1);
-        right = λ e. right_after reported shown said no_dump (holds.right (sym (no_dump.faults faults) ∙ e));
-        is = λ e again few.
-            (stays confirmed shown said holds.known e).1
-            ∙ holds.is (first_of confirmed _ (sym (no_dump.rest confirmed shown) ∙ e))
-            (first_of restated _ (sym (no_dump.rest restated reported) ∙ again)) (rw (no_dump.faults faults) at few)
-            ∙ sym ((stays restated reported said (λ again. holds.reports) again).1);
-      }
-
   whole_holds : (said : Content)
       → Holds (picture_after reported said) (confirmed_after restated reported said) (picture_after shown said)
       (confirmed_after confirmed shown said) (faults_after faults (Whole said))
-  whole_holds said = go (kinds said)
-    where
-      go : ((pieces : List Piece) × (said ≡ dump pieces)) ⊎ NoDump said
-          → Holds (picture_after reported said) (confirmed_after restated reported said) (picture_after shown said)
-          (confirmed_after confirmed shown said) (faults_after faults (Whole said))
-      go (inl (pieces, is)) = rw is (dump_holds pieces)
-      go (inr no_dump) = other_holds said no_dump
-
--- any change, loss or insertion
-if_stays : (confirmed : Bool) (shown : Option (List Piece)) (said : Option Content)
-    → (confirmed ≡ true → Known shown) → confirmed_after_all confirmed shown (option_to_list said) ≡ true
-    → Known shown × (picture_after_all shown (option_to_list said) ≡ shown)
-if_stays confirmed shown None is e = (is e, refl)
-if_stays confirmed shown (Some said) is e = stays confirmed shown said is e
-
-if_known : (shown : Option (List Piece)) (said : Option Content) → Known shown
-    → Known (picture_after_all shown (option_to_list said))
-if_known shown None is = is
-if_known shown (Some said) is = some_after shown said is
+  whole_holds said = search (rules, kinds, some_after, stays, right_after, first_of)
 
 faulty_holds : (reported : Option (List Piece)) (restated : Bool) (shown : Option (List Piece)) (confirmed : Bool)
     (faults : ℕ) (sent heard : Option Content) → Holds reported restated shown confirmed faults
@@ -212,15 +139,7 @@ faulty_holds : (reported : Option (List Piece)) (restated : Bool) (shown : Optio
     (confirmed_after_all restated reported (option_to_list sent)) (picture_after_all shown (option_to_list heard))
     (confirmed_after_all confirmed shown (option_to_list heard)) (faults + 1)
 faulty_holds reported restated shown confirmed faults sent heard holds =
-    record {
-      reports = if_known reported sent holds.reports;
-      known = λ e. let kept = if_stays confirmed shown heard holds.known e in (kept.0.0, kept.1 ∙ kept.0.1);
-      right = λ e. absurd (omega (arith, e));
-      is = λ e again few.
-          let kept = if_stays confirmed shown heard holds.known e in
-          kept.1 ∙ right_known reported shown (holds.right (omega (arith, few))) kept.0
-          ∙ sym ((if_stays restated reported sent (λ e. holds.reports) again).1);
-    }
+    search (rules, right_known, stays, some_after)
 
 all_hold : (reported : Option (List Piece)) (restated : Bool) (shown : Option (List Piece)) (confirmed : Bool)
     (faults : ℕ) (line : List Passage) → Holds reported restated shown confirmed faults
@@ -263,10 +182,7 @@ pictures_append picture [] more = refl
 pictures_append picture (m ∷ said) more = pictures_append (picture_after picture m) said more
 
 heard_append : (earlier later : List Passage) → heard (earlier ++ later) ≡ heard earlier ++ heard later
-heard_append [] later = refl
-heard_append (passage ∷ earlier) later =
-    ap (λ (xs : List Content). heard_in passage ++ xs) (heard_append earlier later)
-    ∙ sym (append_assoc (heard_in passage) (heard earlier) (heard later))
+heard_append earlier later = grind (arith, common_steps, append_assoc)
 
 all_leave : (pieces : List Piece) (said : List Content) → AllLeave pieces said
     → picture_after_all (Some pieces) said ≡ Some pieces
@@ -280,24 +196,14 @@ repeated None pieces e = cc
 shown_by : (reported shown : Option (List Piece)) (pieces : List Piece) (faults : ℕ) (passage : Passage)
     → (faults ≡ 0 → Right reported shown) → heard_in passage ≡ dump pieces ∷ [] → repeats shown pieces ≡ true
     → faults_after faults passage ≤ 1 → Some pieces ≡ reported_by reported passage
-shown_by reported shown pieces faults (Whole said) right is again few =
-    let said_is : said ≡ dump pieces = cc in rw said_is refl
-shown_by reported shown pieces faults (Faulty sent heard) right is again few =
-    sym (repeated shown pieces again)
-    ∙ right_known reported shown (right (omega (arith, few))) (pieces, repeated shown pieces again)
+shown_by reported shown pieces faults passage right is again few =
+    search (rules, repeated, right_known)
 
 pub confirmed_was : ConfirmedWasReported
 confirmed_was reported pieces shown earlier later passage right is again leave few =
     let before : Option (List Piece) = picture_after_all shown (heard earlier) in
     let held = all_hold (Some reported) false shown false 0 earlier (begins reported shown right) in
-    let parted : picture_after_all shown (heard (earlier ++ passage ∷ later))
-    ≡ picture_after_all before (heard_in passage ++ heard later)
-    = ap (picture_after_all shown) (heard_append earlier (passage ∷ later))
-    ∙ pictures_append shown (heard earlier) (heard_in passage ++ heard later) in
-    parted ∙ ap (λ (xs : List Content). picture_after_all before (xs ++ heard later)) is
-    ∙ all_leave pieces (heard later) leave
-    ∙ shown_by (picture_after_all (Some reported) (sent earlier)) before pieces (faults_after_all 0 earlier) passage
-    held.right is again few
+    search (rules, heard_append, pictures_append, all_leave, shown_by)
 
 -- ---- Why the premises are needed
 
@@ -306,14 +212,7 @@ two_faults a b =
     record { counts = refl; restates = is_same a; confirms = is_same b; reports = refl; shows = refl }
 
 pub late_faults : LateFaultsSuffice
-late_faults a square piece changed =
-    record {
-      counts = refl;
-      restates = rw (changed, is_same a) refl;
-      confirms = is_same a;
-      reports = refl;
-      shows = refl;
-    }
+late_faults a square piece changed = search (rules, is_same)
 
 pub unconfirmed : UnconfirmedIsWrong
 unconfirmed a b = record { counts = refl; restates = is_same a; confirms = refl; reports = refl; shows = refl }
@@ -350,15 +249,14 @@ by_which shown confirmed (m ∷ said) e =
     go : ((pieces : List Piece) × (m ≡ dump pieces)) ⊎ NoDump m
         → Before (picture_after shown m) (confirmed_after confirmed shown m) said
         → Before shown confirmed (m ∷ said) ⊎ By shown (m ∷ said)
-    go (inl (pieces, is)) (again, leave) =
-        inr (
-          pieces,
-          [],
-          said,
-          ap (λ (x : Content). x ∷ said) is,
-          rw is at again,
-          leave pieces (ap (picture_after shown) is),
-        )
+    go (inl (pieces, is)) (again, leave) = inr (
+      pieces,
+      [],
+      said,
+      ap (λ (x : Content). x ∷ said) is,
+      rw is at again,
+      leave pieces (ap (picture_after shown) is),
+    )
     go (inr no_dump) (again, leave) =
         let both : (confirmed && not (changes shown m)) ≡ true = sym (no_dump.rest confirmed shown) ∙ again in
         let same : changes shown m ≡ false = not_true _ (second_of confirmed _ both) in
@@ -372,30 +270,12 @@ by_which shown confirmed (m ∷ said) e =
 
 pub by_dump : ConfirmedByDump
 unfolding By Before
-by_dump shown said e = elim (by_which shown false said e) [
-  | inl before ↦ absurd (false≢true before.0)
-  | inr by ↦ by
-]
+by_dump shown said e = search (rules, by_which, false≢true)
 
 -- ---- The meaning of a change
 
-changes_if : (picture : Option (List Piece)) (said : Content) → changes picture said ≡ true
-    → IsSome picture × (picture_after picture said ≢ picture)
-changes_if None said e = cc
-changes_if (Some known) said e =
-    (refl, λ same. absurd (false≢true (sym (unmoved (Some known)) ∙ ap (differ (Some known)) (sym same) ∙ e)))
-
-changes_only_if : (picture : Option (List Piece)) (said : Content)
-    → IsSome picture × (picture_after picture said ≢ picture) → changes picture said ≡ true
-changes_only_if None said (some, other) = absurd (false≢true some)
-changes_only_if (Some known) said (some, other) = go (changes (Some known) said) refl
-  where
-    go : (changed : Bool) → changes (Some known) said ≡ changed → changed ≡ true
-    go true e = refl
-    go false e = absurd (other (unchanged known said e))
-
 pub changes_exact : ChangesIsExact
-changes_exact picture said = (changes_if picture said, changes_only_if picture said)
+changes_exact picture said = search (rules, false≢true, unmoved, unchanged)
 
 pub faultless : FaultlessIsRight
 faultless reported shown line right none =
@@ -403,20 +283,9 @@ faultless reported shown line right none =
 
 -- ---- A follower records no more than its messages say
 
-both_true : (a b : Bool) → a ≡ true → b ≡ true → (a && b) ≡ true
-both_true true true e f = refl
-both_true true false e f = cc
-both_true false b e f = cc
-
 more_confirms : (a b : Bool) → (a ≡ true → b ≡ true) → (picture : Option (List Piece)) (said : Content)
     → confirmed_after a picture said ≡ true → confirmed_after b picture said ≡ true
-more_confirms a b more picture said e = go (kinds said)
-  where
-    go : ((pieces : List Piece) × (said ≡ dump pieces)) ⊎ NoDump said → confirmed_after b picture said ≡ true
-    go (inl (pieces, is)) = rw is (rw is at e)
-    go (inr no_dump) =
-        let both : (a && not (changes picture said)) ≡ true = sym (no_dump.rest a picture) ∙ e in
-        no_dump.rest b picture ∙ both_true b _ (more (first_of a _ both)) (second_of a _ both)
+more_confirms a b more picture said e = search (rules, kinds, first_of, second_of)
 
 pub confirms_more : (a b : Bool) → (a ≡ true → b ≡ true) → (picture : Option (List Piece)) (said : List Content)
     → confirmed_after_all a picture said ≡ true → confirmed_after_all b picture said ≡ true

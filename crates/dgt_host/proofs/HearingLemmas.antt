@@ -1,14 +1,16 @@
 -- How a host changes by the events of bytes in chunks.
-use Rattle.std.proofs.Common.{◌≡◌, ◌+◌, Some, refl, sym, ap, ◌∙◌, ℕ, List, [], ◌∷◌, ◌++◌, append_assoc, length, ◌-◌, take, drop, append-nil}
+use Rattle.std.proofs.Common.{◌≡◌, ◌+◌, Some, refl, ap, ◌∙◌, ℕ, List, [], ◌∷◌, ◌++◌, append_assoc, length, ◌-◌, take, drop, append-nil}
+use Rattle.std.proofs.Common.{rules}
 use Rattle.std.proofs.Math.Seq.{take-add}
 use Rattle.std.specs.List.{AllByRecursion, flat_map}
 use Rattle.dgt_values.specs.declared.pieces.Piece.{Piece}
 use Rattle.dgt_message.specs.Content.{Content, IsMessage}
 use Rattle.dgt_message.specs.Encoding.{encoding}
-use Rattle.dgt_decode.specs.Grammar.{Event, Message, Refused, Cut, BadLength, Stray, Placed, at_place, cut_of, events, shifted, unfinished_message}
+use Rattle.dgt_decode.specs.Grammar.{Event, Message, Cut, Placed, cut_of, events, shifted, unfinished_message}
 use Rattle.dgt_decode.specs.Laws.{EventsAppend, UnfinishedAppend, UnfinishedIsQuiet, EncodingIsRead}
 use Rattle.dgt_message.specs.Picture.{clock_after_all, picture_after_all}
 use Rattle.dgt_host.specs.Host.{HeardInChunks, HostView, host_after, host_after_event, host_after_events, host_after_message}
+use Rattle.std.proofs.Common.{sym}
 
 host_after_events-append : (host : HostView) (xs ys : List Placed)
     → host_after_events host (xs ++ ys) ≡ host_after_events (host_after_events host xs) ys
@@ -24,11 +26,7 @@ host_after_events-behind host n (x ∷ xs) = host_after_events-behind (host_afte
 host_after_event-unread : (host : HostView) (unread : List ℕ) (event : Event)
     → host_after_event (record host { unread = unread }) event ≡ record (host_after_event host event)
     { unread = unread }
-host_after_event-unread host unread (Message said) = refl
-host_after_event-unread host unread (Refused code fault) = refl
-host_after_event-unread host unread (Cut have) = refl
-host_after_event-unread host unread BadLength = refl
-host_after_event-unread host unread (Stray byte) = refl
+host_after_event-unread host unread event = search rules
 
 -- the bytes that were unread before don't matter
 host_after_events-unread : (host : HostView) (before after : List ℕ) (xs : List Placed)
@@ -70,29 +68,20 @@ heard_in_chunks later still host bytes more = in_two later still host (host.unre
 -- a host that hears no bytes
 pub nothing_heard : UnfinishedIsQuiet → (host : HostView) → unfinished_message host.unread ≡ host.unread
     → host_after host [] ≡ host
-nothing_heard quiet host held =
-    let no_event : events (host.unread ++ []) ≡ [] =
-    ap events (append-nil host.unread ∙ sym held) ∙ quiet.no_event host.unread in
-    let stays : unfinished_message (host.unread ++ []) ≡ host.unread = ap unfinished_message (append-nil host.unread)
-    ∙ held in
-    rw (no_event, stays) refl
+nothing_heard quiet host held = search (rules, append-nil)
 
 -- some more bytes of a chunk
 pub heard_more : HeardInChunks → (host before now : HostView) (chunk : List ℕ) (i n : ℕ)
     → before ≡ host_after host (take i chunk) → now ≡ host_after before (take n (drop i chunk))
     → now ≡ host_after host (take (i + n) chunk)
-heard_more in_chunks host before now chunk i n e f =
-    f ∙ ap (λ (h : HostView). host_after h (take n (drop i chunk))) e
-    ∙ in_chunks host (take i chunk) (take n (drop i chunk))
-    ∙ ap (host_after host) (sym (take-add i n chunk))
+heard_more in_chunks host before now chunk i n e f = search (rules, take-add)
 
 -- ---- Whole messages
 
 -- a Cut changes nothing
 cut_changes_nothing : (host : HostView) (n : ℕ) (unread : List ℕ)
     → host_after_events host (shifted n (cut_of unread)) ≡ host
-cut_changes_nothing host n [] = refl
-cut_changes_nothing host n (b ∷ bytes) = refl
+cut_changes_nothing host n unread = search rules
 
 module _ (read : EncodingIsRead) where
   -- the output of `encode` for a message is heard as this message, whatever was received before
@@ -100,26 +89,7 @@ module _ (read : EncodingIsRead) where
       → host_after host (bytes ++ encoding said)
       ≡ record (host_after_message (host_after host bytes) said) { unread = [] }
   message_heard host bytes said is =
-      let before : List ℕ = host.unread ++ bytes in
-      let whole : host.unread ++ (bytes ++ encoding said) ≡ before ++ encoding said
-      = sym (append_assoc host.unread bytes (encoding said)) in
-      let cut : List Placed = shifted (length before) (cut_of (unfinished_message before)) in
-      let last : List Placed = at_place (length before + length (encoding said)) (Message said) ∷ [] in
-      let parted : events (host.unread ++ (bytes ++ encoding said)) ≡ (events before ++ cut) ++ last
-      = ap events whole ∙ (read before said is).0 in
-      let left : unfinished_message (host.unread ++ (bytes ++ encoding said)) ≡ []
-      = ap unfinished_message whole ∙ (read before said is).1 in
-      let now : HostView = host_after_events host (events before) in
-      let folded : host_after_events host ((events before ++ cut) ++ last) ≡ host_after_message now said
-      = host_after_events-append host (events before ++ cut) last
-      ∙ ap (λ (h : HostView). host_after_message h said)
-      (host_after_events-append host (events before) cut
-      ∙ cut_changes_nothing now (length before) (unfinished_message before)) in
-      ap (λ (xs : List Placed). record (host_after_events host xs) {
-        unread = unfinished_message (host.unread ++ (bytes ++ encoding said));
-      }) parted
-      ∙ ap (λ (h : HostView). record h { unread = unfinished_message (host.unread ++ (bytes ++ encoding said)) }) folded
-      ∙ ap (λ (u : List ℕ). record (host_after_message now said) { unread = u }) left
+      search (rules, append_assoc, host_after_events-append, cut_changes_nothing)
 
   -- therefore messages in a row are heard one after another
   pub pictures_heard : (host : HostView) (bytes : List ℕ) (said : List Content) → AllByRecursion IsMessage said

@@ -1,7 +1,7 @@
 //! Laws of a host, for all bytes that it may receive. Each function does nothing at run time: its
 //! contract states a fact.
 
-ghost use Rattle.std.specs.Prelude.{◌≡◌, ◌+◌, ◌++◌, ℕ, Bool, List, [], ◌∷◌, Option, None, Some, false, flat_map, length, option_to_list, true};
+ghost use Rattle.std.specs.Prelude.{◌≡◌, ◌≤◌, ◌+◌, ◌++◌, ℕ, Bool, List, [], ◌∷◌, Option, None, Some, false, flat_map, length, option_to_list, true, Result};
 ghost use Rattle.std.specs.List.{AllByRecursion};
 ghost use Rattle.dgt_values.specs.declared.pieces.Piece.{Piece};
 ghost use Rattle.dgt_values.specs.Equality.{CloneIsSame, EqualIsSame, EqualIsSameRead};
@@ -10,8 +10,9 @@ ghost use Rattle.dgt_message.specs.Encoding.{encoding};
 ghost use Rattle.dgt_decode.specs.Feeding.{event_content_if_any};
 ghost use Rattle.dgt_decode.specs.Grammar.{Event, Placed, shifted, unfinished_message};
 ghost use Rattle.dgt_message.specs.Picture.{clock_after_all, picture_after_all};
-ghost use Rattle.dgt_host.specs.Confirmed.{ChangesIsExact, ConfirmedByDump, ConfirmedIsReported, ConfirmedWasReported, FaultlessIsRight, IsRight, LateFaultsSuffice, Passage, StretchIsOne, TwoFaultsSuffice, UnconfirmedIsWrong, changes, confirmed_after, faults_after, heard_in, repeats, sent_in};
-ghost use Rattle.dgt_host.specs.Host.{HeardInChunks, HostView, host_after, host_after_events, host_after_message};
+ghost use Rattle.dgt_host.specs.Confirmed.{Ends, ChangesIsExact, ConfirmedByDump, ConfirmedIsReported, ConfirmedWasReported, FaultlessIsRight, IsRight, LateFaultsSuffice, Passage, StretchIsOne, TwoFaultsSuffice, UnconfirmedIsWrong, changes, confirmed_after, faults_after, heard_in, repeats, sent_in};
+ghost use Rattle.dgt_host.specs.declared.sending.SendFault.{SendFault as Fault};
+ghost use Rattle.dgt_host.specs.Host.{HeardInChunks, HostView, Request, Sends, host_after, host_after_events, host_after_message};
 
 use crate::{Heard, Kind, MAX_AWAITED, RESTART_LENGTH, SendFault};
 
@@ -148,4 +149,19 @@ pub fn more_faults_are_not()
     ensures two { TwoFaultsSuffice }
     ensures late { LateFaultsSuffice }
     ensures unconfirmed { UnconfirmedIsWrong }
+{}
+
+/// Sending has one outcome: what was to be sent, the host and the slice determine the result, the
+/// host after it and the bytes of the slice.
+pub fn one_sending()
+    ensures { (sent : Request) (before after other : HostView) (old new also : List ℕ)
+        (result found : Result ℕ Fault) → Sends sent before after old new result →
+        Sends sent before other old also found →
+        (result ≡ found) × (after ≡ other) × (new ≡ also) }
+{}
+
+/// If at most one fault ends with both sides confirmed, the host shows what the board has reported.
+pub fn few_faults_end_right()
+    ensures { (start : List Piece) (line : List Passage) (faults : ℕ) (reported shown : List Piece)
+        → faults ≤ 1 → Ends start line faults true true reported shown → shown ≡ reported }
 {}

@@ -1,5 +1,6 @@
 -- The bytes of a chunk that are gathered, call after call, until they are written.
 use Rattle.std.proofs.Common.{◌≡◌, ℕ, ◌+◌, ◌-◌, ◌≤◌, List, [], ◌∷◌, ◌++◌, Bool, false, Result, Ok, Err, IsErrAnd, OnOk, refl, ◌∙◌, ap, sym, subst, arith, length, take, drop, append_assoc, append-nil, length-append}
+use Rattle.std.proofs.Common.{rules}
 use Rattle.std.proofs.lemmas.List.{length-take-le, take-append-drop, take_rest}
 use Rattle.std.proofs.Math.Seq.{take-add}
 use Rattle.dgt_command.specs.Encoding.{AreBytes}
@@ -22,10 +23,7 @@ more_bytes bytes chunk i n = rw (take_rest, take-add i n chunk) (append_assoc by
 pub all_bytes : (bytes chunk : List ℕ) (i n : ℕ)
     → ((bytes ++ take i chunk) ++ take n (take (length chunk - i) (drop i chunk))) ++ drop (i + n) chunk
     ≡ bytes ++ chunk
-all_bytes bytes chunk i n =
-    ap (λ l. l ++ drop (i + n) chunk) (more_bytes bytes chunk i n)
-    ∙ append_assoc bytes (take (i + n) chunk) (drop (i + n) chunk)
-    ∙ ap (λ l. bytes ++ l) (take-append-drop (i + n) chunk)
+all_bytes bytes chunk i n = search (rules, more_bytes, append_assoc, take-append-drop)
 
 pub counted_on : (bytes chunk : List ℕ) (i offset : ℕ) → offset ≡ length bytes → i ≤ length chunk
     → offset + i ≡ length (bytes ++ take i chunk)
@@ -49,8 +47,7 @@ module _ {S : Type 0} {W : Sink S} {P : List ℕ → List ℕ → Type 0} (bytes
   -- they end no event
   pub gathers_none : {a : S} {held : List ℕ} → P (bytes ++ take used rest) (text ++ [])
       → GathersPrefix W (held, held) a a (Ok used) P bytes rest text
-  gathers_none {a = a} {held = held} has =
-      (used, refl, record { more = []; gathers = gathered_none W held a; has = has; waits = rw append-nil (λ w. w) })
+  gathers_none {a = a} {held = held} has = search (rules, gathered_none, append-nil)
 
   module _ {a b : S} {held held' : List ℕ} (more : List ℕ) (has : P (bytes ++ take used rest) (text ++ more)) where
     -- they end one, and this is its line
@@ -62,9 +59,7 @@ module _ {S : Type 0} {W : Sink S} {P : List ℕ → List ℕ → Type 0} (bytes
     -- they end an event, and its line was refused
     pub gathers_refused : (r : Result ℕ RunFault) (e : RunFault) → IsErrAnd r (λ y. y ≡ e)
         → (e ≡ WriteFailed) × Stopped W a b (held ++ more) → GathersPrefix W (held, held') a b r P bytes rest text
-    gathers_refused (Ok x) e k q = absurd k
-    gathers_refused (Err y) e k q =
-        (used, tt, record { more = more; gathers = (k ∙ q.0, q.1); has = has; waits = tt })
+    gathers_refused r e k q = search rules
 
 -- ---- one call after another
 
@@ -72,12 +67,7 @@ module _ {S : Type 0} {W : Sink S} {P : List ℕ → List ℕ → Type 0} where
   -- before the first call
   pub gathered_first : (a : S) (held bytes text : List ℕ) → held ≡ [] → P bytes text
       → GathersMore {A = Unit {0}} W ([], held) a a (Ok tt) P (bytes ++ []) text
-  gathered_first a held bytes text e has = record {
-    more = [];
-    gathers = rw e (gathered_none W [] a);
-    has = rw (append-nil bytes, append-nil text) has;
-    waits = rw e (λ w. w);
-  }
+  gathered_first a held bytes text e has = search (rules, gathered_none, append-nil)
 
   module _ (a b c : S) (i bytes text : List ℕ) (p : GathersMore {A = Unit {0}} W ([], i) a b (Ok tt) P bytes text)
       {Q : List ℕ → List ℕ → Type 0} (j read : List ℕ) where
@@ -102,15 +92,7 @@ module _ {S : Type 0} {W : Sink S} {P : List ℕ → List ℕ → Type 0} where
         (k ∙ q.gathers.0, q.gathers.1) in
         let whole : ((text ++ p.more) ++ q.more) ++ others ≡ text ++ ((p.more ++ q.more) ++ others) =
         ap (λ l. l ++ others) (append_assoc text p.more q.more) ∙ append_assoc text (p.more ++ q.more) others in
-        record {
-          more = (p.more ++ q.more) ++ others;
-          last = last;
-          writes = (stop.0, stopped_longer W a c (p.more ++ q.more) others stop.1);
-          has = subst (λ l. HasLines l (text ++ ((p.more ++ q.more) ++ others)) last) same
-              (subst (λ l. HasLines prefix l last) whole has);
-          keeps = tt;
-          waits = tt;
-        }
+        search (rules, stopped_longer)
 
   -- after the last call, all is written
   pub prints_out : {HasLines : List ℕ → List ℕ → List ℕ → Type 0} (a b c : S) (i bytes text : List ℕ)

@@ -1,21 +1,20 @@
 -- Which clocks are reported, and that the other reports are those without them.
-use Rattle.std.proofs.Common.{◌≡◌, ◌≢◌, ℕ, arith, List, [], ◌∷◌, ◌++◌, Option, Some, None, refl, sym, ◌∙◌, ap, append-nil, map}
+use Rattle.std.proofs.Common.{◌≡◌, ◌≢◌, ℕ, List, [], ◌∷◌, ◌++◌, Option, Some, None, refl, ◌∙◌, ap, append-nil, map}
+use Rattle.std.proofs.Common.{rules}
 use Rattle.std.proofs.lemmas.Bool.{false≢true}
 use Rattle.std.proofs.lemmas.Slice.Eq.{bytes_eq-Decides}
 use Rattle.std.specs.List.{last_or}
-use Rattle.std.specs.Prelude.{bytes_eq, if◌then◌else◌, option_map, Bool, true, false}
+use Rattle.std.specs.Prelude.{bytes_eq, option_map, Bool, true, false}
 use Rattle.dgt_message.specs.Clock.{ClockState}
 use Rattle.dgt_message.specs.Content.{clock_message}
-use Rattle.dgt_message.specs.Content.Content.{dump, field, times, no_clock}
-use Rattle.dgt_message.specs.declared.viewing.BodyFault.TheVariants.{BadReading}
-use Rattle.dgt_decode.specs.Grammar.{Event, Message, Placed, Refused, events}
-use Rattle.dgt_message.specs.Picture.{picture_after}
+use Rattle.dgt_message.specs.Content.Content.{no_clock}
+use Rattle.dgt_decode.specs.Grammar.{Event, Message, Placed, events}
 use Rattle.dgt_lines.specs.declared.clocks.ShownClock.{ShownClock}
 use Rattle.dgt_lines.specs.declared.clocks.ShownClock.TheVariants.{Hidden, Unknown, Known}
 use Rattle.dgt_lines.specs.declared.doubts.PictureState.{PictureState}
 use Rattle.dgt_lines.specs.Clocks.{clock_text}
-use Rattle.dgt_lines.specs.Pictures.{PlacedPicture, known_at}
-use Rattle.dgt_lines.specs.Reports.{ClockLeavesReports, HiddenClockIsSilent, LastLineIsClock, OtherClocksAreReported, Report, SaysClock, Shows, ShowsClock, clock_after_event, clock_after_events, clock_reports, clocking, clocks_shown, new_state, reports, reports_at, shown_after, state_after_event, state_after_events, without_clock}
+use Rattle.dgt_lines.specs.Pictures.{PlacedPicture}
+use Rattle.dgt_lines.specs.Reports.{ClockLeavesReports, HiddenClockIsSilent, LastLineIsClock, OtherClocksAreReported, Report, SaysClock, Shows, ShowsClock, clock_after_event, clock_after_events, clock_reports, clocking, clocks_shown, new_state, reports, reports_at, state_after_event, state_after_events, without_clock}
 use Rattle.dgt_lines.proofs.DoubtLemmas.{always_hidden}
 use Rattle.dgt_lines.proofs.PictureLemmas.{last_or-append}
 use Rattle.dgt_lines.proofs.ReportLemmas.{of_clock, of_raised, reports-append}
@@ -27,29 +26,17 @@ without-append [] ys = refl
 without-append (ShowsClock place text ∷ xs) ys = without-append xs ys
 without-append (report ∷ xs) ys = ap (λ l. report ∷ l) (without-append xs ys)
 
-shows_stay : (xs : List PlacedPicture) → without_clock (map Shows xs) ≡ map Shows xs
-shows_stay [] = refl
-shows_stay (x ∷ xs) = ap (λ l. Shows x ∷ l) (shows_stay xs)
-
 -- the state, but that the clock is not shown
 abbrev hidden : PictureState → PictureState
 hidden state = record state { clock = Hidden }
 
 one_stays : (place : ℕ) (event : Event) (before : PictureState)
     → without_clock (reports_at place event before) ≡ reports_at place event (hidden before)
-one_stays place (Message (field square piece)) before = shows_stay _
-one_stays place (Message (times readings)) before = of_clock (λ l. without_clock l ≡ []) place _ before.clock refl refl
-one_stays place (Message (no_clock absence)) before =
-    of_clock (λ l. without_clock l ≡ []) place _ before.clock refl refl
-one_stays place (Message _) before = refl
-one_stays place (Refused code (BadReading at)) before = refl
-one_stays place _ before = of_raised (λ l. without_clock l ≡ l) place before.picture before.doubt refl refl
+one_stays place event before = search (rules, of_clock, of_raised)
 
 one_hidden : (event : Event) (before : PictureState)
     → hidden (state_after_event before event) ≡ state_after_event (hidden before) event
-one_hidden (Message (dump pieces)) before = refl
-one_hidden (Refused code (BadReading at)) before = refl
-one_hidden _ before = refl
+one_hidden event before = search rules
 
 all_stay : (before : PictureState) (xs : List Placed) → without_clock (reports before xs) ≡ reports (hidden before) xs
 all_stay before [] = refl
@@ -79,13 +66,7 @@ one_silent : (place : ℕ) (event : Event) (before : PictureState)
     → ((clock : ClockState) → event ≡ Message (clock_message clock)
     → clocks_shown (clock_reports place (clock_text clock) before.clock) ≡ [])
     → clocks_shown (reports_at place event before) ≡ []
-one_silent place (Message (field square piece)) before h =
-    shows_no_clock (known_at place (picture_after before.picture (field square piece)))
-one_silent place (Message (times readings)) before h = h (ClockState.times readings) refl
-one_silent place (Message (no_clock absence)) before h = h (ClockState.no_clock absence) refl
-one_silent place (Message _) before h = refl
-one_silent place (Refused code (BadReading at)) before h = refl
-one_silent place _ before h = of_raised (λ l. clocks_shown l ≡ []) place before.picture before.doubt refl refl
+one_silent place event before h = search (rules, shows_no_clock, of_raised)
 
 all_silent : (before : PictureState) (xs : List Placed) → before.clock ≡ Hidden → clocks_shown (reports before xs) ≡ []
 all_silent before [] h = refl
@@ -106,16 +87,9 @@ abbrev shown_of : Option ClockState → ShownClock
 shown_of None = Unknown
 shown_of (Some clock) = Known (clock_text clock)
 
-shows_other : (text : List ℕ) (clock : Option ClockState) → shown_after text (shown_of clock) ≡ Known text
-shows_other text None = refl
-shows_other text (Some clock) = refl
-
 one_shown : (event : Event) (before : PictureState) (clock : Option ClockState) → before.clock ≡ shown_of clock
     → (state_after_event before event).clock ≡ shown_of (clock_after_event clock event)
-one_shown (Message (times readings)) before clock h = ap (shown_after _) h ∙ shows_other _ clock
-one_shown (Message (no_clock absence)) before clock h = ap (shown_after _) h ∙ shows_other _ clock
-one_shown (Refused code (BadReading at)) before clock h = h
-one_shown _ before clock h = h
+one_shown event before clock h = search rules
 
 all_shown : (xs : List Placed) (before : PictureState) (clock : Option ClockState) → before.clock ≡ shown_of clock
     → (state_after_events before xs).clock ≡ shown_of (clock_after_events clock xs)
@@ -125,30 +99,11 @@ all_shown (x ∷ xs) before clock h =
 
 -- ---- the last line of the clock
 
--- a text that equals the last one is not reported
-last_text : (place : ℕ) (text last : List ℕ) (same : Bool) → bytes_eq last text ≡ same
-    → last_or (Some last) (clocks_shown (if same then [] else ShowsClock place text ∷ [])) ≡ Some text
-last_text place text last true e = ap Some ((bytes_eq-Decides last text).0 e)
-last_text place text last false e = refl
-
-news_last : (place : ℕ) (text : List ℕ) (clock : Option ClockState)
-    → last_or (option_map clock_text clock) (clocks_shown (clock_reports place text (shown_of clock))) ≡ Some text
-news_last place text None = refl
-news_last place text (Some clock) = last_text place text (clock_text clock) (bytes_eq (clock_text clock) text) refl
-
 one_last : (place : ℕ) (event : Event) (before : PictureState) (clock : Option ClockState)
     → before.clock ≡ shown_of clock
     → last_or (option_map clock_text clock) (clocks_shown (reports_at place event before))
     ≡ option_map clock_text (clock_after_event clock event)
-one_last place (Message (field square piece)) before clock h =
-    ap (last_or _) (shows_no_clock (known_at place (picture_after before.picture (field square piece))))
-one_last place (Message (times readings)) before clock h = rw h (news_last place _ clock)
-one_last place (Message (no_clock absence)) before clock h = rw h (news_last place _ clock)
-one_last place (Message _) before clock h = refl
-one_last place (Refused code (BadReading at)) before clock h = refl
-one_last place _ before clock h =
-    let last = option_map clock_text clock in
-    of_raised (λ l. last_or last (clocks_shown l) ≡ last) place before.picture before.doubt refl refl
+one_last place event before clock h = search (rules, shows_no_clock, of_raised, bytes_eq-Decides)
 
 all_last : (xs : List Placed) (before : PictureState) (clock : Option ClockState) → before.clock ≡ shown_of clock
     → last_or (option_map clock_text clock) (clocks_shown (reports before xs))
@@ -172,51 +127,23 @@ last_line_is_clock doubts bytes = all_last (events bytes) (new_state doubts true
 abbrev now : Bool → List Placed → PictureState
 now doubts earlier = state_after_events (new_state doubts true) earlier
 
-now_shown : (doubts : Bool) (earlier : List Placed)
-    → (now doubts earlier).clock ≡ shown_of (clock_after_events None earlier)
-now_shown doubts earlier = all_shown earlier (new_state doubts true) None refl
-
 one_more : (doubts : Bool) (earlier : List Placed) (x : Placed) (reported : List Report)
     → reports_at x.place x.event (now doubts earlier) ≡ reported
     → clocking doubts (earlier ++ x ∷ []) ≡ clocking doubts earlier ++ reported
-one_more doubts earlier x reported e =
-    reports-append (new_state doubts true) earlier (x ∷ [])
-    ∙ ap (λ l. clocking doubts earlier ++ l) (append-nil _ ∙ e)
-
-says : (place : ℕ) (clock : ClockState) (before : PictureState)
-    → reports_at place (Message (clock_message clock)) before ≡ clock_reports place (clock_text clock) before.clock
-says place (ClockState.times readings) before = refl
-says place (ClockState.no_clock absence) before = refl
+one_more doubts earlier x reported e = search (rules, reports-append, append-nil)
 
 clock_at : (doubts : Bool) (earlier : List Placed) (x : Placed) (clock : ClockState) → SaysClock x clock
     → reports_at x.place x.event (now doubts earlier) ≡ clock_reports x.place (clock_text clock)
     (shown_of (clock_after_events None earlier))
-clock_at doubts earlier x clock s =
-    ap (λ e. reports_at x.place e (now doubts earlier)) s
-    ∙ says x.place clock (now doubts earlier)
-    ∙ ap (clock_reports x.place (clock_text clock)) (now_shown doubts earlier)
-
-other_text : (place : ℕ) (text last : List ℕ) (same : Bool) → bytes_eq last text ≡ same → (last ≡ text → ⊥)
-    → (if same then [] else ShowsClock place text ∷ []) ≡ ShowsClock place text ∷ []
-other_text place text last true e n = absurd (n ((bytes_eq-Decides last text).0 e))
-other_text place text last false e n = refl
+clock_at doubts earlier x clock s = search (rules, all_shown)
 
 other_news : (place : ℕ) (text : List ℕ) (clock : Option ClockState) → option_map clock_text clock ≢ Some text
     → clock_reports place text (shown_of clock) ≡ ShowsClock place text ∷ []
-other_news place text None n = refl
-other_news place text (Some clock) n =
-    other_text place text (clock_text clock) (bytes_eq (clock_text clock) text) refl (λ e. n (ap Some e))
-
-same_text : (place : ℕ) (text last : List ℕ) (same : Bool) → bytes_eq last text ≡ same → last ≡ text
-    → (if same then [] else ShowsClock place text ∷ []) ≡ []
-same_text place text last true e h = refl
-same_text place text last false e h = absurd (false≢true (sym e ∙ (bytes_eq-Decides last text).1 h))
+other_news place text clock n = search (rules, bytes_eq-Decides)
 
 same_news : (place : ℕ) (text : List ℕ) (clock : Option ClockState) → option_map clock_text clock ≡ Some text
     → clock_reports place text (shown_of clock) ≡ []
-same_news place text None h = absurd (grind (arith, h))
-same_news place text (Some clock) h =
-    same_text place text (clock_text clock) (bytes_eq (clock_text clock) text) refl (grind (arith, h))
+same_news place text clock h = search (rules, false≢true, bytes_eq-Decides)
 
 pub other_clocks_are_reported : OtherClocksAreReported
 other_clocks_are_reported = record {
@@ -229,10 +156,5 @@ other_clocks_are_reported = record {
       (clock_at doubts earlier x clock s
       ∙ same_news x.place (clock_text clock) (clock_after_events None earlier) h)
       ∙ append-nil _;
-  silent = λ doubts earlier x n.
-      ap clocks_shown (one_more doubts earlier x _ refl)
-      ∙ clocks-append (clocking doubts earlier) (reports_at x.place x.event (now doubts earlier))
-      ∙ ap (λ l. clocks_shown (clocking doubts earlier) ++ l)
-      (one_silent x.place x.event (now doubts earlier) (λ clock e. absurd (n clock e)))
-      ∙ append-nil _;
+  silent = search (rules, one_more, clocks-append, one_silent, append-nil);
 }

@@ -1,5 +1,6 @@
 -- Closing lines in parts.
-use Rattle.std.proofs.Common.{◌≡◌, ℕ, List, [], ◌++◌, Bool, Option, ◌∙◌, ap, append_assoc, codes, sym}
+use Rattle.std.proofs.Common.{◌≡◌, ℕ, List, [], ◌++◌, Bool, Option, ap, append_assoc, codes}
+use Rattle.std.proofs.Common.{rules}
 use Rattle.dgt_values.specs.declared.pieces.Piece.{Piece}
 use Rattle.dgt_values.specs.Placement.{placement_text}
 use Rattle.dgt_message.specs.Clock.{ClockState}
@@ -16,9 +17,4 @@ pub closing_text-parts : (squares : List Piece) (picture : Option (List Piece)) 
     → all ≡ closing_text squares picture clock quiet
 unfolding closing_text
 closing_text-parts squares picture clock quiet empty one three all e b h q =
-    let first = named_line (codes "board") (placement_text squares) in
-    let second = named_line (codes "host") (picture_text picture) in
-    let third = named_line (codes "hostclock") (clock_text clock) in
-    let fourth = named_line (codes "quiet") (quiet_text quiet) in
-    q ∙ ap (λ l. l ++ fourth)
-    (h ∙ ap (λ l. l ++ (second ++ third)) (b ∙ ap (λ l. l ++ first) e) ∙ sym (append_assoc first second third))
+    search (rules, codes, append_assoc)

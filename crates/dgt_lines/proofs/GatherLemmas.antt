@@ -1,11 +1,13 @@
 -- Bytes that are written and gathered in a row.
 use Rattle.std.proofs.Common.{◌≡◌, ℕ, List, [], ◌++◌, false, Result, Ok, Err, IsErrAnd, refl, sym, ◌∙◌, ap, subst, append_assoc, append-nil}
-use Rattle.std.proofs.KnownBytes.{Appends-trans, Appends-nil}
+use Rattle.std.proofs.Common.{arith, rules}
+use Rattle.std.proofs.KnownBytes.{Appends-nil}
 use Rattle.dgt_lines.specs.Printing.{Puts}
 use Rattle.dgt_lines.specs.Writing.{Wrote, Stopped, Writes, Gathered, Gathers}
 use Rattle.dgt_lines.specs.declared.faults.RunFault.{RunFault}
 use Rattle.dgt_lines.specs.declared.faults.RunFault.TheVariants.{WriteFailed}
 use Rattle.dgt_lines.specs.declared.streams.Sink.{Ghosts as Sink}
+use Rattle.std.proofs.lemmas.Grind.{common_steps}
 
 module _ {S : Type 0} (W : Sink S) where
   pub wrote_none : (a : S) → Wrote W a a []
@@ -14,33 +16,12 @@ module _ {S : Type 0} (W : Sink S) where
   -- some text, and then a call that writes more
   pub writes_then : {A : Type 0} (a b c : S) (s t : List ℕ) (r : Result A RunFault) → Wrote W a b s → Writes W b c r t
       → Writes W a c r (s ++ t)
-  writes_then a b c s t (Ok x) p q = record {
-    appends = Appends-trans _ _ _ s t p.appends q.appends;
-    kept = q.kept ∙ p.kept;
-    in_time = λ h. q.in_time (p.kept ∙ h) ∙ p.in_time h;
-  }
-  writes_then a b c s t (Err e) p q = (
-    q.0,
-    record {
-      prefix = s ++ q.1.prefix;
-      rest = q.1.rest;
-      whole = ap (λ l. s ++ l) q.1.whole ∙ sym (append_assoc s q.1.prefix q.1.rest);
-      appends = Appends-trans _ _ _ s q.1.prefix p.appends q.1.appends;
-      refused = q.1.refused;
-      in_time = λ h. q.1.in_time (p.kept ∙ h) ∙ p.in_time h;
-    },
-  )
+  writes_then a b c s t (Ok x) p q = grind (arith, common_steps)
+  writes_then a b c s t (Err e) p q = search (rules, append_assoc)
 
   -- what stops at a text stops at a longer one
   pub stopped_longer : (a b : S) (s t : List ℕ) → Stopped W a b s → Stopped W a b (s ++ t)
-  stopped_longer a b s t p = record {
-    prefix = p.prefix;
-    rest = p.rest ++ t;
-    whole = ap (λ l. l ++ t) p.whole ∙ append_assoc p.prefix p.rest t;
-    appends = p.appends;
-    refused = p.refused;
-    in_time = p.in_time;
-  }
+  stopped_longer a b s t p = search (rules, append_assoc)
 
   pub gathered_none : (h : List ℕ) (a : S) → Gathered W h h a a []
   gathered_none h a = record { out = []; whole = append-nil h; wrote = wrote_none a }
@@ -57,15 +38,10 @@ module _ {S : Type 0} (W : Sink S) where
       → Gathered W h i a b s → Gathers W (i, j) b c r t → Gathers W (h, j) a c r (s ++ t)
   gathers_then h i j a b c s t (Ok x) p q = record {
     out = p.out ++ q.out;
-    whole = sym (append_assoc h s t) ∙ ap (λ l. l ++ t) p.whole ∙ append_assoc p.out i t ∙ ap (λ l. p.out ++ l) q.whole
-        ∙ sym (append_assoc p.out q.out j);
+    whole = search (rules, append_assoc);
     wrote = writes_then a b c p.out q.out (Ok x) p.wrote q.wrote;
   }
-  gathers_then {A = A} h i j a b c s t (Err e) p q =
-      let r : Result A RunFault = Err e in
-      subst (λ l. Writes W a c r l)
-      (sym (append_assoc p.out i t) ∙ ap (λ l. l ++ t) (sym p.whole) ∙ append_assoc h s t)
-      (writes_then a b c p.out (i ++ t) r p.wrote q)
+  gathers_then {A = A} h i j a b c s t (Err e) p q = search (rules, append_assoc, writes_then)
 
   pub gathered_then : (h i j : List ℕ) (a b c : S) (s t : List ℕ) → Gathered W h i a b s → Gathered W i j b c t
       → Gathered W h j a c (s ++ t)
@@ -99,12 +75,8 @@ module _ {S : Type 0} (W : Sink S) where
       → IsErrAnd r (λ y. y ≡ e) → (e ≡ WriteFailed) × Stopped W a b (h ++ []) → j ≡ []
       → (W.flushed a ≡ false → W.flushed b ≡ false) → Puts W (h, j) a b r text
   puts_refused h j a b text (Ok x) e k q dropped no_flush = absurd k
-  puts_refused {A = A} h j a b text (Err y) e k q dropped no_flush = record {
-    output = gathers_first {A = A} h j a b [] text text (Err y) e refl k q;
-    dropped = dropped;
-    no_flush = no_flush;
-    waits = tt;
-  }
+  puts_refused {A = A} h j a b text (Err y) e k q dropped no_flush =
+      grind (arith, common_steps, gathers_first)
 
   -- a text of which a prefix is held already
   pub gathers_via : {A : Type 0} (h i j k : List ℕ) (a b c : S) (s t : List ℕ) (r : Result A RunFault)

@@ -1,5 +1,6 @@
 -- The lines of events, of all bytes that were read.
 use Rattle.std.proofs.Common.{◌≡◌, ◌+◌, List, ℕ, [], ◌++◌, Option, Some, Result, length, refl, sym, ◌∙◌, ap, append-nil, take}
+use Rattle.std.proofs.Common.{rules}
 use Rattle.std.specs.List.{flat_map}
 use Rattle.dgt_decode.specs.Feeding.{FirstEvent, at_place_if_any}
 use Rattle.dgt_decode.specs.Grammar.{Event, events, unfinished_message}
@@ -25,10 +26,7 @@ module _ {kept bytes text : List ℕ} (h : HasPrintedEvents kept bytes text) (ch
     pub heard_more : (event : Option Event) → FirstEvent (unfinished_message kept) chunk n event
         → HasPrintedEvents kept' (bytes ++ take n chunk)
         (text ++ flat_map placed_line (at_place_if_any (offset + n) event))
-    heard_more event found =
-        let same = events_found kept bytes chunk n h.held offset event found counted in
-        rw (h.said, ← same, ← lines-append chunks bytes (take n chunk))
-        (record { said = refl; held = held_then kept bytes chunk n h.held still kept' held })
+    heard_more event found = search (rules, events_found, lines-append, held_then)
 
     -- one that found an event
     pub heard_event : (event : Event) → FirstEvent (unfinished_message kept) chunk n (Some event)

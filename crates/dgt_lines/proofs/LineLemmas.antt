@@ -1,5 +1,6 @@
 -- Lines in parts.
-use Rattle.std.proofs.Common.{◌≡◌, ℕ, Bool, List, [], ◌∷◌, ◌++◌, Result, ◌∙◌, ap, ◌<◌, append_assoc, arith, codes, length, length-append, refl, sym}
+use Rattle.std.proofs.Common.{◌≡◌, ℕ, Bool, List, [], ◌∷◌, ◌++◌, Result, ◌∙◌, ap, ◌<◌, append_assoc, codes, length, length-append, sym}
+use Rattle.std.proofs.Common.{rules}
 use Rattle.dgt_lines.specs.declared.faults.RunFault.{RunFault}
 use Rattle.dgt_lines.specs.declared.streams.Sink.{Ghosts as Sink}
 use Rattle.dgt_lines.specs.Lines.{line, offset_text, unfinished_line, unfinished_text}
@@ -9,11 +10,8 @@ use Rattle.dgt_lines.proofs.GatherLemmas.{gathers_via}
 
 -- after what is held come an offset, a text up to the bytes that are carried, and these bytes
 text-parts : (offset : ℕ) (held start said text bytes : List ℕ) → start ≡ held ++ (offset_text offset ++ 32 ∷ [])
-    → text ++ bytes ≡ start ++ said
-    → text ++ bytes ≡ held ++ (offset_text offset ++ 32 ∷ said)
-text-parts offset held start said text bytes s e =
-    e ∙ ap (λ l. l ++ said) s ∙ append_assoc held (offset_text offset ++ 32 ∷ []) said
-    ∙ ap (λ l. held ++ l) (append_assoc (offset_text offset) (32 ∷ []) said)
+    → text ++ bytes ≡ start ++ said → text ++ bytes ≡ held ++ (offset_text offset ++ 32 ∷ said)
+text-parts offset held start said text bytes s e = search (rules, append_assoc)
 
 -- room was made for a line, it was added up to the bytes that are carried, and then a call gathers these bytes
 pub gathers_text : {S A : Type 0} (W : Sink S) (offset : ℕ) (held left start said text bytes after : List ℕ)
@@ -21,22 +19,19 @@ pub gathers_text : {S A : Type 0} (W : Sink S) (offset : ℕ) (held left start s
     → start ≡ left ++ (offset_text offset ++ 32 ∷ []) → text ++ bytes ≡ start ++ said
     → Gathers W (text, after) b c r bytes → Gathers W (held, after) a c r (offset_text offset ++ 32 ∷ said)
 gathers_text W offset held left start said text bytes after a b c r room began pushed rest =
-    gathers_via W held left text after a b c _ _ r room (text-parts offset left start said text bytes began pushed) rest
+    search (rules, gathers_via, text-parts)
 
 -- what ends with a line waits for a flush
 pub line_waits : (held : List ℕ) (offset : ℕ) (said all : List ℕ) (flushed : Bool) → all ≡ held ++ line offset said
     → Waits all flushed
 line_waits held offset said all flushed e none =
     let whole = ap length (sym none ∙ e) in
-    let ended = length-append (offset_text offset ++ 32 ∷ said) (codes "\n") in
-    absurd (omega (arith, whole, length-append held (line offset said), ended))
+    search (rules, length-append, codes)
 
 pub unfinished_line-none : (held : List ℕ) (offset : ℕ) → 0 ≡ length held → unfinished_line offset held ≡ []
-unfinished_line-none [] offset e = refl
-unfinished_line-none (b ∷ held) offset e = absurd (omega (arith, e))
+unfinished_line-none held offset e = search rules
 
 -- the line of a message that is unfinished
 pub unfinished_line-some : (held : List ℕ) (offset have : ℕ) → 0 < length held → have ≡ length held
     → unfinished_line offset held ≡ line offset (unfinished_text have)
-unfinished_line-some [] offset have h e = absurd (omega arith)
-unfinished_line-some (b ∷ held) offset have h e = ap (λ n. line offset (unfinished_text n)) (sym e)
+unfinished_line-some held offset have h e = search rules

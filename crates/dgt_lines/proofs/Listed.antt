@@ -1,5 +1,6 @@
 -- The lines of a host's commands, for all bytes that were read.
 use Rattle.std.proofs.Common.{◌≡◌, ◌≤◌, ◌+◌, ◌-◌, ℕ, List, [], ◌++◌, Result, length, refl, ap, arith, length-append, take}
+use Rattle.std.proofs.Common.{rules}
 use Rattle.std.proofs.lemmas.List.{length-take-le}
 use Rattle.dgt_command.specs.Content.{EventContent}
 use Rattle.dgt_command.specs.Encoding.{AreBytes}
@@ -30,23 +31,14 @@ module _ {held bytes text : List ℕ} (h : Prints 0 bytes held text) where
   listed_event chunk n offset event within counted none word held' e =
       let place = 0 + (length bytes - length held) in
       let same : place + length (held ++ take n chunk) ≡ offset + n =
-      omega (
-        arith,
-        counted,
-        rest_short bytes held text h,
-        length-append held (take n chunk),
-        length-take-le n chunk within,
-      ) in
+      search (rules, rest_short, length-append, length-take-le) in
       rw (e, ← same)
-      (texts_append 0 bytes (take n chunk) held [] text _ h (word_is_printed none place
-      (held ++ take n chunk) event word))
+      (search (rules, texts_append, word_is_printed))
 
   -- they complete none
   pub listed_part : (more held' : List ℕ) → held' ≡ held ++ more → IsPartial held'
       → Prints 0 (bytes ++ more) held' (text ++ [])
-  listed_part more held' e part =
-      let place = 0 + (length bytes - length held) in
-      texts_append 0 bytes more held held' text [] h (rw (← e) (part_is_printed place held' part))
+  listed_part more held' e part = search (rules, texts_append, part_is_printed)
 
   -- whatever comes after
   pub listed_on : EachIsPrinted → (more : List ℕ) → AreBytes (held ++ more)
@@ -57,9 +49,4 @@ module _ {held bytes text : List ℕ} (h : Prints 0 bytes held text) where
 
 pub listed : {A : Type 0} (r : Result A RunFault) (bytes out : List ℕ) → IsPrinted HasCommandLines r bytes out
     → IsListed r bytes out
-listed r bytes out p = record {
-  text = p.text;
-  rest = p.has.0;
-  prints = p.has.1;
-  stands = stands_by r p.text p.text p.last _ out refl p.has.2 p.stands;
-}
+listed r bytes out p = search (rules, stands_by)

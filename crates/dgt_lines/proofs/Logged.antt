@@ -1,5 +1,6 @@
 -- The lines of stored events, for all bytes that were read.
-use Rattle.std.proofs.Common.{◌≡◌, ◌+◌, ◌-◌, List, ℕ, [], ◌∷◌, ◌++◌, Some, Option, Result, refl, sym, ◌∙◌, ap, subst, append_assoc, append-nil, length, take}
+use Rattle.std.proofs.Common.{◌≡◌, ◌+◌, ◌-◌, List, ℕ, [], ◌∷◌, ◌++◌, Some, Option, Result, refl, sym, ◌∙◌, ap, append_assoc, append-nil, length, take}
+use Rattle.std.proofs.Common.{rules}
 use Rattle.dgt_stored.specs.Stored.{Says, StoredContent}
 use Rattle.dgt_decode.specs.Feeding.{FirstEvent, at_place_if_any}
 use Rattle.dgt_decode.specs.Grammar.{Event, Placed, at_place, events, unfinished_message}
@@ -8,7 +9,6 @@ use Rattle.dgt_lines.specs.declared.faults.RunFault.{RunFault}
 use Rattle.dgt_lines.specs.Lines.{events_after}
 use Rattle.dgt_lines.specs.Logging.{IsLogged}
 use Rattle.dgt_lines.specs.Logs.{HasLog, log_body, stored_lines}
-use Rattle.dgt_lines.specs.Monitoring.{IsInSink}
 use Rattle.dgt_lines.specs.Printing.{HasLogLines, HasPrintedLog, IsPrinted}
 use Rattle.dgt_lines.proofs.EventLemmas.{events_found, held_then}
 use Rattle.dgt_lines.proofs.Printed.{stands_by}
@@ -17,13 +17,8 @@ use Rattle.dgt_lines.proofs.Printed.{stands_by}
 log_append : (placed later : List Placed) (text others : List ℕ) → HasLog placed text → HasLog later others
     → HasLog (placed ++ later) (text ++ others)
 log_append [] later text others has more = rw has more
-log_append (x ∷ placed) later text others has more = (
-  has.0,
-  has.1 ++ others,
-  has.2,
-  log_append placed later has.1 others has.3 more,
-  rw has.4 (append_assoc _ has.1 others),
-)
+log_append (x ∷ placed) later text others has more =
+    search (rules, append_assoc, log_append placed later has.1 others has.3 more)
 
 -- one event
 log_event : (place : ℕ) (event : Event) (things : List StoredContent) → Says (log_body event) things
@@ -65,10 +60,7 @@ module _ {kept bytes text : List ℕ} (h : HasPrintedLog kept bytes text) (chunk
         → HasPrintedLog kept' (bytes ++ take n chunk) (text ++ more)
     logged_more event found more has =
         let same = events_found kept bytes chunk n h.held offset event found counted in
-        record {
-          has = rw (chunks.behind bytes (take n chunk)) (log_append (events bytes) _ text more h.has (rw same has));
-          held = held_then kept bytes chunk n h.held still kept' held;
-        }
+        search (rules, log_append, held_then)
 
     -- one that found an event
     pub logged_event : (event : Event) → FirstEvent (unfinished_message kept) chunk n (Some event)
@@ -90,9 +82,4 @@ module _ {kept bytes text : List ℕ} (h : HasPrintedLog kept bytes text) (chunk
 
 pub logged : {A : Type 0} (r : Result A RunFault) (bytes out : List ℕ) → IsPrinted HasLogLines r bytes out
     → IsLogged r bytes out
-logged r bytes out p = record {
-  text = p.text;
-  has = p.has.0;
-  stands = subst (λ whole. IsInSink r p.text whole out) (append-nil p.text)
-      (stands_by r p.text p.text p.last _ out refl p.has.1 p.stands);
-}
+logged r bytes out p = search (rules, append-nil, stands_by)

@@ -1,28 +1,22 @@
 -- An event has one name or none, and so events have one text.
-use Rattle.std.proofs.Common.{◌≡◌, ℕ, List, [], ◌∷◌, ◌++◌, Option, Some, None, ◌∙◌, ap, refl, sym}
+use Rattle.std.proofs.Common.{◌≡◌, ℕ, List, [], ◌∷◌, ◌++◌, Option, Some, ◌∙◌, ap, sym}
+use Rattle.std.proofs.Common.{rules}
 use Rattle.dgt_message.specs.declared.known.KnownCode.{KnownCode}
-use Rattle.dgt_message.specs.Code.{known_with}
-use Rattle.dgt_message.specs.Content.Content.{ack, carried}
-use Rattle.dgt_decode.specs.Grammar.{Event, Message, Placed}
+use Rattle.dgt_message.specs.Content.Content.{carried}
+use Rattle.dgt_decode.specs.Grammar.{Event, Placed}
 use Rattle.dgt_names.specs.declared.battery.BatteryState.{BatteryState}
 use Rattle.dgt_names.specs.declared.clock.Signal.{Signal}
 use Rattle.dgt_names.specs.Names.{IsBattery, IsSignal}
-use Rattle.dgt_lines.specs.NamedLines.{AreNamedLines, HasCarriedName, IsNamed, IsOwnText, IsTextOf, battery_text, named_line, signal_text}
+use Rattle.dgt_lines.specs.NamedLines.{AreNamedLines, HasCarriedName, IsNamed, IsOwnText, IsTextOf, battery_text, named_line}
 
 one_text_of : {A : Type 0} (IsSaid : A → Type 0) (text : A → List ℕ)
     → ((one other : A) → IsSaid one → IsSaid other → one ≡ other) → (one other : Option (List ℕ))
     → IsTextOf IsSaid text one → IsTextOf IsSaid text other → one ≡ other
-one_text_of IsSaid text same (Some s) (Some t) p q = ap Some (p.2 ∙ ap text (same p.0 q.0 p.1 q.1) ∙ sym q.2)
-one_text_of IsSaid text same (Some s) None p q = absurd (q p.0 p.1)
-one_text_of IsSaid text same None (Some t) p q = absurd (p q.0 q.1)
-one_text_of IsSaid text same None None p q = refl
+one_text_of IsSaid text same one other p q = search rules
 
 one_own_text : (bytes : List ℕ) (one other : Option (List ℕ)) → IsOwnText bytes one → IsOwnText bytes other
     → one ≡ other
-one_own_text bytes (Some s) (Some t) p q = ap Some (p.1 ∙ sym q.1)
-one_own_text bytes (Some s) None p q = absurd (q p.0)
-one_own_text bytes None (Some t) p q = absurd (p q.0)
-one_own_text bytes None None p q = refl
+one_own_text bytes one other p q = search rules
 
 -- signals and batteries are said once
 module _ (signals : (bytes : List ℕ) (one other : Signal) → IsSignal bytes one → IsSignal bytes other → one ≡ other)
@@ -39,11 +33,7 @@ module _ (signals : (bytes : List ℕ) (one other : Signal) → IsSignal bytes o
 
   pub one_name : (event : Event) (one other : Option (List ℕ)) → IsNamed event one → IsNamed event other
       → one ≡ other
-  one_name (Message (ack answer)) one other p q =
-      one_text_of (IsSignal answer.ack) signal_text (signals answer.ack) one other p q
-  one_name (Message (carried code body)) one other p q = one_carried (known_with code) body one other p q
-  one_name (Message said) one other p q = p ∙ sym q
-  one_name _ one other p q = p ∙ sym q
+  one_name event one other p q = search (rules, one_text_of, one_carried)
 
   pub one_text : (placed : List Placed) (one other : List ℕ) → AreNamedLines placed one
       → AreNamedLines placed other → one ≡ other

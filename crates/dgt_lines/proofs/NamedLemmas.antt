@@ -1,5 +1,6 @@
 -- The lines of events with names, of all bytes that were read.
-use Rattle.std.proofs.Common.{◌≡◌, ◌⊎◌, ◌+◌, ℕ, List, [], ◌∷◌, ◌++◌, Option, Some, None, Result, ◌∙◌, ap, append_assoc, append-nil, IsErrAnd, Ok, Err, inl, inr, length, refl, subst, sym, take}
+use Rattle.std.proofs.Common.{◌≡◌, ◌⊎◌, ◌+◌, ℕ, List, [], ◌∷◌, ◌++◌, Option, Some, None, Result, ◌∙◌, ap, append_assoc, append-nil, IsErrAnd, Ok, Err, inl, inr, length, refl, sym, take}
+use Rattle.std.proofs.Common.{rules}
 use Rattle.std.specs.Prelude.{codes}
 use Rattle.dgt_message.specs.Code.{known_with}
 use Rattle.dgt_message.specs.Content.Content.{times, ack, carried}
@@ -62,8 +63,7 @@ module _ {S : Type 0} (W : Sink S) (offset : ℕ) (event : Event) (h : List ℕ)
       record {
         text = named_line (at_place offset event) name.0;
         is = (name.0, name.1, refl);
-        gathers = gathers_first W h j a b _ (name_text name.0 ++ codes "\n") _ r e
-            (named_parts offset event name.0 _ refl) k q;
+        gathers = search (rules, gathers_first, named_parts);
       }
 
   module _ (i : List ℕ) (text : Gathered W h i a b (offset_text offset ++ 32 ∷ event_text event)) (c : S) where
@@ -94,13 +94,7 @@ module _ {S : Type 0} (W : Sink S) (offset : ℕ) (event : Event) (h : List ℕ)
 pub named-append : (xs ys : List Placed) (s t : List ℕ) → AreNamedLines xs s → AreNamedLines ys t
     → AreNamedLines (xs ++ ys) (s ++ t)
 named-append [] ys s t p q = rw p q
-named-append (x ∷ xs) ys s t p q = (
-  p.0,
-  p.1 ++ t,
-  p.2,
-  ap (λ l. l ++ t) p.3 ∙ append_assoc (named_line x p.0) p.1 t,
-  named-append xs ys p.1 t p.4 q,
-)
+named-append (x ∷ xs) ys s t p q = search (rules, append_assoc, named-append xs ys p.1 t p.4 q)
 
 pub each_is_named : (xs : List Placed) → (text : List ℕ) × AreNamedLines xs text
 each_is_named [] = ([], refl)
@@ -123,9 +117,7 @@ module _ {kept bytes text : List ℕ} (h : HasPrintedNames kept bytes text) (chu
   named_behind : (chunk more : List ℕ)
       → AreNamedLines (events_after (unfinished_message bytes) (length bytes) chunk) more
       → AreNamedLines (events (bytes ++ chunk)) (text ++ more)
-  named_behind chunk more p =
-      subst (λ xs. AreNamedLines xs (text ++ more)) (sym (chunks.behind bytes chunk))
-      (named-append (events bytes) _ text more h.said p)
+  named_behind chunk more p = search (rules, named-append)
 
   module _ (still : UnfinishedAppend) (chunk : List ℕ) (n offset : ℕ) (counted : offset ≡ length bytes) (kept' : List ℕ)
       (held : unfinished_message kept' ≡ unfinished_message (unfinished_message kept ++ take n chunk)) where
@@ -133,12 +125,7 @@ module _ {kept bytes text : List ℕ} (h : HasPrintedNames kept bytes text) (chu
     named_more : (event : Option Event) (more : List ℕ) → FirstEvent (unfinished_message kept) chunk n event
         → AreNamedLines (at_place_if_any (offset + n) event) more
         → HasPrintedNames kept' (bytes ++ take n chunk) (text ++ more)
-    named_more event more found p =
-        let same = events_found kept bytes chunk n h.held offset event found counted in
-        record {
-          said = named_behind (take n chunk) more (rw same p);
-          held = held_then kept bytes chunk n h.held still kept' held;
-        }
+    named_more event more found p = search (rules, events_found, named_behind, held_then)
 
     -- one that found an event
     pub named_event : (event : Event) (more : List ℕ) → FirstEvent (unfinished_message kept) chunk n (Some event)
@@ -159,8 +146,4 @@ module _ {kept bytes text : List ℕ} (h : HasPrintedNames kept bytes text) (chu
 
 pub monitored_names : {A : Type 0} (r : Result A RunFault) (bytes out : List ℕ) → IsPrinted HasNamedLines r bytes out
     → AreMonitored r bytes out
-monitored_names r bytes out p = record {
-  text = p.text;
-  are = p.has.0;
-  stands = stands_by r p.text p.text p.last _ out refl p.has.1 p.stands;
-}
+monitored_names r bytes out p = search (rules, stands_by)

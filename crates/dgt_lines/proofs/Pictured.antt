@@ -1,5 +1,6 @@
 -- The lines of `picture`, with and without doubts and the clock, for all bytes that were read.
-use Rattle.std.proofs.Common.{◌≡◌, ◌+◌, List, ℕ, [], ◌++◌, Option, Some, Result, refl, sym, ◌∙◌, ap, subst, append-nil, length, take}
+use Rattle.std.proofs.Common.{◌≡◌, ◌+◌, List, ℕ, [], ◌++◌, Option, Some, Result, refl, sym, ◌∙◌, ap, append-nil, length, take}
+use Rattle.std.proofs.Common.{rules}
 use Rattle.std.specs.List.{flat_map}
 use Rattle.dgt_decode.specs.Feeding.{FirstEvent, at_place_if_any}
 use Rattle.dgt_decode.specs.Grammar.{Event, events, unfinished_message}
@@ -8,7 +9,6 @@ use Rattle.dgt_lines.specs.declared.doubts.PictureState.{PictureState}
 use Rattle.dgt_lines.specs.declared.faults.RunFault.{RunFault}
 use Rattle.dgt_lines.specs.Lines.{events_after}
 use Rattle.dgt_lines.specs.Reports.{report_line, report_lines, reports_at, state_after_event, state_after_events, state_from, text_from}
-use Rattle.dgt_lines.specs.Monitoring.{IsInSink}
 use Rattle.dgt_lines.specs.Picturing.{HasText}
 use Rattle.dgt_lines.specs.Printing.{HasPrintedReports, HasReportLines, IsPrinted}
 use Rattle.dgt_lines.proofs.EventLemmas.{events_found, held_then}
@@ -35,10 +35,7 @@ module _ {first state : PictureState} {kept bytes text : List ℕ} (h : HasPrint
         → HasPrintedReports first kept' (state_after_events state (at_place_if_any (offset + n) event))
         (bytes ++ take n chunk) (text ++ report_lines state (at_place_if_any (offset + n) event))
     pictured_more event found =
-        let same = events_found kept bytes chunk n h.held offset event found counted in
-        let lines = text_from-append chunks first bytes (take n chunk) in
-        rw (h.said, h.after, ← same, ← lines, ← state_from-append chunks first bytes (take n chunk))
-        (record { said = refl; after = refl; held = held_then kept bytes chunk n h.held still kept' held })
+        search (rules, events_found, text_from-append, state_from-append, held_then)
 
     -- one that found an event
     pub pictured_event : (event : Event) → FirstEvent (unfinished_message kept) chunk n (Some event)
@@ -58,7 +55,4 @@ module _ {first state : PictureState} {kept bytes text : List ℕ} (h : HasPrint
 
 pub reported : {A : Type 0} (r : Result A RunFault) (first : PictureState) (bytes out : List ℕ)
     → IsPrinted (HasReportLines first) r bytes out → HasText (text_from first) r bytes out
-reported r first bytes out p =
-    let text = text_from first bytes in
-    subst (λ whole. IsInSink r text whole out) (append-nil text)
-    (stands_by r p.text _ p.last _ out p.has.0 p.has.1 p.stands)
+reported r first bytes out p = search (rules, append-nil, stands_by)

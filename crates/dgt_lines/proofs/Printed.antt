@@ -1,5 +1,6 @@
 -- The state between two reads of an engine that prints.
 use Rattle.std.proofs.Common.{◌≡◌, ◌+◌, ℕ, List, [], ◌++◌, Result, Ok, Err, IsErrAnd, OnOk, length, refl, sym, ◌∙◌, subst, arith, append-nil, length-append}
+use Rattle.std.proofs.Common.{rules}
 use Rattle.std.specs.Io.KnownBytes.{Consumes}
 use Rattle.std.proofs.KnownBytes.{Consumes-trans}
 use Rattle.dgt_lines.specs.declared.streams.Source.{Ghosts as Source}
@@ -11,6 +12,7 @@ use Rattle.dgt_lines.specs.Monitoring.{IsInSink}
 use Rattle.dgt_lines.specs.Printing.{IsPrinted}
 use Rattle.dgt_lines.specs.Turns.{Ran, change, InTurns}
 use Rattle.dgt_lines.proofs.TurnLemmas.{BetweenReads}
+use Rattle.std.proofs.lemmas.Grind.{common_steps}
 
 -- the sink took this text of the bytes that were read, which is what was printed of them
 pub record Printed {T : Type 0} (W : Sink T) (sink sink' : T) (HasPrinted : List ℕ → List ℕ → Type 0) (offset : ℕ)
@@ -29,13 +31,8 @@ module _ {T : Type 0} {W : Sink T} (row : InARow W) {HasPrinted : List ℕ → L
       (bytes chunk more : List ℕ)
       (h : Printed W c d HasPrinted offset bytes) → length chunk ≡ n → Wrote W d d' more → Wrote W d' d'' []
       → HasPrinted' (bytes ++ chunk) (h.text ++ more) → Printed W c d'' HasPrinted' (offset + n) (bytes ++ chunk)
-  printed_more c d d' d'' offset n bytes chunk more h m w f has = record {
-    text = h.text ++ more;
-    has = has;
-    wrote = subst (λ l. Wrote W c d'' l) (append-nil (h.text ++ more))
-        (row.writes c d' d'' (h.text ++ more) [] (Ok tt) (row.writes c d d' h.text more (Ok tt) h.wrote w) f);
-    counted = let l = length-append bytes chunk in let k = h.counted in omega arith;
-  }
+  printed_more c d d' d'' offset n bytes chunk more h m w f has =
+      grind (arith, common_steps, append-nil, length-append)
 
 -- ---- how the run ends
 
@@ -56,13 +53,7 @@ module _ {S T : Type 0} {R : Source S} {W : Sink T} (row : InARow W) {HasLines :
   printed_end b' d' last (Err e) t h p has w =
       let stop = (row.writes c d d' h.text last (Err e) h.wrote w).1 in
       subst (λ f. let r : Result (Unit {0}) RunFault = Err f in Ran R W (change a b') (change c d')
-      (InTurns limit r (IsPrinted HasLines r))) (sym w.0) (
-        t.bytes,
-        stop.prefix,
-        subst (Consumes (R.left a) (R.left b')) (append-nil t.bytes) (Consumes-trans _ _ _ t.bytes [] t.given p),
-        stop.appends,
-        (tt, record { text = h.text; last = last; has = has; stands = (stop.rest, stop.whole) }),
-      )
+      (InTurns limit r (IsPrinted HasLines r))) (sym w.0) (search (rules, append-nil))
 
   -- at a write that was refused, of the lines of a chunk
   pub printed_stopped : (b' : S) (d' : T) (chunk more last : List ℕ) (r : Result (Unit {0}) RunFault) (e : RunFault)
@@ -74,19 +65,12 @@ module _ {S T : Type 0} {R : Source S} {W : Sink T} (row : InARow W) {HasLines :
   printed_stopped b' d' chunk more last (Err y) e t h p has k q =
       let stop = row.longer c d' _ last (row.writes c d d' h.text more (Err e) h.wrote q).1 in
       subst (λ f. let r : Result (Unit {0}) RunFault = Err f in Ran R W (change a b') (change c d')
-      (InTurns limit r (IsPrinted HasLines r))) (sym (k ∙ q.0)) (
-        t.bytes ++ chunk,
-        stop.prefix,
-        Consumes-trans _ _ _ t.bytes chunk t.given p,
-        stop.appends,
-        (tt, record { text = h.text ++ more; last = last; has = has; stands = (stop.rest, stop.whole) }),
-      )
+      (InTurns limit r (IsPrinted HasLines r))) (sym (k ∙ q.0)) (grind (arith, common_steps))
 
 -- ---- what is said of a run
 
 pub on_ok : {A E P Q : Type 0} (r : Result A E) → (P → Q) → OnOk r P → OnOk r Q
-on_ok (Ok x) f h = f h
-on_ok (Err e) f h = h
+on_ok r f h = search rules
 
 -- the sink contains the text, for each way to state it
 pub stands_by : {A : Type 0} (r : Result A RunFault) (text text' last last' out : List ℕ) → text ≡ text'

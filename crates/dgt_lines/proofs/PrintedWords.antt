@@ -1,6 +1,7 @@
 -- The text of bytes that come in chunks.
 use Rattle.std.proofs.Common.{◌≡◌, ℕ, ◌+◌, ◌-◌, List, [], ◌∷◌, ◌++◌, refl, sym, ◌∙◌, ap, length, arith, append_assoc, append-nil, length-append}
-use Rattle.std.proofs.lemmas.Grind.{flat_map-append}
+use Rattle.std.proofs.Common.{rules}
+use Rattle.std.proofs.lemmas.Grind.{flat_map-append, common_steps}
 use Rattle.std.specs.List.{AllByRecursion}
 use Rattle.dgt_command.specs.Content.{EventContent}
 use Rattle.dgt_command.specs.Words.{IsWord, IsPartial, Word, word_bytes}
@@ -13,20 +14,14 @@ abbrev pub AllWords : List Word → Type 0
 AllWords words = AllByRecursion (λ word. IsWord word.event word.bytes) words
 
 all_words-append : (xs ys : List Word) → AllWords xs → AllWords ys → AllWords (xs ++ ys)
-all_words-append [] ys h k = k
-all_words-append (x ∷ xs) ys h k = (h.0, all_words-append xs ys h.1 k)
+all_words-append xs ys h k = grind (arith, common_steps)
 
 word_lines-append : (k : ℕ) (xs ys : List Word)
     → word_lines k (xs ++ ys) ≡ word_lines k xs ++ word_lines (k + length (word_bytes xs)) ys
 word_lines-append k [] ys = let e : k ≡ k + 0 = omega arith in ap (λ n. word_lines n ys) e
 word_lines-append k (x ∷ xs) ys =
     let end = k + length x.bytes in
-    let line = command_line end x.event in
-    let e : end + length (word_bytes xs) ≡ k + length (x.bytes ++ word_bytes xs) =
-    omega (arith, length-append x.bytes (word_bytes xs)) in
-    ap (λ l. line ++ l) (word_lines-append end xs ys)
-    ∙ ap (λ n. line ++ (word_lines end xs ++ word_lines n ys)) e
-    ∙ sym (append_assoc line (word_lines end xs) _)
+    search (rules, length-append, append_assoc, word_lines-append end xs ys)
 
 -- bytes in a row
 pub texts_append : TextsAppend
@@ -56,21 +51,13 @@ pub word_is_printed : IsPartial [] → (k : ℕ) (word : List ℕ) (event : Even
     → Prints k word [] (command_line (k + length word) event)
 word_is_printed none k word event h = record {
   words = record { event = event; bytes = word } ∷ [];
-  are_words = record {
-    each = (h, tt);
-    whole = sym (append-nil (word ++ []) ∙ append-nil word);
-    partial = none;
-  };
+  are_words = search (rules, append-nil);
   said = sym (append-nil (command_line (k + length word) event));
 }
 
 -- no whole word
 pub part_is_printed : (k : ℕ) (rest : List ℕ) → IsPartial rest → Prints k rest rest []
-part_is_printed k rest h = record {
-  words = [];
-  are_words = record { each = tt; whole = refl; partial = h };
-  said = refl;
-}
+part_is_printed k rest h = search rules
 
 -- each list of bytes has a text
 pub each_is_printed : EachHasItsWords → EachIsPrinted

@@ -1,6 +1,7 @@
 -- The texts of ranks.
 use Prim.Native.Char.{code as ascii}
 use Rattle.std.proofs.Common.{length-append, length-take-le, take-take, true≢false, Bool, ◌≤◌, ◌-◌, ◌&&◌, subst, true, false, slice_index_or, ◌≡◌, ℕ, zero, suc, ◌+◌, ◌*◌, ◌/◌, ◌%◌, ◌<◌, List, [], ◌∷◌, ◌++◌, ◌∙◌, ap, append_assoc, append-nil, arith, drop, get_or, length, refl, sym, take}
+use Rattle.std.proofs.Common.{rules}
 use Rattle.std.proofs.lemmas.List.{take_more_set, drop-drop, drop-set-add, drop-set-lt, take-set-le}
 use Rattle.std.proofs.Math.Seq.{take-append_seam}
 use Rattle.std.proofs.lemmas.Bool.{ne_eqb}
@@ -11,6 +12,7 @@ use Rattle.dgt_values.specs.declared.pieces.Piece.TheVariants.{Empty}
 use Rattle.dgt_values.specs.Board.{piece_code, piece_letter}
 use Rattle.dgt_values.specs.Placement.{placement_text, rank_text_after, ranks_text, run_text}
 use Rattle.dgt_values.proofs.Placing.{one_more_empty, one_more_piece}
+use Rattle.std.proofs.lemmas.Grind.{common_steps}
 
 -- ---- one rank, a piece after another
 
@@ -19,8 +21,7 @@ abbrev pub letters_with : List ℕ
 letters_with = codes "1PRNBKQprnbkqXYZ"
 
 pub letter_of : (piece : Piece) → piece ≢ Empty → slice_index_or letters_with (piece_code piece) 0 ≡ piece_letter piece
-letter_of Empty h = absurd (h refl)
-letter_of _ h = refl
+letter_of piece h = search rules
 
 -- what is written of a rank: a prefix, and the digit of the run of empty squares after it, if there is one
 pub record RankSoFar (written : List ℕ) (was_empty : Bool) (last seen : ℕ) (later : List Piece) (whole : List ℕ) :
@@ -48,72 +49,26 @@ module _ (rank : List Piece) (i len last : ℕ) (bytes whole : List ℕ) (inside
   counted before room e =
       let some = before.digit refl in
       let long : len ≡ length before.prefix + 1 =
-      omega (
-        arith,
-        ap length before.ends,
-        length-append before.prefix (run_text before.empty),
-        run_short before.empty some.0,
-        length-take-le len bytes room,
-      ) in
+      grind (arith, common_steps, length-append, run_short, length-take-le) in
       let next : len - 1 + 1 ≡ len = omega arith in
       let prefix : take (len - 1) bytes ≡ before.prefix =
       sym (take-take (len - 1) len bytes (omega arith)) ∙ ap (take (len - 1)) before.ends
       ∙ ap (λ n. take n (before.prefix ++ run_text before.empty)) (omega arith) ∙ take-append_seam before.prefix
       (run_text before.empty) in
-      let digit : last + 1 ≡ ascii "0" + (before.empty + 1) = omega (arith, some.1) in
-      record {
-        prefix = before.prefix;
-        empty = before.empty + 1;
-        ends =
-            ap (λ n. take n (slice_set bytes (len - 1) (last + 1))) (sym next)
-            ∙ take_more_set bytes (len - 1) (last + 1) (omega arith) ∙ ap (λ l. l ++ (last + 1) ∷ []) prefix
-            ∙ ap (λ n. before.prefix ++ n ∷ []) digit
-            ∙ ap (λ l. before.prefix ++ l) (sym (run_digit (before.empty + 1) (omega arith)));
-        goes_on =
-            ap (λ l. before.prefix ++ l) (sym (one_more_empty rank i before.empty inside e)) ∙ before.goes_on;
-        digit = λ _. (omega arith, digit);
-        no_digit = λ h. absurd (true≢false h);
-        few = omega (arith, before.few);
-      }
+      search (rules, take_more_set, run_digit, one_more_empty, true≢false)
 
   -- the first empty square of a run
   pub begun : RankSoFar (take len bytes) false last i (drop i rank) whole → len < length bytes
       → get_or rank i Empty ≡ Empty
       → RankSoFar (take (len + 1) (slice_set bytes len (ascii "1"))) true (ascii "1") (i + 1) (drop (i + 1) rank) whole
-  begun before room e =
-      let none = before.no_digit refl in
-      let prefix : take len bytes ≡ before.prefix =
-      before.ends ∙ ap (λ n. before.prefix ++ run_text n) none ∙ append-nil before.prefix in
-      record {
-        prefix = before.prefix;
-        empty = 1;
-        ends = take_more_set bytes len (ascii "1") room ∙ ap (λ l. l ++ ascii "1" ∷ []) prefix;
-        goes_on =
-            ap (λ l. before.prefix ++ l)
-            (sym (one_more_empty rank i 0 inside e) ∙ ap (λ n. rank_text_after n (drop i rank)) (sym none))
-            ∙ before.goes_on;
-        digit = λ _. (omega arith, refl);
-        no_digit = λ h. absurd (true≢false h);
-        few = omega arith;
-      }
+  begun before room e = search (rules, append-nil, take_more_set, one_more_empty, true≢false)
 
   -- a piece
   pub lettered : (was_empty : Bool) (letter : ℕ) → RankSoFar (take len bytes) was_empty last i (drop i rank) whole
       → len < length bytes → get_or rank i Empty ≢ Empty → letter ≡ piece_letter (get_or rank i Empty)
       → RankSoFar (take (len + 1) (slice_set bytes len letter)) false letter (i + 1) (drop (i + 1) rank) whole
   lettered was_empty letter before room ne e =
-      record {
-        prefix = take len bytes ++ letter ∷ [];
-        empty = 0;
-        ends = take_more_set bytes len letter room ∙ sym (append-nil (take len bytes ++ letter ∷ []));
-        goes_on =
-            ap (λ n. (take len bytes ++ n ∷ []) ++ rank_text_after 0 (drop (i + 1) rank)) e
-            ∙ rw before.ends (sym (one_more_piece rank i before.empty before.prefix inside ne))
-            ∙ before.goes_on;
-        digit = λ h. absurd (true≢false (sym h));
-        no_digit = λ _. refl;
-        few = omega arith;
-      }
+      search (rules, take_more_set, append-nil, one_more_piece, true≢false)
 
   -- with the byte at k - 1 written, k bytes are
   abbrev NextSoFar : ℕ → ℕ → Bool → Type 0
@@ -124,11 +79,8 @@ module _ (rank : List Piece) (i len last : ℕ) (bytes whole : List ℕ) (inside
       → RankSoFar (take len bytes) was_empty last i (drop i rank) whole → len ≤ length bytes
       → (empty ≡ true → get_or rank i Empty ≡ Empty) → (empty && was_empty) ≡ true → k ≡ len → next ≡ last + 1
       → NextSoFar k next empty
-  counted_next true true k next before room is both ek en =
-      subst (λ j. NextSoFar j next true) (sym ek)
-      (subst (λ n. NextSoFar len n true) (sym en) (counted before room (is refl)))
-  counted_next false true k next before room is both ek en = absurd (true≢false (sym both))
-  counted_next was_empty false k next before room is both ek en = absurd (true≢false (sym both))
+  counted_next was_empty empty k next before room is both ek en =
+      search (rules, counted, true≢false)
 
   pub other_next : (was_empty empty : Bool) (k next : ℕ)
       → RankSoFar (take len bytes) was_empty last i (drop i rank) whole → len < length bytes
@@ -228,8 +180,7 @@ join-last : (ranks : List (List ℕ)) (last : List ℕ)
     → ended_ranks ranks ++ last ≡ join_with_byte (ascii "/") (ranks ++ last ∷ [])
 join-last [] last = refl
 join-last (rank ∷ []) last = simp append_assoc
-join-last (rank ∷ next ∷ ranks) last = append_assoc (rank ++ ascii "/" ∷ []) (ended_ranks (next ∷ ranks)) last
-    ∙ ap (λ l. (rank ++ ascii "/" ∷ []) ++ l) (join-last (next ∷ ranks) last) ∙ append_assoc rank (ascii "/" ∷ []) _
+join-last (rank ∷ next ∷ ranks) last = search (rules, append_assoc, join-last (next ∷ ranks) last)
 
 -- the eighth rank after seven others
 pub placement_ended : (ranks : List (List ℕ)) (pieces : List Piece) (other : List ℕ) → ranks ≡ ranks_text 8 pieces

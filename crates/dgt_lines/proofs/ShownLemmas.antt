@@ -1,5 +1,6 @@
 -- Characters and the segments that show them.
-use Rattle.std.proofs.Common.{◌≡◌, ℕ, ◌+◌, ◌-◌, ◌⊎◌, inl, inr, Some, arith, slice_get, zero, suc, ◌∙◌}
+use Rattle.std.proofs.Common.{◌≡◌, ℕ, ◌+◌, ◌-◌, ◌⊎◌, Some, arith, slice_get, zero, suc}
+use Rattle.std.proofs.Common.{rules}
 use Rattle.std.proofs.lemmas.Bool.Decides.{nat_tests}
 use Rattle.dgt_values.specs.Segment.{IsShownBy, digit_segments}
 use Rattle.dgt_lines.specs.CommandWords.{shown_character}
@@ -19,17 +20,11 @@ digit_is_shown (suc (suc (suc (suc (suc (suc (suc (suc (suc zero))))))))) segmen
 digit_is_shown (suc (suc (suc (suc (suc (suc (suc (suc (suc (suc i)))))))))) segments e = grind (arith, nat_tests)
 
 pub each_character_is_shown : EachCharacterIsShown
-each_character_is_shown character segments (inl digit) =
-    digit_is_shown (character - 48) segments digit.1 ∙ omega (arith, digit.0)
-each_character_is_shown character segments (inr (inl space)) = grind (arith, nat_tests)
-each_character_is_shown character segments (inr (inr hyphen)) = grind (arith, nat_tests)
+each_character_is_shown = search (rules, digit_is_shown, nat_tests)
 
 -- segments show the character that is printed for them, or a question mark is printed for them
 shown_or_other : (segments : ℕ) → IsShownBy (shown_character segments) segments ⊎ (shown_character segments ≡ 63)
 shown_or_other segments = grind (arith, nat_tests)
 
 pub others_are_question_marks : OthersAreQuestionMarks
-others_are_question_marks segments none = elim (shown_or_other segments) [
-  | inl shown ↦ absurd (none (shown_character segments) shown)
-  | inr mark ↦ mark
-]
+others_are_question_marks segments none = search (rules, shown_or_other)

@@ -1,5 +1,6 @@
 -- The lines of the stored events of a body, one after another.
 use Rattle.std.proofs.Common.{◌≡◌, ◌+◌, ◌-◌, ◌<◌, ◌≤◌, ℕ, List, [], ◌∷◌, ◌++◌, Result, Ok, Err, IsErrAnd, refl, sym, ◌∙◌, ap, subst, arith, length, take, drop, append_assoc, append-nil, length-drop}
+use Rattle.std.proofs.Common.{rules}
 use Rattle.std.proofs.lemmas.List.{drop-drop, take_rest}
 use Rattle.std.proofs.Math.Seq.{drop-append_seam}
 use Rattle.dgt_stored.specs.Stored.{IsFirst, Says, StoredContent, stored_bytes}
@@ -23,9 +24,7 @@ module _ {S : Type 0} {W : Sink S} where
   pub stops_as : {A B : Type 0} {held : List ℕ × List ℕ} {a b : S} {text : List ℕ} (e : RunFault)
       (r : Result B RunFault) → IsErrAnd r (λ y. y ≡ e) → Puts {A = A} W held a b (Err e) text
       → Puts {A = B} W held a b r text
-  stops_as e (Ok x) k p = absurd k
-  stops_as e (Err y) k p =
-      record { output = (k ∙ p.output.0, p.output.1); dropped = p.dropped; no_flush = p.no_flush; waits = tt }
+  stops_as e r k p = search rules
 
   pub puts_then : {A : Type 0} (h i j : List ℕ) (a b c : S) (s t : List ℕ) (r : Result A RunFault)
       → Puts {A = Unit {0}} W (h, i) a b (Ok tt) s → Puts W (i, j) b c r t → Puts W (h, j) a c r (s ++ t)
@@ -38,12 +37,7 @@ module _ {S : Type 0} {W : Sink S} where
 
   puts_longer : {A : Type 0} (h j : List ℕ) (a c : S) (s t : List ℕ) (e : RunFault)
       → Puts {A = A} W (h, j) a c (Err e) s → Puts {A = A} W (h, j) a c (Err e) (s ++ t)
-  puts_longer h j a c s t e p = record {
-    output = (p.output.0, rw append_assoc at (stopped_longer W a c (h ++ s) t p.output.1));
-    dropped = p.dropped;
-    no_flush = p.no_flush;
-    waits = tt;
-  }
+  puts_longer h j a c s t e p = search (rules, append_assoc, stopped_longer)
 
 -- ---- the lines of a body
 

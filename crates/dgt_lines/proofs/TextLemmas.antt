@@ -1,5 +1,6 @@
 -- Texts that are written one part after another.
-use Rattle.std.proofs.Common.{◌≡◌, ℕ, ◌+◌, ◌-◌, ◌/◌, ◌%◌, ◌^◌, ◌<◌, List, [], ◌∷◌, ◌++◌, ◌∙◌, add-one, ap, append_assoc, append-nil, arith, get_or, inl, inr, length, map, refl, replicate, sym, take, Bool, true}
+use Rattle.std.proofs.Common.{◌≡◌, ℕ, ◌+◌, ◌-◌, ◌/◌, ◌%◌, ◌^◌, ◌<◌, List, [], ◌∷◌, ◌++◌, ◌∙◌, add-one, ap, append_assoc, append-nil, arith, get_or, length, map, refl, sym, take, Bool, true}
+use Rattle.std.proofs.Common.{rules}
 use Rattle.std.proofs.Math.Seq.{take-suc}
 use Rattle.std.proofs.lemmas.Bool.{cases_lt}
 use Rattle.std.proofs.lemmas.List.Folds.{list_all-append}
@@ -9,29 +10,15 @@ use Rattle.std.specs.Prelude.{◌&&◌, codes, decimal}
 use Rattle.dgt_message.specs.Clock.{Times}
 use Rattle.dgt_lines.specs.Clocks.{has_bit, low_text, running_text, shown_times, turn_text}
 use Rattle.dgt_lines.specs.Lines.{byte_text, padded_decimal, shown_time, words_text}
+use Rattle.std.proofs.lemmas.Grind.{common_steps}
 
 -- no leading zero
 pub padded_one : (n : ℕ) → n < 2 ^ 64 → padded_decimal 1 n ≡ decimal n
-padded_one n h =
-    let some = decimal_nonempty n h in
-    let z : 1 - length (decimal n) ≡ 0 = omega arith in
-    ap (λ j. replicate j 48 ++ decimal n) z
+padded_one n h = search (rules, decimal_nonempty)
 
 -- two digits
 pub padded_two : (n : ℕ) → n < 100 → padded_decimal 2 n ≡ (48 + n / 10) ∷ (48 + n % 10) ∷ []
-padded_two n h = elim (cases_lt n 10) [
-  | inl low ↦
-      let e : decimal n ≡ (48 + n) ∷ [] = decimal_digit n low in
-      let tens : 48 ≡ 48 + n / 10 = omega arith in
-      let units : 48 + n ≡ 48 + n % 10 = omega arith in
-      ap (λ l. replicate (2 - length l) 48 ++ l) e ∙ ap (λ t. t ∷ (48 + n) ∷ []) tens ∙
-      ap (λ u. (48 + n / 10) ∷ u ∷ []) units
-  | inr high ↦
-      let tens : decimal (n / 10) ≡ (48 + n / 10) ∷ [] = decimal_digit (n / 10) (omega arith) in
-      let e : decimal n ≡ (48 + n / 10) ∷ (48 + n % 10) ∷ [] =
-      decimal_step n high (omega arith) ∙ ap (λ l. l ++ (48 + n % 10) ∷ []) tens in
-      ap (λ l. replicate (2 - length l) 48 ++ l) e
-]
+padded_two n h = search (rules, cases_lt, decimal_digit, decimal_step)
 
 -- two digits for each byte, and a space before them
 abbrev pub spaced_text : List ℕ → List ℕ
@@ -40,14 +27,12 @@ spaced_text (byte ∷ bytes) = 32 ∷ byte_text byte ++ spaced_text bytes
 
 spaced_text-append : (s t : List ℕ) → spaced_text (s ++ t) ≡ spaced_text s ++ spaced_text t
 spaced_text-append [] t = refl
-spaced_text-append (byte ∷ s) t =
-    ap (λ l. 32 ∷ byte_text byte ++ l)
-    (spaced_text-append s t) ∙ sym (append_assoc (32 ∷ byte_text byte) (spaced_text s) (spaced_text t))
+spaced_text-append (byte ∷ s) t = search (rules, append_assoc, spaced_text-append s t)
 
 pub spaced_text-take : (s : List ℕ) (i : ℕ) → i < length s → spaced_text (take (i + 1) s) ≡ spaced_text (take i s) ++
     (32 ∷ byte_text (get_or s i 0))
-spaced_text-take s i h = ap spaced_text (rw add-one (take-suc s i 0 h)) ∙ spaced_text-append (take i s)
-    (get_or s i 0 ∷ []) ∙ ap (λ l. spaced_text (take i s) ++ l) (append-nil (32 ∷ byte_text (get_or s i 0)))
+spaced_text-take s i h =
+    grind (arith, common_steps, add-one, take-suc, spaced_text-append, append-nil)
 
 pub words_text-bytes : (word bytes : List ℕ) → words_text (word ∷ map byte_text bytes) ≡ word ++ spaced_text bytes
 words_text-bytes word [] = sym (append-nil word)

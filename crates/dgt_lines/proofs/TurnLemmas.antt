@@ -47,11 +47,9 @@ abbrev pub next_read : {S T : Type 0} {R : Source S} {W : Sink T} {a b b' : S} {
     → R.reads b' ≡ min (R.reads b + 1) (2 ^ 64 - 1) → (R.failed b ≡ false → R.ended b ≡ false → R.late b' ≡ R.late b)
     → (n ≡ 0 → ⊥)
     → W.failed d' ≡ W.failed d → (W.failed d ≡ false → W.late d' ≡ W.late d) → Wrote W d' d'' text
-    → IsTrue (W.flushed d'')
-    → BetweenReads R W a b' c d'' (taken + 1) limit
+    → IsTrue (W.flushed d'') → BetweenReads R W a b' c d'' (taken + 1) limit
 next_read {taken = taken} p more n buffer bound given not_refused no_end counted in_time some kept sink_in_time wrote
-    flushed =
-    let not_ended = no_end (λ h. some h.0) in record {
+    flushed = let not_ended = no_end (λ h. some h.0) in record {
       bytes = p.bytes ++ take n buffer;
       given = Consumes-trans _ _ _ p.bytes (take n buffer) p.given given;
       each = omega (arith, p.each, some, length-append p.bytes (take n buffer), length-take-le n buffer bound);

@@ -26,9 +26,8 @@ module _ {A : Type 0} (Does : A → WorldView → Outcome → WorldView → Type
   -- a property that each of these acts keeps is kept by all of them
   pub run_keeps : (P : A → Type 0) (Q : WorldView → Type 0)
       → ((act : A) (world after : WorldView) (answer : Outcome) → P act → Q world → Does act world answer after
-      → Q after)
-      → (acts : List A) (world after : WorldView) (answers : List Outcome) → AllByRecursion P acts → Q world
-      → RunsBy Does acts world answers after → Q after
+      → Q after) → (acts : List A) (world after : WorldView) (answers : List Outcome)
+      → AllByRecursion P acts → Q world → RunsBy Does acts world answers after → Q after
   run_keeps P Q kept [] world after [] all q same = rw same q
   run_keeps P Q kept (act ∷ acts) world after (answer ∷ answers) all q (between, step, runs) =
       run_keeps P Q kept acts between after answers all.1 (kept act world between answer all.0 q step) runs

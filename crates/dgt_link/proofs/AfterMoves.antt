@@ -1,5 +1,5 @@
 -- Facts after any moves.
-use Rattle.std.proofs.Common.{◌≡◌, refl, sym, ap, ◌∙◌, List, [], ◌∷◌, ◌++◌, Option, Some, None}
+use Rattle.std.proofs.Common.{◌≡◌, refl, ap, List, [], ◌∷◌, ◌++◌, Option, Some, None, rules}
 use Rattle.std.specs.Prelude.{flat_map, unwrap_or}
 use Rattle.std.specs.List.{AllByRecursion}
 use Rattle.dgt_command.specs.Content.{CommandContent}
@@ -48,15 +48,11 @@ pub moves-mode : (x : MachineState) (moves : List Move)
     → coming_mode (after_moves x moves) ≡ mode_after (coming_mode x) (flat_map requests moves)
 moves-mode x [] = refl
 moves-mode x (move ∷ moves) =
-    moves-mode (after_move x move) moves ∙ ap (λ (mode : Mode). mode_after mode (flat_map requests moves))
-    (move-mode x move)
-    ∙ sym (mode_after-append (coming_mode x) (requests move) (flat_map requests moves))
+    search (rules, move-mode, mode_after-append, moves-mode (after_move x move) moves)
 
 pub moves_promise : (x : MachineState) (moves : List Move) → IsAsked (commands_after [] (flat_map requests moves))
     → IsPromised (after_moves x moves)
-moves_promise x moves asked =
-    coming_promise (commands_after [] (flat_map requests moves)) (after_moves x moves)
-    (moves_come [] x moves (nothing_asked x)) asked
+moves_promise x moves asked = search (rules, coming_promise, moves_come, nothing_asked)
 
 pub moves_picture : (x : MachineState) (moves : List Move) → IsSound x
     → IsAsked (commands_after [] (flat_map requests moves)) → IsQuiet (after_moves x moves)

@@ -1,14 +1,14 @@
 -- In an exact state messages arrive in the order of their requests.
-use Rattle.std.proofs.Common.{◌≡◌, refl, ap, ◌∙◌, List, [], ◌∷◌, ◌++◌, Option, Some, None, All}
-use Rattle.std.proofs.lemmas.List.Elements.{All-head, All-nil, All-tail, filter_map-append}
-use Rattle.std.specs.Prelude.{filter_map, slice_get}
+use Rattle.std.proofs.Common.{◌≡◌, refl, ap, ◌∙◌, List, [], ◌∷◌, ◌++◌, Option, Some, None, All, rules}
+use Rattle.std.proofs.lemmas.List.Elements.{All-head, All-tail, filter_map-append}
+use Rattle.std.specs.Prelude.{filter_map}
 use Rattle.std.specs.List.{cons_option}
 use Rattle.dgt_values.specs.declared.kinds.Kind.{Kind}
 use Rattle.dgt_message.specs.Content.{Content, answered_kind}
 use Rattle.dgt_decode.specs.Grammar.{Event}
 use Rattle.dgt_host.specs.Host.{IsUnasked}
 use Rattle.dgt_link.specs.Machine.{MachineState}
-use Rattle.dgt_link.specs.Sound.{IsExact, kind_of_event, kind_of_reply}
+use Rattle.dgt_link.specs.Sound.{IsExact}
 
 -- messages without a kind answer nothing that is awaited
 no_kinds : (messages : List Content) → All (λ other. answered_kind other ≡ None) messages
@@ -19,26 +19,12 @@ no_kinds (message ∷ messages) none =
     (All-head (λ other. answered_kind other ≡ None) message messages none)
     ∙ no_kinds messages (All-tail (λ other. answered_kind other ≡ None) message messages none)
 
-first_kinds : (before later : List Content) (message : Content) (kind : Kind)
-    → All (λ other. answered_kind other ≡ None) before → answered_kind message ≡ Some kind
-    → filter_map answered_kind (before ++ message ∷ later) ≡ kind ∷ filter_map answered_kind later
-first_kinds before later message kind none is =
-    filter_map-append answered_kind before (message ∷ later)
-    ∙ ap (λ (kinds : List Kind). kinds ++ filter_map answered_kind (message ∷ later)) (no_kinds before none)
-    ∙ ap (λ (kind : Option Kind). cons_option kind (filter_map answered_kind later)) is
-
 pub first_answer : (x : MachineState) (before later : List Content) (message : Content) (kind : Kind) → IsExact x
     → x.up ≡ before ++ message ∷ later → All (λ other. answered_kind other ≡ None) before
     → answered_kind message ≡ Some kind → (others : List Kind) × (x.awaited ≡ kind ∷ others)
-first_answer x before later message kind exact e none is = (
-  filter_map answered_kind later ++ (filter_map kind_of_reply x.board.owed ++ filter_map kind_of_event x.down),
-  exact.awaited ∙ ap (λ (kinds : List Kind). kinds ++
-      (filter_map kind_of_reply x.board.owed ++ filter_map kind_of_event x.down))
-      (ap (filter_map answered_kind) e ∙ first_kinds before later message kind none is),
-)
+first_answer x before later message kind exact e none is =
+    search (rules, filter_map-append, no_kinds)
 
 pub never_unasked : (x : MachineState) (later : List Content) (message : Content) → IsExact x → x.up ≡ message ∷ later
     → ¬ (IsUnasked x.awaited (Some (Event.Message message)))
-never_unasked x later message exact e (kind, is, other) =
-    other (ap (λ (kinds : List Kind). slice_get kinds 0)
-    (first_answer x [] later message kind exact e (All-nil (λ other. answered_kind other ≡ None)) is).1)
+never_unasked x later message exact e (kind, is, other) = search (rules, first_answer)

@@ -1,5 +1,5 @@
 -- The requests of acts, which continue to count.
-use Rattle.std.proofs.Common.{◌≡◌, refl, sym, List, [], ◌∷◌, ◌++◌, false, length, map, arith}
+use Rattle.std.proofs.Common.{◌≡◌, refl, sym, List, [], ◌∷◌, ◌++◌, false, length, map, arith, rules}
 use Rattle.std.proofs.lemmas.Bool.{false≢true}
 use Rattle.std.proofs.lemmas.List.Elements.{Contains-append_left, Contains-push}
 use Rattle.std.specs.Prelude.{Contains, IsTrue, filter_map, unwrap_or}
@@ -19,9 +19,7 @@ act_still_asked : (commands : List CommandContent) (act : ActContent) (answer : 
     → IsAsked (commands_after commands (act_requests answer act))
 act_still_asked commands (ActContent.Host command) Outcome.Done calm is = still_asked commands command calm is
 act_still_asked commands ActContent.Break answer calm is = absurd (false≢true (sym calm))
-act_still_asked commands ActContent.HostBreak Outcome.Done calm is =
-    still_asked (commands ++ CommandContent.UpdateBoard ∷ []) CommandContent.Dump refl
-    (still_asked commands CommandContent.UpdateBoard refl is)
+act_still_asked commands ActContent.HostBreak Outcome.Done calm is = search (rules, still_asked)
 act_still_asked commands _ Outcome.Done calm is = is
 act_still_asked commands _ _ calm is = is
 
@@ -55,9 +53,7 @@ IsUpdating =
 
 sets_updates : (before : Mode) (mode : CommandContent) → IsUpdating mode
     → IsTrue (updates (unwrap_or (command_mode mode) before))
-sets_updates before mode =
-    one_of_three (λ m. IsTrue (updates (unwrap_or (command_mode m) before))) CommandContent.Update
-    CommandContent.UpdateBoard CommandContent.UpdateNice mode refl refl refl
+sets_updates before mode = search (rules, one_of_three)
 
 mode_then_dump : (commands : List CommandContent) (mode : CommandContent) → IsUpdating mode
     → IsAsked ((commands ++ mode ∷ []) ++ CommandContent.Dump ∷ [])
@@ -76,11 +72,9 @@ dump_then_mode : (commands : List CommandContent) (mode : CommandContent) → Is
 dump_then_mode commands mode asks =
     let before : Mode = last_mode Mode.Idle (filter_map command_mode (commands ++ CommandContent.Dump ∷ [])) in
     record {
-      dump =
-          Contains-append_left (commands ++ CommandContent.Dump ∷ []) (mode ∷ []) CommandContent.Dump
+      dump = Contains-append_left (commands ++ CommandContent.Dump ∷ []) (mode ∷ []) CommandContent.Dump
           (Contains-push commands CommandContent.Dump);
-      mode =
-          rw (← asked-mode (commands ++ CommandContent.Dump ∷ []) mode Mode.Idle before refl)
+      mode = rw (← asked-mode (commands ++ CommandContent.Dump ∷ []) mode Mode.Idle before refl)
           (sets_updates before mode asks);
     }
 
@@ -89,16 +83,14 @@ module _ (acts later : List ActContent) (mode : CommandContent) (answers others 
     (calm : AreCalm (map FaultyContent.Plain later)) where
   pub asked_mode_first : IsAskedBy (acts ++ ActContent.Host mode ∷ ActContent.Host CommandContent.Dump ∷ later)
       (answers ++ Outcome.Done ∷ Outcome.Done ∷ others)
-  asked_mode_first =
-      after_any (ActContent.Host mode ∷ ActContent.Host CommandContent.Dump ∷ later)
+  asked_mode_first = after_any (ActContent.Host mode ∷ ActContent.Host CommandContent.Dump ∷ later)
       (Outcome.Done ∷ Outcome.Done ∷ others)
       (λ commands. acts_still_asked ((commands ++ mode ∷ []) ++ CommandContent.Dump ∷ []) later others calm
       (mode_then_dump commands mode asks)) [] acts answers same
 
   pub asked_dump_first : IsAskedBy (acts ++ ActContent.Host CommandContent.Dump ∷ ActContent.Host mode ∷ later)
       (answers ++ Outcome.Done ∷ Outcome.Done ∷ others)
-  asked_dump_first =
-      after_any (ActContent.Host CommandContent.Dump ∷ ActContent.Host mode ∷ later)
+  asked_dump_first = after_any (ActContent.Host CommandContent.Dump ∷ ActContent.Host mode ∷ later)
       (Outcome.Done ∷ Outcome.Done ∷ others)
       (λ commands. acts_still_asked ((commands ++ CommandContent.Dump ∷ []) ++ mode ∷ []) later others calm
       (dump_then_mode commands mode asks)) [] acts answers same

@@ -1,5 +1,5 @@
 -- What acts request of the board, how they change the promise, and which of their moves are breaks.
-use Rattle.std.proofs.Common.{◌≡◌, ◌≢◌, refl, ap, ◌∙◌, ℕ, zero, suc, List, [], ◌∷◌, Option, replicate, arith}
+use Rattle.std.proofs.Common.{◌≡◌, ◌≢◌, refl, ap, ℕ, zero, suc, List, [], ◌∷◌, replicate, arith, rules}
 use Rattle.std.proofs.lemmas.Grind.{flat_map-append}
 use Rattle.std.specs.Prelude.{Contains, flat_map}
 use Rattle.std.specs.List.{AllByRecursion}
@@ -24,12 +24,9 @@ requests-hears zero = refl
 requests-hears (suc count) = requests-hears count
 
 requests-sending : (move : Move) → IsSending move → flat_map requests (move ∷ []) ≡ []
-requests-sending Move.Reply sending = refl
-requests-sending (Move.Report square) sending = refl
-requests-sending Move.ReportClock sending = refl
-requests-sending _ none = absurd none
+requests-sending move sending = search rules
 
-requests-act : (act : ActContent) (moves : List Move) → AreMovesOfAct act moves
+pub requests-act : (act : ActContent) (moves : List Move) → AreMovesOfAct act moves
     → flat_map requests moves ≡ act_requests Outcome.Done act
 requests-act (ActContent.Change square piece) moves e = rw e refl
 requests-act (ActContent.ClockRead clock) moves e = rw e refl
@@ -42,22 +39,14 @@ requests-act ActContent.HostBreak moves (noise, is_noise, e) = rw e refl
 
 pub requests-step : (act : ActContent) (outcome : Outcome) (moves : List Move) → AreMovesOfStep act outcome moves
     → flat_map requests moves ≡ act_requests outcome act
-requests-step act Outcome.Done moves are = requests-act act moves are
-requests-step act _ moves e = rw e refl
+requests-step act outcome moves are =
+    search (rules, requests-sending, requests-takes, requests-hears)
 
 requests-run : (acts : List ActContent) (outcomes : List Outcome) (moves : List Move)
-    → AreMovesOfRun acts outcomes moves
-    → flat_map requests moves ≡ run_requests acts outcomes
+    → AreMovesOfRun acts outcomes moves → flat_map requests moves ≡ run_requests acts outcomes
 requests-run [] [] moves e = rw e refl
 requests-run (act ∷ acts) (outcome ∷ outcomes) moves (first, later, are, follow, e) =
-    rw (
-      e,
-      flat_map-append requests first later,
-      requests-step act outcome first are,
-      requests-run acts outcomes later
-          follow,
-    )
-    refl
+    search (rules, flat_map-append, requests-step, requests-run acts outcomes later follow)
 requests-run _ _ moves none = absurd none
 
 -- the acts that are done request the picture, and it is promised
@@ -68,10 +57,7 @@ run_promises x acts outcomes moves are asked = moves_promise x moves (rw (reques
 pub mode-step : (x : MachineState) (act : ActContent) (outcome : Outcome) (moves : List Move)
     → AreMovesOfStep act outcome moves → coming_mode (after_moves x moves) ≡ mode_after (coming_mode x)
     (act_requests outcome act)
-mode-step x act outcome moves are =
-    moves-mode x moves
-    ∙ ap (λ (asked : List (Option CommandContent)). mode_after (coming_mode x) asked)
-    (requests-step act outcome moves are)
+mode-step x act outcome moves are = search (rules, moves-mode, requests-step)
 
 -- ---- a dump is requested, or everything starts over
 
@@ -82,8 +68,7 @@ dump_is_coming x moves e = rw e (dump_asked x)
 -- a break is always done, and is its own move
 pub break_moves : (x : MachineState) (outcome : Outcome) (moves : List Move) → outcome ≡ Outcome.Done
     → AreMovesOfStep ActContent.Break outcome moves → after_moves x moves ≡ after_move x Move.Break
-break_moves x Outcome.Done moves e are = rw are refl
-break_moves x _ moves e are = cc
+break_moves x outcome moves e are = search rules
 
 -- a host break is always done, and restarts the host
 pub host_break_moves : (x : MachineState) (outcome : Outcome) (moves : List Move) → outcome ≡ Outcome.Done
@@ -97,10 +82,7 @@ host_break_moves x _ moves e are = cc
 
 sending_is_none : (P : Move → Type 0) → P Move.Reply → ((square : ℕ) → P (Move.Report square)) → P Move.ReportClock
     → (move : Move) → IsSending move → P move
-sending_is_none P reply report clock Move.Reply sending = reply
-sending_is_none P reply report clock (Move.Report square) sending = report square
-sending_is_none P reply report clock Move.ReportClock sending = clock
-sending_is_none P reply report clock _ none = absurd none
+sending_is_none P reply report clock move sending = search rules
 
 pub act_is_no_break : (act : ActContent) (moves : List Move) → act ≢ ActContent.Break → AreMovesOfAct act moves
     → AllByRecursion (λ move. move ≢ Move.Break) moves
@@ -132,15 +114,13 @@ act_is_other ActContent.HostBreak moves other e = absurd (other refl)
 
 pub step_is_other : (act : ActContent) (outcome : Outcome) (moves : List Move) → act ≢ ActContent.HostBreak
     → AreMovesOfStep act outcome moves → AllByRecursion (λ move. ¬ (IsHostBreak move)) moves
-step_is_other act Outcome.Done moves other are = act_is_other act moves other are
-step_is_other act _ moves other e = rw e tt
+step_is_other act outcome moves other are = search (rules, act_is_other)
 
 pub run_is_other : (acts : List ActContent) (outcomes : List Outcome) (moves : List Move)
     → ¬ (Contains acts ActContent.HostBreak) → AreMovesOfRun acts outcomes moves
     → AllByRecursion (λ move. ¬ (IsHostBreak move)) moves
 run_is_other [] [] moves none e = rw e tt
-run_is_other (act ∷ acts) (outcome ∷ outcomes) moves none (first, later, are, follow, e) =
-    rw e
+run_is_other (act ∷ acts) (outcome ∷ outcomes) moves none (first, later, are, follow, e) = rw e
     (all_append (λ move. ¬ (IsHostBreak move)) first later
     (step_is_other act outcome first (λ is. none (0, omega arith, is)) are)
     (run_is_other acts outcomes later (λ has. none (suc has.0, omega (arith, has.1), has.2)) follow))

@@ -1,6 +1,6 @@
 -- The effect of an act on a world that stands for a state after garbage.
 use Rattle.std.proofs.Common.{◌≡◌, refl, sym, ap, ◌∙◌, ◌⊎◌, inl, inr, ℕ, ◌≤◌, List, [], ◌∷◌, ◌++◌, length, take, drop, replicate}
-use Rattle.std.proofs.Common.{Option, Some, None, false, append_assoc, option_to_list, arith}
+use Rattle.std.proofs.Common.{Option, Some, None, false, append_assoc, rules}
 use Rattle.std.proofs.lemmas.List.{append-nil}
 use Rattle.std.proofs.lemmas.Grind.{flat_map-append}
 use Rattle.std.specs.List.{flat_map}
@@ -9,10 +9,10 @@ use Rattle.dgt_values.specs.declared.kinds.Kind.{Kind}
 use Rattle.dgt_message.specs.Content.{Content, IsMessage, answered_kind}
 use Rattle.dgt_message.specs.Clock.{ClockState}
 use Rattle.dgt_message.specs.Encoding.{Encodes, encoding}
-use Rattle.dgt_command.specs.Content.{CommandContent, requested_kind}
+use Rattle.dgt_command.specs.Content.{CommandContent}
 use Rattle.dgt_board.specs.State.{BoardState, after_change, after_hand_clock}
 use Rattle.dgt_board.specs.Sending.{after_sending, next_message}
-use Rattle.dgt_decode.specs.Grammar.{Event, Message, Placed, cut_of, events, shifted, unfinished_message}
+use Rattle.dgt_decode.specs.Grammar.{Event, Message, Placed, events, shifted, unfinished_message}
 use Rattle.dgt_decode.specs.Laws.{BeginsAnew}
 use Rattle.dgt_message.specs.Picture.{clock_after, picture_after}
 use Rattle.dgt_host.specs.Host.{HostView, awaited_after, host_after, host_after_event, host_after_events, host_after_message}
@@ -52,28 +52,13 @@ record KnowsNoMore (known host : HostView) : Type 0 where
   pub picture : IsUnknownOr known.picture host.picture
   pub clock : IsUnknownOr known.clock host.clock
 
-unknown_picture : (seen : Option (List Piece)) (message : Content)
-    → IsUnknownOr (picture_after None message) (picture_after seen message)
-unknown_picture seen (Content.dump pieces) = inr refl
-unknown_picture seen (Content.field square piece) = inl refl
-unknown_picture seen _ = inl refl
-
-unknown_clock : (seen : Option ClockState) (message : Content)
-    → IsUnknownOr (clock_after None message) (clock_after seen message)
-unknown_clock seen (Content.times readings) = inr refl
-unknown_clock seen (Content.no_clock absence) = inr refl
-unknown_clock seen _ = inl refl
-
 picture_no_more : (known seen : Option (List Piece)) (message : Content) → IsUnknownOr known seen
     → IsUnknownOr (picture_after known message) (picture_after seen message)
-picture_no_more known seen message (inl none) = rw none (unknown_picture seen message)
-picture_no_more known seen message (inr same) =
-    inr (ap (λ (p : Option (List Piece)). picture_after p message) same)
+picture_no_more known seen message h3 = search rules
 
 clock_no_more : (known seen : Option ClockState) (message : Content) → IsUnknownOr known seen
     → IsUnknownOr (clock_after known message) (clock_after seen message)
-clock_no_more known seen message (inl none) = rw none (unknown_clock seen message)
-clock_no_more known seen message (inr same) = inr (ap (λ (c : Option ClockState). clock_after c message) same)
+clock_no_more known seen message h3 = search rules
 
 knows_no_more : (known host : HostView) (messages : List Content) → KnowsNoMore known host
     → KnowsNoMore (host_after_messages known messages) (host_after_messages host messages)
@@ -86,17 +71,9 @@ knows_no_more known host (message ∷ messages) less =
 
 -- ---- what is awaited
 
--- whatever is heard, the awaited kinds stay among the same kinds
-awaited_after_stays : (awaited : List Kind) (kind : Option Kind) (kinds : List Kind) → IsSubsequence awaited kinds
-    → IsSubsequence (awaited_after awaited kind) kinds
-awaited_after_stays awaited None kinds h = h
-awaited_after_stays awaited (Some kind) kinds h =
-    awaited_after-subsequence awaited (Some kind) kinds (subsequence_later awaited kind kinds h)
-
 event_awaits : (host : HostView) (event : Event) (kinds : List Kind) → IsSubsequence host.awaited kinds
     → IsSubsequence (host_after_event host event).awaited kinds
-event_awaits host (Message said) kinds h = awaited_after_stays host.awaited (answered_kind said) kinds h
-event_awaits host _ kinds h = h
+event_awaits host event kinds h = search (rules, awaited_after-subsequence, subsequence_later)
 
 events_await : (host : HostView) (reported : List Placed) (kinds : List Kind) → IsSubsequence host.awaited kinds
     → IsSubsequence (host_after_events host reported).awaited kinds
@@ -123,11 +100,6 @@ events_in_a_row : (host : HostView) (reported more : List Placed)
 events_in_a_row host [] more = refl
 events_in_a_row host (x ∷ reported) more = events_in_a_row (host_after_event host x.event) reported more
 
--- cutting off a message reports nothing
-cut_reports_nothing : (host : HostView) (held : List ℕ) → host_after_events host (cut_of held) ≡ host
-cut_reports_nothing host [] = refl
-cut_reports_nothing host (b ∷ held) = refl
-
 same_behind : (prefix xs ys : List ℕ) → prefix ++ xs ≡ prefix ++ ys → xs ≡ ys
 same_behind [] xs ys e = e
 same_behind (b ∷ prefix) xs ys e = same_behind prefix xs ys cc
@@ -135,27 +107,15 @@ same_behind (b ∷ prefix) xs ys e = same_behind prefix xs ys cc
 -- encoded messages begin with a byte with a set top bit
 first_has_top_bit : (messages : List Content) (b : ℕ) (rest : List ℕ) → flat_map encoding messages ≡ b ∷ rest → 128 ≤ b
 first_has_top_bit [] b rest e = cc
-first_has_top_bit (message ∷ messages) b rest e = omega (arith, first_same e)
-  where
-    first_same : {x y : ℕ} {xs ys : List ℕ} → x ∷ xs ≡ y ∷ ys → x ≡ y
-    first_same h = cc
+first_has_top_bit (message ∷ messages) b rest e = search rules
 
 -- whatever the effect of garbage on the host, it hears what begins after it
-behind_garbage : BeginsAnew
-    → ((host : HostView) (n : ℕ) (reported : List Placed)
+behind_garbage : BeginsAnew → ((host : HostView) (n : ℕ) (reported : List Placed)
     → host_after_events host (shifted n reported) ≡ host_after_events host reported)
     → (host : HostView) (garbage more : List ℕ) (b : ℕ) → 128 ≤ b
     → host_after_events host (events (garbage ++ b ∷ more))
     ≡ host_after_events (host_after_events host (events garbage)) (events (b ∷ more))
-behind_garbage anew places host garbage more b top =
-    let then : HostView = host_after_events host (events garbage) in
-    let cut : List Placed = cut_of (unfinished_message garbage) in
-    ap (host_after_events host) (anew garbage more b top).0
-    ∙ events_in_a_row host (events garbage) (shifted (length garbage) (cut ++ events (b ∷ more)))
-    ∙ places then (length garbage) (cut ++ events (b ∷ more))
-    ∙ events_in_a_row then cut (events (b ∷ more))
-    ∙ ap (λ (h : HostView). host_after_events h (events (b ∷ more)))
-    (cut_reports_nothing then (unfinished_message garbage))
+behind_garbage anew places host garbage more b top = search (rules, events_in_a_row)
 
 -- the host of a state
 abbrev host_of : MachineState → HostView
@@ -163,11 +123,10 @@ host_of x = record { picture = x.picture; clock = x.host_clock; awaited = x.awai
 
 -- the world after its host has heard this many bytes
 abbrev heard_world : WorldView → ℕ → WorldView
-heard_world world count =
-    record world {
-      host = host_after world.host (take count world.up.bytes);
-      up = without_first world.up count;
-    }
+heard_world world count = record world {
+  host = host_after world.host (take count world.up.bytes);
+  up = without_first world.up count;
+}
 
 -- all bytes that the host holds of a message and then hears
 abbrev all_heard : WorldView → ℕ → List ℕ
@@ -237,19 +196,7 @@ module _ (laws : Grammars) where
     unfinished_message (all_heard world count) ++ left,
     [],
     (0, refl),
-    record {
-      sound = stands.sound;
-      board = stands.board;
-      picture = inl unknown.0;
-      clock = inl unknown.1;
-      unheard = inr unknown;
-      are_messages = stands.are_messages;
-      up =
-          ap (λ (rest : List ℕ). unfinished_message (all_heard world count) ++ rest) e
-          ∙ sym (append_assoc (unfinished_message (all_heard world count)) left (flat_map encoding x.up));
-      down = stands.down;
-      partial = stands.partial;
-    },
+    search (rules, append_assoc),
     λ a. events_await world.host (events (all_heard world count)) (coming_kinds x) a,
   )
 
@@ -319,13 +266,8 @@ module _ (laws : Grammars) where
     Move.Ask command ∷ [],
     refl,
     rw same
-        (assumption (
-          move_sound x (Move.Ask command) stands.sound,
-          divides_command laws.nothing laws.divisions_append world.board.partial world.down.bytes x.down command
-              stands.down encodes,
-        )),
-    rw same (λ a. rw (ask-kinds x command)
-        (subsequence_append world.host.awaited (coming_kinds x) (option_to_list (requested_kind command)) a)),
+        (search (rules, move_sound, divides_command)),
+    rw same (search (rules, ask-kinds, subsequence_append)),
   )
 
   -- the board sends this message

@@ -1,11 +1,10 @@
 -- How each act changes what is promised of a host's clock, and what counts for it after many acts.
-use Rattle.std.proofs.Common.{◌≡◌, refl, sym, ◌∙◌, ap, inr, List, [], ◌∷◌, Some, None, true, false, arith}
-use Rattle.std.specs.Prelude.{IsTrue, filter_map}
+use Rattle.std.proofs.Common.{◌≡◌, refl, inr, List, [], ◌∷◌, Some, None, true, false, arith, rules}
+use Rattle.std.specs.Prelude.{IsTrue}
 use Rattle.dgt_command.specs.Content.{CommandContent}
 use Rattle.dgt_command.specs.Laws.{EachDividesOnce}
 use Rattle.dgt_board.specs.declared.modes.Mode.{Mode}
-use Rattle.dgt_board.specs.State.{BoardState, command_mode, follows_clock}
-use Rattle.dgt_link.specs.Act.{ActContent}
+use Rattle.dgt_board.specs.State.{command_mode, follows_clock}
 use Rattle.dgt_link.specs.declared.acts.Outcome.{Outcome}
 use Rattle.dgt_link.specs.Clocks.{ClockIsComing, IsClockFollowing, IsClockPromised, IsClockPromisedWorld, stops_clock}
 use Rattle.dgt_link.specs.Faults.{FaultyContent, FaultyStep, begins_anew, is_fault, loses_step, sends}
@@ -32,16 +31,11 @@ command_stays : (before : Mode) (command : CommandContent)
 command_stays before command going asks = grind arith
 
 pub clock_hope : Hope follows_clock stops_clock ClockIsComing
-clock_hope =
-    let settling = by_settling (λ act. stops_clock (FaultyContent.Plain act) ≡ false) refl (λ count. refl)
-    (λ count. refl) in
-    record { command = command_stays; breaks = refl; settling = settling; comes = step_keeps_clock }
+clock_hope = search (rules, by_settling, command_stays, step_keeps_clock)
 
 -- starting over ends it
 anew_ends : (act : FaultyContent) → begins_anew act ≡ true → stops_clock act ≡ false → ⊥
-anew_ends FaultyContent.Restart is going = cc
-anew_ends (FaultyContent.Plain ActContent.HostBreak) is going = cc
-anew_ends _ is going = cc
+anew_ends act is going = search rules
 
 module _ (behind : ActsBehind) where
   pub clock_owed_promises : (command : CommandContent) (mode : Mode) (world after : WorldView)
@@ -51,12 +45,7 @@ module _ (behind : ActsBehind) where
       set_promises behind follows_clock stops_clock ClockIsComing clock_hope
       (λ x. x.board.reported_clock ≡ None) command
       mode world after (λ x moves e reported. rw e (inr (inr (inr reported)))) sets asks
-      (record {
-        garbage = is.garbage;
-        state = is.state;
-        stands = is.stands;
-        holds = ap (λ (board : BoardState). board.reported_clock) (sym is.stands.board) ∙ none;
-      })
+      (search rules)
       step
 
   pub clock_promises : (world after : WorldView) → IsClockFollowing world
@@ -93,9 +82,4 @@ followed_from_any before (mode ∷ modes) h = h
 
 pub clock_healing_promised : (c : Counted) (world : WorldView) → Holds c world → IsClockHealing c
     → IsClockPromisedWorld world
-clock_healing_promised c world holds healing =
-    let f = holds.follows healing.in_step in
-    follows_with IsClockPromised f (record {
-      coming = f.clock healing.asked;
-      mode = rw f.comes.mode (followed_from_any f.comes.before (filter_map command_mode c.asked) healing.mode);
-    })
+clock_healing_promised c world holds healing = search (rules, follows_with, followed_from_any)

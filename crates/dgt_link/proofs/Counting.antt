@@ -16,7 +16,6 @@ use Rattle.dgt_command.specs.Words.{Divides, IsNoiseList, IsPartial}
 use Rattle.dgt_board.specs.declared.modes.Mode.{Mode}
 use Rattle.dgt_board.specs.State.{BoardState, after_line_lost, command_mode, effects, follows_clock}
 use Rattle.dgt_board.specs.Sending.{pending_messages}
-use Rattle.dgt_board.specs.View.{BoardView}
 use Rattle.dgt_host.specs.Host.{follow_bytes, restart_bytes}
 use Rattle.dgt_link.specs.Act.{ActContent}
 use Rattle.dgt_link.specs.declared.acts.Outcome.{Outcome}
@@ -33,7 +32,7 @@ use Rattle.dgt_link.specs.Clocks.{ClockIsComing}
 use Rattle.dgt_link.proofs.Clocks.{clock_is_asked, step_keeps_clock}
 use Rattle.dgt_link.proofs.Behind.{awaiting, step_behind}
 use Rattle.dgt_link.proofs.Dividing.{anew_divides}
-use Rattle.dgt_link.proofs.Lists.{Contains-cons, nothing_contained, right_empty}
+use Rattle.dgt_link.proofs.Lists.{nothing_contained, right_empty}
 use Rattle.dgt_link.proofs.Promises.{IsComing, last_mode-append, noise-modes, nothing_asked}
 use Rattle.dgt_link.proofs.Quiet.{quiet_awaited}
 use Rattle.dgt_link.proofs.WorldsByState.{nothing_first}
@@ -42,23 +41,20 @@ use Rattle.dgt_link.proofs.Sending.{next_is_sent}
 use Rattle.dgt_link.proofs.Soundness.{asked_sound, board_sound, move_sound, new_sound, noise-kinds}
 use Rattle.dgt_link.proofs.Subsequences.{subsequence_at_end}
 use Rattle.dgt_link.specs.Readers.{Grammars}
-use Rattle.dgt_link.proofs.Standing.{HasRooms, becomes_rooms, same_rooms, taken_state, takes}
+use Rattle.dgt_link.proofs.Standing.{becomes_rooms, same_rooms, taken_state, takes}
 use Rattle.dgt_command.proofs.DivisionLemmas.{bytes_append, bytes_left, bytes_right}
+use Rattle.std.proofs.lemmas.Grind.{common_steps}
 
 -- ---- bytes
 
 bytes_drop : (count : ℕ) (xs : List ℕ) → AreBytes xs → AreBytes (drop count xs)
-bytes_drop zero xs h i = h i
-bytes_drop (suc count) [] h i = h i
-bytes_drop (suc count) (x ∷ xs) h i = bytes_drop count xs (λ j. h (suc j)) i
+bytes_drop count xs h = grind (arith, common_steps)
 
 no_bytes : AreBytes []
 no_bytes i = omega arith
 
 bytes_zeros : (count : ℕ) → AreBytes (replicate count 0)
-bytes_zeros zero i = omega arith
-bytes_zeros (suc count) zero = omega arith
-bytes_zeros (suc count) (suc i) = bytes_zeros count i
+bytes_zeros count = grind (arith, common_steps)
 
 bytes_follow : AreBytes (0x44 ∷ 0x42 ∷ [])
 bytes_follow = search rules
@@ -113,13 +109,7 @@ module _ (laws : Grammars) where
       })
   becomes_sane (ActContent.ToHost count) world after sane same =
       rw same (record { board = sane.board; partial = sane.partial; down = sane.down })
-  becomes_sane ActContent.Break world after sane same =
-      rw same
-      (record {
-        board = lost_sound world.board.state sane.board;
-        partial = laws.nothing;
-        down = no_bytes;
-      })
+  becomes_sane ActContent.Break world after sane same = search (rules, lost_sound, no_bytes)
   becomes_sane ActContent.HostBreak world after sane same =
       rw same (record { board = sane.board; partial = sane.partial; down = bytes_restart })
 
@@ -130,13 +120,7 @@ module _ (laws : Grammars) where
       rw same (record { board = sane.board; partial = sane.partial; down = sane.down })
   faulty_sane (FaultyContent.GarbleDown bytes) world after sane (are, same) =
       rw same (record { board = sane.board; partial = sane.partial; down = are })
-  faulty_sane FaultyContent.BoardLost world after sane same =
-      rw same
-      (record {
-        board = lost_sound world.board.state sane.board;
-        partial = laws.nothing;
-        down = sane.down;
-      })
+  faulty_sane FaultyContent.BoardLost world after sane same = search (rules, lost_sound)
   faulty_sane FaultyContent.GiveUp world after sane same =
       rw same (record { board = sane.board; partial = sane.partial; down = sane.down })
   faulty_sane FaultyContent.Restart world after sane same =
@@ -144,8 +128,7 @@ module _ (laws : Grammars) where
 
   pub step_sane : (act : FaultyContent) (world : WorldView) (answer : Outcome) (after : WorldView) → IsSane world
       → FaultyStep act world answer after → IsSane after
-  step_sane act world Outcome.Done after sane step = faulty_sane act world after sane step.leaves
-  step_sane act world _ after sane step = rw step.leaves sane
+  step_sane act world answer after sane step = search (rules, faulty_sane)
 
 -- ---- what counts, and the state of the world after it
 
@@ -174,15 +157,7 @@ follows_in_step in_turn asked world f = follows_with (λ x. Unit {0}) f tt
 
 -- nothing was requested yet
 pub in_step_follows : (world : WorldView) → IsInStep world → Follows false [] world
-in_step_follows world is =
-    record {
-      garbage = is.garbage;
-      state = is.state;
-      stands = is.stands;
-      comes = nothing_asked is.state;
-      clock = λ has. absurd (nothing_contained CommandContent.Clock has);
-      awaits = λ none. absurd (false≢true none);
-    }
+in_step_follows world is = search (rules, nothing_asked, nothing_contained, false≢true)
 
 -- a requested reading arrives, even if it was just requested
 asked_clock : (asked : List CommandContent) (command : CommandContent) (x : MachineState) (moves : List Move)
@@ -197,8 +172,7 @@ asked_clock asked command x moves are clock has =
     ]
 
 clock_comes : (act : ActContent) (answer : Outcome) (x : MachineState) (moves : List Move)
-    (asked : List CommandContent)
-    → is_break act ≡ false → AreMovesOfStep act answer moves
+    (asked : List CommandContent) → is_break act ≡ false → AreMovesOfStep act answer moves
     → (Contains asked CommandContent.Clock → ClockIsComing x)
     → Contains (commands_after asked (act_requests answer act)) CommandContent.Clock
     → ClockIsComing (after_moves x moves)
@@ -233,11 +207,7 @@ plain_follows laws act world answer after in_turn asked other f step =
 first_is_out : (other command : CommandContent) (commands : List CommandContent) → sets_mode other ≡ false
     → sets_mode command ≡ true → (Contains (filter sets_mode commands) other → ⊥)
     → Contains (command ∷ filter sets_mode commands) other → ⊥
-first_is_out other command commands none sets later has =
-    elim (Contains-cons other command (filter sets_mode commands) has) [
-      | inl is ↦ false≢true (sym none ∙ ap sets_mode (sym is) ∙ sets)
-      | inr more ↦ later more
-    ]
+first_is_out other command commands none sets later has = search (rules, false≢true)
 
 other_is_out : (other : CommandContent) → sets_mode other ≡ false → (commands : List CommandContent)
     → Contains (filter sets_mode commands) other → ⊥
@@ -269,18 +239,7 @@ forgotten x = commanded_state x.board x.down
 pub forgotten_stands : (garbage : List ℕ) (world : WorldView) (up : LineContents) (x : MachineState)
     → StandsBehind garbage world x
     → StandsBehind (world.host.unread ++ up.bytes) (record world { up = up }) (forgotten x)
-forgotten_stands garbage world up x stands =
-    record {
-      sound = commanded_sound x x.down stands.sound;
-      board = stands.board;
-      picture = inl refl;
-      clock = inl refl;
-      unheard = inr (refl, refl);
-      are_messages = tt;
-      up = sym (append-nil (world.host.unread ++ up.bytes));
-      down = stands.down;
-      partial = stands.partial;
-    }
+forgotten_stands garbage world up x stands = search (rules, commanded_sound, append-nil)
 
 -- garbage replaces what is under way to the host
 pub garbled_stands : (bytes : List ℕ) (world after : WorldView) (garbage : List ℕ) (x : MachineState)
@@ -292,70 +251,45 @@ garbled_stands bytes world after garbage x stands same =
 garbled_follows : (in_turn : Bool) (asked : List CommandContent) (bytes : List ℕ) (world after : WorldView)
     → Follows in_turn asked world
     → FaultyBecomes (FaultyContent.GarbleUp bytes) world after → Follows false (filter sets_mode asked) after
-garbled_follows in_turn asked bytes world after f same =
-    record {
-      garbage = world.host.unread ++ bytes;
-      state = forgotten f.state;
-      stands = garbled_stands bytes world after f.garbage f.state f.stands same;
-      comes = record {
-        picture = λ has. absurd (other_is_out CommandContent.Dump refl asked has);
-        before = f.comes.before;
-        mode = f.comes.mode ∙ sym (ap (last_mode f.comes.before) (modes_stay asked));
-      };
-      clock = λ has. absurd (other_is_out CommandContent.Clock refl asked has);
-      awaits = λ none. absurd (false≢true none);
-    }
+garbled_follows in_turn asked bytes world after f same = record {
+  garbage = world.host.unread ++ bytes;
+  state = forgotten f.state;
+  stands = garbled_stands bytes world after f.garbage f.state f.stands same;
+  comes = record {
+    picture = λ has. absurd (other_is_out CommandContent.Dump refl asked has);
+    before = f.comes.before;
+    mode = f.comes.mode ∙ sym (ap (last_mode f.comes.before) (modes_stay asked));
+  };
+  clock = λ has. absurd (other_is_out CommandContent.Clock refl asked has);
+  awaits = λ none. absurd (false≢true none);
+}
 
 -- the awaited replies of the host don't affect the state of its world
 pub given_up_stands : (world after : WorldView) (garbage : List ℕ) (x : MachineState)
     → StandsBehind garbage world x → FaultyBecomes FaultyContent.GiveUp world after → StandsBehind garbage after x
-given_up_stands world after garbage x stands same =
-    rw same
-    (record {
-      sound = stands.sound;
-      board = stands.board;
-      picture = stands.picture;
-      clock = stands.clock;
-      unheard = stands.unheard;
-      are_messages = stands.are_messages;
-      up = stands.up;
-      down = stands.down;
-      partial = stands.partial;
-    })
+given_up_stands world after garbage x stands same = search rules
 
 given_up_follows : (in_turn : Bool) (asked : List CommandContent) (world after : WorldView)
     → Follows in_turn asked world → FaultyBecomes FaultyContent.GiveUp world after → Follows true asked after
-given_up_follows in_turn asked world after f same =
-    record {
-      garbage = f.garbage;
-      state = f.state;
-      stands = given_up_stands world after f.garbage f.state f.stands same;
-      comes = f.comes;
-      clock = f.clock;
-      awaits = λ turn. rw same tt;
-    }
+given_up_follows in_turn asked world after f same = record {
+  garbage = f.garbage;
+  state = f.state;
+  stands = given_up_stands world after f.garbage f.state f.stands same;
+  comes = f.comes;
+  clock = f.clock;
+  awaits = λ turn. rw same tt;
+}
 
 -- ---- a break, and a host that starts over
 
 module _ (laws : Grammars) where
   pub break_follows : (world after : WorldView) → IsSane world → Becomes ActContent.Break world after
       → Follows true [] after
-  break_follows world after sane same =
-      rw same
+  break_follows world after sane same = rw same
       (record {
         garbage = [];
         state = state_of_board (after_line_lost world.board.state);
-        stands = record {
-          sound = lost_sound world.board.state sane.board;
-          board = refl;
-          picture = inl refl;
-          clock = inl refl;
-          unheard = inl refl;
-          are_messages = tt;
-          up = refl;
-          down = (refl, laws.nothing);
-          partial = laws.nothing;
-        };
+        stands = search (rules, lost_sound);
         comes = nothing_asked (state_of_board (after_line_lost world.board.state));
         clock = λ has. absurd (nothing_contained CommandContent.Clock has);
         awaits = λ turn. tt;
@@ -366,26 +300,19 @@ module _ (laws : Grammars) where
       → last_mode before (filter_map event_mode (events ++ (noise ++ map EventContent.Read commands_anew)))
       ≡ Mode.UpdateBoard
   anew_mode before events noise is_noise =
-      let anew = map EventContent.Read commands_anew in
-      ap (last_mode before) (filter_map-append event_mode events (noise ++ anew))
-      ∙ last_mode-append before (filter_map event_mode events) (filter_map event_mode (noise ++ anew))
-      ∙ ap (last_mode (last_mode before (filter_map event_mode events)))
-      (filter_map-append event_mode noise anew ∙ ap (λ (modes : List Mode). modes ++ Mode.UpdateBoard ∷ [])
-      (noise-modes noise is_noise))
+      search (rules, filter_map-append, last_mode-append, noise-modes)
 
-  anew_comes : (board : BoardState) (events noise : List EventContent)
-      → IsNoiseList noise
+  anew_comes : (board : BoardState) (events noise : List EventContent) → IsNoiseList noise
       → IsComing commands_anew (commanded_state board (events ++ (noise ++ map EventContent.Read commands_anew)))
-  anew_comes board events noise is_noise =
-      record {
-        picture = λ has. inr (inr
-            (Contains-append_right events (noise ++ map EventContent.Read commands_anew)
-            (EventContent.Read CommandContent.Dump)
-            (Contains-append_right noise (map EventContent.Read commands_anew)
-            (EventContent.Read CommandContent.Dump) (1, omega arith, refl))));
-        before = Mode.Idle;
-        mode = anew_mode board.mode events noise is_noise;
-      }
+  anew_comes board events noise is_noise = record {
+    picture = λ has. inr (inr
+        (Contains-append_right events (noise ++ map EventContent.Read commands_anew)
+        (EventContent.Read CommandContent.Dump)
+        (Contains-append_right noise (map EventContent.Read commands_anew)
+        (EventContent.Read CommandContent.Dump) (1, omega arith, refl))));
+    before = Mode.Idle;
+    mode = anew_mode board.mode events noise is_noise;
+  }
 
   -- the dump that such a host awaits is the last
   anew_awaits : (board : BoardState) (events noise : List EventContent) → IsNoiseList noise
@@ -396,14 +323,10 @@ module _ (laws : Grammars) where
       let owed : List Kind = filter_map kind_of_reply board.owed in
       let kinds : filter_map kind_of_event (events ++ (noise ++ anew))
       ≡ filter_map kind_of_event events ++ Kind.Dump ∷ []
-      = filter_map-append kind_of_event events (noise ++ anew)
-      ∙ ap (λ (rest : List Kind). filter_map kind_of_event events ++ rest)
-      (filter_map-append kind_of_event noise anew
-      ∙ ap (λ (first : List Kind). first ++ Kind.Dump ∷ []) (noise-kinds noise is_noise)) in
+      = search (rules, filter_map-append, noise-kinds) in
       let all : owed ++ filter_map kind_of_event (events ++ (noise ++ anew))
       ≡ (owed ++ filter_map kind_of_event events) ++ Kind.Dump ∷ []
-      = ap (λ (rest : List Kind). owed ++ rest) kinds
-      ∙ sym (append_assoc owed (filter_map kind_of_event events) (Kind.Dump ∷ [])) in
+      = search (rules, append_assoc) in
       subst (λ (kinds : List Kind). IsSubsequence (Kind.Dump ∷ []) kinds) (sym all)
       (subsequence_at_end (Kind.Dump ∷ []) (owed ++ filter_map kind_of_event events))
 
@@ -424,15 +347,7 @@ module _ (laws : Grammars) where
 
   -- a host that starts over requests no reading
   no_reading_anew : Contains commands_anew CommandContent.Clock → ⊥
-  no_reading_anew has =
-      elim (Contains-cons CommandContent.Clock CommandContent.UpdateBoard (CommandContent.Dump ∷ []) has) [
-        | inl is ↦ cc
-        | inr later ↦
-            elim (Contains-cons CommandContent.Clock CommandContent.Dump [] later) [
-              | inl is ↦ cc
-              | inr none ↦ nothing_contained CommandContent.Clock none
-            ]
-      ]
+  no_reading_anew has = search (rules, nothing_contained)
 
   -- the host awaits only the dump, and its restart bytes follow these, and then garbage to the host
   anew_follows : (world after : WorldView) (bytes up : List ℕ) → IsSane world
@@ -448,18 +363,7 @@ module _ (laws : Grammars) where
         garbage = up;
         state = commanded_state world.board.state
             (divided.0 ++ (anew.0 ++ map EventContent.Read commands_anew));
-        stands = record {
-          sound = commanded_sound (state_of_board world.board.state)
-              (divided.0 ++ (anew.0 ++ map EventContent.Read commands_anew)) sane.board;
-          board = ap (λ (b : BoardView). b.state) board;
-          picture = inl refl;
-          clock = inl refl;
-          unheard = inr (refl, refl);
-          are_messages = tt;
-          up = heard ∙ sym (append-nil up);
-          down = rw (board, down, ← append_assoc world.board.partial bytes restart_bytes) anew.2;
-          partial = rw board sane.partial;
-        };
+        stands = search (rules, commanded_sound, append-nil, append_assoc);
         comes = anew_comes world.board.state divided.0 anew.0 anew.1;
         clock = λ has. absurd (no_reading_anew has);
         awaits = λ turn. rw awaited (anew_awaits world.board.state divided.0 anew.0 anew.1);
@@ -472,9 +376,7 @@ module _ (laws : Grammars) where
 
   pub restart_follows : (world after : WorldView) → IsSane world
       → FaultyBecomes FaultyContent.Restart world after → Follows true commands_anew after
-  restart_follows world after sane same =
-      rw same
-      (anew_follows world _ world.down.bytes (world.host.unread ++ world.up.bytes) sane sane.down refl refl refl refl)
+  restart_follows world after sane same = search (rules, anew_follows)
 
 -- ---- each act, and acts in order
 
@@ -485,8 +387,7 @@ unchanged c world after same holds in_step = rw same (holds.follows in_step)
 
 pub undone : (act : FaultyContent) (world : WorldView) (answer : Outcome) (after : WorldView)
     → answer ≢ Outcome.Done → FaultyStep act world answer after → after ≡ world
-undone act world Outcome.Done after other step = absurd (other refl)
-undone act world _ after other step = step.leaves
+undone act world answer after other step = search rules
 
 pub plain_step : (act : ActContent) (world : WorldView) (answer : Outcome) (after : WorldView)
     → FaultyStep (FaultyContent.Plain act) world answer after → Step act world answer after
@@ -514,14 +415,11 @@ module _ (laws : Grammars) where
   breaks_after : (c : Counted) (world : WorldView) (answer : Outcome) (after : WorldView) → IsSane world
       → Step ActContent.Break world answer after
       → Follows true (commands_after c.asked (act_requests answer ActContent.Break)) after
-  breaks_after c world Outcome.Done after sane step = break_follows laws world after sane step.leaves
-  breaks_after c world _ after sane step = let is = step.answers in cc
+  breaks_after c world answer after sane step = search (rules, break_follows)
 
   host_breaks_after : (world : WorldView) (answer : Outcome) (after : WorldView) → IsSane world
       → Step ActContent.HostBreak world answer after → Follows true commands_anew after
-  host_breaks_after world Outcome.Done after sane step =
-      host_break_follows laws world after sane step.leaves
-  host_breaks_after world _ after sane step = let is = step.answers in cc
+  host_breaks_after world answer after sane step = search (rules, host_break_follows)
 
   plain_after : (c : Counted) (act : ActContent) (world : WorldView) (answer : Outcome) (after : WorldView)
       → Holds c world → Step act world answer after
@@ -559,11 +457,7 @@ module _ (laws : Grammars) where
 
   step_holds : (c : Counted) (act : FaultyContent) (world : WorldView) (answer : Outcome) (after : WorldView)
       → Holds c world → FaultyStep act world answer after → Holds (counted_after c act answer) after
-  step_holds c act world answer after holds step =
-      record {
-        sane = step_sane laws act world answer after holds.sane step;
-        follows = follows_after c act world answer after holds step;
-      }
+  step_holds c act world answer after holds step = search (rules, step_sane, follows_after)
 
   run_holds : (acts : List FaultyContent) (world : WorldView) (answers : List Outcome) (after : WorldView)
       (c : Counted)
@@ -610,15 +504,13 @@ quiet_behind once garbage world x stands quiet =
     }
 
 -- everything that the state knows the host knows
-pub host_knows : {X : Type 0} {known seen : Option X} {x : X} → IsUnknownOr known seen → known ≡ Some x
-    → seen ≡ Some x
-host_knows (inl none) is = cc
-host_knows (inr same) is = sym same ∙ is
+pub host_knows : {X : Type 0} {known seen : Option X} {x : X} → IsUnknownOr known seen
+    → known ≡ Some x → seen ≡ Some x
+host_knows h0 is = search rules
 
 -- each awaited reply was yet to be heard, and nothing is under way any more
 pub awaited_has_come : (world : WorldView) (is : IsInTurnWorld world) → IsQuiet is.state → world.host.awaited ≡ []
-awaited_has_come world is still =
-    quiet_awaited (awaiting is.state world.host.awaited)
+awaited_has_come world is still = quiet_awaited (awaiting is.state world.host.awaited)
     (asked_sound is.state is.state.down world.host.awaited is.stands.sound is.holds)
     (record { up = still.up; down = still.down; pending = still.pending })
 
@@ -628,9 +520,7 @@ in_turn_at_quiet once world is quiet =
     awaited_has_come world is (quiet_behind once is.garbage world is.state is.stands quiet)
 
 pub counted_in_turn : (c : Counted) (world : WorldView) → Holds c world → IsInTurn c → IsInTurnWorld world
-counted_in_turn c world holds turn =
-    let f = holds.follows turn.in_step in
-    record { garbage = f.garbage; state = f.state; stands = f.stands; holds = f.awaits turn.in_turn }
+counted_in_turn c world holds turn = search rules
 
 -- ---- a world without a fault
 
@@ -643,109 +533,46 @@ divided_bytes bytes (event ∷ events) rest (word, after, is, same, divides) =
     rw same (bytes_append word after is.are_bytes (divided_bytes after events rest divides))
 
 stands_behind : (world : WorldView) (x : MachineState) → StandsFor world x → StandsBehind [] world x
-stands_behind world x stands =
-    record {
-      sound = stands.sound;
-      board = stands.board;
-      picture = inr (sym stands.picture);
-      clock = inr (sym stands.clock);
-      unheard = inl refl;
-      are_messages = stands.up.are_messages;
-      up = stands.up.in_a_row;
-      down = stands.down;
-      partial = stands.partial;
-    }
+stands_behind world x stands = search rules
 
 pub world_in_step : (world : WorldView) → IsWorld world → IsInStep world
 world_in_step world is =
     record { garbage = []; state = is.state; stands = stands_behind world is.state is.stands; holds = tt }
 
 pub world_in_turn : (world : WorldView) → IsWorld world → IsInTurnWorld world
-world_in_turn world is =
-    record {
-      garbage = [];
-      state = is.state;
-      stands = stands_behind world is.state is.stands;
-      holds = rw is.stands.awaited is.stands.sound.awaited;
-    }
+world_in_turn world is = search (rules, stands_behind)
 
 -- nothing is under way to the board
 pub empty_in_step : (world : WorldView) → IsSane world → world.down.bytes ≡ [] → world.board.partial ≡ []
     → IsInStep world
-empty_in_step world sane down partial =
-    record {
-      garbage = world.host.unread ++ world.up.bytes;
-      state = state_of_board world.board.state;
-      stands = record {
-        sound = sane.board;
-        board = refl;
-        picture = inl refl;
-        clock = inl refl;
-        unheard = inr (refl, refl);
-        are_messages = tt;
-        up = sym (append-nil (world.host.unread ++ world.up.bytes));
-        down = rw (partial, down) (refl, rw partial at sane.partial);
-        partial = sane.partial;
-      };
-      holds = tt;
-    }
+empty_in_step world sane down partial = record {
+  garbage = world.host.unread ++ world.up.bytes;
+  state = state_of_board world.board.state;
+  stands = search (rules, append-nil);
+  holds = tt;
+}
 
 pub sane_if : (world : WorldView) → length world.board.state.squares ≡ 64
     → length world.board.state.reported_squares ≡ 64
     → (IsTrue (follows_clock world.board.state.mode)
     → IsTrue world.board.state.times_owed ⊎ (world.board.state.reported_clock ≡ Some world.board.state.clock))
     → IsPartial world.board.partial → AreBytes world.down.bytes → IsSane world
-sane_if world squares reported followed partial down =
-    record {
-      board = record {
-        squares = squares;
-        reported_squares = reported;
-        picture = inl refl;
-        followed = followed;
-        clock = inl refl;
-        awaited = tt;
-      };
-      partial = partial;
-      down = down;
-    }
+sane_if world squares reported followed partial down = search rules
 
 world_is_sane : (world : WorldView) (x : MachineState) → StandsFor world x → IsSane world
-world_is_sane world x stands =
-    record {
-      board = rw stands.board (commanded_sound x [] stands.sound);
-      partial = stands.partial;
-      down =
-          bytes_right world.board.partial world.down.bytes
-          (divided_bytes (world.board.partial ++ world.down.bytes) x.down [] stands.down);
-    }
+world_is_sane world x stands = record {
+  board = rw stands.board (commanded_sound x [] stands.sound);
+  partial = stands.partial;
+  down = bytes_right world.board.partial world.down.bytes
+      (divided_bytes (world.board.partial ++ world.down.bytes) x.down [] stands.down);
+}
 
 pub world_is_faulty : (world : WorldView) → IsWorld world → IsFaultyWorld world
-world_is_faulty world is =
-    record {
-      sane = world_is_sane world is.state is.stands;
-      up_room = is.up_room;
-      down_room = is.down_room;
-    }
+world_is_faulty world is = search (rules, world_is_sane)
 
 -- ---- the lines keep their capacities
-
-faulty_rooms : (act : FaultyContent) (world after : WorldView) → FaultyBecomes act world after
-    → HasRooms world after
-faulty_rooms (FaultyContent.Plain act) world after becomes = becomes_rooms act world after becomes
-faulty_rooms (FaultyContent.GarbleDown bytes) world after (are, same) = rw same (record { up = refl; down = refl })
-faulty_rooms _ world after same = rw same (record { up = refl; down = refl })
-
-step_keeps_rooms : (act : FaultyContent) (world : WorldView) (answer : Outcome) (after : WorldView)
-    → FaultyStep act world answer after → HasRooms world after
-step_keeps_rooms act world Outcome.Done after step = faulty_rooms act world after step.leaves
-step_keeps_rooms act world _ after step = same_rooms world after step.leaves
 
 pub step_is_faulty : Grammars → (act : FaultyContent) (world after : WorldView) (answer : Outcome)
     → IsFaultyWorld world → FaultyStep act world answer after → IsFaultyWorld after
 step_is_faulty laws act world after answer is step =
-    let rooms = step_keeps_rooms act world answer after step in
-    record {
-      sane = step_sane laws act world answer after is.sane step;
-      up_room = rw rooms.up is.up_room;
-      down_room = rw rooms.down is.down_room;
-    }
+    search (rules, step_sane, same_rooms, becomes_rooms)

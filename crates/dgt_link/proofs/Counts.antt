@@ -1,5 +1,6 @@
 -- What counts, and continues to count after later acts.
-use Rattle.std.proofs.Common.{arith, ◌≡◌, ◌⊎◌, inl, inr, refl, sym, subst, List, [], ◌∷◌, ◌++◌, ℕ, true, false, length}
+use Rattle.std.proofs.Common.{arith, ◌≡◌, ◌⊎◌, refl, sym, List, [], ◌∷◌, ◌++◌, ℕ, true, false, length}
+use Rattle.std.proofs.Common.{rules}
 use Rattle.std.proofs.lemmas.Bool.{false≢true}
 use Rattle.std.proofs.lemmas.List.Elements.{Contains-append_left}
 use Rattle.std.specs.List.{AllByRecursion}
@@ -13,30 +14,18 @@ use Rattle.dgt_link.specs.Clocks.{AreClockCalm, stops_clock}
 use Rattle.dgt_link.specs.Faults.{AreCalm, AreFaultless, FaultyContent, begins_anew, is_fault, loses_step, sends, stops}
 use Rattle.dgt_link.specs.Healing.{Counted, IsClockHealing, IsHealing, IsInTurn, counted_after, counted_after_all, counted_anew, nothing_counted}
 use Rattle.dgt_link.specs.Promise.{IsAsked, last_mode}
-use Rattle.dgt_link.proofs.Lists.{Contains-cons, nothing_contained}
+use Rattle.dgt_link.proofs.Lists.{nothing_contained}
 use Rattle.dgt_link.proofs.Promises.{asked-mode}
 
 -- ---- lists of commands
 
 pub one_of_two : (P : CommandContent → Type 0) (first second one : CommandContent) → P first → P second
     → Contains (first ∷ second ∷ []) one → P one
-one_of_two P first second one p q has =
-    elim (Contains-cons one first (second ∷ []) has) [
-      | inl same ↦ subst P same p
-      | inr later ↦
-          elim (Contains-cons one second [] later) [
-            | inl same ↦ subst P same q
-            | inr none ↦ absurd (nothing_contained one none)
-          ]
-    ]
+one_of_two P first second one p q has = search (rules, nothing_contained)
 
 pub one_of_three : (P : CommandContent → Type 0) (first second third one : CommandContent) → P first → P second
     → P third → Contains (first ∷ second ∷ third ∷ []) one → P one
-one_of_three P first second third one p q r has =
-    elim (Contains-cons one first (second ∷ third ∷ []) has) [
-      | inl same ↦ subst P same p
-      | inr later ↦ one_of_two P second third one q r later
-    ]
+one_of_three P first second third one p q r has = search (rules, one_of_two)
 
 -- ---- a property that these acts keep counts after all of them
 
@@ -67,11 +56,7 @@ anew_heals = record { in_step = refl; asked = record { dump = (1, omega arith, r
 
 mode_goes_on : (command : CommandContent) (mode : Mode) → stops (sends command) ≡ false → IsTrue (updates mode)
     → IsTrue (updates (unwrap_or (command_mode command) mode))
-mode_goes_on CommandContent.Reset mode calm is = absurd (false≢true (sym calm))
-mode_goes_on CommandContent.Update mode calm is = refl
-mode_goes_on CommandContent.UpdateBoard mode calm is = refl
-mode_goes_on CommandContent.UpdateNice mode calm is = refl
-mode_goes_on _ mode calm is = is
+mode_goes_on command mode calm is = search (rules, false≢true)
 
 pub still_asked : (commands : List CommandContent) (command : CommandContent) → stops (sends command) ≡ false
     → IsAsked commands → IsAsked (commands ++ command ∷ [])
@@ -93,11 +78,7 @@ plain_heals c _ _ calm is = record { in_step = is.in_step; asked = is.asked }
 
 step_heals : (c : Counted) (act : FaultyContent) (answer : Outcome) → (is_fault act ≡ false) × (stops act ≡ false)
     → IsHealing c → IsHealing (counted_after c act answer)
-step_heals c (FaultyContent.Plain act) answer (none, calm) is = plain_heals c act answer calm is
-step_heals c FaultyContent.GiveUp answer (none, calm) is = record { in_step = is.in_step; asked = is.asked }
-step_heals c FaultyContent.Restart Outcome.Done (none, calm) is = anew_heals
-step_heals c FaultyContent.Restart _ (none, calm) is = is
-step_heals c _ answer (none, calm) is = absurd (false≢true (sym none))
+step_heals c act answer h3 is = search (rules, plain_heals, anew_heals, false≢true)
 
 pub healing_goes_on : (c : Counted) (acts : List FaultyContent) (answers : List Outcome) → AreCalm acts → IsHealing c
     → IsHealing (counted_after_all c acts answers)
@@ -105,54 +86,32 @@ healing_goes_on = goes_on IsHealing (λ act. (is_fault act ≡ false) × (stops 
 
 anew_counts : (P : Counted → Type 0) (c : Counted) (act : FaultyContent) → begins_anew act ≡ true → P counted_anew
     → P (counted_after c act Outcome.Done)
-anew_counts P c FaultyContent.Restart is p = p
-anew_counts P c (FaultyContent.Plain ActContent.HostBreak) is p = p
-anew_counts P c _ is p = absurd (false≢true is)
+anew_counts P c act is p = search (rules, false≢true)
 
 -- ---- the awaited replies, and that the board reads what was sent
 
 turn_step : (c : Counted) (act : FaultyContent) (answer : Outcome) → is_fault act ≡ false → IsInTurn c
     → IsInTurn (counted_after c act answer)
-turn_step c (FaultyContent.Plain ActContent.HostBreak) answer none is = record { in_step = refl; in_turn = refl }
-turn_step c (FaultyContent.Plain ActContent.Break) answer none is = record { in_step = refl; in_turn = refl }
-turn_step c (FaultyContent.Plain _) answer none is = record { in_step = is.in_step; in_turn = is.in_turn }
-turn_step c FaultyContent.GiveUp answer none is = record { in_step = is.in_step; in_turn = refl }
-turn_step c FaultyContent.Restart Outcome.Done none is = record { in_step = refl; in_turn = refl }
-turn_step c FaultyContent.Restart _ none is = is
-turn_step c _ answer none is = absurd (false≢true (sym none))
+turn_step c act answer none is = search (rules, false≢true)
 
 -- the host starts over, or both sides lose the line
 turn_begins : (c : Counted) (act : FaultyContent)
     → (begins_anew act ≡ true) ⊎ (act ≡ FaultyContent.Plain ActContent.Break)
     → IsInTurn (counted_after c act Outcome.Done)
-turn_begins c act (inl begins) =
-    anew_counts IsInTurn c act begins (record { in_step = refl; in_turn = refl })
-turn_begins c act (inr is) = rw is (record { in_step = refl; in_turn = refl })
+turn_begins c act h2 = search (rules, anew_counts)
 
 abbrev InStep : Counted → Type 0
 InStep c = IsTrue c.in_step
 
 stays_in_step : (c : Counted) (act : FaultyContent) (answer : Outcome) → loses_step act ≡ false → InStep c
     → InStep (counted_after c act answer)
-stays_in_step c (FaultyContent.Plain ActContent.HostBreak) answer none is = refl
-stays_in_step c (FaultyContent.Plain ActContent.Break) answer none is = refl
-stays_in_step c (FaultyContent.Plain _) answer none is = is
-stays_in_step c (FaultyContent.GarbleUp bytes) Outcome.Done none is = is
-stays_in_step c (FaultyContent.GarbleUp bytes) _ none is = is
-stays_in_step c FaultyContent.GiveUp answer none is = is
-stays_in_step c FaultyContent.Restart Outcome.Done none is = refl
-stays_in_step c FaultyContent.Restart _ none is = is
-stays_in_step c _ answer none is = absurd (false≢true (sym none))
+stays_in_step c act answer none is = search (rules, false≢true)
 
 -- ---- the clock
 
 clock_mode_goes_on : (command : CommandContent) (mode : Mode) → stops_clock (sends command) ≡ false
     → IsTrue (follows_clock mode) → IsTrue (follows_clock (unwrap_or (command_mode command) mode))
-clock_mode_goes_on CommandContent.Reset mode calm is = absurd (false≢true (sym calm))
-clock_mode_goes_on CommandContent.UpdateBoard mode calm is = absurd (false≢true (sym calm))
-clock_mode_goes_on CommandContent.Update mode calm is = refl
-clock_mode_goes_on CommandContent.UpdateNice mode calm is = refl
-clock_mode_goes_on _ mode calm is = is
+clock_mode_goes_on command mode calm is = search (rules, false≢true)
 
 clock_step : (c : Counted) (act : FaultyContent) (answer : Outcome)
     → (is_fault act ≡ false) × (stops_clock act ≡ false) → IsClockHealing c
@@ -162,8 +121,7 @@ clock_step c (FaultyContent.Plain (ActContent.Host command)) Outcome.Done (none,
     record {
       in_step = is.in_step;
       asked = Contains-append_left c.asked (command ∷ []) CommandContent.Clock is.asked;
-      mode =
-          rw (← asked-mode c.asked command Mode.Idle mode refl) (clock_mode_goes_on command mode calm is.mode);
+      mode = rw (← asked-mode c.asked command Mode.Idle mode refl) (clock_mode_goes_on command mode calm is.mode);
     }
 clock_step c (FaultyContent.Plain ActContent.Break) answer (none, calm) is = absurd (false≢true (sym calm))
 clock_step c (FaultyContent.Plain ActContent.HostBreak) answer (none, calm) is = absurd (false≢true (sym calm))
@@ -187,10 +145,7 @@ with_clock c mode =
 
 anew_clock : (mode : CommandContent) → Contains (CommandContent.Update ∷ CommandContent.UpdateNice ∷ []) mode
     → IsClockHealing (with_clock counted_anew mode)
-anew_clock mode =
-    one_of_two (λ m. IsClockHealing (with_clock counted_anew m)) CommandContent.Update CommandContent.UpdateNice mode
-    (record { in_step = refl; asked = (3, omega arith, refl); mode = refl })
-    (record { in_step = refl; asked = (3, omega arith, refl); mode = refl })
+anew_clock mode = search (rules, one_of_two)
 
 -- ---- after any acts
 
@@ -198,17 +153,14 @@ module _ (acts later : List FaultyContent) (act : FaultyContent) (answers others
     (same : length answers ≡ length acts) where
   pub anew_is_healing : begins_anew act ≡ true → AreCalm later
       → IsHealing (counted_after_all (nothing_counted false) (acts ++ act ∷ later) (answers ++ Outcome.Done ∷ others))
-  anew_is_healing begins calm =
-      after_any IsHealing (act ∷ later) (Outcome.Done ∷ others)
-      (λ c. healing_goes_on (counted_after c act Outcome.Done) later others calm
-      (anew_counts IsHealing c act begins anew_heals)) (nothing_counted false) acts answers same
+  anew_is_healing begins calm = after_any IsHealing (act ∷ later) (Outcome.Done ∷ others)
+      (search (rules, healing_goes_on, anew_counts, anew_heals)) (nothing_counted false) acts answers same
 
   -- ---- the awaited replies, and that the board reads what was sent
 
   pub in_turn_again : (begins_anew act ≡ true) ⊎ (act ≡ FaultyContent.Plain ActContent.Break) → AreFaultless later
       → IsInTurn (counted_after_all (nothing_counted false) (acts ++ act ∷ later) (answers ++ Outcome.Done ∷ others))
-  in_turn_again begins none =
-      after_any IsInTurn (act ∷ later) (Outcome.Done ∷ others)
+  in_turn_again begins none = after_any IsInTurn (act ∷ later) (Outcome.Done ∷ others)
       (λ c. goes_on IsInTurn (λ act. is_fault act ≡ false) turn_step (counted_after c act Outcome.Done) later others
       none (turn_begins c act begins)) (nothing_counted false) acts answers same
 
@@ -216,8 +168,7 @@ module _ (acts later : List FaultyContent) (act : FaultyContent) (answers others
       → AllByRecursion (λ act. loses_step act ≡ false) later
       → IsTrue (counted_after_all (nothing_counted false) (acts ++ act ∷ later)
       (answers ++ Outcome.Done ∷ others)).in_step
-  in_step_again begins none =
-      after_any InStep (act ∷ later) (Outcome.Done ∷ others)
+  in_step_again begins none = after_any InStep (act ∷ later) (Outcome.Done ∷ others)
       (λ c. goes_on InStep (λ act. loses_step act ≡ false) stays_in_step (counted_after c act Outcome.Done) later others
       none (turn_begins c act begins).in_step) (nothing_counted false) acts answers same
 
@@ -277,8 +228,7 @@ module _ (mode : CommandContent) (bytes : List ℕ) (later : List FaultyContent)
     (others : List Outcome) where
   pub dump_is_healing
       : Contains (CommandContent.Update ∷ CommandContent.UpdateBoard ∷ CommandContent.UpdateNice ∷ []) mode
-      → AreCalm later
-      → IsHealing (counted_after_all (nothing_counted true)
+      → AreCalm later → IsHealing (counted_after_all (nothing_counted true)
       (sends mode ∷ FaultyContent.GarbleUp bytes ∷ sends CommandContent.Dump ∷ later)
       (Outcome.Done ∷ answer ∷ Outcome.Done ∷ others))
   dump_is_healing asks calm = healing_goes_on _ later others calm (dump_counts bytes answer mode asks)

@@ -1,5 +1,5 @@
 -- Commands after others.
-use Rattle.std.proofs.Common.{rules, refl, sym, ℕ, List, [], ◌∷◌, ◌++◌, append_assoc, map}
+use Rattle.std.proofs.Common.{rules, ℕ, List, [], ◌∷◌, ◌++◌, append_assoc, map}
 use Rattle.std.proofs.lemmas.List.{append-nil}
 use Rattle.dgt_command.specs.Content.{CommandContent, EventContent}
 use Rattle.dgt_command.specs.Words.{Divides, IsPartial}
@@ -14,21 +14,8 @@ module _ (nothing : IsPartial []) where
       → Divides (held ++ bytes) events [] → EncodesCommand command (command_encoding command)
       → Divides (held ++ (bytes ++ command_encoding command)) (events ++ EventContent.Read command ∷ []) []
   divides_command append held bytes events command divides encodes =
-      rw (append_assoc held bytes (command_encoding command)) at
-      (append (held ++ bytes) (command_encoding command) events (EventContent.Read command ∷ []) [] [] divides (
-        command_encoding command,
-        [],
-        record { form = refl; are_bytes = encodes.are_bytes },
-        sym (append-nil (command_encoding command)),
-        (refl, nothing),
-      ))
+      search (rules, append_assoc, append-nil)
 
   -- the bytes of a host that starts over are its requests
   pub anew_divides : Divides follow_bytes (map EventContent.Read commands_anew) []
-  anew_divides = (
-    0x44 ∷ [],
-    0x42 ∷ [],
-    record { form = refl; are_bytes = search rules },
-    refl,
-    (0x42 ∷ [], [], record { form = refl; are_bytes = search rules }, refl, (refl, nothing)),
-  )
+  anew_divides = search rules

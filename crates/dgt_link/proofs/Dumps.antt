@@ -1,5 +1,6 @@
 -- After faults: once the board has sent a dump, what the host shows was reported, in this order.
 use Rattle.std.proofs.Common.{◌≡◌, refl, sym, ap, subst, ◌∙◌, inr, ℕ, List, [], ◌∷◌, ◌++◌, Some, append_assoc, false}
+use Rattle.std.proofs.Common.{rules}
 use Rattle.std.proofs.lemmas.List.{append-nil}
 use Rattle.std.proofs.lemmas.Option.{same_Some}
 use Rattle.std.specs.List.{AllByRecursion, flat_map}
@@ -50,10 +51,7 @@ nothing_comes garbage world x stands unread up =
 
 all_heard : (world : WorldView) → StandsWith PictureComes world → world.host.unread ≡ [] → world.up.bytes ≡ []
     → world.host.picture ≡ Some world.board.state.reported_squares
-all_heard world is unread up =
-    let silent = nothing_comes is.garbage world is.state is.stands unread up in
-    let seen : IsSome is.state.picture = rw silent at is.holds in
-    rw silent at (known_behind is.garbage world is.state is.stands seen).1
+all_heard world is unread up = search (rules, nothing_comes, known_behind)
 
 first_is : (acts : List ActContent) (world : WorldView) (answers : List Outcome) (first : WorldView)
     (later : List WorldView) → RunsThrough acts world answers (first ∷ later) → first ≡ world
@@ -69,13 +67,12 @@ module _ (behind : ActsBehind) where
         → StandsBehind garbage world x → IsSome x.picture → Goes square seen before x
         → RunsThrough acts world answers worlds
         → IsInOrderOf (seen ++ shown_in square worlds) (before ++ stood_in square worlds)
-    known_goes seen before [] garbage world x [] worlds all stands some goes only =
-        rw (
-          only,
-          (known_behind garbage world x stands some).0,
-          stands.board,
-          append-nil (shown square x.picture),
-        )
+    known_goes seen before [] garbage world x [] worlds all stands some goes only = rw (
+      only,
+      (known_behind garbage world x stands some).0,
+      stands.board,
+      append-nil (shown square x.picture),
+    )
         (goes_all square seen before x [] goes)
     known_goes seen before (act ∷ acts) garbage world x (answer ∷ answers) worlds all stands some goes
         (between, later, step, runs, is) =
@@ -151,24 +148,16 @@ module _ (behind : ActsBehind) where
         → Runs (ActContent.BoardSend ∷ acts) world (Outcome.Done ∷ answers) after
         → after.host.unread ≡ [] → after.up.bytes ≡ []
         → after.host.picture ≡ Some after.board.state.reported_squares
-    picture_after_dump acts after answers all (between, step, runs) unread up =
-        all_heard after
+    picture_after_dump acts after answers all (between, step, runs) unread up = all_heard after
         (run_keeps Step (λ act. is_break act ≡ false) (StandsWith PictureComes)
-        (λ act old new answer other stood one. led behind PictureComes PictureComes act old answer new other
-        (λ y moves are. step_comes act answer y moves other are) stood one) acts between after answers all
-        (record {
-          garbage = world.host.unread ++ world.up.bytes;
-          state = started;
-          stands = sent_stands between step;
-          holds = refl;
-        })
+        (search (rules, led, step_comes)) acts between after answers all
+        (search (rules, sent_stands))
         runs) unread up
 
     pub order_after_dump : (square : ℕ) (acts : List ActContent) (answers : List Outcome) (earlier : List WorldView)
         (first : WorldView) (later : List WorldView) → Unbroken acts
         → RunsThrough (ActContent.BoardSend ∷ acts) world (Outcome.Done ∷ answers)
-        (world ∷ (earlier ++ first ∷ later))
-        → first.host.unread ≡ [] → first.up.bytes ≡ []
+        (world ∷ (earlier ++ first ∷ later)) → first.host.unread ≡ [] → first.up.bytes ≡ []
         → IsInOrderOf (shown_in square (first ∷ later)) (stood_in square (world ∷ (earlier ++ first ∷ later)))
     order_after_dump square acts answers earlier first later all (between, others, step, runs, same) unread up =
         let rest_is : others ≡ earlier ++ first ∷ later = cc in

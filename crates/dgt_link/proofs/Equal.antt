@@ -30,12 +30,8 @@ module _ (equal_clocks : EqualIsSameRead clock_seen (derived_clock.eq-value).it)
   -- two acts are equal exactly if they do the same
   pub equal_acts : EqualIsSameReadOf ActHasArrays act_content (derived.eq-value).it
   equal_acts (act.Change square piece) (act.Change other second) h k = search rules
-  equal_acts (act.ClockRead a) (act.ClockRead b) h k =
-      let same = equal_clocks a b in
-      (λ t. let seen = same.0 t in cc, λ e. same.1 cc)
-  equal_acts (act.Host a) (act.Host b) h k =
-      let same = equal_commands a b h k in
-      (λ t. let said = same.0 t in cc, λ e. same.1 cc)
+  equal_acts (act.ClockRead a) (act.ClockRead b) h k = search rules
+  equal_acts (act.Host a) (act.Host b) h k = search rules
   equal_acts act.BoardSend act.BoardSend h k = (λ _. refl, λ _. refl)
   equal_acts (act.ToBoard a) (act.ToBoard b) h k = search rules
   equal_acts (act.ToHost a) (act.ToHost b) h k = search rules
@@ -56,15 +52,9 @@ faulty_case_of FaultyContent.GiveUp = 5
 
 module _ (equal : EqualIsSameReadOf ActHasArrays act_content (derived.eq-value).it) where
   pub equal_faulty_acts : EqualIsSameReadOf FaultyActHasArrays faulty_content (derived_faulty.eq-value).it
-  equal_faulty_acts (faulty.Plain a) (faulty.Plain b) h k =
-      let same = equal a b h k in
-      (λ t. let done = same.0 t in cc, λ e. same.1 cc)
-  equal_faulty_acts (faulty.GarbleUp a) (faulty.GarbleUp b) h k =
-      let same = equal_bytes a.now b.now in
-      (λ t. let bytes = same.0 t in cc, λ e. same.1 cc)
-  equal_faulty_acts (faulty.GarbleDown a) (faulty.GarbleDown b) h k =
-      let same = equal_bytes a.now b.now in
-      (λ t. let bytes = same.0 t in cc, λ e. same.1 cc)
+  equal_faulty_acts (faulty.Plain a) (faulty.Plain b) h k = search rules
+  equal_faulty_acts (faulty.GarbleUp a) (faulty.GarbleUp b) h k = search (rules, equal_bytes)
+  equal_faulty_acts (faulty.GarbleDown a) (faulty.GarbleDown b) h k = search (rules, equal_bytes)
   equal_faulty_acts faulty.BoardLost faulty.BoardLost h k = (λ _. refl, λ _. refl)
   equal_faulty_acts faulty.Restart faulty.Restart h k = (λ _. refl, λ _. refl)
   equal_faulty_acts faulty.GiveUp faulty.GiveUp h k = (λ _. refl, λ _. refl)

@@ -1,8 +1,10 @@
 -- Acts that were all done: their effect on the board, and their requests.
-use Rattle.std.proofs.Common.{◌≡◌, ◌⊎◌, inl, inr, refl, sym, ap, ◌∙◌, ◌≤◌, List, [], ◌∷◌, ◌++◌, length, map, true, arith, false}
+use Rattle.std.proofs.Common.{◌≡◌, ◌≢◌, subst, ◌⊎◌, inl, inr, refl, sym, ap, ◌∙◌, ◌≤◌, List, [], ◌∷◌, ◌++◌, length, map, true, arith, false}
+use Rattle.std.proofs.Common.{rules}
 use Rattle.std.proofs.lemmas.Bool.{false≢true}
-use Rattle.std.proofs.lemmas.List.Elements.{filter_map-append, Contains-append_left, Contains-push}
-use Rattle.std.specs.Prelude.{Contains, IsTrue, filter_map}
+use Rattle.std.proofs.lemmas.List.Elements.{Contains-push_cases, filter_map-append, Contains-append_left, Contains-push}
+use Rattle.std.specs.Prelude.{◌↔◌, Contains, IsTrue, filter_map}
+use Rattle.dgt_link.proofs.Lists.{nothing_contained}
 use Rattle.dgt_values.specs.declared.pieces.Piece.{Piece}
 use Rattle.dgt_command.specs.Content.{CommandContent, command_content}
 use Rattle.dgt_command.specs.declared.command.Command.{Command}
@@ -30,20 +32,11 @@ all_done (act ∷ acts) = Outcome.Done ∷ all_done acts
 
 one_act : (one : Act) (world after : WorldView) → Becomes (act_content one) world after
     → after.board.state.squares ≡ squares_after world.board.state.squares (one ∷ [])
-one_act (act.ToBoard count) world after delivers =
-    rw (delivers.leaves, delivers.taken.state) (effects_same_game world.board.state delivers.taken.events).squares
-one_act (act.Change square piece) world after same = rw same refl
-one_act (act.ClockRead clock) world after same = rw same refl
-one_act (act.Host said) world after same = rw same.1 refl
-one_act act.BoardSend world after (message, is_next, encodes, same) = rw same refl
-one_act (act.ToHost count) world after same = rw same refl
-one_act act.Break world after same = rw same refl
-one_act act.HostBreak world after same = rw same refl
+one_act one world after delivers = search (rules, effects_same_game)
 
 one_more : (squares : List Piece) (one : Act) (acts : List Act)
     → squares_after (squares_after squares (one ∷ [])) acts ≡ squares_after squares (one ∷ acts)
-one_more squares (act.Change square piece) acts = refl
-one_more squares _ acts = refl
+one_more squares one acts = search rules
 
 few_done : (acts : List Act) (world after : WorldView) (answers : List Outcome)
     → Runs (map act_content acts) world answers after → done_count answers ≤ length acts
@@ -85,9 +78,7 @@ record IsAskedFor (commands : List CommandContent) (asking : Asking) : Type 0 wh
 last-push : (commands : List CommandContent) (said : CommandContent)
     → last_mode Mode.Idle (filter_map command_mode (commands ++ said ∷ []))
     ≡ last_mode (last_mode Mode.Idle (filter_map command_mode commands)) (filter_map command_mode (said ∷ []))
-last-push commands said =
-    ap (last_mode Mode.Idle) (filter_map-append command_mode commands (said ∷ []))
-    ∙ last_mode-append Mode.Idle (filter_map command_mode commands) (filter_map command_mode (said ∷ []))
+last-push commands said = search (rules, filter_map-append, last_mode-append)
 
 dump_more : (commands : List CommandContent) (asking : Asking) (one : Command) → IsAskedFor commands asking
     → IsTrue (asking_with asking one).dump → Contains (commands ++ command_content one ∷ []) CommandContent.Dump
@@ -98,19 +89,11 @@ dump_more commands asking one is h =
 mode_more : (commands : List CommandContent) (asking : Asking) (one : Command) → IsAskedFor commands asking
     → updates (last_mode (last_mode Mode.Idle (filter_map command_mode commands))
     (filter_map command_mode (command_content one ∷ []))) ≡ (asking_with asking one).updates
-mode_more commands asking command.Reset is = refl
-mode_more commands asking command.Update is = refl
-mode_more commands asking command.UpdateBoard is = refl
-mode_more commands asking command.UpdateNice is = refl
-mode_more commands asking _ is = is.mode
+mode_more commands asking one is = search rules
 
 command_more : (commands : List CommandContent) (asking : Asking) (one : Command) → IsAskedFor commands asking
     → IsAskedFor (commands ++ command_content one ∷ []) (asking_with asking one)
-command_more commands asking one is =
-    record {
-      dump = dump_more commands asking one is;
-      mode = ap updates (last-push commands (command_content one)) ∙ mode_more commands asking one is;
-    }
+command_more commands asking one is = search (rules, dump_more, last-push, mode_more)
 
 none_asked_for : IsAskedFor [] nothing_asked
 none_asked_for = record { dump = λ h. absurd (false≢true h); mode = refl }
@@ -119,12 +102,10 @@ none_asked_for = record { dump = λ h. absurd (false≢true h); mode = refl }
 anew_more : (commands : List CommandContent)
     → IsAskedFor ((commands ++ CommandContent.UpdateBoard ∷ []) ++ CommandContent.Dump ∷ [])
     (record { dump = true; updates = true })
-anew_more commands =
-    record {
-      dump = λ h. Contains-push (commands ++ CommandContent.UpdateBoard ∷ []) CommandContent.Dump;
-      mode = ap updates (last-push (commands ++ CommandContent.UpdateBoard ∷ []) CommandContent.Dump
-          ∙ last-push commands CommandContent.UpdateBoard);
-    }
+anew_more commands = record {
+  dump = λ h. Contains-push (commands ++ CommandContent.UpdateBoard ∷ []) CommandContent.Dump;
+  mode = search (rules, last-push);
+}
 
 acts_more : (commands : List CommandContent) (asking : Asking) (acts : List Act) → IsAskedFor commands asking
     → IsAskedFor (commands_after commands (run_requests (map act_content acts) (all_done acts)))
@@ -145,6 +126,78 @@ asked_if_done acts ask =
     let is = acts_more [] nothing_asked acts none_asked_for in
     record { dump = is.dump ask.dump; mode = is.mode ∙ ask.updates }
 
+-- ---- and only such
+
+earlier_dump : (commands : List CommandContent) (said : CommandContent) → said ≢ CommandContent.Dump
+    → Contains (commands ++ said ∷ []) CommandContent.Dump → Contains commands CommandContent.Dump
+earlier_dump commands said other has = go (Contains-push_cases commands said CommandContent.Dump has)
+  where
+    go : Contains commands CommandContent.Dump ⊎ (said ≡ CommandContent.Dump) → Contains commands CommandContent.Dump
+    go (inl before) = before
+    go (inr same) = absurd (other same)
+
+dump_back : (commands : List CommandContent) (asking : Asking) (one : Command)
+    → (Contains commands CommandContent.Dump → IsTrue asking.dump)
+    → Contains (commands ++ command_content one ∷ []) CommandContent.Dump
+    → IsTrue (asking_with asking one).dump
+dump_back commands asking command.Dump back has = refl
+dump_back commands asking command.Reset back has =
+    back (earlier_dump commands CommandContent.Reset (λ e. cc) has)
+dump_back commands asking command.Clock back has =
+    back (earlier_dump commands CommandContent.Clock (λ e. cc) has)
+dump_back commands asking command.Update back has =
+    back (earlier_dump commands CommandContent.Update (λ e. cc) has)
+dump_back commands asking command.UpdateBoard back has =
+    back (earlier_dump commands CommandContent.UpdateBoard (λ e. cc) has)
+dump_back commands asking command.UpdateNice back has =
+    back (earlier_dump commands CommandContent.UpdateNice (λ e. cc) has)
+dump_back commands asking command.Serial back has =
+    back (earlier_dump commands CommandContent.Serial (λ e. cc) has)
+dump_back commands asking command.Trademark back has =
+    back (earlier_dump commands CommandContent.Trademark (λ e. cc) has)
+dump_back commands asking command.Battery back has =
+    back (earlier_dump commands CommandContent.Battery (λ e. cc) has)
+dump_back commands asking command.Version back has =
+    back (earlier_dump commands CommandContent.Version (λ e. cc) has)
+dump_back commands asking command.LongSerial back has =
+    back (earlier_dump commands CommandContent.LongSerial (λ e. cc) has)
+dump_back commands asking (command.ClockMessage message) back has =
+    back (earlier_dump commands (command_content (command.ClockMessage message)) (λ e. cc) has)
+dump_back commands asking (command.Leds leds) back has =
+    back (earlier_dump commands (command_content (command.Leds leds)) (λ e. cc) has)
+
+acts_back : (commands : List CommandContent) (asking : Asking) (acts : List Act)
+    → (Contains commands CommandContent.Dump → IsTrue asking.dump)
+    → Contains (commands_after commands (run_requests (map act_content acts) (all_done acts))) CommandContent.Dump
+    → IsTrue (asking_after asking acts).dump
+acts_back commands asking [] back has = back has
+acts_back commands asking (act.Host said ∷ acts) back has =
+    acts_back (commands ++ command_content said ∷ []) (asking_with asking said) acts
+    (dump_back commands asking said back) has
+acts_back commands asking (act.Break ∷ acts) back has =
+    acts_back [] nothing_asked acts (λ h. absurd (nothing_contained CommandContent.Dump h)) has
+acts_back commands asking (act.HostBreak ∷ acts) back has =
+    acts_back ((commands ++ CommandContent.UpdateBoard ∷ []) ++ CommandContent.Dump ∷ [])
+    (record { dump = true; updates = true }) acts (λ h. refl) has
+acts_back commands asking (_ ∷ acts) back has = acts_back commands asking acts back has
+
+asked_back : (acts : List Act) → IsAskedBy (map act_content acts) (all_done acts) → AskForPicture acts
+asked_back acts asked =
+    record {
+      dump = acts_back [] nothing_asked acts (λ h. absurd (nothing_contained CommandContent.Dump h)) asked.dump;
+      updates = sym (acts_more [] nothing_asked acts none_asked_for).mode ∙ asked.mode;
+    }
+
+all_done-map : (acts : List Act) → all_done acts ≡ map (λ one. Outcome.Done) acts
+all_done-map [] = refl
+all_done-map (one ∷ acts) = ap (λ (others : List Outcome). Outcome.Done ∷ others) (all_done-map acts)
+
+pub asking_is_asked : (acts : List Act)
+    → AskForPicture acts ↔ IsAskedBy (map act_content acts) (map (λ one. Outcome.Done) acts)
+asking_is_asked acts =
+    subst (λ (answers : List Outcome). AskForPicture acts ↔ IsAskedBy (map act_content acts) answers)
+    (all_done-map acts) (asked_if_done acts, asked_back acts)
+
 -- ---- acts that request the picture, and calm ones after them
 
 abbrev plain_of : Act → FaultyContent
@@ -155,12 +208,7 @@ AsksForBoth asking = IsTrue asking.dump × IsTrue asking.updates
 
 both_with : (asking : Asking) (one : Command) → stops (sends (command_content one)) ≡ false → AsksForBoth asking
     → AsksForBoth (asking_with asking one)
-both_with asking command.Dump calm both = (refl, both.1)
-both_with asking command.Reset calm both = absurd (false≢true (sym calm))
-both_with asking command.Update calm both = (both.0, refl)
-both_with asking command.UpdateBoard calm both = (both.0, refl)
-both_with asking command.UpdateNice calm both = (both.0, refl)
-both_with asking _ calm both = both
+both_with asking one calm both = search (rules, false≢true)
 
 still_both : (asking : Asking) (acts : List Act) → AreCalm (map plain_of acts) → AsksForBoth asking
     → AsksForBoth (asking_after asking acts)
@@ -185,11 +233,4 @@ both_after_any more always asking (_ ∷ acts) = both_after_any more always aski
 pub asks_for_picture : (acts later : List Act) (mode : Command)
     → (mode ≡ command.Update) ⊎ ((mode ≡ command.UpdateBoard) ⊎ (mode ≡ command.UpdateNice))
     → AreCalm (map plain_of later) → AskForPicture (acts ++ act.Host mode ∷ act.Host command.Dump ∷ later)
-asks_for_picture acts later mode asks calm =
-    let both = both_after_any (act.Host mode ∷ act.Host command.Dump ∷ later)
-    (λ asking. elim asks [
-      | inl is ↦ rw is (still_both _ later calm (refl, refl))
-      | inr (inl is) ↦ rw is (still_both _ later calm (refl, refl))
-      | inr (inr is) ↦ rw is (still_both _ later calm (refl, refl))
-    ]) nothing_asked acts in
-    record { dump = both.0; updates = both.1 }
+asks_for_picture acts later mode asks calm = search (rules, both_after_any, still_both)

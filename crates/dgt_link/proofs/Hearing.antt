@@ -1,5 +1,5 @@
 -- What a host hears of consecutive messages, in whatever parts.
-use Rattle.std.proofs.Common.{◌≡◌, refl, sym, ap, ◌∙◌, ◌⊎◌, inl, inr, ℕ, ◌+◌, ◌-◌, List, [], ◌∷◌, ◌++◌, length}
+use Rattle.std.proofs.Common.{◌≡◌, refl, sym, ap, ◌∙◌, ◌⊎◌, inl, inr, ℕ, ◌+◌, ◌-◌, List, [], ◌∷◌, ◌++◌, length, rules}
 use Rattle.std.specs.List.{flat_map}
 use Rattle.std.specs.Prelude.{map}
 use Rattle.dgt_message.specs.Content.{Content, IsMessage}
@@ -41,8 +41,7 @@ pub heard_of : (xs : List Placed) (messages : List Content) → known xs ≡ map
     → host_after_events host xs ≡ host_after_messages host messages
 heard_of [] [] e host = refl
 heard_of (x ∷ xs) (message ∷ messages) e host =
-    let first : x.event ≡ Message message = cc e in
-    rw first (heard_of xs messages (cc e) (host_after_message host message))
+    search (rules, heard_of xs messages (cc e) (host_after_message host message))
 heard_of [] (message ∷ messages) e host = cc
 heard_of (x ∷ xs) [] e host = cc
 
@@ -58,14 +57,7 @@ module _ (reads : Reads) where
   -- after bytes with an event, the rest of a message completes none
   nothing_more : (prefix rest : List ℕ) (x y : Placed) (xs : List Placed) → events prefix ≡ x ∷ xs
       → events (prefix ++ rest) ≡ y ∷ [] → events (unfinished_message prefix ++ rest) ≡ []
-  nothing_more prefix rest x y xs e whole =
-      let behind : List Placed
-      = shifted (length prefix - length (unfinished_message prefix))
-      (events (unfinished_message prefix ++ rest)) in
-      let all : x ∷ (xs ++ behind) ≡ y ∷ []
-      = ap (λ (es : List Placed). es ++ behind) (sym e) ∙ sym (reads.append prefix rest) ∙ whole in
-      nil_raised (length prefix - length (unfinished_message prefix)) (events (unfinished_message prefix ++ rest))
-      (right_empty xs behind (tail_same x y (xs ++ behind) [] all))
+  nothing_more prefix rest x y xs e whole = search (rules, nil_raised, right_empty, tail_same)
 
   -- a part of a message completes no event, and all of it is held
   prefix_waits : (word prefix more : List ℕ) (next : ℕ) (y : Placed) → events word ≡ y ∷ []
@@ -95,28 +87,12 @@ module _ (reads : Reads) where
   after_message : (word prefix others : List ℕ) (n : ℕ) (message : Content) (heard : List Content)
       → events word ≡ at_place n (Message message) ∷ [] → unfinished_message word ≡ [] → prefix ≡ word ++ others
       → known (events others) ≡ map Message heard → known (events prefix) ≡ Message message ∷ map Message heard
-  after_message word prefix others n message heard read held e more =
-      let after : events (word ++ others)
-      ≡ at_place n (Message message) ∷ shifted (length word - 0) (events others)
-      = reads.append word others ∙ rw (read, held) refl in
-      ap (λ (bytes : List ℕ). known (events bytes)) e ∙ ap known after
-      ∙ ap (λ (rest : List Event). Message message ∷ rest) (known_behind (length word - 0) (events others) ∙ more)
+  after_message word prefix others n message heard read held e more = search (rules, known_behind)
 
   pub heard_prefix : (prefix more : List ℕ) (messages : List Content) → AreEncoded messages (prefix ++ more)
       → IsPrefix prefix more messages
   heard_prefix prefix more [] encoded =
-      record {
-        heard = [];
-        left = [];
-        all = refl;
-        known = rw (left_empty prefix more encoded.in_a_row, no_events) refl;
-        encoded = record {
-          are_messages = tt;
-          in_a_row =
-              rw (left_empty prefix more encoded.in_a_row, right_empty prefix more encoded.in_a_row, nothing_unfinished)
-              refl;
-        };
-      }
+      search (rules, left_empty, no_events, right_empty, nothing_unfinished)
   heard_prefix prefix more (message ∷ messages) encoded =
       go (λ others f. heard_prefix others more messages
       (record { are_messages = encoded.are_messages.1; in_a_row = sym f }))

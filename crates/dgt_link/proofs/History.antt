@@ -1,16 +1,16 @@
 -- The pieces that a host shows on a square were there, and it never returns to an earlier one.
-use Rattle.std.proofs.Common.{◌≡◌, refl, sym, ap, subst, ◌∙◌, ◌⊎◌, inl, inr, ℕ, zero, suc, List, [], ◌∷◌, ◌++◌, Bool, true, false, Option, Some, None, append_assoc, replicate, ◌&&◌, if◌then◌else◌}
+use Rattle.std.proofs.Common.{◌≡◌, refl, sym, ap, subst, ◌∙◌, ◌⊎◌, inl, inr, ℕ, zero, suc, List, [], ◌∷◌, ◌++◌, Bool, Option, Some, None, append_assoc, replicate, if◌then◌else◌}
+use Rattle.std.proofs.Common.{rules}
 use Rattle.std.proofs.lemmas.List.{append-nil}
 use Rattle.std.specs.Prelude.{slice_set}
 use Rattle.dgt_values.specs.declared.pieces.Piece.{Piece}
-use Rattle.dgt_values.specs.declared.kinds.Kind.{Kind}
 use Rattle.dgt_message.specs.Clock.{ClockState}
 use Rattle.dgt_message.specs.Content.{Content, clock_message}
 use Rattle.dgt_message.specs.Picture.{picture_after, picture_after_all}
 use Rattle.dgt_command.specs.Content.{EventContent}
 use Rattle.dgt_board.specs.declared.replies.Reply.{Reply}
-use Rattle.dgt_board.specs.State.{BoardState, updates}
-use Rattle.dgt_board.specs.Sending.{differs, field_of, piece_on, reply_message}
+use Rattle.dgt_board.specs.State.{BoardState}
+use Rattle.dgt_board.specs.Sending.{field_of, piece_on}
 use Rattle.dgt_link.specs.Act.{ActContent}
 use Rattle.dgt_link.specs.declared.acts.Outcome.{Outcome}
 use Rattle.dgt_link.specs.History.{IsInOrderOf, RunsThrough, shown, shown_in, shown_on, stood_in, stood_on}
@@ -105,10 +105,7 @@ module _ (square : ℕ) where
       let rest = ends (picture_after picture message) up in
       record {
         before = shown square picture ++ rest.before;
-        is =
-            ap (λ (later : List Piece). shown square picture ++ later) rest.is
-            ∙ sym (append_assoc (shown square picture) rest.before
-            (shown square (picture_after_all (picture_after picture message) up)));
+        is = search (rules, append_assoc);
       }
 
   along_more : (picture : Option (List Piece)) (up : List Content) (message : Content)
@@ -116,9 +113,7 @@ module _ (square : ℕ) where
       ≡ along picture up ++ shown square (picture_after (picture_after_all picture up) message)
   along_more picture [] message = refl
   along_more picture (first ∷ up) message =
-      ap (λ (later : List Piece). shown square picture ++ later) (along_more (picture_after picture first) up message)
-      ∙ sym (append_assoc (shown square picture) (along (picture_after picture first) up)
-      (shown square (picture_after (picture_after_all (picture_after picture first) up) message)))
+      search (rules, append_assoc, along_more (picture_after picture first) up message)
 
   -- the piece shown now is shown again
   again : (seen stood : List Piece) (picture : Option (List Piece)) (up : List Content)
@@ -127,15 +122,12 @@ module _ (square : ℕ) where
   again seen stood None up is = rw (append-nil seen) is
   again seen stood (Some pieces) up is =
       let b = begins (Some pieces) up in
-      let v : Piece = piece_on pieces square in
-      rw (b.is, append_assoc seen (v ∷ []) (v ∷ b.rest))
-      (shown_again seen b.rest stood v (rw b.is at is))
+      search (rules, append_assoc, shown_again)
 
   -- ---- the effect of a board's message
 
   abbrev pub ShowsNow : BoardState → Content → Type 0
-  ShowsNow board message =
-      (picture : Option (List Piece))
+  ShowsNow board message = (picture : Option (List Piece))
       → (shown square (picture_after picture message) ≡ shown square picture)
       ⊎ (shown square (picture_after picture message) ≡ piece_on board.squares square ∷ [])
 
@@ -146,34 +138,14 @@ module _ (square : ℕ) where
   set_at (first ∷ pieces) zero zero piece = inr (refl, refl)
   set_at (first ∷ pieces) zero (suc at) piece = inl refl
   set_at (first ∷ pieces) (suc other) zero piece = inl refl
-  set_at (first ∷ pieces) (suc other) (suc at) piece =
-      elim (set_at pieces other at piece) [
-        | inl same ↦ inl same
-        | inr (one, new) ↦ inr (ap suc one, new)
-      ]
+  set_at (first ∷ pieces) (suc other) (suc at) piece = search (rules, set_at pieces other)
 
   field_shows : (board : BoardState) (other : ℕ) → ShowsNow board (field_of board other)
   field_shows board other None = inl refl
-  field_shows board other (Some pieces) =
-      elim (set_at pieces other square (piece_on board.squares other)) [
-        | inl same ↦ inl (ap (λ (piece : Piece). piece ∷ []) same)
-        | inr (one, new) ↦ inr
-            (ap (λ (piece : Piece). piece ∷ []) (new ∙ ap (λ (n : ℕ). piece_on board.squares n) one))
-      ]
+  field_shows board other (Some pieces) = search (rules, set_at)
 
   clock_shows : (board : BoardState) (clock : ClockState) → ShowsNow board (clock_message clock)
-  clock_shows board (ClockState.times readings) picture = inl refl
-  clock_shows board (ClockState.no_clock absence) picture = inl refl
-
-  reply_shows : (board : BoardState) (reply : Reply) → ShowsNow board (reply_message board reply)
-  reply_shows board (Reply.Of Kind.Dump) picture = inr refl
-  reply_shows board (Reply.Of Kind.Serial) picture = inl refl
-  reply_shows board (Reply.Of Kind.Trademark) picture = inl refl
-  reply_shows board (Reply.Of Kind.Version) picture = inl refl
-  reply_shows board (Reply.Of Kind.Battery) picture = inl refl
-  reply_shows board (Reply.Of Kind.LongSerial) picture = inl refl
-  reply_shows board Reply.Clock picture = clock_shows board board.clock picture
-  reply_shows board (Reply.Ack id version) picture = inl refl
+  clock_shows board clock = search rules
 
   -- ---- moves
 
@@ -191,31 +163,23 @@ module _ (square : ℕ) where
   -- a move that sends and hears nothing
   still : (seen before : List Piece) (x y : MachineState) → y.picture ≡ x.picture → y.up ≡ x.up → Goes seen before x
       → GoesOn seen before x y
-  still seen before x y picture up goes =
-      rw (picture, up)
-      (more_stood ((seen ++ shown square x.picture) ++ along x.picture x.up) (before ++ now x ∷ []) (now y ∷ [])
-      (again seen (before ++ now x ∷ []) x.picture x.up goes))
+  still seen before x y picture up goes = search (rules, more_stood, again)
 
   -- everything under way is lost
   lost : (seen before : List Piece) (x y : MachineState) → y.picture ≡ None → y.up ≡ [] → Goes seen before x
       → GoesOn seen before x y
   lost seen before x y picture up goes =
       let b = begins x.picture x.up in
-      let first : IsInOrderOf ((seen ++ shown square x.picture) ++ b.rest) (before ++ now x ∷ [])
-      = rw (append_assoc seen (shown square x.picture) b.rest) (rw b.is at goes) in
-      rw (picture, up, append-nil (seen ++ shown square x.picture))
-      (more_stood (seen ++ shown square x.picture) (before ++ now x ∷ []) (now y ∷ [])
-      (fewer_shown (seen ++ shown square x.picture) b.rest (before ++ now x ∷ []) first))
+      search (rules, append_assoc, append-nil, more_stood, fewer_shown)
 
   -- one more message is under way
   one_more : (seen before : List Piece) (x : MachineState) (message : Content) → ShowsNow x.board message
       → Goes seen before x → IsInOrderOf (seen ++ along x.picture (x.up ++ message ∷ [])) (before ++ now x ∷ [])
-  one_more seen before x message shows goes =
-      rw (
-        along_more x.picture x.up message,
-        ← append_assoc seen (along x.picture x.up)
-            (shown square (picture_after (picture_after_all x.picture x.up) message)),
-      )
+  one_more seen before x message shows goes = rw (
+    along_more x.picture x.up message,
+    ← append_assoc seen (along x.picture x.up)
+        (shown square (picture_after (picture_after_all x.picture x.up) message)),
+  )
       (go (shows (picture_after_all x.picture x.up)))
     where
       last : Option (List Piece)
@@ -247,38 +211,24 @@ module _ (square : ℕ) where
 
   pub sends : (seen before : List Piece) (x y : MachineState) (message : Content) → ShowsNow x.board message
       → y.picture ≡ x.picture → y.up ≡ x.up ++ message ∷ [] → Goes seen before x → GoesOn seen before x y
-  sends seen before x y message shows picture up goes =
-      rw (picture, up)
-      (more_stood ((seen ++ shown square x.picture) ++ along x.picture (x.up ++ message ∷ [])) (before ++ now x ∷ [])
-      (now y ∷ [])
-      (again seen (before ++ now x ∷ []) x.picture (x.up ++ message ∷ []) (one_more seen before x message shows goes)))
+  sends seen before x y message shows picture up goes = search (rules, more_stood, again, one_more)
 
   sends_if : (seen before : List Piece) (x : MachineState) (asked : Bool) (message : Content)
       → ShowsNow x.board message → Goes seen before x
       → GoesOn seen before x (if asked then after_reported x message else x)
-  sends_if seen before x true message shows goes =
-      sends seen before x (after_reported x message) message shows refl refl goes
-  sends_if seen before x false message shows goes = still seen before x x refl refl goes
+  sends_if seen before x asked message shows goes = search (rules, sends, still)
 
   replies : (seen before : List Piece) (x : MachineState) (owed : List Reply) → Goes seen before x
       → GoesOn seen before x (after_reply x owed)
-  replies seen before x [] goes = still seen before x x refl refl goes
-  replies seen before x (reply ∷ later) goes =
-      sends seen before x (after_reply x (reply ∷ later)) (reply_message x.board reply) (reply_shows x.board reply)
-      refl refl goes
+  replies seen before x owed goes = search (rules, still, sends, clock_shows)
 
   takes : (seen before : List Piece) (x : MachineState) (down : List EventContent) → Goes seen before x
       → GoesOn seen before x (after_take x down)
-  takes seen before x [] goes = still seen before x x refl refl goes
-  takes seen before x (event ∷ later) goes = still seen before x (after_take x (event ∷ later)) refl refl goes
+  takes seen before x down goes = search (rules, still)
 
   hears : (seen before : List Piece) (x : MachineState) (up : List Content) → x.up ≡ up → Goes seen before x
       → GoesOn seen before x (after_hear x up)
-  hears seen before x [] e goes = still seen before x x refl refl goes
-  hears seen before x (message ∷ up) e goes =
-      rw (append_assoc seen (shown square x.picture) (along (picture_after x.picture message) up))
-      (more_stood (seen ++ (shown square x.picture ++ along (picture_after x.picture message) up))
-      (before ++ now x ∷ []) (now x ∷ []) (rw e at goes))
+  hears seen before x up e goes = search (rules, still, append_assoc, more_stood)
 
   pub goes_on : (seen before : List Piece) (x : MachineState) (move : Move) → Goes seen before x
       → GoesOn seen before x (after_move x move)
@@ -290,9 +240,7 @@ module _ (square : ℕ) where
       still seen before x (after_move x (Move.Ask command)) refl refl goes
   goes_on seen before x Move.Take goes = takes seen before x x.down goes
   goes_on seen before x Move.Reply goes = replies seen before x x.board.owed goes
-  goes_on seen before x (Move.Report other) goes =
-      sends_if seen before x (updates x.board.mode && differs x.board other) (field_of x.board other)
-      (field_shows x.board other) goes
+  goes_on seen before x (Move.Report other) goes = search (rules, sends_if, field_shows)
   goes_on seen before x Move.ReportClock goes =
       sends_if seen before x x.board.times_owed (clock_message x.board.clock) (clock_shows x.board x.board.clock) goes
   goes_on seen before x Move.Hear goes = hears seen before x x.up refl goes
@@ -306,11 +254,10 @@ module _ (square : ℕ) where
       let b = begins x.picture x.up in
       fewer_shown (seen ++ shown square x.picture) b.rest (before ++ now x ∷ [])
       (rw (append_assoc seen (shown square x.picture) b.rest) (rw b.is at goes))
-  goes_all seen before x (move ∷ moves) goes =
-      rw (
-        ← append_assoc seen (shown square x.picture) (shown_on square (after_move x move) moves),
-        ← append_assoc before (now x ∷ []) (stood_on square (after_move x move) moves),
-      )
+  goes_all seen before x (move ∷ moves) goes = rw (
+    ← append_assoc seen (shown square x.picture) (shown_on square (after_move x move) moves),
+    ← append_assoc before (now x ∷ []) (stood_on square (after_move x move) moves),
+  )
       (goes_all (seen ++ shown square x.picture) (before ++ now x ∷ []) (after_move x move) moves
       (goes_on seen before x move goes))
 
@@ -336,8 +283,7 @@ module _ (square : ℕ) where
       on = goes_on seen before x move goes
 
       more : IsInOrderOf (seen ++ (shown square x.picture ++ along y.picture y.up)) (before ++ now x ∷ now x ∷ [])
-      more =
-          subst (λ (piece : Piece). IsInOrderOf (seen ++ (shown square x.picture ++ along y.picture y.up))
+      more = subst (λ (piece : Piece). IsInOrderOf (seen ++ (shown square x.picture ++ along y.picture y.up))
           (before ++ now x ∷ piece ∷ [])) (same x)
           (rw (
             ← append_assoc seen (shown square x.picture) (along y.picture y.up),
@@ -345,23 +291,8 @@ module _ (square : ℕ) where
           ) on)
 
       fewer : IsInOrderOf (seen ++ along y.picture y.up) (before ++ now x ∷ [])
-      fewer =
-          stood_once (seen ++ along y.picture y.up) before [] (now x)
+      fewer = stood_once (seen ++ along y.picture y.up) before [] (now x)
           (some_not_shown seen (shown square x.picture) (along y.picture y.up) (before ++ now x ∷ now x ∷ []) more)
-
-  take_leaves_squares : (x : MachineState) → now (after_move x Move.Take) ≡ now x
-  take_leaves_squares x = go x.down
-    where
-      go : (down : List EventContent) → now (after_take x down) ≡ now x
-      go [] = refl
-      go (event ∷ later) = ap (λ (squares : List Piece). piece_on squares square) (effect_leaves x.board event).squares
-
-  hear_leaves_squares : (x : MachineState) → now (after_move x Move.Hear) ≡ now x
-  hear_leaves_squares x = go x.up
-    where
-      go : (up : List Content) → now (after_hear x up) ≡ now x
-      go [] = refl
-      go (message ∷ later) = refl
 
   act_goes : (seen before : List Piece) (x : MachineState) (act : ActContent) (moves : List Move)
       → AreMovesOfAct act moves → Goes seen before x
@@ -375,20 +306,18 @@ module _ (square : ℕ) where
   act_goes seen before x ActContent.BoardSend moves (move, is, are) goes =
       rw are (goes_on seen before x move goes)
   act_goes seen before x (ActContent.ToBoard _) moves (count, are) goes =
-      rw are (again_and_again Move.Take take_leaves_squares count (seen ++ shown square x.picture)
-      (before ++ now x ∷ []) x (still seen before x x refl refl goes))
+      search (rules, again_and_again, still, effect_leaves)
   act_goes seen before x (ActContent.ToHost _) moves (count, are) goes =
-      rw are (again_and_again Move.Hear hear_leaves_squares count (seen ++ shown square x.picture)
-      (before ++ now x ∷ []) x (still seen before x x refl refl goes))
-  act_goes seen before x ActContent.Break moves are goes = rw are (goes_on seen before x Move.Break goes)
+      search (rules, again_and_again, still)
+  act_goes seen before x ActContent.Break moves are goes =
+      rw are (goes_on seen before x Move.Break goes)
   act_goes seen before x ActContent.HostBreak moves (noise, is_noise, are) goes =
       rw are (goes_on seen before x (Move.HostBreak noise is_noise) goes)
 
   pub step_goes : (seen before : List Piece) (x : MachineState) (act : ActContent) (answer : Outcome)
       (moves : List Move) → AreMovesOfStep act answer moves → Goes seen before x
       → Goes (seen ++ shown square x.picture) (before ++ now x ∷ []) (after_moves x moves)
-  step_goes seen before x act Outcome.Done moves are goes = act_goes seen before x act moves are goes
-  step_goes seen before x act _ moves are goes = rw are (still seen before x x refl refl goes)
+  step_goes seen before x act answer moves are goes = search (rules, act_goes, still)
 
   module _ (one : (act : ActContent) (world after : WorldView) (answer : Outcome) (x : MachineState)
       → StandsFor world x → Step act world answer after → StandsAfterStep act answer x after) where

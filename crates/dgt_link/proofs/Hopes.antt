@@ -1,5 +1,5 @@
 -- How each act changes what is promised of a world's picture or its clock.
-use Rattle.std.proofs.Common.{◌≡◌, refl, sym, ◌∙◌, ℕ, List, [], ◌∷◌, ◌++◌, Bool, Some, true, false, replicate}
+use Rattle.std.proofs.Common.{◌≡◌, refl, sym, ◌∙◌, ℕ, List, [], ◌∷◌, ◌++◌, Bool, Some, true, false, replicate, rules}
 use Rattle.std.proofs.lemmas.Bool.{false≢true}
 use Rattle.std.specs.Prelude.{IsTrue}
 use Rattle.dgt_command.specs.Content.{CommandContent}
@@ -45,36 +45,23 @@ module _ (behind : ActsBehind) where
       → StandsWith Q world → Step act world answer after → StandsWith R after
   led Q R act world answer after other leads is step =
       let reached = behind act is.garbage world answer after is.state other is.stands step in
-      record {
-        garbage = reached.0;
-        state = after_moves is.state reached.1;
-        stands = reached.3;
-        holds = leads is.state reached.1 reached.2 is.holds;
-      }
+      search rules
 
 -- the bytes under way to the host are garbled, and the state knows nothing
 pub garbled : (Q : MachineState → Type 0) → ((x : MachineState) → Q x → Q (forgotten x)) → (bytes : List ℕ)
     (world after : WorldView) → StandsWith Q world → FaultyBecomes (FaultyContent.GarbleUp bytes) world after
     → StandsWith Q after
-garbled Q keeps bytes world after is same =
-    record {
-      garbage = world.host.unread ++ bytes;
-      state = forgotten is.state;
-      stands = garbled_stands bytes world after is.garbage is.state is.stands same;
-      holds = keeps is.state is.holds;
-    }
+garbled Q keeps bytes world after is same = record {
+  garbage = world.host.unread ++ bytes;
+  state = forgotten is.state;
+  stands = garbled_stands bytes world after is.garbage is.state is.stands same;
+  holds = keeps is.state is.holds;
+}
 
 -- the host gives up what it awaits
 pub given_up : (Q : MachineState → Type 0) (world after : WorldView) (answer : Outcome) → StandsWith Q world
     → FaultyStep FaultyContent.GiveUp world answer after → StandsWith Q after
-given_up Q world after Outcome.Done is step =
-    record {
-      garbage = is.garbage;
-      state = is.state;
-      stands = given_up_stands world after is.garbage is.state is.stands step.leaves;
-      holds = is.holds;
-    }
-given_up Q world after _ is step = let a = step.answers in cc
+given_up Q world after answer is step = search (rules, given_up_stands)
 
 module _ (asks : Mode → Bool) (ends : FaultyContent → Bool) (Comes : MachineState → Type 0)
     (hope : Hope asks ends Comes) where
@@ -82,12 +69,7 @@ module _ (asks : Mode → Bool) (ends : FaultyContent → Bool) (Comes : Machine
   mode_stays : (before : Mode) (act : ActContent) (answer : Outcome) → is_break act ≡ false
       → ends (FaultyContent.Plain act) ≡ false → IsTrue (asks before)
       → IsTrue (asks (mode_after before (act_requests answer act)))
-  mode_stays before (ActContent.Host command) Outcome.Done other going asked =
-      hope.command before command going asked
-  mode_stays before ActContent.Break Outcome.Done other going asked = cc
-  mode_stays before ActContent.HostBreak Outcome.Done other going asked = cc
-  mode_stays before act Outcome.Done other going asked = asked
-  mode_stays before act _ other going asked = asked
+  mode_stays before act answer other going asked = search rules
 
   still_follows : (act : ActContent) (answer : Outcome) (x : MachineState) (moves : List Move) → is_break act ≡ false
       → ends (FaultyContent.Plain act) ≡ false → AreMovesOfStep act answer moves → Follows asks x
@@ -98,11 +80,7 @@ module _ (asks : Mode → Bool) (ends : FaultyContent → Bool) (Comes : Machine
   pub stays_promised : (act : ActContent) (answer : Outcome) (x : MachineState) (moves : List Move)
       → is_break act ≡ false → ends (FaultyContent.Plain act) ≡ false → AreMovesOfStep act answer moves
       → IsPromisedBy Comes asks x → IsPromisedBy Comes asks (after_moves x moves)
-  stays_promised act answer x moves other going are promised =
-      record {
-        coming = hope.comes x act answer moves other are promised.coming;
-        mode = still_follows act answer x moves other going are promised.mode;
-      }
+  stays_promised act answer x moves other going are promised = search (rules, still_follows)
 
 module _ (behind : ActsBehind) (asks : Mode → Bool) (ends : FaultyContent → Bool) (Comes : MachineState → Type 0)
     (hope : Hope asks ends Comes) where
@@ -130,9 +108,7 @@ module _ (behind : ActsBehind) (asks : Mode → Bool) (ends : FaultyContent → 
       → command_mode command ≡ Some mode → IsTrue (asks mode) → IsInStep world
       → FaultyStep (sends command) world Outcome.Done after → StandsWith (Follows asks) after
   asked_follows command mode world after sets asked is step =
-      led behind (λ x. Unit {0}) (Follows asks) (ActContent.Host command) world Outcome.Done after refl
-      (λ x moves are any. mode_is_set mode command x moves sets asked are) is
-      (plain_step (ActContent.Host command) world Outcome.Done after step)
+      search (rules, led, mode_is_set, plain_step)
 
   -- a mode that asks is set, and that makes it come
   pub set_promises : (Q : MachineState → Type 0) (command : CommandContent) (mode : Mode) (world after : WorldView)
@@ -141,24 +117,19 @@ module _ (behind : ActsBehind) (asks : Mode → Bool) (ends : FaultyContent → 
       → command_mode command ≡ Some mode → IsTrue (asks mode) → StandsWith Q world
       → FaultyStep (sends command) world Outcome.Done after → StandsWith (IsPromisedBy Comes asks) after
   set_promises Q command mode world after comes sets asked is step =
-      led behind Q (IsPromisedBy Comes asks) (ActContent.Host command) world Outcome.Done after refl
-      (λ x moves are q.
-      record { coming = comes x moves are q; mode = mode_is_set mode command x moves sets asked are }) is
-      (plain_step (ActContent.Host command) world Outcome.Done after step)
+      search (rules, led, mode_is_set, plain_step)
 
   -- it is requested, while the mode to come asks for changes
   pub asked_promises : (command : CommandContent) → ends (sends command) ≡ false
       → ((x : MachineState) (moves : List Move) → AreMovesOfStep (ActContent.Host command) Outcome.Done moves
-      → Comes (after_moves x moves))
-      → (world after : WorldView) → StandsWith (Follows asks) world
+      → Comes (after_moves x moves)) → (world after : WorldView) → StandsWith (Follows asks) world
       → FaultyStep (sends command) world Outcome.Done after → StandsWith (IsPromisedBy Comes asks) after
   asked_promises command going comes world after is step =
       led behind (Follows asks) (IsPromisedBy Comes asks) (ActContent.Host command) world Outcome.Done after refl
       (λ x moves are asked.
       record {
         coming = comes x moves are;
-        mode =
-            still_follows asks ends Comes hope (ActContent.Host command) Outcome.Done x moves refl going are asked;
+        mode = still_follows asks ends Comes hope (ActContent.Host command) Outcome.Done x moves refl going are asked;
       }) is
       (plain_step (ActContent.Host command) world Outcome.Done after step)
 

@@ -1,21 +1,18 @@
 -- A known picture is what the board had reported when it sent the last message that was heard.
-use Rattle.std.proofs.Common.{◌≡◌, ◌≢◌, refl, sym, ap, subst, ◌∙◌, ◌⊎◌, inl, inr, rules, ℕ, List, [], ◌∷◌, ◌++◌, Bool, true, false, Option, Some, append_assoc, ◌&&◌, if◌then◌else◌}
+use Rattle.std.proofs.Common.{◌≡◌, ◌≢◌, refl, sym, ap, subst, ◌∙◌, ◌⊎◌, inl, inr, rules, ℕ, List, [], ◌∷◌, ◌++◌, Bool, true, false, Option, Some, append_assoc, if◌then◌else◌}
 use Rattle.std.proofs.lemmas.List.{append-nil}
 use Rattle.std.proofs.lemmas.Bool.{false≢true}
-use Rattle.std.specs.Prelude.{IsSome, is_some}
+use Rattle.std.specs.Prelude.{IsSome}
 use Rattle.std.specs.List.{AllByRecursion}
 use Rattle.dgt_values.specs.declared.pieces.Piece.{Piece}
-use Rattle.dgt_message.specs.Content.{Content, clock_message}
-use Rattle.dgt_command.specs.Content.{EventContent}
+use Rattle.dgt_message.specs.Content.{Content}
 use Rattle.dgt_board.specs.declared.replies.Reply.{Reply}
-use Rattle.dgt_board.specs.State.{updates}
-use Rattle.dgt_board.specs.Sending.{differs, field_of, reply_message}
 use Rattle.dgt_message.specs.Picture.{picture_after, picture_after_all}
 use Rattle.dgt_link.specs.Act.{ActContent}
 use Rattle.dgt_link.specs.declared.acts.Outcome.{Outcome}
 use Rattle.dgt_link.specs.Faults.{is_break}
 use Rattle.dgt_link.specs.Healing.{IsInStep, StandsBehind}
-use Rattle.dgt_link.specs.Machine.{IsHostBreak, IsSending, MachineState, Move, after_hear, after_move, after_moves, after_reply, after_take, after_reported}
+use Rattle.dgt_link.specs.Machine.{IsHostBreak, IsSending, MachineState, Move, after_hear, after_move, after_moves, after_reply, after_reported}
 use Rattle.dgt_link.specs.Reported.{IsReportedBy, ReportedBefore, WasReported, first_reply, sent_by, sent_by_all}
 use Rattle.dgt_link.specs.Sound.{IsSound, IsUnknownOr, coming_picture}
 use Rattle.dgt_link.specs.Stands.{AreMovesOfRun, AreMovesOfStep}
@@ -37,16 +34,11 @@ use Rattle.dgt_link.proofs.Standing.{moves-append}
 last_of : {X : Type 0} (prefix back xs : List X) (x : X) → xs ++ x ∷ [] ≡ prefix ++ back
     → (back ≡ []) ⊎ ((rest : List X) × (back ≡ rest ++ x ∷ []) × (xs ≡ prefix ++ rest))
 last_of [] back xs x e = inr (xs, sym e, refl)
-last_of (first ∷ prefix) back [] x e =
-    let none : prefix ++ back ≡ [] = cc in
-    inl (right_empty prefix back none)
+last_of (first ∷ prefix) back [] x e = search (rules, right_empty)
 last_of (first ∷ prefix) back (y ∷ xs) x e =
     let same : y ≡ first = cc in
     let more : xs ++ x ∷ [] ≡ prefix ++ back = cc in
-    elim (last_of prefix back xs x more) [
-      | inl none ↦ inl none
-      | inr (rest, is, both) ↦ inr (rest, is, rw (same, both) refl)
-    ]
+    search (rules, last_of prefix back xs x more)
 
 -- ---- a move that isn't a break
 
@@ -61,21 +53,14 @@ record Sends (x : MachineState) (move : Move) : Type 0 where
 reported_if : (x : MachineState) (asked : Bool) (message : Content)
     → ((if asked then after_reported x message else x).up ≡ x.up ++ (if asked then message ∷ [] else []))
     × ((if asked then after_reported x message else x).picture ≡ x.picture)
-reported_if x true message = (refl, refl)
-reported_if x false message = (sym (append-nil x.up), refl)
+reported_if x asked message = search (rules, append-nil)
 
 reply_sends : (x : MachineState) (owed : List Reply)
     → ((after_reply x owed).up ≡ x.up ++ first_reply x.board owed) × ((after_reply x owed).picture ≡ x.picture)
-reply_sends x [] = (sym (append-nil x.up), refl)
-reply_sends x (first ∷ later) = (refl, refl)
+reply_sends x owed = search (rules, append-nil)
 
 take_sends : (x : MachineState) → ((after_move x Move.Take).up ≡ x.up) × ((after_move x Move.Take).picture ≡ x.picture)
-take_sends x = go x.down
-  where
-    go : (down : List EventContent)
-        → ((after_take x down).up ≡ x.up) × ((after_take x down).picture ≡ x.picture)
-    go [] = (refl, refl)
-    go (event ∷ later) = (refl, refl)
+take_sends x = search rules
 
 move_sends : (x : MachineState) (move : Move) → IsPlain move → move ≢ Move.Hear → Sends x move
 move_sends x (Move.Change square piece) plain other = record { up = sym (append-nil x.up); picture = refl }
@@ -85,28 +70,15 @@ move_sends x Move.Take plain other =
     record { up = (take_sends x).0 ∙ sym (append-nil x.up); picture = (take_sends x).1 }
 move_sends x Move.Reply plain other =
     record { up = (reply_sends x x.board.owed).0; picture = (reply_sends x x.board.owed).1 }
-move_sends x (Move.Report square) plain other =
-    let reported = reported_if x (updates x.board.mode && differs x.board square) (field_of x.board square) in
-    record { up = reported.0; picture = reported.1 }
-move_sends x Move.ReportClock plain other =
-    let reported = reported_if x x.board.times_owed (clock_message x.board.clock) in
-    record { up = reported.0; picture = reported.1 }
+move_sends x (Move.Report square) plain other = search (rules, reported_if)
+move_sends x Move.ReportClock plain other = search (rules, reported_if)
 move_sends x Move.Hear plain other = absurd (other refl)
 move_sends x Move.Break plain other = absurd (plain.0 refl)
 move_sends x (Move.HostBreak noise is_noise) plain other = absurd (plain.1 tt)
 
 pub sending_sends : (x : MachineState) (move : Move) → IsSending move
     → (after_move x move).up ≡ x.up ++ sent_by x move
-sending_sends x Move.Reply sends = (move_sends x Move.Reply (search rules) (search rules)).up
-sending_sends x (Move.Report square) sends = (move_sends x (Move.Report square) (search rules) (search rules)).up
-sending_sends x Move.ReportClock sends = (move_sends x Move.ReportClock (search rules) (search rules)).up
-sending_sends x (Move.Change square piece) sends = elim sends [ ]
-sending_sends x (Move.HandClock clock) sends = elim sends [ ]
-sending_sends x (Move.Ask command) sends = elim sends [ ]
-sending_sends x Move.Take sends = elim sends [ ]
-sending_sends x Move.Hear sends = elim sends [ ]
-sending_sends x Move.Break sends = elim sends [ ]
-sending_sends x (Move.HostBreak noise is_noise) sends = elim sends [ ]
+sending_sends x move sends = search (rules, move_sends)
 
 pub reported_at_once : (x : MachineState) → WasReported x []
     → (x.up ≡ []) × IsUnknownOr x.picture (Some x.board.reported_squares)
@@ -120,24 +92,9 @@ reported_at_once x report = go report.earlier report.later report.split report.s
     go [] (move ∷ later) split sent picture = cc
     go (move ∷ earlier) later split sent picture = cc
 
--- a known picture stays known
-hear_stays_seen : (x : MachineState) (up : List Content) → IsSome x.picture → IsSome (after_hear x up).picture
-hear_stays_seen x [] some = some
-hear_stays_seen x (message ∷ later) some = picture_after_known x.picture message some
-
 seen_stays : (x : MachineState) (move : Move) → IsPlain move → IsSome x.picture → IsSome (after_move x move).picture
-seen_stays x (Move.Change square piece) plain some = some
-seen_stays x (Move.HandClock clock) plain some = some
-seen_stays x (Move.Ask command) plain some = some
-seen_stays x Move.Take plain some = rw (take_sends x).1 some
-seen_stays x Move.Reply plain some = rw (reply_sends x x.board.owed).1 some
-seen_stays x (Move.Report square) plain some =
-    rw (reported_if x (updates x.board.mode && differs x.board square) (field_of x.board square)).1 some
-seen_stays x Move.ReportClock plain some =
-    rw (reported_if x x.board.times_owed (clock_message x.board.clock)).1 some
-seen_stays x Move.Hear plain some = hear_stays_seen x x.up some
-seen_stays x Move.Break plain some = absurd (plain.0 refl)
-seen_stays x (Move.HostBreak noise is_noise) plain some = absurd (plain.1 tt)
+seen_stays x move plain some =
+    search (rules, take_sends, reply_sends, reported_if, picture_after_known)
 
 pub seen_by_all : (x : MachineState) (moves : List Move) → AllByRecursion IsPlain moves → IsSome x.picture
     → IsSome (after_moves x moves).picture
@@ -155,20 +112,8 @@ comes_by_all x (move ∷ moves) all some =
 abbrev IsOneAtMost : List Content → Type 0
 IsOneAtMost sent = (sent ≡ []) ⊎ ((message : Content) × (sent ≡ message ∷ []))
 
-one_if : (asked : Bool) (message : Content) → IsOneAtMost (if asked then message ∷ [] else [])
-one_if true message = inr (message, refl)
-one_if false message = inl refl
-
-one_reply : (x : MachineState) (owed : List Reply) → IsOneAtMost (first_reply x.board owed)
-one_reply x [] = inl refl
-one_reply x (first ∷ later) = inr (reply_message x.board first, refl)
-
 one_at_most : (x : MachineState) (move : Move) → IsOneAtMost (sent_by x move)
-one_at_most x Move.Reply = one_reply x x.board.owed
-one_at_most x (Move.Report square) =
-    one_if (updates x.board.mode && differs x.board square) (field_of x.board square)
-one_at_most x Move.ReportClock = one_if x.board.times_owed (clock_message x.board.clock)
-one_at_most x _ = inl refl
+one_at_most x move = search rules
 
 -- ---- each prefix of what is under way
 
@@ -178,53 +123,34 @@ abbrev Since : MachineState → List Move → List Content → List Content → 
 Since x moves prefix back = ReportedBefore x moves (picture_after_all (after_moves x moves).picture prefix) back
 
 abbrev SinceEach : MachineState → List Move → Type 0
-SinceEach x moves =
-    (prefix back : List Content) → (after_moves x moves).up ≡ prefix ++ back → Since x moves prefix back
+SinceEach x moves = (prefix back : List Content) → (after_moves x moves).up ≡ prefix ++ back
+    → Since x moves prefix back
 
 sent-append : (x : MachineState) (moves : List Move) (move : Move)
     → sent_by_all x (moves ++ move ∷ []) ≡ sent_by_all x moves ++ sent_by (after_moves x moves) move
 sent-append x [] move = append-nil (sent_by x move)
 sent-append x (first ∷ moves) move =
-    ap (λ (rest : List Content). sent_by x first ++ rest) (sent-append (after_move x first) moves move)
-    ∙ sym (append_assoc (sent_by x first) (sent_by_all (after_move x first) moves)
-    (sent_by (after_moves (after_move x first) moves) move))
+    search (rules, append_assoc, sent-append (after_move x first) moves move)
 
 -- everything under way is heard
 since_now : (x : MachineState) (moves : List Move) (prefix : List Content) → IsSound x
     → (after_moves x moves).up ≡ prefix → Since x moves prefix []
-since_now x moves prefix sound all =
-    record {
-      earlier = moves;
-      later = [];
-      split = sym (append-nil moves);
-      sent = refl;
-      picture = rw all at (moves_sound x moves sound).picture;
-    }
+since_now x moves prefix sound all = record {
+  earlier = moves;
+  later = [];
+  split = sym (append-nil moves);
+  sent = refl;
+  picture = rw all at (moves_sound x moves sound).picture;
+}
 
 -- one more move, after the same moment
 since_later : (x : MachineState) (moves : List Move) (move : Move) (prefix back before sent : List Content)
-    → (since : Since x moves before back)
-    → sent_by (after_moves x moves) move ≡ sent
+    → (since : Since x moves before back) → sent_by (after_moves x moves) move ≡ sent
     → picture_after_all (after_moves x (moves ++ move ∷ [])).picture prefix
     ≡ picture_after_all (after_moves x moves).picture before
     → Since x (moves ++ move ∷ []) prefix (back ++ sent)
 since_later x moves move prefix back before sent since sends same =
-    record {
-      earlier = since.earlier;
-      later = since.later ++ move ∷ [];
-      split =
-          ap (λ (all : List Move). all ++ move ∷ []) since.split
-          ∙ append_assoc since.earlier since.later (move ∷ []);
-      sent =
-          sent-append (after_moves x since.earlier) since.later move
-          ∙ ap (λ (first : List Content). first ++ sent_by (after_moves (after_moves x since.earlier) since.later) move)
-          since.sent
-          ∙ ap (λ (y : MachineState). back ++ sent_by y move)
-          (sym (moves-append x since.earlier since.later)
-          ∙ ap (λ (all : List Move). after_moves x all) (sym since.split))
-          ∙ ap (λ (last : List Content). back ++ last) sends;
-      picture = rw same since.picture;
-    }
+    search (rules, append_assoc, sent-append, moves-append)
 
 module _ (x : MachineState) (sound : IsSound x) (moves : List Move) (each : SinceEach x moves) where
   -- a move that hears nothing
@@ -247,21 +173,17 @@ module _ (x : MachineState) (sound : IsSound x) (moves : List Move) (each : Sinc
       same = ap (λ (z : MachineState). z.picture) led ∙ sends.picture
 
       go : IsOneAtMost (sent_by (after_moves x moves) move) → Since x (moves ++ move ∷ []) prefix back
-      go (inl none) =
-          subst (λ (rest : List Content). Since x (moves ++ move ∷ []) prefix rest) (append-nil back)
+      go (inl none) = subst (λ (rest : List Content). Since x (moves ++ move ∷ []) prefix rest) (append-nil back)
           (since_later x moves move prefix back prefix []
           (each prefix back (sym (append-nil (after_moves x moves).up)
           ∙ ap (λ (sent : List Content). (after_moves x moves).up ++ sent) (sym none) ∙ under_way))
           none (ap (λ (picture : Option (List Piece)). picture_after_all picture prefix) same))
-      go (inr (message, is)) =
-          elim (last_of prefix back (after_moves x moves).up message
+      go (inr (message, is)) = elim (last_of prefix back (after_moves x moves).up message
           (ap (λ (sent : List Content). (after_moves x moves).up ++ sent) (sym is) ∙ under_way)) [
-            | inl none ↦
-                rw none
+            | inl none ↦ rw none
                 (since_now x (moves ++ move ∷ []) prefix sound
                 (up ∙ ap (λ (rest : List Content). prefix ++ rest) none ∙ append-nil prefix))
-            | inr (rest, ends, before) ↦
-                rw ends
+            | inr (rest, ends, before) ↦ rw ends
                 (since_later x moves move prefix rest prefix (message ∷ []) (each prefix rest before) is
                 (ap (λ (picture : Option (List Piece)). picture_after_all picture prefix) same))
           ]
@@ -311,11 +233,7 @@ moves_since x past (move ∷ more) sound all each =
 
 -- nothing is under way at first
 nothing_since : (x : MachineState) → IsSound x → x.up ≡ [] → SinceEach x []
-nothing_since x sound none prefix back up =
-    let all : prefix ++ back ≡ [] = sym up ∙ none in
-    let first : prefix ≡ [] = left_empty prefix back all in
-    let last : back ≡ [] = right_empty prefix back all in
-    rw last (since_now x [] prefix sound (none ∙ sym first))
+nothing_since x sound none prefix back up = search (rules, left_empty, right_empty, since_now)
 
 pub was_reported : (x : MachineState) (moves : List Move) → IsSound x → x.up ≡ []
     → AllByRecursion IsPlain moves → WasReported x moves
@@ -332,9 +250,7 @@ both_all P Q (x ∷ xs) p q = ((p.0, q.0), both_all P Q xs p.1 q.1)
 pub step_is_plain : (act : ActContent) (answer : Outcome) (moves : List Move) → is_break act ≡ false
     → AreMovesOfStep act answer moves → AllByRecursion IsPlain moves
 step_is_plain act answer moves other are =
-    both_all (λ move. move ≢ Move.Break) (λ move. ¬ (IsHostBreak move)) moves
-    (step_is_no_break act answer moves (no_break act other).0 are)
-    (step_is_other act answer moves (no_break act other).1 are)
+    search (rules, both_all, step_is_no_break, no_break, step_is_other)
 
 -- acts in a row, after garbage
 record Reached (acts : List ActContent) (answers : List Outcome) (x : MachineState) (after : WorldView) : Type 0 where
@@ -357,8 +273,7 @@ module _ (behind : ActsBehind) where
         garbage = rest.garbage;
         moves = first.1 ++ rest.moves;
         are_moves = (first.1, rest.moves, first.2, rest.are_moves, refl);
-        plain =
-            all_append IsPlain first.1 rest.moves (step_is_plain act answer first.1 all.0 first.2) rest.plain;
+        plain = all_append IsPlain first.1 rest.moves (step_is_plain act answer first.1 all.0 first.2) rest.plain;
         stands = rw (moves-append x first.1 rest.moves) rest.stands;
       }
   run_behind _ garbage world after _ x all stands none = absurd none
@@ -370,24 +285,12 @@ module _ (behind : ActsBehind) where
       let stands = forgotten_stands is.garbage world world.up is.state is.stands in
       let reached = run_behind acts (world.host.unread ++ world.up.bytes) world after answers (forgotten is.state) all
       stands runs in
-      record {
-        start = forgotten is.state;
-        begins = stands;
-        nothing_heard = refl;
-        nothing_sent = refl;
-        garbage = reached.garbage;
-        moves = reached.moves;
-        are_moves = reached.are_moves;
-        stands = reached.stands;
-        reported = was_reported (forgotten is.state) reached.moves stands.sound refl reached.plain;
-        shown = λ square. in_order square (forgotten is.state) reached.moves refl refl;
-      }
+      search (rules, forgotten, was_reported, in_order)
 
 -- ---- facts of the state
 
 both_known : (known seen : Option (List Piece)) → IsSome known → IsUnknownOr known seen → seen ≡ known
-both_known known seen some (inl none) = absurd (false≢true (ap is_some (sym none) ∙ some))
-both_known known seen some (inr same) = sym same
+both_known known seen some h3 = search (rules, false≢true)
 
 still_known : (picture : Option (List Piece)) (up : List Content) → IsSome picture
     → IsSome (picture_after_all picture up)
@@ -396,14 +299,6 @@ still_known picture (message ∷ up) some =
     still_known (picture_after picture message) up (picture_after_known picture message some)
 
 pub known_behind : (garbage : List ℕ) (world : WorldView) (x : MachineState) → StandsBehind garbage world x
-    → IsSome x.picture
-    → (world.host.picture ≡ x.picture)
+    → IsSome x.picture → (world.host.picture ≡ x.picture)
     × (picture_after_all world.host.picture x.up ≡ Some world.board.state.reported_squares)
-known_behind garbage world x stands some =
-    let same : world.host.picture ≡ x.picture
-    = both_known x.picture world.host.picture some stands.picture in (
-      same,
-      rw (same, stands.board)
-          (sym (both_known (coming_picture x) (Some x.board.reported_squares)
-          (still_known x.picture x.up some) stands.sound.picture)),
-    )
+known_behind garbage world x stands some = search (rules, both_known, still_known)

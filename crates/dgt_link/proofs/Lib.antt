@@ -38,3 +38,4 @@ pub mod Restarting
 pub mod ActKinds
 pub mod Asked
 pub mod Dumps
+pub mod BothWays

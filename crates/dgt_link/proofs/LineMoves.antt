@@ -1,7 +1,7 @@
 -- The bytes moved out of a line, some at a time.
 use Rattle.std.proofs.Common.{◌≡◌, refl, sym, subst, ap, ◌∙◌, ◌⊎◌, inl, inr, ℕ, ◌+◌, ◌-◌, ◌<◌, ◌≤◌, List, [], ◌∷◌, ◌++◌}
 use Rattle.std.proofs.Common.{Option, Some, None, length, take, drop, get_or, suc, false, IsTrue, IfSome, IfNone, arith}
-use Rattle.std.proofs.Common.{drop-cons, append_assoc}
+use Rattle.std.proofs.Common.{drop-cons, append_assoc, rules}
 use Rattle.std.specs.Prelude.{nat_le}
 use Rattle.std.proofs.Math.Seq.{take-add, take-append_seam}
 use Rattle.std.proofs.lemmas.Bool.{le-ltb, lt-leb}
@@ -17,54 +17,31 @@ use Rattle.dgt_board.specs.View.{Polls, BoardView, HasTaken, after_bytes}
 use Rattle.dgt_board.specs.Sending.{after_sending}
 use Rattle.dgt_host.specs.Host.{HostView, host_after, HeardInChunks}
 use Rattle.dgt_link.specs.declared.acts.Outcome.{Outcome}
-use Rattle.dgt_link.specs.View.{LineContents, WorldView, line_holding, overflows, with_bytes, without_first}
+use Rattle.dgt_link.specs.View.{LineContents, WorldView, with_bytes, without_first}
 use Rattle.dgt_link.specs.Step.{Delivers, StaysUnfinished, is_full, sending_outcome}
 
 left_on : (line now left : LineContents) (i n : ℕ) → now ≡ without_first line i → left ≡ without_first now n
     → left ≡ without_first line (i + n)
-left_on line now left i n e f =
-    f ∙ ap (λ (before : LineContents). without_first before n) e ∙ ap
-    (λ (bytes : List ℕ). line_holding bytes line.capacity) (drop-drop n i line.bytes)
+left_on line now left i n e f = search (rules, drop-drop)
 
 -- bytes of a chunk of the front are bytes of the line
 pub prefix_bytes : (bytes prefix : List ℕ) (k used : ℕ) → prefix ≡ take (length prefix) bytes
-    → used ≤ length (take k prefix)
-    → take used (take k prefix) ≡ take used bytes
-prefix_bytes bytes prefix k used is within =
-    let short = length-take k prefix in
-    let in_chunk : used ≤ k = omega (arith, short, within) in
-    let in_front : used ≤ length prefix = omega (arith, short, within) in
-    take-take used k prefix in_chunk ∙ ap (λ (l : List ℕ). take used l) is
-    ∙ take-take used (length prefix) bytes in_front
+    → used ≤ length (take k prefix) → take used (take k prefix) ≡ take used bytes
+prefix_bytes bytes prefix k used is within = search (rules, length-take, take-take)
 
 -- ---- the board sends
-
--- the bytes written at the beginning
-prefix_taken : (count : ℕ) (written new old more : List ℕ) → new ≡ written ++ drop count old → count ≡ length written
-    → take count (new ++ more) ≡ written
-prefix_taken count written new old more e is =
-    ap (λ (l : List ℕ). take count (l ++ more)) e ∙ ap (take count) (append_assoc written (drop count old) more)
-    ∙ ap (λ (n : ℕ). take n (written ++ (drop count old ++ more))) is ∙ take-append_seam written
-    (drop count old ++ more)
 
 -- the bytes polled into the beginning of a buffer are sent by it if the line has room for them
 pub polled_is_sent : (count room : ℕ) (next : Option Content) (before after : BoardView) (line left : LineContents)
     (old new more : List ℕ)
     → Polls (Polled.Wrote count) next before after old new → length old ≤ room
-    → room + length line.bytes ≡ line.capacity
-    → left ≡ with_bytes line (take count (new ++ more))
+    → room + length line.bytes ≡ line.capacity → left ≡ with_bytes line (take count (new ++ more))
     → (Outcome.Done ≡ sending_outcome next line)
     × ((message : Content) × (next ≡ Some message) × Encodes message (encoding message) ×
     (after ≡ record before { state = after_sending before.state message }) ×
     (left ≡ with_bytes line (encoding message)))
-polled_is_sent count room None before after line left old new more none short rest e = absurd none
-polled_is_sent count room (Some message) before after line left old new more
-    (is, within, written, encodes, state) short holds e =
-    let fits : overflows line (encoding message) ≡ false
-    = le-ltb line.capacity (length line.bytes + length (encoding message)) (omega (arith, is, within, short, holds)) in
-    let same : take count (new ++ more) ≡ encoding message
-    = prefix_taken count (encoding message) new old more written is in
-    (rw fits refl, (message, refl, encodes, state, rw same at e))
+polled_is_sent count room next before after line left old new more none short rest e =
+    search (rules, le-ltb, append_assoc, take-append_seam)
 
 -- ---- the board takes
 
@@ -72,8 +49,7 @@ polled_is_sent count room (Some message) before after line left old new more
 abbrev TakingsAppend : Type 0
 TakingsAppend =
     (before between after : BoardView) (bytes more : List ℕ) → HasTaken before bytes between
-    → HasTaken between more after
-    → HasTaken before (bytes ++ more) after
+    → HasTaken between more after → HasTaken before (bytes ++ more) after
 
 not_full : (n : ℕ) → n < 8 → nat_le 8 n ≡ false
 not_full n h = lt-leb 8 n h
@@ -81,35 +57,30 @@ not_full n h = lt-leb 8 n h
 -- bytes after others, cut before one of them
 cut_bytes : (before bytes : List ℕ) (n : ℕ) → n < length bytes
     → before ++ bytes ≡ (before ++ take n bytes) ++ (get_or bytes n 0 ∷ drop (suc n) bytes)
-cut_bytes before bytes n within =
-    ap (λ (l : List ℕ). before ++ l)
-    (sym (take-append-drop n bytes) ∙ ap (λ (l : List ℕ). take n bytes ++ l) (drop-cons bytes n 0 within))
-    ∙ sym (append_assoc before (take n bytes) (get_or bytes n 0 ∷ drop (suc n) bytes))
+cut_bytes before bytes n within = search (rules, take-append-drop, drop-cons, append_assoc)
 
 -- a proper prefix of a frame
 word_prefix : (event : EventContent) (before bytes : List ℕ) (n : ℕ) → n < length bytes → IsWord event (before ++ bytes)
     → IsPartial (before ++ take n bytes)
-word_prefix event before bytes n within word =
-    record {
-      event = event;
-      next = get_or bytes n 0;
-      more = drop (suc n) bytes;
-      word = subst (IsWord event) (cut_bytes before bytes n within) word;
-    }
+word_prefix event before bytes n within word = record {
+  event = event;
+  next = get_or bytes n 0;
+  more = drop (suc n) bytes;
+  word = subst (IsWord event) (cut_bytes before bytes n within) word;
+}
 
 -- a prefix of a proper prefix
 partial_prefix : (before bytes : List ℕ) (n : ℕ) → n < length bytes → IsPartial (before ++ bytes)
     → IsPartial (before ++ take n bytes)
-partial_prefix before bytes n within part =
-    record {
-      event = part.event;
-      next = get_or bytes n 0;
-      more = drop (suc n) bytes ++ (part.next ∷ part.more);
-      word = subst (IsWord part.event)
-          (ap (λ (l : List ℕ). l ++ (part.next ∷ part.more)) (cut_bytes before bytes n within) ∙ append_assoc
-          (before ++ take n bytes) (get_or bytes n 0 ∷ drop (suc n) bytes) (part.next ∷ part.more))
-          part.word;
-    }
+partial_prefix before bytes n within part = record {
+  event = part.event;
+  next = get_or bytes n 0;
+  more = drop (suc n) bytes ++ (part.next ∷ part.more);
+  word = subst (IsWord part.event)
+      (ap (λ (l : List ℕ). l ++ (part.next ∷ part.more)) (cut_bytes before bytes n within) ∙ append_assoc
+      (before ++ take n bytes) (get_or bytes n 0 ∷ drop (suc n) bytes) (part.next ∷ part.more))
+      part.word;
+}
 
 -- after bytes that complete no frame a board owes no more
 stays : (board : BoardView) (bytes : List ℕ) → length board.state.owed < 8 → IsPartial (board.partial ++ bytes)
@@ -128,11 +99,9 @@ prefix_of_word : {E : Type 0} (content : E → EventContent) (before bytes chunk
     ((used ≡ length chunk) × IsPartial (before ++ chunk))
     → (fewer : ℕ) → fewer < length (take used bytes) → IsPartial (before ++ take fewer (take used bytes))
 prefix_of_word content before bytes chunk used (Some e) same word part fewer less =
-    word_prefix (content e) before (take used bytes) fewer less
-    (subst (λ (l : List ℕ). IsWord (content e) (before ++ l)) same word)
+    search (rules, word_prefix)
 prefix_of_word content before bytes chunk used None same word part fewer less =
-    let whole : chunk ≡ take used bytes = sym (take_all used chunk (omega (arith, part.0))) ∙ same in
-    partial_prefix before (take used bytes) fewer less (subst (λ (l : List ℕ). IsPartial (before ++ l)) whole part.1)
+    search (rules, take_all, partial_prefix)
 
 pub stays_unfinished : {E : Type 0} (content : E → EventContent) (board : BoardView) (bytes chunk : List ℕ) (used : ℕ)
     (event : Option E)
@@ -160,8 +129,7 @@ pub record IsTaking (before : BoardView) (line : LineContents) (moved : ℕ) (no
 
 some_taken : (before now : BoardView) (bytes : List ℕ) (moved : ℕ) → 0 < moved → HasTakenAny before bytes moved now
     → HasTaken before (take moved bytes) now
-some_taken before now bytes moved some (inl (none, same)) = absurd (omega (arith, some, none))
-some_taken before now bytes moved some (inr taken) = taken.1
+some_taken before now bytes moved some h5 = search rules
 
 taken_more : TakingsAppend → (before now new : BoardView) (bytes : List ℕ) (moved n : ℕ)
     → HasTakenAny before bytes moved now → HasTaken now (take n (drop moved bytes)) new
@@ -212,13 +180,12 @@ taking_more append board now new line left after moved n taking more within room
       not_full
           (length now.state.owed) room,
     )
-    earlier_than fewer some (later k positive less is) calm =
-        let found = calm k positive less in (
-          found.0,
-          subst (λ (m : ℕ). HasTaken board (take m line.bytes) found.0) (sym is)
-              (taken_more append board now found.0 line.bytes moved k taking.taken found.1),
-          found.2,
-        )
+    earlier_than fewer some (later k positive less is) calm = let found = calm k positive less in (
+      found.0,
+      subst (λ (m : ℕ). HasTaken board (take m line.bytes) found.0) (sym is)
+          (taken_more append board now found.0 line.bytes moved k taking.taken found.1),
+      found.2,
+    )
 
 -- the rest of the line
 pub left_length : (before now : BoardView) (line left : LineContents) (moved : ℕ) → IsTaking before line moved now left
@@ -229,27 +196,14 @@ left_length before now line left moved taking =
 -- a board that is full by now has taken some
 pub some_moved : (before now : BoardView) (line left : LineContents) (moved : ℕ) → IsTaking before line moved now left
     → length before.state.owed < 8 → 8 ≤ length now.state.owed → 0 < moved
-some_moved before now line left moved taking room full = go taking.taken
-  where
-    go : HasTakenAny before line.bytes moved now → 0 < moved
-    go (inl (none, same)) = absurd (omega (arith, room, rw same at full))
-    go (inr taken) = taken.0
+some_moved before now line left moved taking room full = search rules
 
 pub taking_ends : (world : WorldView) (count moved : ℕ) (before now : BoardView) (line left : LineContents)
     → IsTaking before line moved now left → 0 < moved → moved ≤ count
     → ((moved ≡ count) ⊎ ((moved ≡ length line.bytes) ⊎ IsTrue (is_full now.state)))
     → Delivers count (record world { board = before; down = line }) (record world { board = now; down = left })
 taking_ends world count moved before now line left taking some most ended =
-    record {
-      moved = moved;
-      some = some;
-      within = (most, taking.within);
-      board = now;
-      taken = some_taken before now line.bytes moved some taking.taken;
-      earlier = taking.earlier;
-      ended = ended;
-      leaves = rw taking.left_is refl;
-    }
+    search (rules, some_taken)
 
 -- ---- the host hears
 
@@ -263,21 +217,8 @@ pub record IsHearing (before : HostView) (line : LineContents) (moved : ℕ) (no
   pub heard : HasHeardAny before line.bytes moved now
   pub left_is : left ≡ without_first line moved
 
-heard_more : HeardInChunks → (before now new : HostView) (bytes : List ℕ) (moved n : ℕ)
-    → HasHeardAny before bytes moved now → new ≡ host_after now (take n (drop moved bytes))
-    → new ≡ host_after before (take (moved + n) bytes)
-heard_more chunks before now new bytes moved n (inl (none, same)) next =
-    rw (take-add moved n bytes, none) (rw (none, same) at next)
-heard_more chunks before now new bytes moved n (inr heard) next =
-    next ∙ ap (λ (host : HostView). host_after host (take n (drop moved bytes))) heard
-    ∙ chunks before (take moved bytes) (take n (drop moved bytes)) ∙ ap (host_after before)
-    (sym (take-add moved n bytes))
-
 pub hearing_more : HeardInChunks → (before now new : HostView) (line left after : LineContents) (moved n : ℕ)
     → IsHearing before line moved now left → new ≡ host_after now (take n left.bytes) → after ≡ without_first left n
     → IsHearing before line (moved + n) new after
 hearing_more chunks before now new line left after moved n hearing next e =
-    record {
-      heard = inr (heard_more chunks before now new line.bytes moved n hearing.heard (rw hearing.left_is at next));
-      left_is = left_on line left after moved n hearing.left_is e;
-    }
+    search (rules, left_on, take-add)

@@ -1,7 +1,8 @@
 -- Lists in two parts, facts of each element, and prefixes of one list.
-use Rattle.std.proofs.Common.{◌≡◌, refl, sym, ◌⊎◌, inl, inr, ℕ, zero, suc, List, [], ◌∷◌, ◌++◌, replicate, arith}
+use Rattle.std.proofs.Common.{◌≡◌, refl, sym, ◌⊎◌, inl, inr, ℕ, zero, suc, List, [], ◌∷◌, ◌++◌, replicate, arith, rules}
 use Rattle.std.specs.Prelude.{Contains}
 use Rattle.std.specs.List.{AllByRecursion}
+use Rattle.std.proofs.lemmas.Grind.{common_steps}
 
 pub not_empty : {X : Type 0} (xs : List X) (y : X) (ys : List X) → xs ++ y ∷ ys ≡ [] → ⊥
 not_empty [] y ys h = cc
@@ -18,16 +19,14 @@ right_empty (x ∷ xs) ys h = cc
 -- ---- elements
 
 pub Contains-cons : {X : Type 0} (x y : X) (ys : List X) → Contains (y ∷ ys) x → (y ≡ x) ⊎ Contains ys x
-Contains-cons x y ys (zero, within, same) = inl same
-Contains-cons x y ys (suc k, within, same) = inr (k, omega arith, same)
+Contains-cons x y ys h3 = search rules
 
 pub nothing_contained : {X : Type 0} (x : X) → Contains [] x → ⊥
 nothing_contained x (k, within, same) = omega arith
 
 pub all_append : {X : Type 0} (P : X → Type 0) (xs ys : List X)
     → AllByRecursion P xs → AllByRecursion P ys → AllByRecursion P (xs ++ ys)
-all_append P [] ys first later = later
-all_append P (x ∷ xs) ys first later = (first.0, all_append P xs ys first.1 later)
+all_append P xs ys first later = grind (arith, common_steps)
 
 pub all_replicate : {X : Type 0} (P : X → Type 0) (count : ℕ) (x : X) → P x → AllByRecursion P (replicate count x)
 all_replicate P zero x is = tt
@@ -48,12 +47,5 @@ pub prefixes : (bytes after word rest : List ℕ) → bytes ++ after ≡ word ++
     → IsShorter bytes word ⊎ Reaches bytes after word rest
 prefixes bytes after [] rest h = inr (bytes, refl, sym h)
 prefixes [] after (byte ∷ word) rest h = inl (byte, word, refl)
-prefixes (first ∷ bytes) after (byte ∷ word) rest h = go (prefixes bytes after word rest cc)
-  where
-    same : first ≡ byte
-    same = cc
-
-    go : IsShorter bytes word ⊎ Reaches bytes after word rest
-        → IsShorter (first ∷ bytes) (byte ∷ word) ⊎ Reaches (first ∷ bytes) after (byte ∷ word) rest
-    go (inl (next, more, e)) = inl (next, more, cc)
-    go (inr (more, e, f)) = inr (more, cc, f)
+prefixes (first ∷ bytes) after (byte ∷ word) rest h =
+    search (rules, prefixes bytes after word rest cc)

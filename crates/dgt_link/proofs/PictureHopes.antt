@@ -1,5 +1,5 @@
 -- How each act changes what is promised of a picture: in step, following, and promised to heal.
-use Rattle.std.proofs.Common.{◌≡◌, refl, ℕ, List, [], ◌∷◌, Some, true, false, arith, map, replicate}
+use Rattle.std.proofs.Common.{◌≡◌, refl, ℕ, List, [], ◌∷◌, Some, true, false, arith, map, replicate, rules}
 use Rattle.std.specs.List.{AllByRecursion}
 use Rattle.std.specs.Prelude.{IsTrue}
 use Rattle.dgt_command.specs.Content.{CommandContent}
@@ -39,9 +39,7 @@ stays_coming x act answer moves other are coming =
     step_keeps_coming x act answer moves (no_break act other).0 are coming
 
 pub picture_hope : Hope updates stops PictureIsComing
-picture_hope =
-    let settling = by_settling (λ act. stops (FaultyContent.Plain act) ≡ false) refl (λ count. refl) (λ count. refl) in
-    record { command = command_stays; breaks = refl; settling = settling; comes = stays_coming }
+picture_hope = search (rules, by_settling, command_stays, stays_coming)
 
 promised_follows : (world : WorldView) → IsPromisedWorld world → IsFollowing world
 promised_follows world is =
@@ -57,8 +55,7 @@ module _ (behind : ActsBehind) where
     -- ---- a host that starts over
 
     anew_promised : (in_turn : _) (world : WorldView) → Counted in_turn commands_anew world → IsPromisedWorld world
-    anew_promised in_turn world f =
-        follows_with IsPromised f
+    anew_promised in_turn world f = follows_with IsPromised f
         (coming_promise commands_anew f.state f.comes (record { dump = (1, omega arith, refl); mode = refl }))
 
     pub anew_heals : (act : FaultyContent) (world after : WorldView) → begins_anew act ≡ true → IsSane world
@@ -80,9 +77,7 @@ module _ (behind : ActsBehind) where
     plain_in_step ActContent.HostBreak world Outcome.Done after sane is step =
         follows_in_step true commands_anew after (host_break_follows laws world after sane step.leaves)
     plain_in_step ActContent.HostBreak world _ after sane is step = let a = step.answers in cc
-    plain_in_step act world answer after sane is step =
-        led behind (λ x. Unit {0}) (λ x. Unit {0}) act world answer after refl (λ x moves are any. tt) is
-        (plain_step act world answer after step)
+    plain_in_step act world answer after sane is step = search (rules, led, plain_step)
 
     pub keeps_in_step : (act : FaultyContent) (world after : WorldView) (answer : Outcome) → loses_step act ≡ false
         → IsSane world → IsInStep world → FaultyStep act world answer after → IsInStep after
@@ -156,22 +151,14 @@ module _ (behind : ActsBehind) where
     -- nothing is awaited any more
     pub given_up_in_turn : (world after : WorldView) (answer : Outcome) → IsInStep world
         → FaultyStep FaultyContent.GiveUp world answer after → IsInTurnWorld after
-    given_up_in_turn world after Outcome.Done is step =
-        record {
-          garbage = is.garbage;
-          state = is.state;
-          stands = given_up_stands world after is.garbage is.state is.stands step.leaves;
-          holds = rw step.leaves tt;
-        }
-    given_up_in_turn world after _ is step = let a = step.answers in cc
+    given_up_in_turn world after answer is step = search (rules, given_up_stands)
 
     pub keeps_in_turn : (act : FaultyContent) (world after : WorldView) (answer : Outcome) → is_fault act ≡ false
         → IsSane world → IsInTurnWorld world → FaultyStep act world answer after → IsInTurnWorld after
     keeps_in_turn (FaultyContent.Plain act) world after answer none sane is step =
         plain_in_turn act world answer after sane is step
     keeps_in_turn FaultyContent.GiveUp world after answer none sane is step =
-        given_up_in_turn world after answer
-        (record { garbage = is.garbage; state = is.state; stands = is.stands; holds = tt }) step
+        search (rules, given_up_in_turn)
     keeps_in_turn FaultyContent.Restart world after Outcome.Done none sane is step =
         anew_in_turn FaultyContent.Restart world after refl sane step
     keeps_in_turn FaultyContent.Restart world after _ none sane is step = rw step.leaves is
@@ -179,10 +166,8 @@ module _ (behind : ActsBehind) where
 
     pub settled_in_turn : (count : ℕ) (old new : WorldView) → SettlesIn count old new → IsInTurnWorld old
         → IsInTurnWorld new
-    settled_in_turn count old new settled is =
-        run_keeps Step IsSettling IsInTurnWorld
-        (λ act world after answer settling is step.
-        other_in_turn act world answer after (settling_is_plain act settling) is step)
+    settled_in_turn count old new settled is = run_keeps Step IsSettling IsInTurnWorld
+        (search (rules, other_in_turn, settling_is_plain))
         settled.acts old new (replicate count Outcome.Done) settled.settling is settled.run
 
 -- ---- a promise of a world without faults
@@ -223,6 +208,5 @@ module _ (sane : (acts : List FaultyContent) (world after : WorldView) (answers 
       → IsSane world → Q world → FaultyRuns acts world answers after → Q after
   sane_keeps P Q kept acts world after answers all is q runs =
       (run_keeps FaultyStep P (λ w. IsSane w × Q w)
-      (λ act old new answer p both step.
-      (sane_after act old new answer both.0 step, kept act old new answer p both.0 both.1 step)) acts world after
+      (search (rules, sane_after, kept)) acts world after
       answers all (is, q) runs).1

@@ -1,5 +1,5 @@
 -- How an act changes the promise, for any states that the worlds before and after it stand for.
-use Rattle.std.proofs.Common.{◌≡◌, ◌≢◌}
+use Rattle.std.proofs.Common.{◌≡◌, ◌≢◌, rules}
 use Rattle.dgt_command.specs.Content.{CommandContent}
 use Rattle.dgt_link.specs.Act.{ActContent}
 use Rattle.dgt_link.specs.declared.acts.Outcome.{Outcome}
@@ -13,9 +13,8 @@ use Rattle.dgt_link.proofs.Promises.{break_ends}
 
 -- an act is moves of the machine
 abbrev pub StepsAreMoves : Type 0
-StepsAreMoves =
-    (act : ActContent) (world after : WorldView) (answer : Outcome) (x : MachineState) → StandsFor world x
-    → Step act world answer after → StandsAfterStep act answer x after
+StepsAreMoves = (act : ActContent) (world after : WorldView) (answer : Outcome) (x : MachineState)
+    → StandsFor world x → Step act world answer after → StandsAfterStep act answer x after
 
 -- how it leads the states for which the worlds before and after it stand
 pub record Leads : Type 0 where
@@ -47,9 +46,7 @@ module _ (moves : StepsAreMoves)
       → Step ActContent.Break world answer after → StandsFor after y → ¬ (PictureIsComing y)
   half_ends world after answer x y stands step also =
       let reached = moves ActContent.Break world after answer x stands step in
-      let broken : after_moves x reached.0 ≡ after_move x Move.Break
-      = break_moves x answer reached.0 step.answers reached.1 in
-      rw (one after y (after_moves x reached.0) also reached.2, broken) (break_ends x)
+      search (rules, break_moves, break_ends)
 
   pub anew_begins : (world after : WorldView) (answer : Outcome) (x y : MachineState) → StandsFor world x
       → Step ActContent.HostBreak world answer after → StandsFor after y → IsRestarted y × IsPromised y
@@ -61,6 +58,4 @@ module _ (moves : StepsAreMoves)
   pub mode_is : (act : ActContent) (world after : WorldView) (answer : Outcome) (x y : MachineState) → StandsFor world x
       → Step act world answer after → StandsFor after y
       → coming_mode y ≡ mode_after (coming_mode x) (act_requests answer act)
-  mode_is act world after answer x y stands step also =
-      let reached = moves act world after answer x stands step in
-      rw (one after y (after_moves x reached.0) also reached.2) (mode-step x act answer reached.0 reached.1)
+  mode_is act world after answer x y stands step also = search (rules, mode-step)

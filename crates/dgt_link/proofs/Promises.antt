@@ -1,7 +1,7 @@
 -- The two halves of the promise, and how each move changes them.
-use Rattle.std.proofs.Common.{IsTrue, cond, false, true, Bool, ◌≡◌, ◌≢◌, refl, sym, ap, ◌∙◌, ◌⊎◌, inl, inr}
-use Rattle.std.proofs.Common.{List, [], ◌∷◌, ◌++◌, Option, Some, None, ◌&&◌, arith}
-use Rattle.std.proofs.lemmas.List.Elements.{filter_map-append, Contains-append_left, Contains-append_right}
+use Rattle.std.proofs.Common.{IsTrue, cond, false, true, Bool, ◌≡◌, ◌≢◌, refl, ap, ◌∙◌, ◌⊎◌, inl, inr}
+use Rattle.std.proofs.Common.{List, [], ◌∷◌, ◌++◌, Option, Some, ◌&&◌, arith, rules}
+use Rattle.std.proofs.lemmas.List.Elements.{filter_map-append, Contains-append_left}
 use Rattle.std.proofs.lemmas.List.Elements.{Contains-append_cases, Contains-push}
 use Rattle.std.proofs.lemmas.Bool.{cond_both, false≢true}
 use Rattle.std.specs.Prelude.{IsSome, Contains, filter_map, map, unwrap_or}
@@ -22,6 +22,7 @@ use Rattle.dgt_link.specs.Promise.{IsAsked, IsPromised, PictureIsComing, coming_
 use Rattle.dgt_link.proofs.Lists.{Contains-cons, nothing_contained}
 use Rattle.dgt_link.proofs.Taking.{nothing_of_noise}
 use Rattle.dgt_link.proofs.MessageReports.{picture_after_all-append}
+use Rattle.std.proofs.lemmas.Grind.{common_steps}
 
 -- ---- the mode that is coming
 
@@ -32,22 +33,17 @@ last_mode-append before (mode ∷ modes) more = last_mode-append mode modes more
 
 last_mode-cons : (before : Mode) (mode : Option Mode) (rest : List Mode)
     → last_mode (unwrap_or mode before) rest ≡ last_mode before (cons_option mode rest)
-last_mode-cons before None rest = refl
-last_mode-cons before (Some mode) rest = refl
+last_mode-cons before mode rest = search rules
 
 effect-mode : (board : BoardState) (event : EventContent)
     → (effect board event).mode ≡ unwrap_or (event_mode event) board.mode
-effect-mode board (EventContent.Read command) = refl
-effect-mode board _ = refl
+effect-mode board event = search rules
 
 -- ---- a picture that is known, or to come, stays so
 
 pub picture_after_known : (seen : Option (List Piece)) (message : Content) → IsSome seen
     → IsSome (picture_after seen message)
-picture_after_known None message known = absurd (false≢true known)
-picture_after_known (Some squares) (Content.dump pieces) known = refl
-picture_after_known (Some squares) (Content.field square piece) known = refl
-picture_after_known (Some squares) _ known = refl
+picture_after_known seen message known = search (rules, false≢true)
 
 -- a picture to come, in its three ways: under way, owed, requested
 abbrev Comes : Option (List Piece) → List Reply → List EventContent → Type 0
@@ -58,35 +54,15 @@ Comes seen owed down =
 sent_comes : (picture : Option (List Piece)) (up : List Content) (message : Content) (owed : List Reply)
     (down : List EventContent)
     → Comes (picture_after_all picture up) owed down → Comes (picture_after_all picture (up ++ message ∷ [])) owed down
-sent_comes picture up message owed down (inl known) =
-    inl
-    (rw (picture_after_all-append picture up message)
-    (picture_after_known (picture_after_all picture up) message known))
-sent_comes picture up message owed down (inr later) = inr later
-
--- the first owed reply is sent
-dump_known : (board : BoardState) (seen : Option (List Piece)) (owed : Reply) → owed ≡ Reply.Of Kind.Dump
-    → IsSome (picture_after seen (reply_message board owed))
-dump_known board seen owed e = rw e
+sent_comes picture up message owed down h5 =
+    search (rules, picture_after_all-append, picture_after_known)
 
 reply_comes : (board : BoardState) (picture : Option (List Piece)) (up : List Content) (first : Reply)
     (rest : List Reply) (down : List EventContent)
     → Comes (picture_after_all picture up) (first ∷ rest) down
     → Comes (picture_after_all picture (up ++ reply_message board first ∷ [])) rest down
-reply_comes board picture up first rest down (inl known) =
-    inl
-    (rw (picture_after_all-append picture up (reply_message board first))
-    (picture_after_known (picture_after_all picture up) (reply_message board first) known))
-reply_comes board picture up first rest down (inr (inl owed)) = go (Contains-cons (Reply.Of Kind.Dump) first rest owed)
-  where
-    go : (first ≡ Reply.Of Kind.Dump) ⊎ Contains rest (Reply.Of Kind.Dump)
-        → Comes (picture_after_all picture (up ++ reply_message board first ∷ [])) rest down
-    go (inl e) =
-        inl
-        (rw (picture_after_all-append picture up (reply_message board first))
-        (dump_known board (picture_after_all picture up) first e))
-    go (inr owed) = inr (inl owed)
-reply_comes board picture up first rest down (inr (inr asked)) = inr (inr asked)
+reply_comes board picture up first rest down h6 =
+    search (rules, picture_after_all-append, picture_after_known)
 
 reply_keeps_picture : (x : MachineState) (owed : List Reply) → x.board.owed ≡ owed → PictureIsComing x
     → PictureIsComing (after_reply x owed)
@@ -106,15 +82,7 @@ dump_owed board event e = rw e (Contains-push board.owed (Reply.Of Kind.Dump))
 
 take_comes : (board : BoardState) (seen : Option (List Piece)) (event : EventContent) (rest : List EventContent)
     → Comes seen board.owed (event ∷ rest) → Comes seen (effect board event).owed rest
-take_comes board seen event rest (inl known) = inl known
-take_comes board seen event rest (inr (inl owed)) = inr (inl (effect_owes board event (Reply.Of Kind.Dump) owed))
-take_comes board seen event rest (inr (inr asked)) =
-    go (Contains-cons (EventContent.Read CommandContent.Dump) event rest asked)
-  where
-    go : (event ≡ EventContent.Read CommandContent.Dump) ⊎ Contains rest (EventContent.Read CommandContent.Dump)
-        → Comes seen (effect board event).owed rest
-    go (inl e) = inr (inl (dump_owed board event e))
-    go (inr later) = inr (inr later)
+take_comes board seen event rest h4 = search (rules, effect_owes, dump_owed)
 
 take_keeps_picture : (x : MachineState) (down : List EventContent) → x.down ≡ down → PictureIsComing x
     → PictureIsComing (after_take x down)
@@ -123,25 +91,19 @@ take_keeps_picture x (event ∷ rest) e coming = take_comes x.board (coming_pict
 
 hear_keeps_picture : (x : MachineState) (up : List Content) → x.up ≡ up → PictureIsComing x
     → PictureIsComing (after_hear x up)
-hear_keeps_picture x [] e coming = coming
-hear_keeps_picture x (message ∷ rest) e coming = rw e at coming
+hear_keeps_picture x up e coming = search rules
 
 -- one more command under way
 ask_comes : (seen : Option (List Piece)) (owed : List Reply) (down more : List EventContent) → Comes seen owed down
     → Comes seen owed (down ++ more)
-ask_comes seen owed down more (inl known) = inl known
-ask_comes seen owed down more (inr (inl owes)) = inr (inl owes)
-ask_comes seen owed down more (inr (inr asked)) =
-    inr (inr (Contains-append_left down more (EventContent.Read CommandContent.Dump) asked))
+ask_comes seen owed down more h4 = grind (arith, common_steps)
 
 pub dump_asked : (x : MachineState) → PictureIsComing (after_move x (Move.Ask CommandContent.Dump))
 dump_asked x = inr (inr (Contains-push x.down (EventContent.Read CommandContent.Dump)))
 
 pub anew_is_coming : (x : MachineState) (noise : List EventContent) (is_noise : IsNoiseList noise)
     → PictureIsComing (after_move x (Move.HostBreak noise is_noise))
-anew_is_coming x noise is_noise =
-    inr (inr (Contains-append_right noise (map EventContent.Read commands_anew) (EventContent.Read CommandContent.Dump)
-    (1, omega arith, refl)))
+anew_is_coming x noise is_noise = grind (arith, common_steps)
 
 -- only a break ends the first half of the promise
 pub picture_keeps_coming : (x : MachineState) (move : Move) → move ≢ Move.Break → PictureIsComing x
@@ -164,48 +126,35 @@ picture_keeps_coming x Move.Break other coming = absurd (other refl)
 picture_keeps_coming x (Move.HostBreak noise is_noise) other coming = anew_is_coming x noise is_noise
 
 pub break_ends : (x : MachineState) → ¬ (PictureIsComing (after_move x Move.Break))
-break_ends x (inl known) = false≢true known
-break_ends x (inr (inl owed)) = nothing_contained (Reply.Of Kind.Dump) owed
-break_ends x (inr (inr asked)) = nothing_contained (EventContent.Read CommandContent.Dump) asked
+break_ends x = search (rules, false≢true, nothing_contained)
 
 -- ---- the second half: the mode that is coming
 
 take-mode : (x : MachineState) (down : List EventContent) → x.down ≡ down
     → coming_mode (after_take x down) ≡ coming_mode x
-take-mode x [] e = refl
-take-mode x (event ∷ rest) e =
-    rw (e, effect-mode x.board event) (last_mode-cons x.board.mode (event_mode event) (filter_map event_mode rest))
+take-mode x down e = search (rules, effect-mode, last_mode-cons)
 
 reply-mode : (x : MachineState) (owed : List Reply) → coming_mode (after_reply x owed) ≡ coming_mode x
-reply-mode x [] = refl
-reply-mode x (first ∷ rest) = refl
+reply-mode x owed = search rules
 
 hear-mode : (x : MachineState) (up : List Content) → coming_mode (after_hear x up) ≡ coming_mode x
-hear-mode x [] = refl
-hear-mode x (message ∷ rest) = refl
+hear-mode x up = search rules
 
 ask-mode : (x : MachineState) (command : CommandContent)
     → coming_mode (after_move x (Move.Ask command)) ≡ unwrap_or (command_mode command) (coming_mode x)
-ask-mode x command =
-    ap (last_mode x.board.mode) (filter_map-append event_mode x.down (EventContent.Read command ∷ []))
-    ∙ last_mode-append x.board.mode (filter_map event_mode x.down) (cons_option (command_mode command) [])
-    ∙ sym (last_mode-cons (coming_mode x) (command_mode command) [])
+ask-mode x command = search (rules, filter_map-append, last_mode-append, last_mode-cons)
 
 sent-mode : (x : MachineState) (message : Content) (test : Bool)
     → coming_mode (cond test (after_reported x message) x) ≡ coming_mode x
-sent-mode x message true = refl
-sent-mode x message false = refl
+sent-mode x message test = search rules
 
 pub noise-modes : (noise : List EventContent) → IsNoiseList noise → filter_map event_mode noise ≡ []
 noise-modes noise is_noise =
     nothing_of_noise event_mode (λ message. refl) (λ leds. refl) (refl, refl, refl) (λ byte. refl) noise is_noise
 
-anew-mode : (x : MachineState) (noise : List EventContent) (is_noise : IsNoiseList noise)
+pub anew-mode : (x : MachineState) (noise : List EventContent) (is_noise : IsNoiseList noise)
     → coming_mode (after_move x (Move.HostBreak noise is_noise)) ≡ Mode.UpdateBoard
-anew-mode x noise is_noise =
-    ap (last_mode x.board.mode)
-    (filter_map-append event_mode noise _ ∙ ap (λ (modes : List Mode). modes ++ Mode.UpdateBoard ∷ [])
-    (noise-modes noise is_noise))
+anew-mode x noise is_noise = search (rules, filter_map-append, noise-modes)
 
 -- the mode that is coming is that of the last command that sets one, or that of a break
 pub move-mode : (x : MachineState) (move : Move)
@@ -215,8 +164,7 @@ move-mode x (Move.HandClock clock) = refl
 move-mode x (Move.Ask command) = ask-mode x command
 move-mode x Move.Take = take-mode x x.down refl
 move-mode x Move.Reply = reply-mode x x.board.owed
-move-mode x (Move.Report square) = sent-mode x (field_of x.board square)
-    (updates x.board.mode && differs x.board square)
+move-mode x (Move.Report square) = search (rules, sent-mode)
 move-mode x Move.ReportClock = sent-mode x (clock_message x.board.clock) x.board.times_owed
 move-mode x Move.Hear = hear-mode x x.up
 move-mode x Move.Break = refl
@@ -238,10 +186,7 @@ pub asked-mode : (commands : List CommandContent) (command : CommandContent) (be
     → mode ≡ last_mode before (filter_map command_mode commands)
     → unwrap_or (command_mode command) mode ≡ last_mode before (filter_map command_mode (commands ++ command ∷ []))
 asked-mode commands command before mode e =
-    ap (unwrap_or (command_mode command)) e
-    ∙ last_mode-cons (last_mode before (filter_map command_mode commands)) (command_mode command) []
-    ∙ sym (ap (last_mode before) (filter_map-append command_mode commands (command ∷ [])) ∙ last_mode-append before
-    (filter_map command_mode commands) (cons_option (command_mode command) []))
+    search (rules, last_mode-cons, filter_map-append, last_mode-append)
 
 ask_comes_dump : (commands : List CommandContent) (x : MachineState) (command : CommandContent) → IsComing commands x
     → Contains (commands ++ command ∷ []) CommandContent.Dump → PictureIsComing (after_move x (Move.Ask command))
@@ -267,21 +212,19 @@ asked_anew-mode before commands =
 still_comes : (commands : List CommandContent) (x : MachineState) (move : Move) → move ≢ Move.Break
     → mode_after (coming_mode x) (requests move) ≡ coming_mode x → IsComing commands x
     → IsComing commands (after_move x move)
-still_comes commands x move other same coming =
-    record {
-      picture = λ h. picture_keeps_coming x move other (coming.picture h);
-      before = coming.before;
-      mode = move-mode x move ∙ same ∙ coming.mode;
-    }
+still_comes commands x move other same coming = record {
+  picture = λ h. picture_keeps_coming x move other (coming.picture h);
+  before = coming.before;
+  mode = move-mode x move ∙ same ∙ coming.mode;
+}
 
 pub move_comes : (commands : List CommandContent) (x : MachineState) (move : Move) → IsComing commands x
     → IsComing (commands_after commands (requests move)) (after_move x move)
-move_comes commands x (Move.Ask command) coming =
-    record {
-      picture = ask_comes_dump commands x command coming;
-      before = coming.before;
-      mode = ask-mode x command ∙ asked-mode commands command coming.before (coming_mode x) coming.mode;
-    }
+move_comes commands x (Move.Ask command) coming = record {
+  picture = ask_comes_dump commands x command coming;
+  before = coming.before;
+  mode = ask-mode x command ∙ asked-mode commands command coming.before (coming_mode x) coming.mode;
+}
 move_comes commands x (Move.Change square piece) coming =
     still_comes commands x (Move.Change square piece) (λ e. cc) refl coming
 move_comes commands x (Move.HandClock clock) coming =
@@ -292,12 +235,11 @@ move_comes commands x (Move.Report square) coming = still_comes commands x (Move
 move_comes commands x Move.ReportClock coming = still_comes commands x Move.ReportClock (λ e. cc) refl coming
 move_comes commands x Move.Hear coming = still_comes commands x Move.Hear (λ e. cc) refl coming
 move_comes commands x Move.Break coming = nothing_asked (after_move x Move.Break)
-move_comes commands x (Move.HostBreak noise is_noise) coming =
-    record {
-      picture = λ h. anew_is_coming x noise is_noise;
-      before = coming.before;
-      mode = anew-mode x noise is_noise ∙ asked_anew-mode coming.before commands;
-    }
+move_comes commands x (Move.HostBreak noise is_noise) coming = record {
+  picture = λ h. anew_is_coming x noise is_noise;
+  before = coming.before;
+  mode = anew-mode x noise is_noise ∙ asked_anew-mode coming.before commands;
+}
 
 -- a requested mode holds whatever mode was before
 asked_from_any : (before : Mode) (modes : List Mode) → IsTrue (updates (last_mode Mode.Idle modes))
@@ -307,11 +249,7 @@ asked_from_any before (mode ∷ modes) h = h
 
 pub coming_promise : (commands : List CommandContent) (x : MachineState) → IsComing commands x → IsAsked commands
     → IsPromised x
-coming_promise commands x coming asks =
-    record {
-      coming = coming.picture asks.dump;
-      mode = rw coming.mode (asked_from_any coming.before (filter_map command_mode commands) asks.mode);
-    }
+coming_promise commands x coming asks = search (rules, asked_from_any)
 
 pub anew_is_promised : (x : MachineState) (noise : List EventContent) (is_noise : IsNoiseList noise)
     → IsPromised (after_move x (Move.HostBreak noise is_noise))
@@ -320,52 +258,18 @@ anew_is_promised x noise is_noise =
 
 -- ---- the picture to come of the host
 
-dump_seen : (x : MachineState) (owed rest : List Reply) → owed ≡ Reply.Of Kind.Dump ∷ rest
-    → coming_picture (after_reply x owed) ≡ Some (after_reply x owed).board.reported_squares
-dump_seen x owed rest e = rw e (picture_after_all-append x.picture x.up (Content.dump x.board.squares))
-
 pub dump_is_seen : (x : MachineState) (rest : List Reply) → x.board.owed ≡ Reply.Of Kind.Dump ∷ rest
     → coming_picture (after_move x Move.Reply) ≡ Some (after_move x Move.Reply).board.reported_squares
-dump_is_seen x rest e = dump_seen x x.board.owed rest e
-
-sent_known : (x : MachineState) (message : Content) → IsSome (coming_picture x)
-    → IsSome (picture_after_all x.picture (x.up ++ message ∷ []))
-sent_known x message known =
-    rw (picture_after_all-append x.picture x.up message) (picture_after_known (coming_picture x) message known)
-
-reply_known : (x : MachineState) (owed : List Reply) → IsSome (coming_picture x)
-    → IsSome (coming_picture (after_reply x owed))
-reply_known x [] known = known
-reply_known x (first ∷ rest) known = sent_known x (reply_message x.board first) known
-
-take_known : (x : MachineState) (down : List EventContent) → IsSome (coming_picture x)
-    → IsSome (coming_picture (after_take x down))
-take_known x [] known = known
-take_known x (event ∷ rest) known = known
+dump_is_seen x rest e = search (rules, picture_after_all-append)
 
 hear_known : (x : MachineState) (up : List Content) → x.up ≡ up → IsSome (coming_picture x)
     → IsSome (coming_picture (after_hear x up))
-hear_known x [] e known = known
-hear_known x (message ∷ rest) e known = rw e at known
+hear_known x up e known = search rules
 
 pub picture_stays_known : (x : MachineState) (move : Move) → move ≢ Move.Break → ¬ (IsHostBreak move)
     → IsSome (coming_picture x) → IsSome (coming_picture (after_move x move))
-picture_stays_known x (Move.Change square piece) other also known = known
-picture_stays_known x (Move.HandClock clock) other also known = known
-picture_stays_known x (Move.Ask command) other also known = known
-picture_stays_known x Move.Take other also known = take_known x x.down known
-picture_stays_known x Move.Reply other also known = reply_known x x.board.owed known
-picture_stays_known x (Move.Report square) other also known =
-    cond_both (updates x.board.mode && differs x.board square) (after_reported x (field_of x.board square)) x
-    (λ (y : MachineState). IsSome (coming_picture y))
-    (λ h. sent_known x (field_of x.board square) known) (λ h. known)
-picture_stays_known x Move.ReportClock other also known =
-    cond_both x.board.times_owed (after_reported x (clock_message x.board.clock)) x
-    (λ (y : MachineState). IsSome (coming_picture y))
-    (λ h. sent_known x (clock_message x.board.clock) known) (λ h. known)
-picture_stays_known x Move.Hear other also known = hear_known x x.up refl known
-picture_stays_known x Move.Break other also known = absurd (other refl)
-picture_stays_known x (Move.HostBreak noise is_noise) other also known = absurd (also tt)
+picture_stays_known x move other also known =
+    search (rules, cond_both, hear_known, picture_after_all-append, picture_after_known)
 
 -- ---- the effect of a board
 
@@ -373,9 +277,7 @@ effects-mode : (board : BoardState) (events : List EventContent)
     → (effects board events).mode ≡ last_mode board.mode (filter_map event_mode events)
 effects-mode board [] = refl
 effects-mode board (event ∷ events) =
-    effects-mode (effect board event) events
-    ∙ ap (λ (mode : Mode). last_mode mode (filter_map event_mode events)) (effect-mode board event)
-    ∙ last_mode-cons board.mode (event_mode event) (filter_map event_mode events)
+    search (rules, effect-mode, last_mode-cons, effects-mode (effect board event) events)
 
 pub noise_keeps_mode : (board : BoardState) (noise : List EventContent) → IsNoiseList noise
     → (effects board noise).mode ≡ board.mode

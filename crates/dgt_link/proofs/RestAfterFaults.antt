@@ -1,6 +1,6 @@
 -- How a world at fault comes to rest, and that it is then quiet if it was promised to heal.
-use Rattle.std.proofs.Common.{◌≡◌, refl, sym, ap, ◌∙◌, ◌⊎◌, inl, inr, ℕ, List, [], ◌∷◌, ◌++◌, Option, Some, None, append_assoc}
-use Rattle.std.proofs.Common.{append-nil}
+use Rattle.std.proofs.Common.{◌≡◌, refl, sym, ap, ◌∙◌, ◌⊎◌, ℕ, List, [], ◌∷◌, ◌++◌, Option, Some, None, append_assoc}
+use Rattle.std.proofs.Common.{append-nil, rules}
 use Rattle.std.proofs.lemmas.Bool.{false≢true}
 use Rattle.std.specs.List.{AllByRecursion, flat_map}
 use Rattle.std.specs.Prelude.{IsSome}
@@ -52,47 +52,36 @@ module _ (reads : Reads) where
       ∙ reads.unfinished_append (garbage ++ encoding message) (flat_map encoding messages)
       ∙ ap (λ (held : List ℕ). unfinished_message (held ++ flat_map encoding messages))
       (reads.encoding garbage message are.0).1
-      ∙ nothing_left_unfinished reads messages (flat_map encoding messages) (record {
-        are_messages = are.1;
-        in_a_row = refl;
-      })
+      ∙ nothing_left_unfinished reads messages (flat_map encoding messages) (search rules)
 
   -- the unread bytes of a host contain no whole message
   none_unread : (unread garbage : List ℕ) (messages : List Content) → AllByRecursion IsMessage messages
       → unread ≡ garbage ++ flat_map encoding messages → unfinished_message unread ≡ unread → messages ≡ []
   none_unread unread garbage [] are e held = refl
   none_unread unread garbage (message ∷ messages) are e held =
-      let none : unread ≡ []
-      = sym held ∙ ap unfinished_message e ∙ nothing_unfinished_behind garbage message messages are in
-      nothing_said (message ∷ messages)
-      (right_empty garbage (flat_map encoding (message ∷ messages)) (sym e ∙ none))
+      search (rules, nothing_unfinished_behind, nothing_said, right_empty)
 
   known_has_no_garbage : {X : Type 0} (picture : Option X) (garbage : List ℕ) (other : Type 0)
       → (garbage ≡ []) ⊎ ((picture ≡ None) × other) → IsSome picture → garbage ≡ []
-  known_has_no_garbage picture garbage other (inl none) some = none
-  known_has_no_garbage picture garbage other (inr unknown) some =
-      absurd (false≢true (rw unknown.0 at some))
+  known_has_no_garbage picture garbage other h3 some = search (rules, false≢true)
 
   module _ (once : EachDividesOnce) (garbage : List ℕ) (world : WorldView) (x : MachineState)
       (stands : StandsBehind garbage world x) (rested : IsRestedWorld world)
       (held : unfinished_message world.host.unread ≡ world.host.unread) where
     all_unread : world.host.unread ≡ garbage ++ flat_map encoding x.up
-    all_unread =
-        sym (append-nil world.host.unread)
-        ∙ ap (λ (bytes : List ℕ). world.host.unread ++ bytes) (sym rested.0) ∙ stands.up
+    all_unread = search (rules, append-nil)
 
     no_part : world.board.partial ≡ []
     no_part = nothing_partial once x.down world.board.partial stands.partial (rw rested.1 at stands.down)
 
     -- a rested world stands for a quiet state
     still_behind : IsQuiet x
-    still_behind =
-        record {
-          up = none_unread world.host.unread garbage x.up stands.are_messages all_unread held;
-          down = (once.1 [] x.down [] [] [] (rw (no_part, rested.1) at stands.down)
-              (refl, rw no_part at stands.partial)).0;
-          pending = nothing_first (pending_messages x.board) (rw stands.board at rested.2);
-        }
+    still_behind = record {
+      up = none_unread world.host.unread garbage x.up stands.are_messages all_unread held;
+      down = (once.1 [] x.down [] [] [] (rw (no_part, rested.1) at stands.down)
+          (refl, rw no_part at stands.partial)).0;
+      pending = nothing_first (pending_messages x.board) (rw stands.board at rested.2);
+    }
 
     rests_behind : IsPromised x → IsQuietWorld world
     rests_behind promised =

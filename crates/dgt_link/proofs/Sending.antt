@@ -1,21 +1,15 @@
 -- What a board sends next is sent by one of the moves of the machine.
 use Rattle.std.specs.Prelude.{slice_get}
-use Rattle.std.proofs.Common.{◌≡◌, refl, sym, ap, ◌∙◌, ◌⊎◌, inl, inr, ℕ, List, [], ◌∷◌, ◌++◌, Some, Bool, true, false}
-use Rattle.std.proofs.Common.{◌&&◌, cond, map, drop}
+use Rattle.std.proofs.Common.{◌≡◌, refl, ap, ◌∙◌, ◌⊎◌, inl, inr, ℕ, List, [], ◌∷◌, ◌++◌, Some, Bool, true, false}
+use Rattle.std.proofs.Common.{◌&&◌, cond, map, drop, rules}
 use Rattle.std.proofs.lemmas.Bool.{cond-true, and_from}
 use Rattle.std.proofs.lemmas.Option.{same_Some}
 use Rattle.std.specs.Prelude.{filter}
 use Rattle.dgt_message.specs.Content.{Content, clock_message}
 use Rattle.dgt_board.specs.declared.replies.Reply.{Reply}
-use Rattle.dgt_board.specs.State.{BoardState, updates}
-use Rattle.dgt_board.specs.Sending.{after_sending, after_reporting, clock_news, differs, every_square, field_of, next_message, reply_message, unreported_squares}
+use Rattle.dgt_board.specs.State.{updates}
+use Rattle.dgt_board.specs.Sending.{after_sending, after_reporting, clock_news, differs, field_of, next_message, reply_message, unreported_squares}
 use Rattle.dgt_link.specs.Machine.{IsSending, Move, MachineState, after_move, after_reply, after_reported}
-
--- what a message reports does not depend on the replies owed
-reported_squares_after-owed : (board : BoardState) (owed : List Reply) (message : Content)
-    → after_reporting (record board { owed = owed }) message ≡ record (after_reporting board message) { owed = owed }
-reported_squares_after-owed board owed (Content.dump pieces) = refl
-reported_squares_after-owed board owed _ = refl
 
 abbrev sent_state : MachineState → Content → MachineState
 sent_state x message = record x { board = after_sending x.board message; up = x.up ++ message ∷ [] }
@@ -30,20 +24,12 @@ reply_is_sent : (x : MachineState) (first : Reply) (rest owed : List Reply) → 
           (after_reporting x.board (reply_message x.board first)) { owed = drop 1 owed };
       up = x.up ++ reply_message x.board first ∷ [];
     }
-reply_is_sent x first rest owed e =
-    rw e (ap (λ (board : BoardState). record x { board = board; up = x.up ++ reply_message x.board first ∷ [] })
-    (reported_squares_after-owed x.board rest (reply_message x.board first)))
+reply_is_sent x first rest owed e = search rules
 
 -- with no reply owed
 without_reply : (x : MachineState) (message : Content) → x.board.owed ≡ []
     → after_reported x message ≡ sent_state x message
-without_reply x message e =
-    ap (λ (owed : List Reply). record x {
-      board = record
-          (after_reporting x.board message) { owed = owed };
-      up = x.up ++ message ∷ [];
-    })
-    (e ∙ sym (ap (drop 1) e))
+without_reply x message e = search rules
 
 -- the first of the field updates, or what comes after them
 abbrev FirstField : Bool → (ℕ → Content) → (ℕ → Bool) → Content → Type 0
@@ -53,8 +39,7 @@ first_kept : (field : ℕ → Content) (test : ℕ → Bool) (square : ℕ) (res
     (message : Content) (passes : Bool)
     → test square ≡ passes → slice_get (map field (cond passes (square ∷ rest) rest) ++ others) 0 ≡ Some message
     → FirstField true field test message ⊎ (slice_get (map field rest ++ others) 0 ≡ Some message)
-first_kept field test square rest others message true e h = inl (square, refl, e, same_Some (field square) message h)
-first_kept field test square rest others message false e h = inr h
+first_kept field test square rest others message passes e h = search (rules, same_Some)
 
 first_field : (asks : Bool) (field : ℕ → Content) (test : ℕ → Bool) (squares : List ℕ) (others : List Content)
     (message : Content)
@@ -68,8 +53,7 @@ first_field true field test (square ∷ squares) others message h =
 
 first_news : (owed : Bool) (news message : Content) → slice_get (cond owed (news ∷ []) []) 0 ≡ Some message
     → (owed ≡ true) × (news ≡ message)
-first_news true news message h = (refl, same_Some news message h)
-first_news false news message h = cc
+first_news owed news message h = search (rules, same_Some)
 
 report_is_sent : (x : MachineState) (message : Content) → x.board.owed ≡ []
     → FirstField (updates x.board.mode) (field_of x.board) (differs x.board) message → SendsIt x message
@@ -100,13 +84,7 @@ next_of x (first ∷ rest) message e h = (
   reply_is_sent x first rest x.board.owed e ∙ ap (sent_state x)
       (same_Some (reply_message x.board first) message h),
 )
-next_of x [] message e h =
-    elim (first_field (updates x.board.mode) (field_of x.board) (differs x.board) every_square
-    (clock_news x.board) message h) [
-      | inl found ↦ report_is_sent x message e found
-      | inr later ↦ clock_is_sent x message e
-          (first_news x.board.times_owed (clock_message x.board.clock) message later)
-    ]
+next_of x [] message e h = search (rules, first_field, report_is_sent, clock_is_sent, first_news)
 
 -- the message that a board sends next is sent by a move
 pub next_is_sent : (x : MachineState) (message : Content) → next_message x.board ≡ Some message → SendsIt x message

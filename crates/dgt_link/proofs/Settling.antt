@@ -1,8 +1,8 @@
 -- Why a world comes to rest, and what it keeps on the way.
 use Rattle.std.proofs.Common.{arith, ◌≡◌, ◌≢◌, refl, sym, ap, subst, ◌∙◌, ◌⊎◌, inl, inr, ℕ, ◌+◌, ◌*◌, ◌^◌, ◌<◌, ◌≤◌}
-use Rattle.std.proofs.Common.{◌==◌, zero, suc, List, [], ◌∷◌, ◌++◌, Some, None, Bool, true, false, cond, Option, length}
-use Rattle.std.proofs.Common.{take, drop, replicate, append-nil}
-use Rattle.std.proofs.lemmas.List.{length-append, length-drop, length-take-le, drop_all, replicate_more}
+use Rattle.std.proofs.Common.{◌==◌, List, [], ◌∷◌, ◌++◌, Some, None, Bool, true, false, cond, length}
+use Rattle.std.proofs.Common.{take, drop, replicate, append-nil, rules}
+use Rattle.std.proofs.lemmas.List.{length-append, length-drop, drop_all, replicate_more}
 use Rattle.std.proofs.lemmas.Bool.{eqb-true, false≢true, ltb-false, or_parts}
 use Rattle.std.proofs.Math.Nat.{mul-le-mul_left}
 use Rattle.std.specs.Prelude.{◌↔◌, Contains, IsTrue, IsSome, nat_lt}
@@ -31,13 +31,14 @@ use Rattle.dgt_link.specs.Work.{work_left}
 use Rattle.dgt_link.specs.Sound.{IsUnknownOr}
 use Rattle.dgt_link.proofs.Backlogs.{BacklogFalls, BacklogRises}
 use Rattle.dgt_link.proofs.PromisedActs.{Leads}
-use Rattle.dgt_link.proofs.Lists.{Contains-cons, all_append, nothing_contained, IsShorter, Reaches, prefixes}
+use Rattle.dgt_link.proofs.Lists.{all_append, nothing_contained, IsShorter, Reaches, prefixes}
 use Rattle.dgt_link.specs.Readers.{Reads}
 use Rattle.dgt_link.proofs.Hearing.{held_alone, nothing_unfinished}
 use Rattle.dgt_link.proofs.WorldsByState.{quiet_state, world_awaits_nothing, world_clock_known, world_clock_reported, world_picture}
 use Rattle.dgt_link.proofs.WorldsByState.{world_picture_reported}
 use Rattle.dgt_link.proofs.ActRuns.{run-push, run_keeps}
 use Rattle.dgt_link.proofs.Taking.{HasSameGame, effects_same_game}
+use Rattle.std.proofs.lemmas.Grind.{common_steps}
 
 -- ---- each event has its own byte
 
@@ -46,9 +47,7 @@ module _ (short : WordsAreShort) (within : NoWordBeginsAPart) where
       → length events ≤ length bytes
   few_events [] bytes rest divides = omega arith
   few_events (event ∷ events) bytes rest (word, after, is, e, divides) =
-      let some = (short event word is).0 in
-      let more = few_events events after rest divides in
-      rw (e, length-append word after) (omega (arith, some, more))
+      search (rules, length-append, few_events events after rest divides)
 
   -- bytes after a part of a frame complete at most as many events as there are bytes
   pub few_taken : (partial bytes rest : List ℕ) (events : List EventContent) → IsPartial partial
@@ -71,44 +70,21 @@ module _ (short : WordsAreShort) (within : NoWordBeginsAPart) where
 
 -- ---- what a step towards rest keeps and uses up
 
-becomes_same : (act : ActContent) (world after : WorldView) → IsSettling act → Becomes act world after
-    → HasSameGame world.board.state after.board.state
-becomes_same ActContent.BoardSend world after is (message, is_next, encodes, same) =
-    rw same (record { squares = refl; clock = refl })
-becomes_same (ActContent.ToBoard count) world after is delivers =
-    rw (delivers.leaves, delivers.taken.state) (effects_same_game world.board.state delivers.taken.events)
-becomes_same (ActContent.ToHost count) world after is same = rw same (record { squares = refl; clock = refl })
-becomes_same _ world after none same = absurd none
-
-step_same : (act : ActContent) (world after : WorldView) (answer : Outcome) → IsSettling act
-    → Step act world answer after → HasSameGame world.board.state after.board.state
-step_same act world after Outcome.Done is step = becomes_same act world after is step.leaves
-step_same act world after _ is step = rw step.leaves (record { squares = refl; clock = refl })
-
 pub run_same : (acts : List ActContent) (world after : WorldView) (answers : List Outcome)
     → AllByRecursion IsSettling acts → Runs acts world answers after → HasSameGame world.board.state after.board.state
 run_same [] world after [] all same = rw same (record { squares = refl; clock = refl })
 run_same (act ∷ acts) world after (answer ∷ answers) all (between, step, runs) =
-    let first = step_same act world between answer all.0 step in
-    let rest = run_same acts between after answers all.1 runs in
-    record { squares = rest.squares ∙ first.squares; clock = rest.clock ∙ first.clock }
+    search (rules, run_same acts between after answers all.1 runs, effects_same_game)
 run_same _ world after _ all none = absurd none
 
 pub settling_mode : (before : Mode) (act : ActContent) (answer : Outcome) → IsSettling act
     → mode_after before (act_requests answer act) ≡ before
-settling_mode before ActContent.BoardSend Outcome.Done is = refl
-settling_mode before (ActContent.ToBoard count) Outcome.Done is = refl
-settling_mode before (ActContent.ToHost count) Outcome.Done is = refl
-settling_mode before _ Outcome.Done none = absurd none
-settling_mode before act _ is = refl
+settling_mode before act answer is = search rules
 
 -- facts of the three acts that settle
 pub by_settling : (P : ActContent → Type 0) → P ActContent.BoardSend → ((count : ℕ) → P (ActContent.ToBoard count))
     → ((count : ℕ) → P (ActContent.ToHost count)) → (act : ActContent) → IsSettling act → P act
-by_settling P send board host ActContent.BoardSend is = send
-by_settling P send board host (ActContent.ToBoard count) is = board count
-by_settling P send board host (ActContent.ToHost count) is = host count
-by_settling P send board host _ none = absurd none
+by_settling P send board host act is = search rules
 
 -- an act that settles isn't a break
 pub settling_no_break : (act : ActContent) → IsSettling act → act ≢ ActContent.Break
@@ -117,13 +93,7 @@ settling_no_break = by_settling (λ act. act ≢ ActContent.Break) (λ e. cc) (�
 -- acts that settle include no host break
 pub settling_no_host_break : (acts : List ActContent) → AllByRecursion IsSettling acts
     → ¬ (Contains acts ActContent.HostBreak)
-settling_no_host_break [] all found = nothing_contained ActContent.HostBreak found
-settling_no_host_break (act ∷ acts) all found =
-    go (settling_no_host_break acts all.1) (Contains-cons ActContent.HostBreak act acts found)
-  where
-    go : ¬ (Contains acts ActContent.HostBreak) → (act ≡ ActContent.HostBreak) ⊎ Contains acts ActContent.HostBreak → ⊥
-    go rest (inl e) = subst IsSettling e all.0
-    go rest (inr later) = rest later
+settling_no_host_break acts all = grind (arith, common_steps, nothing_contained)
 
 -- the world after stands for a state with the same mode to come, and its picture is still to come
 pub record KeepsPromise (x : MachineState) (after : WorldView) : Type 0 where
@@ -144,11 +114,9 @@ module _ (leads : Leads) where
       record {
         state = rest.state;
         stands = rest.stands;
-        mode =
-            rest.mode ∙ leads.mode act world between answer x y stands step reached.2 ∙ settling_mode
+        mode = rest.mode ∙ leads.mode act world between answer x y stands step reached.2 ∙ settling_mode
             (coming_mode x) act answer all.0;
-        picture =
-            λ h. rest.picture
+        picture = λ h. rest.picture
             (leads.kept act world between answer x y (settling_no_break act all.0) stands step reached.2 h);
       }
   run_promise _ world after _ x all stands none = absurd none
@@ -164,19 +132,14 @@ run_is_world keeps count old new settled is =
 -- ---- the measure
 
 at_most_one : (n : ℕ) → cond (n == 0) 0 1 ≤ 1
-at_most_one n = go (n == 0)
-  where
-    go : (none : Bool) → cond none 0 1 ≤ 1
-    go true = omega arith
-    go false = omega arith
+at_most_one n = search rules
 
 module _ (falls : BacklogFalls) where
   pub send_works : (world after : WorldView) → length world.board.state.reported_squares ≡ 64
       → Becomes ActContent.BoardSend world after → work_left after < work_left world
   send_works world after squares (message, is_next, encodes, same) =
       let less = falls world.board.state message squares is_next in
-      let flag = at_most_one (length (world.up.bytes ++ encoding message)) in
-      rw same (omega (arith, less, flag))
+      grind (arith, common_steps, at_most_one)
 
 -- a delivery takes as many bytes as it moves out of the down line
 take_leaves : (world after : WorldView) (count : ℕ) (delivers : Delivers count world after)
@@ -193,29 +156,19 @@ module _ (short : WordsAreShort) (within : NoWordBeginsAPart) (rises : BacklogRi
       let taken = delivers.taken in
       let few = few_taken short within world.board.partial
       (take delivers.moved world.down.bytes) delivers.board.partial taken.events partial taken.divided in
-      let size : length (take delivers.moved world.down.bytes) ≡ delivers.moved
-      = length-take-le delivers.moved world.down.bytes delivers.within.1 in
       let more = rises world.board.state taken.events in
-      let state : backlog delivers.board.state ≡ backlog (effects world.board.state taken.events)
-      = ap backlog taken.state in
-      omega (arith, few, size, more, state)
+      grind (arith, common_steps)
 
 module _ (short : WordsAreShort) (within : NoWordBeginsAPart) (rises : BacklogRises) where
   pub take_works : (world after : WorldView) (count : ℕ) → IsPartial world.board.partial
       → Becomes (ActContent.ToBoard count) world after → work_left after < work_left world
   take_works world after count partial delivers =
       let raised = take_raises short within rises world after count partial delivers in
-      let left = take_leaves world after count delivers in
-      let some = delivers.some in
-      rw delivers.leaves (omega (arith, raised, left, some))
-
-no_more : (bytes : List ℕ) → length (drop (length bytes) bytes) ≡ 0
-no_more bytes = ap length (drop_all (length bytes) bytes (omega arith))
+      grind (arith, common_steps, take_leaves)
 
 pub hear_works : (world after : WorldView) → (length world.up.bytes == 0) ≡ false
     → Becomes (ActContent.ToHost (length world.up.bytes)) world after → work_left after < work_left world
-hear_works world after some same =
-    rw (same, no_more world.up.bytes, some) (omega arith)
+hear_works world after some same = search (rules, drop_all)
 
 -- ---- at rest
 
@@ -226,10 +179,7 @@ module _ (reads : Reads) where
   nothing_left_unfinished [] bytes encoded = rw encoded.in_a_row nothing_unfinished
   nothing_left_unfinished (message ∷ messages) bytes encoded =
       let rest : unfinished_message (flat_map encoding messages) ≡ []
-      = nothing_left_unfinished messages (flat_map encoding messages) (record {
-        are_messages = encoded.are_messages.1;
-        in_a_row = refl;
-      }) in
+      = nothing_left_unfinished messages (flat_map encoding messages) (search rules) in
       rw (
         encoded.in_a_row,
         reads.unfinished_append (encoding message)
@@ -258,28 +208,14 @@ Moves world after =
     (act : ActContent) × IsNext world act × Step act world Outcome.Done after × (work_left after < work_left world)
 
 some_bytes : (bytes : List ℕ) → (length bytes == 0) ≡ false → 0 < length bytes
-some_bytes [] h = absurd (false≢true (sym h))
-some_bytes (byte ∷ bytes) h = omega arith
+some_bytes bytes h = search (rules, false≢true)
 
 pub hears : (world after : WorldView) (answer : Outcome) → (length world.up.bytes == 0) ≡ false
     → Step (ActContent.ToHost (length world.up.bytes)) world answer after → Moves world after
-hears world after answer some step =
-    let is_done : answer ≡ Outcome.Done = step.answers ∙ rw some refl in
-    let step' = done_at (ActContent.ToHost (length world.up.bytes)) world after answer is_done step in (
-      ActContent.ToHost (length world.up.bytes),
-      (some_bytes world.up.bytes some, refl),
-      step',
-      hear_works world after some step'.leaves,
-    )
+hears world after answer some step = search (rules, done_at, some_bytes, hear_works)
 
 pub no_bytes : (bytes : List ℕ) → (length bytes == 0) ≡ true → bytes ≡ []
-no_bytes [] h = refl
-no_bytes (byte ∷ bytes) h = absurd (let e = eqb-true (length (byte ∷ bytes)) 0 h in omega (arith, e))
-
-some_or_none : (result : Bool) (message : Option Content) → (IsTrue result ↔ IsSome message) → result ≡ false
-    → message ≡ None
-some_or_none result None reports e = refl
-some_or_none result (Some message) reports e = absurd (false≢true (sym e ∙ reports.1 refl))
+no_bytes bytes h = grind (arith, common_steps, eqb-true)
 
 -- facts of a world from the state that it stands for
 reported_all : (world : WorldView) → IsWorld world → length world.board.state.reported_squares ≡ 64
@@ -290,25 +226,8 @@ pub sends : BacklogFalls
     → (length world.up.bytes == 0) ≡ true
     → IsSome (next_message world.board.state) → (world.up.bytes ≡ [] → answer ≢ Outcome.NoRoom)
     → Step ActContent.BoardSend world answer after → Moves world after
-sends falls world after answer reported up some fits step = go (next_message world.board.state) refl some
-  where
-    sent : answer ≡ Outcome.Done → Moves world after
-    sent e =
-        let step' = done_at ActContent.BoardSend world after answer e step in (
-          ActContent.BoardSend,
-          (no_bytes world.up.bytes up, some),
-          step',
-          send_works falls world after reported step'.leaves,
-        )
-
-    room : (message : Content) → next_message world.board.state ≡ Some message → (full : Bool)
-        → overflows world.up (encoding message) ≡ full → answer ≡ Outcome.Done
-    room message e true f = absurd (fits (no_bytes world.up.bytes up) (step.answers ∙ rw (e, f) refl))
-    room message e false f = step.answers ∙ rw (e, f) refl
-
-    go : (next : Option Content) → next_message world.board.state ≡ next → IsSome next → Moves world after
-    go None e h = absurd (false≢true h)
-    go (Some message) e h = sent (room message e (overflows world.up (encoding message)) refl)
+sends falls world after answer reported up some fits step =
+    search (rules, done_at, no_bytes, send_works, fits, false≢true)
 
 module _ (short : WordsAreShort) (within : NoWordBeginsAPart) (rises : BacklogRises) where
   pub takes : (world after : WorldView) (answer : Outcome) → IsPartial world.board.partial
@@ -316,37 +235,22 @@ module _ (short : WordsAreShort) (within : NoWordBeginsAPart) (rises : BacklogRi
       → (length world.down.bytes == 0) ≡ false → Step (ActContent.ToBoard (length world.down.bytes)) world answer after
       → Moves world after
   takes world after answer partial up quiet none some step =
-      let is_done : answer ≡ Outcome.Done = step.answers ∙ rw (some, none) refl in
-      let step' = done_at (ActContent.ToBoard (length world.down.bytes)) world after answer is_done step in (
-        ActContent.ToBoard (length world.down.bytes),
-        (no_bytes world.up.bytes up, quiet, some_bytes world.down.bytes some, refl),
-        step',
-        take_works short within rises world after
-            (length world.down.bytes) partial step'.leaves,
-      )
+      search (rules, done_at, no_bytes, some_bytes, take_works)
 
 pub rests : Reads → EachDividesOnce → (world : WorldView) → IsWorld world → IsRestedWorld world
     → unfinished_message world.host.unread ≡ world.host.unread → IsQuietWorld world
-rests reads law world is (up, down, none) unfinished_is = record {
-  up = up;
-  down = down;
-  unread = nothing_unread reads is.state.up world.host.unread (rw up at is.stands.up) unfinished_is;
-  partial = nothing_partial law is.state.down world.board.partial is.stands.partial (rw down at is.stands.down);
-  pending = none;
-}
+rests reads law world is (up, down, none) unfinished_is =
+    search (rules, nothing_unread, nothing_partial)
 
 pub not_owing : (result : Bool) (board : BoardState) → (IsTrue result ↔ IsSome (next_message board)) → result ≡ false
     → next_message board ≡ None
-not_owing result board reports e = some_or_none result (next_message board) reports e
+not_owing result board reports e = search (rules, false≢true)
 
 -- ---- the loop
 
 -- the next act is a delivery or a sending
 next_settles : (world : WorldView) (act : ActContent) → IsNext world act → IsSettling act
-next_settles world ActContent.BoardSend is = tt
-next_settles world (ActContent.ToBoard count) is = tt
-next_settles world (ActContent.ToHost count) is = tt
-next_settles world _ none = absurd none
+next_settles world act is = search rules
 
 -- one more act, which is the next
 in_order_more : (acts : List ActContent) (act : ActContent) (old now new : WorldView) → AreInOrder acts old now
@@ -363,16 +267,14 @@ in_order_more (first ∷ acts) act old now new (between, is, done, rest) next st
 
 pub settled_more : (old now new : WorldView) (done : ℕ) → SettlesIn done old now → Moves now new
     → SettlesIn (done + 1) old new
-settled_more old now new done settled (act, is, step, less) =
-    record {
-      acts = settled.acts ++ act ∷ [];
-      settling = all_append IsSettling settled.acts (act ∷ []) settled.settling (next_settles now act is, tt);
-      counted = rw (length-append settled.acts (act ∷ [])) (omega (arith, settled.counted));
-      run =
-          rw (← replicate_more done Outcome.Done)
-          (run-push Step settled.acts (replicate done Outcome.Done) act Outcome.Done old now new settled.run step);
-      in_order = in_order_more settled.acts act old now new settled.in_order is step;
-    }
+settled_more old now new done settled (act, is, step, less) = record {
+  acts = settled.acts ++ act ∷ [];
+  settling =
+      all_append IsSettling settled.acts (act ∷ []) settled.settling (next_settles now act is, tt);
+  counted = rw (length-append settled.acts (act ∷ [])) (omega (arith, settled.counted));
+  run = grind (arith, common_steps, replicate_more, run-push);
+  in_order = in_order_more settled.acts act old now new settled.in_order is step;
+}
 
 pub settled_kept : (count : ℕ) (old new : WorldView) → SettlesIn count old new
     → HasSameGame old.board.state new.board.state
@@ -383,9 +285,7 @@ module _ (leads : Leads)
     (law : EachDividesOnce) (count : ℕ) (old new : WorldView) (settled : SettlesIn count old new)
     (quiet : IsQuietWorld new) (x : MachineState) (stands : StandsFor old x) where
   promise : KeepsPromise x new
-  promise =
-      run_promise leads settled.acts old new
-      (replicate count Outcome.Done) x settled.settling stands settled.run
+  promise = search (rules, run_promise)
 
   pub settled_mode : new.board.state.mode ≡ coming_mode x
   settled_mode =
@@ -428,38 +328,24 @@ settled_clock law count old new settled exact quiet follows =
 
 pub work_fits : (world : WorldView) → ((board : BoardState) → backlog board ≤ length board.owed + 65)
     → length world.down.bytes < 2 ^ 64 → length world.board.state.owed ≤ 8 → work_left world < 2 ^ 67
-work_fits world bound down owed =
-    let few = bound world.board.state in
-    let flag = at_most_one (length world.up.bytes) in
-    omega (arith, few, flag, down, owed)
+work_fits world bound down owed = search (rules, at_most_one)
 
 pub most_work : (world : WorldView) → work_left world ≤ 3 * length world.down.bytes + 2 * backlog world.board.state + 1
 most_work world = let flag = at_most_one (length world.up.bytes) in omega (arith, flag)
 
 -- ---- in any order and in any chunks
 
-positive : (n : ℕ) → (n == 0) ≡ false → 0 < n
-positive zero h = absurd (false≢true (sym h))
-positive (suc n) h = omega arith
-
 fits : (capacity needed : ℕ) → nat_lt capacity needed ≡ false → needed ≤ capacity
 fits capacity needed h = ltb-false capacity needed h
 
 hear_steps : (world after : WorldView) (count : ℕ) → moves_nothing count world.up ≡ false
     → Becomes (ActContent.ToHost count) world after → steps_left after < steps_left world
-hear_steps world after count some same =
-    let parts = or_parts (count == 0) (length world.up.bytes == 0) some in
-    let counts = positive count parts.0 in
-    let bytes = positive (length world.up.bytes) parts.1 in
-    let less : length (drop count world.up.bytes) < length world.up.bytes
-    = rw (length-drop count world.up.bytes) (omega (arith, counts, bytes)) in
-    rw same (omega (arith, less))
+hear_steps world after count some same = search (rules, or_parts, length-drop, false≢true)
 
 module _ (falls : BacklogFalls) where
   send_steps : (world after : WorldView) → length world.board.state.reported_squares ≡ 64
       → ((message : Content) → next_message world.board.state ≡ Some message → overflows world.up (encoding message)
-      ≡ false)
-      → Becomes ActContent.BoardSend world after → steps_left after < steps_left world
+      ≡ false) → Becomes ActContent.BoardSend world after → steps_left after < steps_left world
   send_steps world after squares room (message, is_next, encodes, same) =
       let less = falls world.board.state message squares is_next in
       let few = fits world.up.capacity (length world.up.bytes + length (encoding message)) (room message is_next) in
@@ -469,8 +355,7 @@ module _ (falls : BacklogFalls) where
 
 pub count_first : (answer : Outcome) (answers : List Outcome)
     → done_count (answer ∷ answers) ≡ done_count (answer ∷ []) + done_count answers
-count_first Outcome.Done answers = omega arith
-count_first _ answers = omega arith
+count_first answer answers = search rules
 
 module _ (short : WordsAreShort) (within : NoWordBeginsAPart) (rises : BacklogRises) where
   take_steps : (world after : WorldView) (count : ℕ) → IsPartial world.board.partial
@@ -479,38 +364,16 @@ module _ (short : WordsAreShort) (within : NoWordBeginsAPart) (rises : BacklogRi
       let weighed = mul-le-mul_left (world.up.capacity + 1)
       (take_raises short within rises world after count partial delivers) in
       let bytes = ap (λ (n : ℕ). (world.up.capacity + 2) * n) (take_leaves world after count delivers) in
-      let some = delivers.some in
-      rw delivers.leaves (omega (arith, some, weighed, bytes))
+      grind (arith, common_steps)
 
 module _ (keeps : (act : ActContent) (world after : WorldView) (answer : Outcome) → IsWorld world
     → Step act world answer after → IsWorld after)
     (falls : BacklogFalls)
     (short : WordsAreShort) (within : NoWordBeginsAPart) (rises : BacklogRises) where
-  -- an act that is done is one that can be
-  some_heard : (none : Bool) → Outcome.Done ≡ cond none Outcome.Nothing Outcome.Done → none ≡ false
-  some_heard true h = cc
-  some_heard false h = refl
-
-  some_sent : (full : Bool) → Outcome.Done ≡ cond full Outcome.NoRoom Outcome.Done → full ≡ false
-  some_sent true h = cc
-  some_sent false h = refl
-
-  done_steps : (act : ActContent) (world after : WorldView) → IsWorld world → IsSettling act
-      → Step act world Outcome.Done after → steps_left after < steps_left world
-  done_steps ActContent.BoardSend world after is settling step =
-      send_steps falls world after (reported_all world is)
-      (λ message e. some_sent (overflows world.up (encoding message)) (rw e at step.answers)) step.leaves
-  done_steps (ActContent.ToBoard count) world after is settling step =
-      take_steps short within rises world after count is.stands.partial step.leaves
-  done_steps (ActContent.ToHost count) world after is settling step =
-      hear_steps world after count (some_heard (moves_nothing count world.up) step.answers) step.leaves
-  done_steps _ world after is none step = absurd none
-
   step_steps : (act : ActContent) (world after : WorldView) (answer : Outcome) → IsWorld world → IsSettling act
       → Step act world answer after → done_count (answer ∷ []) + steps_left after ≤ steps_left world
-  step_steps act world after Outcome.Done is settling step =
-      let less = done_steps act world after is settling step in omega (arith, less)
-  step_steps act world after _ is settling step = rw step.leaves (omega arith)
+  step_steps act world after answer is settling step =
+      grind (arith, common_steps, send_steps, reported_all, take_steps, hear_steps)
 
   pub run_steps : (acts : List ActContent) (world after : WorldView) (answers : List Outcome) → IsWorld world
       → AllByRecursion IsSettling acts → Runs acts world answers after → done_count answers ≤ steps_left world

@@ -1,17 +1,14 @@
 -- From each sound state takes, sendings and hears lead to a quiet one.
 use Rattle.std.proofs.Common.{arith, ◌≡◌, ◌≢◌, refl, ap, ◌∙◌, ◌⊎◌, inl, inr, ℕ, ◌<◌, ◌≤◌, zero, suc, List, [], ◌∷◌}
-use Rattle.std.proofs.Common.{Some, None, Bool, true, false, cond, Option}
+use Rattle.std.proofs.Common.{Some, None, Bool, cond, Option, rules}
 use Rattle.std.proofs.lemmas.List.{length-append}
-use Rattle.std.specs.Prelude.{◌&&◌}
 use Rattle.std.specs.List.{AllByRecursion}
 use Rattle.dgt_values.specs.declared.pieces.Piece.{Piece}
-use Rattle.dgt_message.specs.Content.{clock_message, Content}
+use Rattle.dgt_message.specs.Content.{Content}
 use Rattle.dgt_command.specs.Content.{EventContent}
 use Rattle.dgt_board.specs.declared.modes.Mode.{Mode}
-use Rattle.dgt_board.specs.declared.replies.Reply.{Reply}
-use Rattle.dgt_board.specs.Sending.{differs, field_of, next_message, pending_messages}
-use Rattle.dgt_board.specs.State.{updates}
-use Rattle.dgt_link.specs.Machine.{MachineState, after_hear, after_move, after_moves, after_reply, after_take, after_reported, IsSending, Move}
+use Rattle.dgt_board.specs.Sending.{next_message, pending_messages}
+use Rattle.dgt_link.specs.Machine.{MachineState, after_move, after_moves, after_reported, IsSending, Move}
 use Rattle.dgt_link.specs.Promise.{IsPromised, IsQuiet, PictureIsComing, coming_mode, mode_after, requests}
 use Rattle.dgt_link.specs.Settling.{IsSettlingMove, SettlesBy, moves_left}
 use Rattle.dgt_link.specs.Sound.{IsSound}
@@ -23,12 +20,10 @@ use Rattle.dgt_link.proofs.AfterMoves.{moves_sound}
 use Rattle.dgt_link.proofs.Sending.{next_is_sent}
 use Rattle.dgt_link.proofs.Soundness.{move_sound}
 use Rattle.dgt_link.proofs.Taking.{HasSameGame, effect_leaves, same_game}
+use Rattle.std.proofs.lemmas.Grind.{common_steps}
 
 sending_settles : (move : Move) → IsSending move → IsSettlingMove move
-sending_settles Move.Reply is = tt
-sending_settles (Move.Report square) is = tt
-sending_settles Move.ReportClock is = tt
-sending_settles _ none = absurd none
+sending_settles move is = search rules
 
 -- ---- a move closer
 
@@ -46,8 +41,7 @@ module _ (falls : BacklogFalls) (rises : BacklogRises) where
   sends_nearer x message sound e =
       let sent = next_is_sent x message e in
       let less = falls x.board message sound.reported_squares e in
-      let size = length-append x.up (message ∷ []) in
-      (sent.0, (sending_settles sent.0 sent.1, rw sent.2 (omega (arith, less, size))))
+      grind (arith, common_steps, length-append, sending_settles)
 
   takes_nearer : (x : MachineState) (event : EventContent) (later : List EventContent) → x.down ≡ event ∷ later
       → NearerBy x Move.Take
@@ -76,20 +70,11 @@ module _ (falls : BacklogFalls) (rises : BacklogRises) where
 
   further : (x : MachineState) (move : Move) (moves : List Move) → NearerBy x move → SettlesBy moves (after_move x move)
       → SettlesBy (move ∷ moves) x
-  further x move moves (is, less) settles =
-      record {
-        settling = (is, settles.settling);
-        few = (let few = settles.few in omega (arith, less, few));
-        quiet = settles.quiet;
-      }
+  further x move moves (is, less) settles = search rules
 
   reached_within : (most : ℕ) (x : MachineState) → IsSound x → moves_left x ≤ most
       → (moves : List Move) × SettlesBy moves x
-  reached_within zero x sound few = go (nearer x sound)
-    where
-      go : IsQuiet x ⊎ ((move : Move) × NearerBy x move) → (moves : List Move) × SettlesBy moves x
-      go (inl quiet) = ([], record { settling = tt; few = omega arith; quiet = quiet })
-      go (inr (move, (is, less))) = absurd (omega (arith, less, few))
+  reached_within zero x sound few = grind (arith, common_steps, nearer)
   reached_within (suc most) x sound few = go (reached_within most) (nearer x sound)
     where
       go : ((y : MachineState) → IsSound y → moves_left y ≤ most → (moves : List Move) × SettlesBy moves y)
@@ -104,48 +89,18 @@ module _ (falls : BacklogFalls) (rises : BacklogRises) where
 
 -- ---- what such moves keep
 
-take_same_game : (x : MachineState) (events : List EventContent) → HasSameGame x.board (after_take x events).board
-take_same_game x [] = same_game x.board
-take_same_game x (event ∷ later) =
-    let kept = effect_leaves x.board event in record { squares = kept.squares; clock = kept.clock }
-
-reply_same_game : (x : MachineState) (replies : List Reply) → HasSameGame x.board (after_reply x replies).board
-reply_same_game x [] = same_game x.board
-reply_same_game x (reply ∷ later) = record { squares = refl; clock = refl }
-
-hear_same_game : (x : MachineState) (messages : List Content) → HasSameGame x.board (after_hear x messages).board
-hear_same_game x [] = same_game x.board
-hear_same_game x (message ∷ later) = record { squares = refl; clock = refl }
-
 reported_same_game : (x : MachineState) (asks : Bool) (message : Content)
     → HasSameGame x.board (cond asks (after_reported x message) x).board
-reported_same_game x true message = record { squares = refl; clock = refl }
-reported_same_game x false message = same_game x.board
+reported_same_game x asks message = search (rules, same_game)
 
 move_same_game : (x : MachineState) (move : Move) → IsSettlingMove move → HasSameGame x.board (after_move x move).board
-move_same_game x Move.Take is = take_same_game x x.down
-move_same_game x Move.Reply is = reply_same_game x x.board.owed
-move_same_game x (Move.Report square) is =
-    reported_same_game x (updates x.board.mode && differs x.board square) (field_of x.board square)
-move_same_game x Move.ReportClock is = reported_same_game x x.board.times_owed (clock_message x.board.clock)
-move_same_game x Move.Hear is = hear_same_game x x.up
-move_same_game x _ none = absurd none
+move_same_game x move is = search (rules, reported_same_game, same_game, effect_leaves)
 
 settling_keeps_mode : (before : Mode) (move : Move) → IsSettlingMove move → mode_after before (requests move) ≡ before
-settling_keeps_mode before Move.Take is = refl
-settling_keeps_mode before Move.Reply is = refl
-settling_keeps_mode before (Move.Report square) is = refl
-settling_keeps_mode before Move.ReportClock is = refl
-settling_keeps_mode before Move.Hear is = refl
-settling_keeps_mode before _ none = absurd none
+settling_keeps_mode before move is = search rules
 
 settling_breaks_nothing : (move : Move) → IsSettlingMove move → move ≢ Move.Break
-settling_breaks_nothing Move.Take is e = cc
-settling_breaks_nothing Move.Reply is e = cc
-settling_breaks_nothing (Move.Report square) is e = cc
-settling_breaks_nothing Move.ReportClock is e = cc
-settling_breaks_nothing Move.Hear is e = cc
-settling_breaks_nothing _ none e = none
+settling_breaks_nothing move is = search rules
 
 pub settling_squares : (x : MachineState) (moves : List Move) → AllByRecursion IsSettlingMove moves
     → (after_moves x moves).board.squares ≡ x.board.squares
@@ -168,8 +123,7 @@ settling_mode x (move ∷ moves) all =
 settling_comes : (x : MachineState) (moves : List Move) → AllByRecursion IsSettlingMove moves → PictureIsComing x
     → PictureIsComing (after_moves x moves)
 settling_comes x [] all comes = comes
-settling_comes x (move ∷ moves) all comes =
-    settling_comes (after_move x move) moves all.1
+settling_comes x (move ∷ moves) all comes = settling_comes (after_move x move) moves all.1
     (picture_keeps_coming x move (settling_breaks_nothing move all.0) comes)
 
 pub settling_picture : (x : MachineState) (moves : List Move) → IsSound x → IsPromised x
@@ -177,9 +131,6 @@ pub settling_picture : (x : MachineState) (moves : List Move) → IsSound x → 
     → (after_moves x moves).picture ≡ Some x.board.squares
 settling_picture x moves sound promised all quiet =
     let promised' : IsPromised (after_moves x moves)
-    = record {
-      coming = settling_comes x moves all promised.coming;
-      mode = rw (settling_mode x moves all) promised.mode;
-    } in
+    = search (rules, settling_comes, settling_mode) in
     promised_picture (after_moves x moves) (moves_sound x moves sound) promised' quiet ∙ ap
     (λ (squares : List Piece). Some squares) (settling_squares x moves all)

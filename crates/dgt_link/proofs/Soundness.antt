@@ -1,6 +1,6 @@
 -- Each move keeps a sound state sound, and an exact one exact.
-use Rattle.std.proofs.Common.{◌≡◌, refl, sym, ap, ◌∙◌, inl, List, [], ◌∷◌, ◌++◌, Option, Some, None, ◌&&◌, length}
-use Rattle.std.proofs.Common.{append_assoc}
+use Rattle.std.proofs.Common.{◌≡◌, refl, ap, ◌∙◌, List, [], ◌∷◌, ◌++◌, ◌&&◌, length}
+use Rattle.std.proofs.Common.{append_assoc, rules}
 use Rattle.std.proofs.lemmas.List.{length-set}
 use Rattle.std.proofs.lemmas.List.Elements.{filter_map-append}
 use Rattle.std.proofs.lemmas.Bool.{cond_both, false≢true}
@@ -23,7 +23,7 @@ use Rattle.dgt_link.proofs.MessageReports.{ReportedIsHeard, field_reports, clock
 use Rattle.dgt_link.proofs.MessageReports.{clock_message-kind, picture_reported, clock_reported_of, clock_after_all-append}
 use Rattle.dgt_link.proofs.MessageReports.{followed_after, handed_or_reported}
 use Rattle.dgt_command.specs.Words.{IsNoiseList}
-use Rattle.dgt_link.proofs.Taking.{Leaves, effect-kinds, effect_followed, effect_leaves, nothing_of_noise}
+use Rattle.dgt_link.proofs.Taking.{effect-kinds, effect_followed, effect_leaves, nothing_of_noise}
 
 -- the state with other replies owed
 abbrev owing : MachineState → List Reply → MachineState
@@ -36,46 +36,21 @@ module _ (x : MachineState) (owed : List Reply) (message : Content)
     (first : filter_map kind_of_reply x.board.owed
     ≡ cons_option (answered_kind message) (filter_map kind_of_reply owed)) where
   send-kinds : coming_kinds (after_reported (owing x owed) message) ≡ coming_kinds x
-  send-kinds =
-      ap (λ (up : List Kind). up ++ (filter_map kind_of_reply owed ++ filter_map kind_of_event x.down))
-      (filter_map-append answered_kind x.up (message ∷ []))
-      ∙ moved_over (filter_map answered_kind x.up) (answered_kind message) (filter_map kind_of_reply owed)
-      (filter_map kind_of_event x.down)
-      ∙ ap (λ (owed : List Kind). filter_map answered_kind x.up ++ (owed ++ filter_map kind_of_event x.down))
-      (sym first)
+  send-kinds = search (rules, filter_map-append, moved_over)
 
   send_sound : IsSound x → IsSound (after_reported (owing x owed) message)
-  send_sound sound =
-      record {
-        squares = sound.squares;
-        reported_squares = reports.squares sound.squares sound.reported_squares;
-        picture = picture_reported (record x.board { owed = owed }) message reports x.picture x.up sound.picture;
-        followed = λ h. followed_after (record x.board { owed = owed }) message reports (sound.followed h);
-        clock = clock_reported_of (record x.board { owed = owed }) message reports x.host_clock x.up sound.clock;
-        awaited = rw send-kinds sound.awaited;
-      }
+  send_sound sound = search (rules, picture_reported, followed_after, clock_reported_of, send-kinds)
 
   send_exact : IsExact x → IsExact (after_reported (owing x owed) message)
-  send_exact exact =
-      record {
-        sound = send_sound exact.sound;
-        clock = clock_after_all-append x.host_clock x.up message ∙ rw exact.clock reports.clock;
-        awaited = exact.awaited ∙ sym send-kinds;
-      }
+  send_exact exact = search (rules, send_sound, clock_after_all-append, send-kinds)
 
 -- ---- the moves, one by one
 
 reply_sound : (x : MachineState) (owed : List Reply) → x.board.owed ≡ owed → IsSound x → IsSound (after_reply x owed)
-reply_sound x [] e sound = sound
-reply_sound x (first ∷ rest) e sound =
-    send_sound x rest (reply_message x.board first) (reply_reports (record x.board { owed = rest }) first)
-    (rw e (rw (reply_message-kind x.board first))) sound
+reply_sound x owed e sound = search (rules, send_sound, reply_reports, reply_message-kind)
 
 reply_exact : (x : MachineState) (owed : List Reply) → x.board.owed ≡ owed → IsExact x → IsExact (after_reply x owed)
-reply_exact x [] e exact = exact
-reply_exact x (first ∷ rest) e exact =
-    send_exact x rest (reply_message x.board first) (reply_reports (record x.board { owed = rest }) first)
-    (rw e (rw (reply_message-kind x.board first))) exact
+reply_exact x owed e exact = search (rules, send_exact, reply_reports, reply_message-kind)
 
 report_clock_first : (x : MachineState)
     → filter_map kind_of_reply x.board.owed ≡ cons_option (answered_kind (clock_message x.board.clock))
@@ -85,13 +60,7 @@ report_clock_first x = rw (clock_message-kind x.board.clock)
 -- requesting or taking a reply keeps the kinds to come
 pub ask-kinds : (x : MachineState) (command : CommandContent)
     → coming_kinds (after_move x (Move.Ask command)) ≡ coming_kinds x ++ option_to_list (requested_kind command)
-ask-kinds x command =
-    ap (λ (down : List Kind). filter_map answered_kind x.up ++ (filter_map kind_of_reply x.board.owed ++ down))
-    (filter_map-append kind_of_event x.down (EventContent.Read command ∷ []) ∙ ap
-    (λ (new : List Kind). filter_map kind_of_event x.down ++ new) (one_more (requested_kind command)))
-    ∙ sym (append_assoc (filter_map answered_kind x.up) _ _
-    ∙ ap (λ (rest : List Kind). filter_map answered_kind x.up ++ rest)
-    (append_assoc (filter_map kind_of_reply x.board.owed) _ _))
+ask-kinds x command = search (rules, filter_map-append, one_more, append_assoc)
 
 take-kinds : (x : MachineState) (event : EventContent) (rest : List EventContent) → x.down ≡ event ∷ rest
     → coming_kinds (after_take x (event ∷ rest)) ≡ coming_kinds x
@@ -99,75 +68,25 @@ take-kinds x event rest e =
     rw e (ap (λ (kinds : List Kind). filter_map answered_kind x.up ++ kinds) (effect-kinds x.board event rest))
 
 take_sound : (x : MachineState) (down : List EventContent) → x.down ≡ down → IsSound x → IsSound (after_take x down)
-take_sound x [] e sound = sound
-take_sound x (event ∷ rest) e sound =
-    record {
-      squares = ap length leaves.squares ∙ sound.squares;
-      reported_squares = ap length leaves.reported_squares ∙ sound.reported_squares;
-      picture = rw leaves.reported_squares sound.picture;
-      followed = effect_followed x.board event sound.followed;
-      clock = rw leaves.reported_clock sound.clock;
-      awaited = rw (take-kinds x event rest e) sound.awaited;
-    }
-  where
-    leaves : Leaves x.board (effect x.board event)
-    leaves = effect_leaves x.board event
+take_sound x down e sound = search (rules, effect_followed, take-kinds, effect_leaves)
 
 take_exact : (x : MachineState) (down : List EventContent) → x.down ≡ down → IsExact x → IsExact (after_take x down)
-take_exact x [] e exact = exact
-take_exact x (event ∷ rest) e exact =
-    record {
-      sound = take_sound x (event ∷ rest) e exact.sound;
-      clock = exact.clock ∙ sym (effect_leaves x.board event).reported_clock;
-      awaited = exact.awaited ∙ sym (take-kinds x event rest e);
-    }
-
-kinds_after_first : (kind : Option Kind) (up rest : List Kind)
-    → cons_option kind up ++ rest ≡ cons_option kind (up ++ rest)
-kinds_after_first None up rest = refl
-kinds_after_first (Some kind) up rest = refl
+take_exact x down e exact = search (rules, take_sound, effect_leaves, take-kinds)
 
 -- the kinds to come, if a message is the first under way
 hear-kinds : (x : MachineState) (message : Content) (rest : List Content) → x.up ≡ message ∷ rest
     → coming_kinds x ≡ cons_option (answered_kind message) (coming_kinds (after_hear x (message ∷ rest)))
-hear-kinds x message rest e = rw e (kinds_after_first (answered_kind message) (filter_map answered_kind rest) _)
+hear-kinds x message rest e = search rules
 
 hear_sound : (x : MachineState) (up : List Content) → x.up ≡ up → IsSound x → IsSound (after_hear x up)
-hear_sound x [] e sound = sound
-hear_sound x (message ∷ rest) e sound =
-    record {
-      squares = sound.squares;
-      reported_squares = sound.reported_squares;
-      picture = rw e at sound.picture;
-      followed = sound.followed;
-      clock = rw e at sound.clock;
-      awaited =
-          awaited_after-subsequence x.awaited (answered_kind message) _
-          (rw (hear-kinds x message rest e) at sound.awaited);
-    }
+hear_sound x up e sound = search (rules, awaited_after-subsequence, hear-kinds)
 
 hear_exact : (x : MachineState) (up : List Content) → x.up ≡ up → IsExact x → IsExact (after_hear x up)
-hear_exact x [] e exact = exact
-hear_exact x (message ∷ rest) e exact =
-    record {
-      sound = hear_sound x (message ∷ rest) e exact.sound;
-      clock = rw e at exact.clock;
-      awaited =
-          ap (λ (awaited : List Kind). awaited_after awaited (answered_kind message))
-          (exact.awaited ∙ hear-kinds x message rest e) ∙ awaited_exactly (answered_kind message) _;
-    }
+hear_exact x up e exact = search (rules, hear_sound, hear-kinds, awaited_exactly)
 
 pub new_sound : (position : List Piece) (clock : ClockState) (identity : IdentityContent) → length position ≡ 64
     → IsSound (new_state position clock identity)
-new_sound position clock identity h =
-    record {
-      squares = h;
-      reported_squares = h;
-      picture = inl refl;
-      followed = λ f. absurd (false≢true f);
-      clock = inl refl;
-      awaited = tt;
-    }
+new_sound position clock identity h = search (rules, false≢true)
 
 pub new_exact : (position : List Piece) (clock : ClockState) (identity : IdentityContent) → length position ≡ 64
     → IsExact (new_state position clock identity)
@@ -182,10 +101,7 @@ noise-kinds noise is_noise =
 host_break-kinds : (x : MachineState) (noise : List EventContent) (is_noise : IsNoiseList noise)
     → coming_kinds (after_move x (Move.HostBreak noise is_noise))
     ≡ filter_map kind_of_reply x.board.owed ++ Kind.Dump ∷ []
-host_break-kinds x noise is_noise =
-    ap (λ (down : List Kind). filter_map kind_of_reply x.board.owed ++ down)
-    (filter_map-append kind_of_event noise _ ∙ ap (λ (kinds : List Kind). kinds ++ Kind.Dump ∷ [])
-    (noise-kinds noise is_noise))
+host_break-kinds x noise is_noise = search (rules, filter_map-append, noise-kinds)
 
 -- ---- every move
 
@@ -197,40 +113,26 @@ asked_sound x down awaited sound coming = assumption
 
 -- what the host knows and what is under way is forgotten
 pub board_sound : (x : MachineState) → IsSound x → IsSound (state_of_board x.board)
-board_sound x sound =
-    record {
-      squares = sound.squares;
-      reported_squares = sound.reported_squares;
-      picture = inl refl;
-      followed = sound.followed;
-      clock = inl refl;
-      awaited = tt;
-    }
+board_sound x sound = search rules
 
 pub move_sound : (x : MachineState) (move : Move) → IsSound x → IsSound (after_move x move)
 move_sound x (Move.Change square piece) sound =
     assumption (length-set x.board.squares square piece ∙ sound.squares)
 move_sound x (Move.HandClock clock) sound = assumption (handed_or_reported x.board.mode x.board.reported_clock clock)
-move_sound x (Move.Ask command) sound =
-    let more : List Kind = option_to_list (requested_kind command) in
-    asked_sound x (x.down ++ EventContent.Read command ∷ []) (x.awaited ++ more) sound
-    (rw (ask-kinds x command) (subsequence_append x.awaited (coming_kinds x) more sound.awaited))
+move_sound x (Move.Ask command) sound = search (rules, asked_sound, ask-kinds, subsequence_append)
 move_sound x Move.Take sound = take_sound x x.down refl sound
 move_sound x Move.Reply sound = reply_sound x x.board.owed refl sound
 move_sound x (Move.Report square) sound =
     cond_both (updates x.board.mode && differs x.board square) (after_reported x (field_of x.board square)) x IsSound
     (λ h. send_sound x x.board.owed (field_of x.board square) (field_reports x.board square) refl sound) (λ h. sound)
 move_sound x Move.ReportClock sound =
-    cond_both x.board.times_owed (after_reported x (clock_message x.board.clock)) x IsSound
-    (λ h. send_sound x x.board.owed (clock_message x.board.clock) (clock_reports x.board) (report_clock_first x) sound)
-    (λ h. sound)
+    search (rules, cond_both, send_sound, clock_reports, report_clock_first)
 move_sound x Move.Hear sound = hear_sound x x.up refl sound
 move_sound x Move.Break sound = new_sound x.board.squares x.board.clock x.board.identity sound.squares
 move_sound x (Move.HostBreak noise is_noise) sound =
     asked_sound (state_of_board x.board) (noise ++ map EventContent.Read commands_anew) (Kind.Dump ∷ [])
     (board_sound x sound)
-    (rw (host_break-kinds x noise is_noise)
-    (subsequence_at_end (Kind.Dump ∷ []) (filter_map kind_of_reply x.board.owed)))
+    (search (rules, host_break-kinds, subsequence_at_end))
 
 -- both sides are as new, except for the squares, the clock and the identity
 pub break_exact : (x : MachineState) → IsSound x → IsExact (after_move x Move.Break)
@@ -241,23 +143,18 @@ move_exact x (Move.Change square piece) other exact =
     record { sound = move_sound x (Move.Change square piece) exact.sound; clock = exact.clock; awaited = exact.awaited }
 move_exact x (Move.HandClock clock) other exact =
     record { sound = move_sound x (Move.HandClock clock) exact.sound; clock = exact.clock; awaited = exact.awaited }
-move_exact x (Move.Ask command) other exact =
-    record {
-      sound = move_sound x (Move.Ask command) exact.sound;
-      clock = exact.clock;
-      awaited =
-          ap (λ (awaited : List Kind). awaited ++ option_to_list (requested_kind command)) exact.awaited ∙ sym
-          (ask-kinds x command);
-    }
+move_exact x (Move.Ask command) other exact = record {
+  sound = move_sound x (Move.Ask command) exact.sound;
+  clock = exact.clock;
+  awaited = search (rules, ask-kinds);
+}
 move_exact x Move.Take other exact = take_exact x x.down refl exact
 move_exact x Move.Reply other exact = reply_exact x x.board.owed refl exact
 move_exact x (Move.Report square) other exact =
     cond_both (updates x.board.mode && differs x.board square) (after_reported x (field_of x.board square)) x IsExact
     (λ h. send_exact x x.board.owed (field_of x.board square) (field_reports x.board square) refl exact) (λ h. exact)
 move_exact x Move.ReportClock other exact =
-    cond_both x.board.times_owed (after_reported x (clock_message x.board.clock)) x IsExact
-    (λ h. send_exact x x.board.owed (clock_message x.board.clock) (clock_reports x.board) (report_clock_first x) exact)
-    (λ h. exact)
+    search (rules, cond_both, send_exact, clock_reports, report_clock_first)
 move_exact x Move.Hear other exact = hear_exact x x.up refl exact
 move_exact x Move.Break other exact = break_exact x exact.sound
 move_exact x (Move.HostBreak noise is_noise) other exact = absurd (other tt)

@@ -1,25 +1,24 @@
 -- An act leads a world that stands for a state to one for a state that the machine reaches by it.
 use Rattle.std.proofs.Common.{◌≡◌, ◌≢◌, refl, sym, ap, ◌∙◌, ℕ, ◌≤◌, List, [], ◌∷◌, ◌++◌, length, take, drop, replicate}
-use Rattle.std.proofs.Common.{option_to_list, append_assoc}
+use Rattle.std.proofs.Common.{append_assoc, rules}
 use Rattle.std.proofs.lemmas.List.{append-nil, take-append-drop}
 use Rattle.std.proofs.lemmas.Grind.{flat_map-append}
 use Rattle.std.specs.List.{flat_map}
 use Rattle.std.specs.Prelude.{Contains, map}
 use Rattle.dgt_values.specs.declared.pieces.Piece.{Piece}
-use Rattle.dgt_values.specs.declared.kinds.Kind.{Kind}
-use Rattle.dgt_message.specs.Content.{Content, IsMessage}
+use Rattle.dgt_message.specs.Content.{Content}
 use Rattle.dgt_message.specs.Clock.{ClockState}
 use Rattle.dgt_message.specs.Encoding.{Encodes, encoding}
-use Rattle.dgt_command.specs.Content.{CommandContent, EventContent, requested_kind}
+use Rattle.dgt_command.specs.Content.{CommandContent, EventContent}
 use Rattle.dgt_command.specs.Words.{Divides, IsPartial}
-use Rattle.dgt_board.specs.State.{IdentityContent, BoardState, after_change, after_hand_clock, after_line_lost, effect, effects}
+use Rattle.dgt_board.specs.State.{IdentityContent, BoardState, effect, effects}
 use Rattle.dgt_board.specs.Sending.{after_sending, next_message}
 use Rattle.dgt_board.specs.View.{BoardView, HasTaken}
 use Rattle.dgt_host.specs.Host.{HostView, host_after_message, follow_bytes}
 use Rattle.dgt_link.specs.Act.{ActContent}
 use Rattle.dgt_link.specs.declared.acts.Outcome.{Outcome}
 use Rattle.dgt_link.specs.declared.world.TheConstants.{MIN_DOWN, MIN_UP}
-use Rattle.dgt_link.specs.Machine.{Move, MachineState, commands_anew, after_hear, after_move, after_moves, after_take, new_state}
+use Rattle.dgt_link.specs.Machine.{Move, MachineState, commands_anew, after_move, after_moves, new_state}
 use Rattle.dgt_decode.specs.Grammar.{events}
 use Rattle.dgt_link.specs.Readers.{Grammars}
 use Rattle.dgt_link.specs.Stands.{AreEncoded, IsExactWorld, IsWorld, StandsFor, StandsAfterRun, StandsAfterStep}
@@ -33,6 +32,8 @@ use Rattle.dgt_link.proofs.Hearing.{heard_of, heard_prefix, host_after_messages}
 use Rattle.dgt_link.proofs.AfterMoves.{moves_exact, moves_sound}
 use Rattle.dgt_link.proofs.Sending.{next_is_sent}
 use Rattle.dgt_link.proofs.Soundness.{break_exact, move_sound, new_exact, new_sound}
+use Rattle.dgt_link.specs.Machine.{after_hear}
+use Rattle.dgt_link.specs.Machine.{after_take}
 
 pub moves-append : (x : MachineState) (moves more : List Move)
     → after_moves x (moves ++ more) ≡ after_moves (after_moves x moves) more
@@ -80,9 +81,7 @@ hears (message ∷ messages) left x host e of =
 
 -- a prefix of a line, and the rest of it
 pub prefix_of : (held bytes : List ℕ) (count : ℕ) → held ++ bytes ≡ (held ++ take count bytes) ++ drop count bytes
-prefix_of held bytes count =
-    ap (λ (line : List ℕ). held ++ line) (sym (take-append-drop count bytes)) ∙ sym
-    (append_assoc held (take count bytes) (drop count bytes))
+prefix_of held bytes count = search (rules, take-append-drop, append_assoc)
 
 -- the machine takes what the board took of this many bytes
 pub record IsTakenAs (world : WorldView) (moved : ℕ) (view : BoardView) (x : MachineState) : Type 0 where
@@ -98,67 +97,43 @@ pub record IsTakenAs (world : WorldView) (moved : ℕ) (view : BoardView) (x : M
 
 pub new_stands : IsPartial [] → (position : List Piece) (clock : ClockState) (identity : IdentityContent) (up down : ℕ)
     → length position ≡ 64 → StandsFor (new_world position clock identity up down) (new_state position clock identity)
-new_stands nothing position clock identity up down squares =
-    record {
-      sound = new_sound position clock identity squares;
-      board = refl;
-      picture = refl;
-      clock = refl;
-      awaited = refl;
-      up = record { are_messages = tt; in_a_row = refl };
-      down = (refl, nothing);
-      partial = nothing;
-    }
+new_stands nothing position clock identity up down squares = search (rules, new_sound)
 
 pub new_is_world : IsPartial []
     → (position : List Piece) (clock : ClockState) (identity : IdentityContent) (up down : ℕ)
     → length position ≡ 64 → MIN_UP ≤ up → MIN_DOWN ≤ down → IsWorld (new_world position clock identity up down)
-new_is_world nothing position clock identity up down squares up_room down_room =
-    record {
-      state = new_state position clock identity;
-      stands = new_stands nothing position clock identity up down squares;
-      up_room = up_room;
-      down_room = down_room;
-    }
+new_is_world nothing position clock identity up down squares up_room down_room = record {
+  state = new_state position clock identity;
+  stands = new_stands nothing position clock identity up down squares;
+  up_room = up_room;
+  down_room = down_room;
+}
 
 pub new_is_exact : IsPartial []
     → (position : List Piece) (clock : ClockState) (identity : IdentityContent) (up down : ℕ)
     → length position ≡ 64 → IsExactWorld (new_world position clock identity up down)
-new_is_exact nothing position clock identity up down squares =
-    record {
-      state = new_state position clock identity;
-      stands = new_stands nothing position clock identity up down squares;
-      exact = new_exact position clock identity squares;
-    }
+new_is_exact nothing position clock identity up down squares = record {
+  state = new_state position clock identity;
+  stands = new_stands nothing position clock identity up down squares;
+  exact = new_exact position clock identity squares;
+}
 
 -- ---- an act that is done
 
 encoded_more : (bytes : List ℕ) (messages : List Content) (message : Content) → Encodes message (encoding message)
     → AreEncoded messages bytes → AreEncoded (messages ++ message ∷ []) (bytes ++ encoding message)
 encoded_more bytes messages message encodes encoded =
-    record {
-      are_messages = all_append IsMessage messages (message ∷ []) encoded.are_messages (encodes.is_message, tt);
-      in_a_row =
-          ap (λ (prefix : List ℕ). prefix ++ encoding message) encoded.in_a_row
-          ∙ sym (flat_map-append encoding messages (message ∷ []) ∙ ap
-          (λ (last : List ℕ). flat_map encoding messages ++ last) (append-nil (encoding message)));
-    }
+    search (rules, all_append, flat_map-append, append-nil)
 
 change_reaches : (world : WorldView) (square : ℕ) (piece : Piece) (after : WorldView) (x : MachineState)
     → StandsFor world x → Becomes (ActContent.Change square piece) world after
     → StandsAfterStep (ActContent.Change square piece) Outcome.Done x after
-change_reaches world square piece after x stands same =
-    let sound = move_sound x (Move.Change square piece) stands.sound in
-    let board = ap (λ (state : BoardState). after_change state square piece) stands.board in
-    (Move.Change square piece ∷ [], refl, rw same assumption)
+change_reaches world square piece after x stands same = search (rules, move_sound)
 
 clock_reaches : (world : WorldView) (clock : ClockState) (after : WorldView) (x : MachineState) → StandsFor world x
     → Becomes (ActContent.ClockRead clock) world after
     → StandsAfterStep (ActContent.ClockRead clock) Outcome.Done x after
-clock_reaches world clock after x stands same =
-    let sound = move_sound x (Move.HandClock clock) stands.sound in
-    let board = ap (λ (state : BoardState). after_hand_clock state clock) stands.board in
-    (Move.HandClock clock ∷ [], refl, rw same assumption)
+clock_reaches world clock after x stands same = search (rules, move_sound)
 
 module _ (laws : Grammars) where
   ask_reaches : (world : WorldView) (command : CommandContent) (after : WorldView) (x : MachineState)
@@ -166,10 +141,7 @@ module _ (laws : Grammars) where
       → StandsAfterStep (ActContent.Host command) Outcome.Done x after
   ask_reaches world command after x stands (encodes, same) =
       let sound = move_sound x (Move.Ask command) stands.sound in
-      let awaited = ap (λ (kinds : List Kind). kinds ++ option_to_list (requested_kind command)) stands.awaited in
-      let down = divides_command laws.nothing laws.divisions_append world.board.partial world.down.bytes x.down command
-      stands.down encodes in
-      (Move.Ask command ∷ [], refl, rw same assumption)
+      search (rules, divides_command)
 
   send_reaches : (world after : WorldView) (x : MachineState) → StandsFor world x
       → Becomes ActContent.BoardSend world after → StandsAfterStep ActContent.BoardSend Outcome.Done x after
@@ -216,31 +188,11 @@ module _ (laws : Grammars) where
       (rw (prefix_of world.host.unread world.up.bytes count) at stands.up) in
       let moves : List Move = replicate (length prefix.heard) Move.Hear in
       let led : after_moves x moves ≡ with_host x (host_after_messages world.host prefix.heard) prefix.left =
-      hears prefix.heard prefix.left x world.host prefix.all
-      (record { picture = stands.picture; clock = stands.clock; awaited = stands.awaited }) in (
-        moves,
-        (length prefix.heard, refl),
-        rw (same, led, heard_of (events bytes) prefix.heard prefix.known world.host)
-            (assumption (rw led at (moves_sound x moves stands.sound))),
-      )
+      search (rules, hears) in (search (rules, heard_of, moves_sound))
 
   break_reaches : (world after : WorldView) (x : MachineState) → StandsFor world x
       → Becomes ActContent.Break world after → StandsAfterStep ActContent.Break Outcome.Done x after
-  break_reaches world after x stands same = (
-    Move.Break ∷ [],
-    refl,
-    rw same
-        (record {
-          sound = move_sound x Move.Break stands.sound;
-          board = ap after_line_lost stands.board;
-          picture = refl;
-          clock = refl;
-          awaited = refl;
-          up = record { are_messages = tt; in_a_row = refl };
-          down = (refl, laws.nothing);
-          partial = laws.nothing;
-        }),
-  )
+  break_reaches world after x stands same = search (rules, move_sound)
 
   host_break_reaches : (world after : WorldView) (x : MachineState) → StandsFor world x
       → Becomes ActContent.HostBreak world after → StandsAfterStep ActContent.HostBreak Outcome.Done x after
@@ -302,16 +254,11 @@ same_rooms world after same =
     record { up = ap (λ (w : WorldView). w.up.capacity) same; down = ap (λ (w : WorldView). w.down.capacity) same }
 
 pub becomes_rooms : (act : ActContent) (world after : WorldView) → Becomes act world after → HasRooms world after
-becomes_rooms (ActContent.Host command) world after (encodes, same) = rw same (record { up = refl; down = refl })
-becomes_rooms ActContent.BoardSend world after (message, is_next, encodes, same) =
-    rw same (record { up = refl; down = refl })
-becomes_rooms (ActContent.ToBoard count) world after delivers = rw delivers.leaves (record { up = refl; down = refl })
-becomes_rooms _ world after same = rw same (record { up = refl; down = refl })
+becomes_rooms act world after delivers = search rules
 
 step_rooms : (act : ActContent) (world : WorldView) (answer : Outcome) (after : WorldView) → Step act world answer after
     → HasRooms world after
-step_rooms act world Outcome.Done after step = becomes_rooms act world after step.leaves
-step_rooms act world _ after step = same_rooms world after step.leaves
+step_rooms act world answer after step = search (rules, becomes_rooms, same_rooms)
 
 -- ---- what is kept
 
@@ -319,47 +266,22 @@ module _ (moves : StepsAreMoves) where
   -- an act leads to a world
   pub step_is_world : (act : ActContent) (world after : WorldView) (answer : Outcome) → IsWorld world
       → Step act world answer after → IsWorld after
-  step_is_world act world after answer is step =
-      let reached = moves act world after answer is.state is.stands step in
-      let rooms = step_rooms act world answer after step in
-      record {
-        state = after_moves is.state reached.0;
-        stands = reached.2;
-        up_room = rw rooms.up is.up_room;
-        down_room = rw rooms.down is.down_room;
-      }
+  step_is_world act world after answer is step = search (rules, step_rooms)
 
   pub step_keeps_exact : (act : ActContent) (world after : WorldView) (answer : Outcome) → act ≢ ActContent.HostBreak
       → IsExactWorld world → Step act world answer after → IsExactWorld after
-  step_keeps_exact act world after answer other is step =
-      let reached = moves act world after answer is.state is.stands step in
-      record {
-        state = after_moves is.state reached.0;
-        stands = reached.2;
-        exact = moves_exact is.state reached.0 (step_is_other act answer reached.0 other reached.1) is.exact;
-      }
+  step_keeps_exact act world after answer other is step = search (rules, moves_exact, step_is_other)
 
   -- a break makes a world exact
   pub break_is_exact : (world after : WorldView) (answer : Outcome) → IsWorld world
       → Step ActContent.Break world answer after → IsExactWorld after
   break_is_exact world after answer is step =
       let reached = moves ActContent.Break world after answer is.state is.stands step in
-      let broken : after_moves is.state reached.0 ≡ after_move is.state Move.Break
-      = break_moves is.state answer reached.0 step.answers reached.1 in
-      record {
-        state = after_moves is.state reached.0;
-        stands = reached.2;
-        exact = rw broken (break_exact is.state is.stands.sound);
-      }
+      search (rules, break_moves, break_exact)
 
 pub run_keeps_exact : ((acts : List ActContent) (world after : WorldView) (answers : List Outcome) (x : MachineState)
     → StandsFor world x → Runs acts world answers after → StandsAfterRun acts answers x after)
     → (acts : List ActContent) (world after : WorldView) (answers : List Outcome)
     → ¬ (Contains acts ActContent.HostBreak) → IsExactWorld world → Runs acts world answers after → IsExactWorld after
 run_keeps_exact moves acts world after answers none is runs =
-    let reached = moves acts world after answers is.state is.stands runs in
-    record {
-      state = after_moves is.state reached.0;
-      stands = reached.2;
-      exact = moves_exact is.state reached.0 (run_is_other acts answers reached.0 none reached.1) is.exact;
-    }
+    search (rules, moves_exact, run_is_other)

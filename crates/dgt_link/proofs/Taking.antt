@@ -1,60 +1,28 @@
 -- How a command that the board takes changes the kinds owed and whether the clock is followed.
-use Rattle.std.proofs.Common.{◌≡◌, refl, ap, ◌∙◌, ◌⊎◌, ℕ, List, [], ◌∷◌, ◌++◌, Option, Some, None, append_assoc}
+use Rattle.std.proofs.Common.{◌≡◌, refl, ap, ◌∙◌, ◌⊎◌, ℕ, List, [], ◌∷◌, ◌++◌, Option, Some, None, append_assoc, rules}
 use Rattle.std.proofs.lemmas.List.{append-nil}
 use Rattle.std.proofs.lemmas.List.Elements.{filter_map-append}
 use Rattle.std.proofs.lemmas.Bool.{false≢true}
-use Rattle.std.specs.Prelude.{IsTrue, filter_map, option_to_list}
+use Rattle.std.specs.Prelude.{IsTrue, filter_map}
 use Rattle.std.specs.List.{cons_option}
-use Rattle.dgt_values.specs.declared.kinds.Kind.{Kind}
-use Rattle.dgt_message.specs.Clock.{ClockState}
-use Rattle.dgt_command.specs.Content.{ClockContent, CommandContent, EventContent, requested_kind}
+use Rattle.dgt_command.specs.Content.{ClockContent, CommandContent, EventContent}
 use Rattle.dgt_command.specs.Words.{IsNoise, IsNoiseList}
-use Rattle.dgt_board.specs.State.{IdentityContent, BoardState, follows_clock, acknowledgements, after_command, effect, effects, replies_to}
+use Rattle.dgt_board.specs.State.{BoardState, follows_clock, effect, effects}
 use Rattle.dgt_link.specs.Sound.{kind_of_event, kind_of_reply}
 use Rattle.dgt_link.proofs.MessageReports.{owed_or_reported}
-
-acknowledgements-kinds : (clock : ClockState) (identity : IdentityContent) (message : ClockContent)
-    → filter_map kind_of_reply (acknowledgements clock identity message) ≡ []
-acknowledgements-kinds (ClockState.times readings) identity message = refl
-acknowledgements-kinds (ClockState.no_clock absence) identity message = refl
-
--- the replies to a command are of its kind
-replies_to-kinds : (board : BoardState) (command : CommandContent)
-    → filter_map kind_of_reply (replies_to board command) ≡ option_to_list (requested_kind command)
-replies_to-kinds board (CommandContent.ClockMessage message) = acknowledgements-kinds board.clock board.identity message
-replies_to-kinds board _ = refl
-
-kinds_moved : (owed : List Kind) (kind : Option Kind) (down : List Kind)
-    → (owed ++ option_to_list kind) ++ down ≡ owed ++ cons_option kind down
-kinds_moved owed None down = ap (λ (left : List Kind). left ++ down) (append-nil owed)
-kinds_moved owed (Some kind) down = append_assoc owed (kind ∷ []) down
 
 -- the kinds owed and then asked for stay the same when a command is taken
 pub effect-kinds : (board : BoardState) (event : EventContent) (down : List EventContent)
     → filter_map kind_of_reply (effect board event).owed ++ filter_map kind_of_event down
     ≡ filter_map kind_of_reply board.owed ++ filter_map kind_of_event (event ∷ down)
-effect-kinds board (EventContent.Read command) down =
-    ap (λ (owed : List Kind). owed ++ filter_map kind_of_event down)
-    (filter_map-append kind_of_reply board.owed (replies_to board command) ∙ ap
-    (λ (new : List Kind). filter_map kind_of_reply board.owed ++ new) (replies_to-kinds board command))
-    ∙ kinds_moved (filter_map kind_of_reply board.owed) (requested_kind command) (filter_map kind_of_event down)
-effect-kinds board _ down = refl
+effect-kinds board event down = search (rules, filter_map-append, append-nil, append_assoc)
 
 abbrev IsFollowed : BoardState → Type 0
 IsFollowed board = IsTrue (follows_clock board.mode) → IsTrue board.times_owed
     ⊎ (board.reported_clock ≡ Some board.clock)
 
-command_followed : (board : BoardState) (command : CommandContent) → IsFollowed board
-    → IsFollowed (after_command board command)
-command_followed board CommandContent.Reset before = λ h. absurd (false≢true h)
-command_followed board CommandContent.Update before = λ h. owed_or_reported board.reported_clock board.clock
-command_followed board CommandContent.UpdateBoard before = λ h. absurd (false≢true h)
-command_followed board CommandContent.UpdateNice before = λ h. owed_or_reported board.reported_clock board.clock
-command_followed board _ before = before
-
 pub effect_followed : (board : BoardState) (event : EventContent) → IsFollowed board → IsFollowed (effect board event)
-effect_followed board (EventContent.Read command) before = command_followed board command before
-effect_followed board _ before = before
+effect_followed board event before = search (rules, false≢true, owed_or_reported)
 
 -- a command doesn't change squares and clock, or what was reported of them
 pub record Leaves (before after : BoardState) : Type 0 where
@@ -64,9 +32,7 @@ pub record Leaves (before after : BoardState) : Type 0 where
   pub reported_clock : after.reported_clock ≡ before.reported_clock
 
 pub effect_leaves : (board : BoardState) (event : EventContent) → Leaves board (effect board event)
-effect_leaves board (EventContent.Read command) =
-    record { squares = refl; clock = refl; reported_squares = refl; reported_clock = refl }
-effect_leaves board _ = record { squares = refl; clock = refl; reported_squares = refl; reported_clock = refl }
+effect_leaves board event = search rules
 
 -- the same squares, and the same clock
 pub record HasSameGame (before after : BoardState) : Type 0 where
@@ -79,9 +45,7 @@ same_game board = record { squares = refl; clock = refl }
 pub effects_same_game : (board : BoardState) (events : List EventContent) → HasSameGame board (effects board events)
 effects_same_game board [] = same_game board
 effects_same_game board (event ∷ events) =
-    let first = effect_leaves board event in
-    let rest = effects_same_game (effect board event) events in
-    record { squares = rest.squares ∙ first.squares; clock = rest.clock ∙ first.clock }
+    search (rules, effect_leaves, effects_same_game (effect board event) events)
 
 -- ---- noise
 

@@ -1,6 +1,6 @@
 -- Facts of a world by the state that it stands for.
 use Rattle.std.specs.Prelude.{slice_get}
-use Rattle.std.proofs.Common.{◌≡◌, refl, ◌∙◌, List, [], ◌∷◌, ◌++◌, Some, None, All, IsTrue}
+use Rattle.std.proofs.Common.{◌≡◌, refl, ◌∙◌, List, [], ◌∷◌, ◌++◌, Some, None, All, IsTrue, rules}
 use Rattle.dgt_values.specs.declared.kinds.Kind.{Kind}
 use Rattle.dgt_message.specs.Content.{Content, answered_kind}
 use Rattle.dgt_command.specs.Laws.{EachDividesOnce}
@@ -28,8 +28,7 @@ pub world_first_answer : (world : WorldView) (x : MachineState) (before later : 
     → StandsFor world x → IsExact x → x.up ≡ before ++ message ∷ later → All (λ said. answered_kind said ≡ None) before
     → answered_kind message ≡ Some kind → (others : List Kind) × (world.host.awaited ≡ kind ∷ others)
 world_first_answer world x before later message kind stands exact e none is =
-    let answer = first_answer x before later message kind exact e none is in
-    (answer.0, stands.awaited ∙ answer.1)
+    search (rules, first_answer)
 
 pub world_never_unasked : (world : WorldView) (x : MachineState) (later : List Content) (message : Content)
     → StandsFor world x → IsExact x → x.up ≡ message ∷ later
@@ -47,13 +46,12 @@ nothing_first (message ∷ rest) h = cc
 -- a quiet world stands for a quiet state
 pub quiet_state : EachDividesOnce → (world : WorldView) (x : MachineState) → StandsFor world x → IsQuietWorld world
     → IsQuiet x
-quiet_state law world x stands quiet =
-    record {
-      up = nothing_encoded x.up (rw (quiet.unread, quiet.up) at stands.up);
-      down = (law.1 [] x.down [] [] [] (rw (quiet.partial, quiet.down) at stands.down)
-          (refl, rw quiet.partial at stands.partial)).0;
-      pending = nothing_first (pending_messages x.board) (rw stands.board at quiet.pending);
-    }
+quiet_state law world x stands quiet = record {
+  up = nothing_encoded x.up (rw (quiet.unread, quiet.up) at stands.up);
+  down = (law.1 [] x.down [] [] [] (rw (quiet.partial, quiet.down) at stands.down)
+      (refl, rw quiet.partial at stands.partial)).0;
+  pending = nothing_first (pending_messages x.board) (rw stands.board at quiet.pending);
+}
 
 module _ (law : EachDividesOnce) (world : WorldView) (x : MachineState) (stands : StandsFor world x)
     (quiet : IsQuietWorld world) where
@@ -62,23 +60,15 @@ module _ (law : EachDividesOnce) (world : WorldView) (x : MachineState) (stands 
 
   pub world_picture_reported : IsTrue (updates world.board.state.mode)
       → IsUnknownOr world.host.picture (Some world.board.state.squares)
-  world_picture_reported asks =
-      rw (stands.picture, stands.board)
-      (quiet_picture x stands.sound (quiet_state law world x stands quiet) (rw stands.board at asks))
+  world_picture_reported asks = search (rules, quiet_picture, quiet_state)
 
   pub world_clock_reported : IsExact x → IsTrue (follows_clock world.board.state.mode)
       → world.host.clock ≡ Some world.board.state.clock
-  world_clock_reported exact follows =
-      rw (stands.clock, stands.board)
-      (quiet_clock x exact (quiet_state law world x stands quiet) (rw stands.board at follows))
+  world_clock_reported exact follows = search (rules, quiet_clock, quiet_state)
 
   pub world_clock_known : IsTrue (follows_clock world.board.state.mode)
       → IsUnknownOr world.host.clock (Some world.board.state.clock)
-  world_clock_known follows =
-      rw (stands.clock, stands.board)
-      (quiet_clock_reported x stands.sound (quiet_state law world x stands quiet) (rw stands.board at follows))
+  world_clock_known follows = search (rules, quiet_clock_reported, quiet_state)
 
   pub world_picture : IsPromised x → world.host.picture ≡ Some world.board.state.squares
-  world_picture promised =
-      rw (stands.picture, stands.board)
-      (promised_picture x stands.sound promised (quiet_state law world x stands quiet))
+  world_picture promised = search (rules, promised_picture, quiet_state)

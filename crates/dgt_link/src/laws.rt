@@ -1,7 +1,7 @@
 //! Laws of the machine of a board and its host, and of the worlds that stand for its states. Each
 //! function does nothing at run time: its contract states the facts.
 
-ghost use Rattle.std.specs.Prelude.{◌≡◌, ◌≢◌, ◌⊎◌, ◌≤◌, ◌<◌, ℕ, List, [], ◌∷◌, ◌++◌, All, Contains};
+ghost use Rattle.std.specs.Prelude.{◌≡◌, ◌≢◌, ◌↔◌, ◌⊎◌, ◌≤◌, ◌<◌, ℕ, suc, Bool, List, [], ◌∷◌, ◌++◌, All, Contains};
 ghost use Rattle.std.specs.Prelude.{Some, None, flat_map, length, map, replicate, IsTrue, IsSome};
 ghost use Rattle.std.specs.List.{AllByRecursion};
 ghost use Rattle.dgt_values.specs.declared.pieces.Piece.{Piece};
@@ -23,17 +23,17 @@ ghost use Rattle.dgt_link.specs.Machine.{IsHostBreak, IsSending, MachineState, M
 ghost use Rattle.dgt_link.specs.Sound.{IsExact, IsSound, IsUnknownOr, coming_picture};
 ghost use Rattle.dgt_link.specs.Promise.{IsAsked, IsAskedBy, IsPromised, IsQuiet, IsRestarted, PictureIsComing, act_requests, coming_mode, commands_after, mode_after, requests};
 ghost use Rattle.dgt_link.specs.Act.{ActContent, act_content, ActHasArrays};
-ghost use Rattle.dgt_link.specs.Faults.{AreCalm, FaultyActHasArrays, FaultyContent, FaultyStep, faulty_content};
+ghost use Rattle.dgt_link.specs.Faults.{AreCalm, FaultyActHasArrays, FaultyContent, FaultyRuns, FaultyStep, IfRan, faulty_content};
 ghost use Rattle.dgt_command.specs.declared.command.Command.{Command as AnyCommand};
 ghost use Rattle.dgt_link.specs.declared.acts.Act.{Act as AnyAct};
-ghost use Rattle.dgt_link.specs.Headline.{AskForPicture};
+ghost use Rattle.dgt_link.specs.Headline.{AskForPicture, squares_after};
 ghost use Rattle.dgt_link.specs.Readers.{Grammars};
-ghost use Rattle.dgt_link.specs.Stands.{IsExactWorld, IsWorld, StandsAfterRun, StandsAfterStep, StandsFor};
+ghost use Rattle.dgt_link.specs.Stands.{AreMovesOfAct, IsExactWorld, IsWorld, StandsAfterRun, StandsAfterStep, StandsFor};
 ghost use Rattle.dgt_link.specs.declared.acts.Outcome.{Outcome};
 ghost use Rattle.dgt_link.specs.Step.{Runs, Step, done_count};
-ghost use Rattle.dgt_link.specs.Settling.{HasRounds, IsSettling, IsSettlingMove, SettlesBy, steps_left};
+ghost use Rattle.dgt_link.specs.Settling.{AreInOrder, HasRounds, IsNext, IsRound, IsSettling, SettlesIn, IsSettlingMove, SettlesBy, steps_left};
 ghost use Rattle.dgt_link.specs.History.{IsInOrderOf, RunsThrough, shown_in, shown_on, stood_in, stood_on};
-ghost use Rattle.dgt_link.specs.Healing.{IsRestedWorld};
+ghost use Rattle.dgt_link.specs.Healing.{AfterFaults, AwaitsWhatComes, IsRestedWorld, IsSane, StandsBehind, StandsBehindAfter};
 ghost use Rattle.dgt_link.specs.View.{IsQuietWorld, WorldView};
 
 use crate::{Act, FaultyAct, MIN_DOWN, MIN_UP, Outcome as ActOutcome, WorldFault};
@@ -477,3 +477,110 @@ pub fn worlds_show_in_order()
 {
     acts_are_moves();
 }
+
+/// A run passes through a list of worlds, of which the last is the world after it, whatever the
+/// outcomes are. Worlds that acts pass through are those of a run.
+pub fn runs_pass_worlds()
+    ensures passes { (acts : List ActContent) (world after : WorldView) (answers : List Outcome) →
+        Runs acts world answers after → (earlier : List WorldView)
+        × RunsThrough acts world answers (earlier ++ after ∷ []) }
+    ensures runs { (acts : List ActContent) (world : WorldView) (answers : List Outcome)
+        (worlds : List WorldView) → RunsThrough acts world answers worlds →
+        (earlier : List WorldView) × (after : WorldView) × (worlds ≡ earlier ++ after ∷ [])
+        × Runs acts world answers after }
+{}
+
+/// Until a world is at rest, exactly one act is the next step of settling.
+pub fn one_step_is_next()
+    ensures one { (world : WorldView) (act other : ActContent) →
+        IsNext world act → IsNext world other → act ≡ other }
+    ensures some { (world : WorldView) → ((act : ActContent) → ¬ (IsNext world act)) →
+        IsRestedWorld world }
+    ensures none { (world : WorldView) (act : ActContent) →
+        IsNext world act → ¬ (IsRestedWorld world) }
+{}
+
+/// What acts in order are, and that a world settles by such.
+pub fn settling_is_in_order()
+    ensures settles { (count : ℕ) (world after : WorldView)
+        (settled : SettlesIn count world after) → AreInOrder settled.acts world after
+        × Runs settled.acts world (replicate count Outcome.Done) after
+        × AllByRecursion IsSettling settled.acts × (count ≡ length settled.acts) }
+    ensures none { (world after : WorldView) → AreInOrder [] world after → after ≡ world }
+    ensures each { (act : ActContent) (acts : List ActContent) (world after : WorldView) →
+        AreInOrder (act ∷ acts) world after → IsNext world act × ((between : WorldView)
+        × Step act world Outcome.Done between × AreInOrder acts between after) }
+    ensures more { (act : ActContent) (acts : List ActContent) (world between after : WorldView) →
+        IsNext world act → Step act world Outcome.Done between → AreInOrder acts between after →
+        AreInOrder (act ∷ acts) world after }
+{}
+
+/// Deliveries and sendings in any order and chunks are a round if the board sends, takes a byte and
+/// the host hears one. Rounds in a row, and any deliveries and sendings after them, are rounds.
+pub fn rounds_in_any_order()
+    ensures round { (acts : List ActContent) (taken heard : ℕ) → AllByRecursion IsSettling acts →
+        Contains acts ActContent.BoardSend → 0 < taken → Contains acts (ActContent.ToBoard taken) →
+        0 < heard → Contains acts (ActContent.ToHost heard) → IsRound acts }
+    ensures none { (acts : List ActContent) → AllByRecursion IsSettling acts → HasRounds 0 acts }
+    ensures more { (rounds : ℕ) (round later : List ActContent) → IsRound round →
+        HasRounds rounds later → HasRounds (suc rounds) (round ++ later) }
+    ensures settling { (taken heard : ℕ) → AllByRecursion IsSettling (ActContent.BoardSend
+        ∷ ActContent.ToBoard taken ∷ ActContent.ToHost heard ∷ []) }
+    ensures least { (acts : List ActContent) → IsRound acts →
+        AllByRecursion IsSettling acts × Contains acts ActContent.BoardSend
+        × ((taken : ℕ) × (0 < taken) × Contains acts (ActContent.ToBoard taken))
+        × ((heard : ℕ) × (0 < heard) × Contains acts (ActContent.ToHost heard)) }
+{}
+
+/// A restarted state is promised: what the board receives before the requests is noise.
+pub fn restarts_are_promised()
+    ensures promised { (x : MachineState) → IsRestarted x → IsPromised x }
+    ensures noise { (x : MachineState) (anew : IsRestarted x) → IsNoiseList anew.noise
+        × (x.down ≡ anew.noise ++ map EventContent.Read commands_anew) }
+{}
+
+/// The moves of an act that is done request what the act requests, and leave the squares that it
+/// leaves.
+pub fn moves_do_as_acts()
+    ensures requests { (act : ActContent) (moves : List Move) → AreMovesOfAct act moves →
+        flat_map requests moves ≡ act_requests Outcome.Done act }
+    ensures squares { (act : AnyAct) (moves : List Move) (x : MachineState) →
+        AreMovesOfAct (act_content act) moves → (after_moves x moves).board.squares
+        ≡ squares_after x.board.squares (act ∷ []) }
+    ensures host_break { (move : Move) → IsHostBreak move → requests move ≡ map Some commands_anew }
+{}
+
+/// What holds of acts that ran holds of their outcomes, whatever these are, and what holds after
+/// faults holds after each run of a sane world.
+pub fn what_ran_holds()
+    ensures ran { (acts : List FaultyContent) (world after : WorldView)
+        (holds : List Outcome → Bool) (outcomes : List Outcome) →
+        IfRan acts world after (λ found. IsTrue (holds found)) →
+        FaultyRuns acts world outcomes after → IsTrue (holds outcomes) }
+    ensures faults { (holds : List FaultyContent → WorldView → WorldView → List Outcome → Bool)
+        (acts : List FaultyContent) (world after : WorldView) (outcomes : List Outcome) →
+        AfterFaults (λ some old new found. IsTrue (holds some old new found)) → IsSane world →
+        FaultyRuns acts world outcomes after → IsTrue (holds acts world after outcomes) }
+{}
+
+/// What the states are for which a world stands after acts: their mode to come and their promise
+/// depend on what the acts requested.
+pub fn what_stands_after()
+    ensures step { (act : ActContent) (answer : Outcome) (x : MachineState) (after : WorldView) →
+        StandsAfterStep act answer x after → (y : MachineState) × StandsFor after y
+        × (coming_mode y ≡ mode_after (coming_mode x) (act_requests answer act)) }
+    ensures run { (acts : List ActContent) (answers : List Outcome) (x : MachineState)
+        (after : WorldView) → StandsAfterRun acts answers x after → IsAskedBy acts answers →
+        (y : MachineState) × StandsFor after y × IsPromised y }
+    ensures behind { (act : ActContent) (answer : Outcome) (world : WorldView) (x : MachineState)
+        (after : WorldView) → StandsBehindAfter act answer world x after →
+        (garbage : List ℕ) × (y : MachineState) × StandsBehind garbage after y
+        × (coming_mode y ≡ mode_after (coming_mode x) (act_requests answer act))
+        × (AwaitsWhatComes world x → AwaitsWhatComes after y) }
+{}
+
+/// `AskForPicture` is exactly what `IsAskedBy` requires of acts that are all done.
+pub fn asking_is_exact()
+    ensures { (acts : List AnyAct) → AskForPicture acts
+        ↔ IsAskedBy (map act_content acts) (map (λ act. Outcome.Done) acts) }
+{}

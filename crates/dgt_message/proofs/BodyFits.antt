@@ -1,12 +1,11 @@
 -- A valid body of the right size means the message of its layout.
-use Rattle.std.proofs.Common.{◌≡◌, ℕ, suc, ◌<◌, ◌+◌, ◌*◌, ◌/◌, ◌%◌, Bool, true, false, cond, refl, sym, ap, ◌∙◌, List}
-use Rattle.std.proofs.Common.{[], ◌∷◌, length, map, get_or, arith, Option, Some}
+use Rattle.std.proofs.Common.{◌≡◌, ℕ, suc, ◌<◌, ◌+◌, Bool, true, false, cond, refl, sym, ap, ◌∙◌, List}
+use Rattle.std.proofs.Common.{[], ◌∷◌, length, map, arith, Option, Some, rules}
 use Rattle.std.specs.Prelude.{All, slice_index}
 use Rattle.std.proofs.lemmas.List.{length-map}
-use Rattle.std.proofs.lemmas.List.Elements.{All-from_recursion}
 use Rattle.dgt_values.specs.Board.{piece_code}
 use Rattle.dgt_message.specs.declared.known.KnownCode.{KnownCode}
-use Rattle.dgt_message.specs.Encoding.{ack_in, Fits, packed_decimal}
+use Rattle.dgt_message.specs.Encoding.{Fits}
 use Rattle.dgt_message.specs.Clock.{IsMarked, SaysNoClock, is_marked, says_no_clock, IsTime}
 use Rattle.dgt_message.specs.Code.{known_number, known_with}
 use Rattle.dgt_message.specs.Content.{IsCarried}
@@ -17,6 +16,7 @@ use Rattle.dgt_message.specs.Layout.Column.{hours, sixty}
 use Rattle.dgt_message.proofs.Absence.{absence_fits}
 use Rattle.dgt_message.proofs.CodeLemmas.{found_number}
 use Rattle.dgt_message.proofs.MessageIn.{piece_code-piece_with_code}
+use Rattle.std.proofs.lemmas.Grind.{common_steps}
 
 -- a body under this code means the message of this layout
 abbrev FitsAs : KnownCode → Layout → List ℕ → Type 0
@@ -32,26 +32,12 @@ codes_back (b ∷ body) h =
 -- 64 codes are a dump
 dump_fits : (body : List ℕ) → length body + 3 ≡ 67 → AllowsBefore Layout.dump body (length body)
     → FitsAs KnownCode.Dump Layout.dump body
-dump_fits body size h =
-    record { is_message = omega (arith, length-map body piece_with_code); code_is = refl; encoded = codes_back body h }
+dump_fits body size h = search (rules, length-map, codes_back)
 
 -- a square and a code are a field update
 field_fits : (body : List ℕ) → length body + 3 ≡ 5 → AllowsBefore Layout.field body (length body)
     → FitsAs KnownCode.Field Layout.field body
-field_fits (a ∷ b ∷ []) size h =
-    let is : piece_code (piece_with_code b) ≡ b = piece_code-piece_with_code b (h 1 (omega arith)) in
-    record { is_message = h 0 (omega arith); code_is = refl; encoded = rw is refl }
-field_fits (a ∷ b ∷ c ∷ body) size h = absurd (omega arith)
-field_fits (a ∷ []) size h = absurd (omega arith)
-field_fits [] size h = absurd (omega arith)
-
--- two digits in a byte, and back
-repacked : (b : ℕ) → Allows sixty b → packed_decimal (10 * (b / 16) + b % 16) ≡ b
-repacked b h = omega (arith, h.0, h.1)
-
--- a byte is its low and its high four bits
-joined : (b : ℕ) → b % 16 + 16 * (b / 16) ≡ b
-joined b = omega arith
+field_fits body size h = grind (arith, common_steps, piece_code-piece_with_code)
 
 -- three valid bytes are a time
 time_is : (h m s : ℕ) → h < 128 → Allows hours h → Allows sixty m → Allows sixty s → IsTime (time_in h m s)
@@ -79,8 +65,7 @@ times_fits (a ∷ b ∷ c ∷ d ∷ e ∷ f ∷ g ∷ []) size seven shown h =
         λ no. absurd (let k : true ≡ false = sym no ∙ shown in cc),
       );
       code_is = refl;
-      encoded = same_seven a b c d e f g _ _ _ _ _ _ (joined a) (repacked b at1) (repacked c at2) (joined d)
-          (repacked e at4) (repacked f at5);
+      encoded = search (rules, same_seven);
     }
 times_fits (a ∷ b ∷ c ∷ d ∷ e ∷ f ∷ g ∷ i ∷ body) size seven shown h = absurd (omega arith)
 times_fits _ size seven shown h = absurd (omega arith)
@@ -88,42 +73,19 @@ times_fits _ size seven shown h = absurd (omega arith)
 -- seven bytes with a mark are an acknowledgement
 ack_fits : (body : List ℕ) → length body + 3 ≡ 10 → All (λ byte. byte < 128) body
     → IsMarked body → FitsAs KnownCode.Clock Layout.ack body
-ack_fits body size seven marked =
-    let at : (k : ℕ) → k < 7 → get_or body k 0 < 128 = λ k less. seven k 0 (omega arith) in
-    record {
-      is_message = (
-        refl,
-        All-from_recursion (λ byte. byte < 256) (ack_in body) (
-          omega (arith, at 1 (omega arith)),
-          (
-            omega (arith, at 2 (omega arith)),
-            (omega (arith, at 4 (omega arith)), (omega (arith, at 5 (omega arith)), tt)),
-          ),
-        ),
-        at 6 (omega arith),
-      );
-      code_is = refl;
-      encoded = (omega arith, marked, refl, refl);
-    }
+ack_fits body size seven marked = search rules
 
 -- seven bytes without a mark and without a clock are those of a board without one
 none_fits : (body : List ℕ) → length body + 3 ≡ 10 → All (λ byte. byte < 128) body → is_marked body ≡ false
-    → SaysNoClock (slice_index body 6)
-    → FitsAs KnownCode.Clock Layout.no_clock body
-none_fits (a ∷ b ∷ c ∷ d ∷ e ∷ f ∷ g ∷ []) size seven unmarked set =
-    absence_fits (a ∷ b ∷ c ∷ d ∷ e ∷ f ∷ g ∷ []) refl seven (λ is. absurd (let k : true ≡ false = sym is ∙ unmarked in
-    cc)) set
-none_fits (a ∷ b ∷ c ∷ d ∷ e ∷ f ∷ g ∷ i ∷ body) size seven unmarked set = absurd (omega arith)
-none_fits _ size seven unmarked set = absurd (omega arith)
+    → SaysNoClock (slice_index body 6) → FitsAs KnownCode.Clock Layout.no_clock body
+none_fits body size seven unmarked set = search (rules, absence_fits)
 
 -- seven valid bytes are a clock message, by their marks and then by their status
 clock_fits : (body : List ℕ) → All (λ byte. byte < 128) body → (m : Bool) → is_marked body ≡ m → (s : Bool)
     → says_no_clock (slice_index body 6) ≡ s
     → length body + 3 ≡ 10 → let layout : Layout = cond m Layout.ack (cond s Layout.no_clock Layout.times) in
     AllowsBefore layout body (length body) → FitsAs KnownCode.Clock layout body
-clock_fits body seven true e s f size h = ack_fits body size seven e
-clock_fits body seven false e true f size h = none_fits body size seven e f
-clock_fits body seven false e false f size h = times_fits body size seven f h
+clock_fits body seven m e s f size h = search (rules, ack_fits, none_fits, times_fits)
 
 -- a valid body of the right size means the message of its layout
 pub body_fits : (known : Option KnownCode) (code : ℕ) (body : List ℕ) → code < 128 → IsCarried body
@@ -133,12 +95,7 @@ pub body_fits : (known : Option KnownCode) (code : ℕ) (body : List ℕ) → co
 body_fits (Some KnownCode.Dump) code body small carried e size h =
     rw (found_number code KnownCode.Dump e) (dump_fits body size h)
 body_fits (Some KnownCode.Clock) code body small carried e size h =
-    rw (found_number code KnownCode.Clock e)
-    (clock_fits body carried.1 (is_marked body) refl (says_no_clock (slice_index body 6)) refl size h)
+    search (rules, found_number, clock_fits)
 body_fits (Some KnownCode.Field) code body small carried e size h =
-    rw (found_number code KnownCode.Field e) (field_fits body size h)
-body_fits _ code body small carried e size h = record {
-  is_message = (small, ap (λ known. known_layout known body) e, rw e size, carried);
-  code_is = refl;
-  encoded = refl;
-}
+    search (rules, found_number, field_fits)
+body_fits _ code body small carried e size h = search rules

@@ -1,11 +1,11 @@
 -- The output of `encode` for a message encodes it.
-use Rattle.std.proofs.Common.{◌≡◌, ℕ, ◌<◌, ◌≤◌, ◌+◌, ◌*◌, ◌/◌, ◌%◌, true, refl, List, [], ◌∷◌, length, map, get_or}
-use Rattle.std.proofs.Common.{arith, eq-eqb, length-append}
+use Rattle.std.proofs.Common.{◌≡◌, ℕ, ◌<◌, ◌≤◌, ◌+◌, ◌*◌, ◌%◌, true, List, [], ◌∷◌, length, map, get_or}
+use Rattle.std.proofs.Common.{arith, eq-eqb, length-append, rules}
 use Rattle.std.specs.List.{AllByRecursion}
 use Rattle.std.specs.Prelude.{◌↔◌, All}
 use Rattle.std.specs.Int.{bit_at}
 use Rattle.std.proofs.lemmas.List.{length-map}
-use Rattle.std.proofs.lemmas.List.Elements.{All-cons, All-from_recursion, All-map, All-push}
+use Rattle.std.proofs.lemmas.List.Elements.{All-from_recursion, All-map, All-push}
 use Rattle.dgt_values.specs.Board.{piece_code}
 use Rattle.dgt_values.specs.Bytes.{AreSevenBit}
 use Rattle.dgt_values.specs.declared.pieces.Piece.{Piece}
@@ -15,10 +15,6 @@ use Rattle.dgt_message.specs.Content.{Content, code_of, IsCarried, IsMessage}
 use Rattle.dgt_message.specs.Content.Content.{dump, field, times, no_clock, ack, carried}
 use Rattle.dgt_message.proofs.Codes.{piece_code-below}
 
--- one more byte in front
-with_first : (byte : ℕ) (bytes : List ℕ) → byte < 128 → AreSevenBit bytes → AreSevenBit (byte ∷ bytes)
-with_first = All-cons (λ byte. byte < 128)
-
 -- bytes that are listed
 listed : (bytes : List ℕ) → AllByRecursion (λ byte. byte < 128) bytes → AreSevenBit bytes
 listed = All-from_recursion (λ byte. byte < 128)
@@ -26,39 +22,20 @@ listed = All-from_recursion (λ byte. byte < 128)
 -- a code and a body after their header
 pub whole_header : (code : ℕ) (body : List ℕ) → code < 128 → length body ≤ 16380 → AreSevenBit body
     → HasHeader code (message_bytes code body)
-whole_header code body small fits seven_bit = record {
-  long_enough = omega arith;
-  short_enough = omega arith;
-  code_is = refl;
-  total_is = omega arith;
-  seven_bit = with_first ((length body + 3) / 128) ((length body + 3) % 128 ∷ body) (omega arith)
-      (with_first ((length body + 3) % 128) body (omega arith) seven_bit);
-}
+whole_header code body small fits seven_bit = search rules
 
 -- codes of pieces are seven-bit
 codes_small : (pieces : List Piece) → AreSevenBit (map piece_code pieces)
 codes_small pieces =
-    All-map (λ byte. byte < 128) piece_code pieces (λ k d l. omega (arith, piece_code-below (get_or pieces k d)))
+    All-map (λ byte. byte < 128) piece_code pieces (search (rules, piece_code-below))
 
 -- the bytes of times are seven-bit
 times_small : (t : BothTimes) → AreTimes t → AreSevenBit (times_bytes t)
-times_small t h =
-    listed (times_bytes t) (
-      omega (arith, h.0),
-      (
-        omega (arith, h.0),
-        (omega (arith, h.0), (omega (arith, h.1), (omega (arith, h.1), (omega (arith, h.1), (h.2, tt))))),
-      ),
-    )
+times_small t h = search (rules, listed)
 
 -- the encoded bytes of an acknowledgement are seven-bit
 ack_small : (answer : Answer) → IsAck answer → AreSevenBit (ack_encoding answer)
-ack_small answer h =
-    let at : (k : ℕ) → k < 4 → get_or answer.ack k 0 < 256 = λ k less. h.1 k 0 (omega (arith, h.0)) in
-    listed (ack_encoding answer) (
-      omega (arith, at 2, at 3),
-      (omega arith, (omega arith, (omega (arith, at 0, at 1), (omega arith, (omega arith, (h.2, tt)))))),
-    )
+ack_small answer h = search (rules, listed)
 
 -- D4 of the mark restores the top bit of the first byte
 first_bit : (a b : ℕ) → a < 256 → a ≡ a % 128 + 128 * bit_at (mark_with a b) 4
@@ -88,32 +65,16 @@ acks_same _ status h k = absurd (omega arith)
 
 -- the output of `encode` for an acknowledgement encodes it
 pub ack_encoding_encodes : (answer : Answer) → IsAck answer → BodyEncodes (ack answer) (ack_encoding answer)
-ack_encoding_encodes answer h = (
-  refl,
-  rw (marked (get_or answer.ack 2 0) (get_or answer.ack 3 0)) refl,
-  acks_same answer.ack answer.status h.0 h.1,
-  refl,
-)
+ack_encoding_encodes answer h = search (rules, marked, acks_same)
 
 -- a code has seven bits
 pub small_code : (said : Content) → IsMessage said → code_of said < 128
-small_code (carried own body) h = h.0
-small_code _ h = omega arith
-
--- an encoded body is not too long
-short_body : (said : Content) → IsMessage said → length (body_encoding said) ≤ 16380
-short_body (dump pieces) h = omega (arith, length-map pieces piece_code)
-short_body (field square piece) h = omega arith
-short_body (times readings) h = omega arith
-short_body (no_clock absence) h = omega (arith, h.0, length-append absence.raw (absence.status ∷ []))
-short_body (ack answer) h = omega arith
-short_body (carried own body) h = h.3.0
+small_code said h = search rules
 
 -- an encoded body is seven-bit
 small_body : (said : Content) → IsMessage said → AreSevenBit (body_encoding said)
 small_body (dump pieces) h = codes_small pieces
-small_body (field square piece) h =
-    listed (square ∷ piece_code piece ∷ []) (omega arith, (omega (arith, piece_code-below piece), tt))
+small_body (field square piece) h = search (rules, listed, piece_code-below)
 small_body (times readings) h = times_small readings h
 small_body (no_clock absence) h = All-push (λ byte. byte < 128) absence.raw absence.status h.1 h.3
 small_body (ack answer) h = ack_small answer h
@@ -121,28 +82,14 @@ small_body (carried own body) h = h.3.1
 
 -- an encoded body encodes the message
 encoded : (said : Content) → IsMessage said → BodyEncodes said (body_encoding said)
-encoded (ack answer) h = ack_encoding_encodes answer h
-encoded _ h = refl
+encoded said h = search (rules, ack_encoding_encodes)
 
 -- the output of `encode` for a message encodes it
 pub encoding_encodes : (said : Content) → IsMessage said → Encodes said (encoding said)
-encoding_encodes said h = record {
-  is_message = h;
-  header = whole_header (code_of said) (body_encoding said) (small_code said h) (short_body said h) (small_body said h);
-  encoded = encoded said h;
-}
+encoding_encodes said h =
+    search (rules, whole_header, small_code, small_body, encoded, length-map, length-append)
 
 -- a message that fits is encoded by its whole, and conversely
 pub fits_if_encoded : (code : ℕ) (body : List ℕ) (said : Content) → code < 128 → IsCarried body
     → Fits said code body ↔ Encodes said (message_bytes code body)
-fits_if_encoded code body said small fits = (whole, parts)
-  where
-    whole : Fits said code body → Encodes said (message_bytes code body)
-    whole h = record {
-      is_message = h.is_message;
-      header = rw (← h.code_is) (whole_header code body small fits.0 fits.1);
-      encoded = h.encoded;
-    }
-
-    parts : Encodes said (message_bytes code body) → Fits said code body
-    parts h = record { is_message = h.is_message; code_is = omega (arith, h.header.code_is); encoded = h.encoded }
+fits_if_encoded code body said small fits = search (rules, whole_header, encoded)

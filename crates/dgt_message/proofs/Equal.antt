@@ -1,5 +1,5 @@
 -- The derived `==` of lists, of clocks and of messages.
-use Rattle.std.proofs.Common.{◌≡◌, ℕ, ◌+◌, nat_eq, refl, sym, ◌∙◌, ap, rules, arith, List, [], ◌∷◌, Bool, true, false, ◌&&◌, map}
+use Rattle.std.proofs.Common.{◌≡◌, ℕ, ◌+◌, nat_eq, refl, sym, ◌∙◌, ap, rules, arith, [], ◌∷◌, Bool, true, false, ◌&&◌, map}
 use Rattle.std.specs.Prelude.{◌↔◌, IsTrue}
 use Rattle.std.proofs.lemmas.Slice.Eq.{slice_eq-Decides}
 use Rattle.std.proofs.lemmas.Grind.{common_steps}
@@ -10,7 +10,6 @@ use Rattle.dgt_message.specs.declared.clock.Clock.TheVariants as clock_variants
 use Rattle.dgt_message.specs.declared.message.Message.TheVariants.{Dump, Field, Times, NoClock, Ack, Serial, Trademark}
 use Rattle.dgt_message.specs.declared.message.Message.TheVariants.{Version, Battery, LongSerial, Other}
 use Rattle.dgt_message.specs.declared.other.OtherCode.{OtherCode}
-use Rattle.dgt_message.specs.Clock.{Absence}
 use Rattle.dgt_message.specs.Content.{Content, clock_seen, code_of, content, absence_seen, code_number, times_seen}
 use Rattle.dgt_message.specs.Code.{HasCase}
 use Rattle.dgt_values.specs.contracts.bytes.SevenBitPartialEq.TheImpl as byte
@@ -22,8 +21,7 @@ use Rattle.dgt_message.specs.contracts.message.MessagePartialEq.TheImpl as messa
 
 -- two tests are both true exactly if each is
 both : {P Q : Type 0} → (p q : Bool) → IsTrue p ↔ P → IsTrue q ↔ Q → IsTrue (p && q) ↔ (P × Q)
-both true q p_is q_is = (λ t. (p_is.0 refl, q_is.0 t), λ h. q_is.1 h.1)
-both false q p_is q_is = (λ t. cc, λ h. p_is.1 h.0)
+both p q p_is q_is = search rules
 
 -- two numbers are equal exactly if they are the same
 equal_numbers : (m n : ℕ) → IsTrue (nat_eq m n) ↔ (m ≡ n)
@@ -35,9 +33,7 @@ pub equal_lists : {T Read : Type 0} → (read : T → Read) (eq : T → T → Bo
 equal_lists read eq same [] [] = (λ _. refl, λ _. refl)
 equal_lists read eq same [] (y ∷ ys) = (λ t. cc, λ e. cc)
 equal_lists read eq same (x ∷ xs) [] = (λ t. cc, λ e. cc)
-equal_lists read eq same (x ∷ xs) (y ∷ ys) =
-    let each = both (eq x y) (pointwise eq xs ys) (same x y) (equal_lists read eq same xs ys) in
-    (λ t. let found = each.0 t in let first = found.0 in let rest = found.1 in cc, λ e. each.1 (cc, cc))
+equal_lists read eq same (x ∷ xs) (y ∷ ys) = search (rules, both, equal_lists read eq same xs ys)
 
 -- the times of two clocks are equal exactly if they are the same
 pub equal_times : EqualIsSameRead times_seen (times.eq-value).it
@@ -45,31 +41,11 @@ equal_times a b = grind (arith, common_steps)
 
 -- boards without a clock are equal exactly if they report the same bytes and status
 pub equal_absences : EqualIsSameRead absence_seen (absence.eq-value).it
-equal_absences a b =
-    let same =
-    both _ _ (equal_lists number (byte.eq-value).it (search rules) a.raw b.raw)
-    (equal_numbers a.status.code.value b.status.code.value) in (
-      λ t. let found = same.0 t in let raw = found.0 in let status = found.1 in
-          cc,
-      λ e. same.1 (ap raw_of e, ap status_of e),
-    )
-  where
-    raw_of : Absence → List ℕ
-    raw_of seen = seen.raw
-
-    status_of : Absence → ℕ
-    status_of seen = seen.status
+equal_absences a b = search (rules, both, equal_lists, equal_numbers)
 
 -- two clocks are equal exactly if they report the same
 pub equal_clocks : EqualIsSameRead clock_seen (clock.eq-value).it
-equal_clocks (clock_variants.Times a) (clock_variants.Times b) =
-    let same = equal_times a b in
-    (λ t. let seen = same.0 t in cc, λ e. same.1 cc)
-equal_clocks (clock_variants.NoClock a) (clock_variants.NoClock b) =
-    let same = equal_absences a b in
-    (λ t. let seen = same.0 t in cc, λ e. same.1 cc)
-equal_clocks (clock_variants.Times a) _ = (λ t. cc, λ e. cc)
-equal_clocks _ _ = (λ t. cc, λ e. cc)
+equal_clocks = search (rules, equal_times, equal_absences)
 
 -- the number of a message's case, and then of its code
 abbrev case_of : Content → ℕ
@@ -98,16 +74,10 @@ equal_messages (Dump a) (Dump b) =
     let same = slice_eq-Decides {E = (piece.eq-value).it} (search rules) a.pieces b.pieces _ refl in
     (λ t. let pieces = same.0 t in cc, λ e. same.1 cc)
 equal_messages (Field square first) (Field other second) = search rules
-equal_messages (Times a) (Times b) =
-    let same = equal_times a b in
-    (λ t. let seen = same.0 t in cc, λ e. same.1 cc)
-equal_messages (NoClock a) (NoClock b) =
-    let same = equal_absences a b in
-    (λ t. let seen = same.0 t in cc, λ e. same.1 cc)
+equal_messages (Times a) (Times b) = search (rules, equal_times)
+equal_messages (NoClock a) (NoClock b) = search (rules, equal_absences)
 equal_messages (Ack a) (Ack b) = search rules
-equal_messages (Serial a) (Serial b) =
-    let same = equal_lists number (byte.eq-value).it (search rules) a b in
-    (λ t. let bytes = same.0 t in cc, λ e. same.1 cc)
+equal_messages (Serial a) (Serial b) = search (rules, equal_lists)
 equal_messages (Trademark a) (Trademark b) = search rules
 equal_messages (Version main sub) (Version mains subs) = search rules
 equal_messages (Battery a) (Battery b) = search rules

@@ -1,6 +1,6 @@
 -- Bodies of another size, and bodies that are carried unread.
 use Rattle.std.proofs.Common.{◌≡◌, ◌≢◌, ℕ, zero, suc, ◌+◌, true, false, refl, List, length}
-use Rattle.std.proofs.Common.{Option, Some, None, Ok, Err}
+use Rattle.std.proofs.Common.{Option, Some, None, Ok, Err, rules}
 use Rattle.std.specs.Option.{option_map_or}
 use Rattle.std.specs.Prelude.{◌==◌, IfSome}
 use Rattle.std.proofs.lemmas.Bool.{ne_eqb}
@@ -16,8 +16,7 @@ use Rattle.dgt_message.proofs.CodeLemmas.{found_number}
 -- the test of another size fails
 fails : (fixed : Option ℕ) (size : ℕ) → (IfSome fixed (λ total. size ≡ total) → ⊥)
     → option_map_or (λ total. size == total) fixed true ≡ false
-fails None size differs = absurd (differs tt)
-fails (Some total) size differs = ne_eqb size total differs
+fails fixed size differs = search (rules, ne_eqb)
 
 -- a body with another size than its code fixes
 pub other_size : (code : ℕ) (body : List ℕ) → (HasSize code body → ⊥) → reading code body ≡ Err WrongSize
@@ -35,13 +34,7 @@ module _ (code : ℕ) (body : List ℕ) (dump : code ≢ 0x06) (clock : code ≢
   -- fixes no length and no bytes
   is_free : (found : Option KnownCode) → known_with code ≡ found
       → (known_total found ≡ None) × (known_layout found body ≡ Layout.carried)
-  is_free None e = (refl, refl)
-  is_free (Some known.Dump) e = absurd (dump (found_number code known.Dump e))
-  is_free (Some known.Clock) e = absurd (clock (found_number code known.Clock e))
-  is_free (Some known.Field) e = absurd (field (found_number code known.Field e))
-  is_free (Some known.Serial) e = absurd (serial (found_number code known.Serial e))
-  is_free (Some known.Version) e = absurd (version (found_number code known.Version e))
-  is_free (Some _) e = (refl, refl)
+  is_free found e = search (rules, found_number)
 
   -- therefore its bodies are carried
   pub other_body : reading code body ≡ Ok (carried code body)

@@ -1,14 +1,13 @@
 -- The reading of a code and a body is the message that fits them, or the fault of the body.
-use Rattle.std.proofs.Common.{◌≡◌, ℕ, ◌<◌, ◌≤◌, ◌+◌, ◌-◌, ◌⊎◌, inl, inr, Bool, true, false, cond, refl, ap, List, []}
-use Rattle.std.proofs.Common.{◌∷◌, length, drop, arith, Option, Some, None, Result, Ok, Err}
-use Rattle.std.specs.Prelude.{◌==◌, ◌↔◌, All, MatchOption, MatchResult, slice_index}
+use Rattle.std.proofs.Common.{◌≡◌, ℕ, ◌<◌, ◌-◌, ◌⊎◌, inl, inr, true, cond, refl, ap, List, []}
+use Rattle.std.proofs.Common.{◌∷◌, length, drop, Option, Some, None, Result, Ok, Err, rules}
+use Rattle.std.specs.Prelude.{◌↔◌, All, MatchOption, MatchResult, slice_index}
 use Rattle.std.proofs.lemmas.List.{length-drop}
 use Rattle.std.proofs.lemmas.List.Elements.{All-drop}
 use Rattle.dgt_message.specs.declared.viewing.BodyFault.{BodyFault}
-use Rattle.dgt_message.specs.declared.viewing.BodyFault.TheVariants.{WrongSize}
 use Rattle.dgt_message.specs.declared.message.Message.{Message}
-use Rattle.dgt_message.specs.Code.{HasSize, known_total, known_with}
-use Rattle.dgt_message.specs.Content.{Content, code_of, content, IsCarried}
+use Rattle.dgt_message.specs.Code.{HasSize, known_with}
+use Rattle.dgt_message.specs.Content.{Content, content, IsCarried}
 use Rattle.dgt_message.proofs.Sizes.{AllowsBefore}
 use Rattle.dgt_message.specs.Reading.{IsFaultOf, IsFirstBad, Views, fault_of, first_bad_place, reading, said_in}
 use Rattle.std.specs.Option.{option_map_or}
@@ -41,29 +40,17 @@ by_place code body small carried size (Some at) h = place_fault code body at h
 reading_says : (code : ℕ) (body : List ℕ) → code < 128 → IsCarried body → Says code body (reading code body)
 unfolding reading
 reading_says code body small carried =
-    go (option_map_or (λ total. length body + 3 == total) fixed true) refl
-  where
-    fixed : Option ℕ
-    fixed = known_total (known_with code)
-
-    go : (t : Bool) → option_map_or (λ total. length body + 3 == total) fixed true ≡ t
-        → Says code body (cond t (message_or_fault code body (first_bad_place code body)) (Err WrongSize))
-    go true e =
-        let size = right_size fixed (length body + 3) e in
-        by_place code body small carried size (first_bad_place code body) (first_bad_place-reports code body size)
-    go false e = wrong_size fixed (length body + 3) e
+    search (rules, right_size, by_place, first_bad_place-reports, wrong_size)
 
 -- a message that fits is the reading
 said_is : (code : ℕ) (body : List ℕ) (r : Result Content BodyFault) (said : Content) → Says code body r
     → Fits said code body → r ≡ Ok said
-said_is code body (Ok other_) said h fits = ap Ok (one_message code body other_ said h fits)
-said_is code body (Err why) said h fits = absurd (not_both code body said why fits h)
+said_is code body r said h fits = search (rules, one_message, not_both)
 
 -- the fault of a body is the reading
 fault_is : (code : ℕ) (body : List ℕ) (r : Result Content BodyFault) (why : BodyFault) → Says code body r
     → IsFaultOf code body why → r ≡ Err why
-fault_is code body (Ok said) why h bad = absurd (not_both code body said why h bad)
-fault_is code body (Err other_) why h bad = ap Err (one_fault code body other_ why h bad)
+fault_is code body r why h bad = search (rules, not_both, one_fault)
 
 -- the reading is a message exactly if it fits
 pub reading-Ok : (code : ℕ) (body : List ℕ) (said : Content) → code < 128 → IsCarried body
@@ -107,9 +94,4 @@ third_on (a ∷ bytes) h = All-drop (λ byte. byte < 128) 2 bytes h
 -- a message is the reading of its encodings
 pub encoded_is_read : (said : Content) (bytes : List ℕ) → Encodes said bytes
     → reading (slice_index bytes 0 - 128) (drop 3 bytes) ≡ Ok said
-encoded_is_read said bytes h =
-    let code : slice_index bytes 0 - 128 ≡ code_of said = omega (arith, h.header.code_is) in
-    let short : length (drop 3 bytes) ≤ 16380 = omega (arith, length-drop 3 bytes, h.header.short_enough) in
-    rw code ((reading-Ok (code_of said) (drop 3 bytes) said (small_code said h.is_message)
-    (short, third_on bytes h.header.seven_bit)).1
-    (record { is_message = h.is_message; code_is = refl; encoded = h.encoded }))
+encoded_is_read said bytes h = search (rules, length-drop, reading-Ok, small_code, third_on)

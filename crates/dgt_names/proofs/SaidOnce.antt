@@ -39,14 +39,11 @@ said (Signal.Pressed button) Signal.Off k s t p q =
 said (Signal.Pressed button) (Signal.Done KnownId.Button) k s t p q =
     absurd (button_said (Signal.Pressed button) k s t q p.1)
 said (Signal.Pressed button) other k s t p q = search rules
-said Signal.Off (Signal.Pressed own) k s t p q =
-    once Signal.Off (Signal.Pressed own) s t p.1 q.1
-said Signal.Off (Signal.Done KnownId.Button) k s t p q =
-    absurd (button_said Signal.Off k s t q p.1)
+said Signal.Off (Signal.Pressed own) k s t p q = once Signal.Off (Signal.Pressed own) s t p.1 q.1
+said Signal.Off (Signal.Done KnownId.Button) k s t p q = absurd (button_said Signal.Off k s t q p.1)
 said Signal.Off other k s t p q = search rules
 said (Signal.Done KnownId.Button) (Signal.Pressed own) k s t p q =
     absurd (button_said (Signal.Pressed own) k s t p q.1)
-said (Signal.Done KnownId.Button) Signal.Off k s t p q =
-    absurd (button_said Signal.Off k s t p q.1)
+said (Signal.Done KnownId.Button) Signal.Off k s t p q = absurd (button_said Signal.Off k s t p q.1)
 said (Signal.Done id) (Signal.Done own) k s t p q = search rules
 said (Signal.Done id) other k s t p q = search rules

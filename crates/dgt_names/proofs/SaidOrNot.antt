@@ -1,5 +1,5 @@
 -- Bytes either have a meaning or not.
-use Rattle.std.proofs.Common.{◌≡◌, ◌≢◌, ◌<◌, ◌≤◌, ◌⊎◌, ℕ, zero, suc, inl, inr, List, [], ◌∷◌, arith, length, rules, subst, sym, Bool, true, false, Some, None, refl, slice_index as nth}
+use Rattle.std.proofs.Common.{◌≡◌, ◌≢◌, ◌<◌, ◌≤◌, ◌⊎◌, ℕ, suc, inl, inr, List, [], ◌∷◌, arith, length, rules, subst, Bool, true, false, Some, None, refl, slice_index as nth}
 use Rattle.std.specs.Prelude.{IsTrue, IsBitSet, Option, bit_and, eqb, leb, ◌/◌, ◌%◌, ◌^◌, ◌↔◌}
 use Rattle.std.proofs.lemmas.Bool.{false≢true}
 use Rattle.std.proofs.lemmas.Bool.Decides.{eqb_tells, leb_tells}
@@ -16,20 +16,12 @@ Decided {A} Says = ((said : A) × Says said) ⊎ ((said : A) → ¬ (Says said))
 
 -- two numbers are the same or not
 pub either : {C : Type 0} (a b : ℕ) → (a ≡ b → C) → (a ≢ b → C) → C
-either {C} a b same other = by (eqb_tells a b)
-  where
-    by : ((eqb a b ≡ true) × (a ≡ b)) ⊎ ((eqb a b ≡ false) × (a ≢ b)) → C
-    by (inl h) = same h.1
-    by (inr h) = other h.1
+either {C} a b same other = search (rules, eqb_tells)
 
 -- ---- signals
 
 no_button : (t : ℕ) → t ≢ 0x31 → t ≢ 0x32 → t ≢ 0x33 → t ≢ 0x34 → t ≢ 0x35 → IsNoButton t
-no_button t a b c d e Button.Back h = a (sym h)
-no_button t a b c d e Button.Plus h = b (sym h)
-no_button t a b c d e Button.Run h = c (sym h)
-no_button t a b c d e Button.Minus h = d (sym h)
-no_button t a b c d e Button.Ok h = e (sym h)
+no_button t a b c d e = search rules
 
 ok_pressed : (s t : ℕ) → t ≡ 0x35 → (signal : Signal) × ArePressed signal s t
 ok_pressed s t e =
@@ -48,9 +40,7 @@ pressed_or_none s t =
 -- a signal of buttons
 buttons_say : (kind s t : ℕ) → (kind ≡ 0x08) ⊎ (kind ≡ 0x88) → (signal : Signal) → ArePressed signal s t
     → Says signal kind s t
-buttons_say kind s t k (Signal.Pressed button) p = (k, p)
-buttons_say kind s t k Signal.Off p = (k, p)
-buttons_say kind s t k signal p = absurd p
+buttons_say kind s t k signal p = search rules
 
 answered : (kind s t : ℕ) → kind ≡ 0x08 → Decided (λ signal. Says signal kind s t)
 answered kind s t k = by (pressed_or_none s t)
@@ -68,20 +58,7 @@ unasked kind s t k = by (pressed_or_none s t)
 
 other_kind : (kind s t : ℕ) → kind ≢ 0x01 → kind ≢ 0x02 → kind ≢ 0x03 → kind ≢ 0x08 → kind ≢ 0x09 → kind ≢ 0x0a
     → kind ≢ 0x0b → kind ≢ 0x0c → kind ≢ 0x81 → kind ≢ 0x88 → (signal : Signal) → ¬ (Says signal kind s t)
-other_kind kind s t a b c d e f g h i j (Signal.Version main sub) p = e p.0
-other_kind kind s t a b c d e f g h i j Signal.Ready p = i p
-other_kind kind s t a b c d e f g h i j (Signal.Pressed button) (inl k, q) = d k
-other_kind kind s t a b c d e f g h i j (Signal.Pressed button) (inr k, q) = j k
-other_kind kind s t a b c d e f g h i j Signal.Off (inl k, q) = d k
-other_kind kind s t a b c d e f g h i j Signal.Off (inr k, q) = j k
-other_kind kind s t a b c d e f g h i j (Signal.Done KnownId.Display) p = a p
-other_kind kind s t a b c d e f g h i j (Signal.Done KnownId.Icons) p = b p
-other_kind kind s t a b c d e f g h i j (Signal.Done KnownId.End) p = c p
-other_kind kind s t a b c d e f g h i j (Signal.Done KnownId.Button) p = d p.0
-other_kind kind s t a b c d e f g h i j (Signal.Done KnownId.Version) p = p
-other_kind kind s t a b c d e f g h i j (Signal.Done KnownId.SetAndRun) p = f p
-other_kind kind s t a b c d e f g h i j (Signal.Done KnownId.Beep) p = g p
-other_kind kind s t a b c d e f g h i j (Signal.Done KnownId.Text) p = h p
+other_kind kind s t a b c d e f g h i j signal = search rules
 
 says_or_not : (kind s t : ℕ) → Decided (λ signal. Says signal kind s t)
 says_or_not kind s t =
@@ -136,19 +113,7 @@ state_of bytes nine =
         charging = charging.0;
         discharging = discharging.0;
       },
-      record {
-        nine = nine;
-        percent = percent.1;
-        hours_left = hours.1;
-        minutes_left = minutes.1;
-        hours_on = refl;
-        minutes_on = refl;
-        days_resting = refl;
-        hours_resting = refl;
-        minutes_resting = refl;
-        charging = charging.1;
-        discharging = discharging.1;
-      },
+      search rules,
     )
 
 pub battery_or_none : (bytes : List ℕ) → Decided (IsBattery bytes)
@@ -164,18 +129,10 @@ abbrev AllPrint : List ℕ → Type 0
 AllPrint bytes = (k : ℕ) → k < length bytes → Prints (nth bytes k)
 
 prints_or_not : (byte : ℕ) → Prints byte ⊎ ¬ (Prints byte)
-prints_or_not byte = by (leb_tells 0x20 byte) (leb_tells byte 0x7e)
-  where
-    by : ((leb 0x20 byte ≡ true) × (0x20 ≤ byte)) ⊎ ((leb 0x20 byte ≡ false) × (byte < 0x20))
-        → ((leb byte 0x7e ≡ true) × (byte ≤ 0x7e)) ⊎ ((leb byte 0x7e ≡ false) × (0x7e < byte))
-        → Prints byte ⊎ ¬ (Prints byte)
-    by (inl a) (inl b) = inl (a.1, b.1)
-    by (inl a) (inr b) = inr (λ h. omega (arith, b.1, h.1))
-    by (inr a) b = inr (λ h. omega (arith, a.1, h.0))
+prints_or_not byte = search (rules, leb_tells)
 
 print_both : (byte : ℕ) (bytes : List ℕ) → Prints byte → AllPrint bytes → AllPrint (byte ∷ bytes)
-print_both byte bytes p q zero h = p
-print_both byte bytes p q (suc k) h = q k (omega (arith, h))
+print_both byte bytes p q = search rules
 
 all_or_not : (bytes : List ℕ) → AllPrint bytes ⊎ ¬ (AllPrint bytes)
 all_or_not [] = inl (λ k h. absurd (omega (arith, h)))

@@ -1,6 +1,7 @@
 -- The text of a command requests it.
-use Rattle.std.proofs.Common.{◌≡◌, ◌≢◌, ◌∙◌, ◌+◌, ◌/◌, ◌%◌, ◌<◌, ◌≤◌, ◌⊎◌, ℕ, zero, suc, Bool, true, false, List, [], ◌∷◌, ◌++◌, length, get_or, map, None, ap, arith, inl, inr, refl, subst, sym, slice_index as nth}
-use Rattle.std.specs.Prelude.{codes, decimal, find, nat_le, if◌then◌else◌, ◌==◌, ◌&&◌}
+use Rattle.std.proofs.Common.{◌≡◌, ◌≢◌, ◌∙◌, ◌+◌, ◌/◌, ◌%◌, ◌<◌, ◌≤◌, ◌⊎◌, ℕ, zero, suc, Bool, true, false, List, [], ◌∷◌, ◌++◌, length, get_or, map, None, ap, arith, inl, inr, refl, sym, slice_index as nth}
+use Rattle.std.proofs.Common.{rules}
+use Rattle.std.specs.Prelude.{codes, decimal, find, if◌then◌else◌, ◌==◌, ◌&&◌}
 use Rattle.std.specs.List.{All, list_all}
 use Rattle.std.proofs.lemmas.List.{get_or-map, length-map}
 use Rattle.std.specs.Str.{IsAscii}
@@ -18,6 +19,7 @@ use Rattle.dgt_lines.specs.CommandWords.{command_text, display_word, is_printabl
 use Rattle.dgt_ask.specs.declared.details.Detail.TheVariants as detail
 use Rattle.dgt_ask.specs.Asks.{AskInOrder, Asks, HasBytes, HasPayload, IsDisplay, IsText}
 use Rattle.dgt_command.proofs.DivisionLemmas.{bytes_left}
+use Rattle.std.proofs.lemmas.Grind.{common_steps}
 
 -- bytes are read back from their text
 is_no_hyphen : (bytes : List ℕ) (byte : ℕ) → encode_lower (byte ∷ bytes) ≢ codes "-"
@@ -35,9 +37,7 @@ has_bytes (byte ∷ bytes) are =
 
 has_payload : (known : KnownId) (size : ℕ) (payload : List ℕ) → AreBytes payload → length payload ≡ suc size
     → HasPayload known (suc size) (bytes_text payload) (known_clock known payload)
-has_payload known size [] are sized = absurd (omega (arith, sized))
-has_payload known size (byte ∷ payload) are sized =
-    (byte ∷ payload, decode_sized-encode_lower (byte ∷ payload) (suc size) sized are, refl)
+has_payload known size payload are sized = search (rules, decode_sized-encode_lower)
 
 leds_back : (leds bytes : List ℕ) → EncodesCommand (Leds leds) bytes → Asks (command_text (Leds leds)) (Leds leds)
 leds_back leds bytes encodes =
@@ -64,8 +64,7 @@ carried message bytes encodes =
     }
 
 one_byte : (byte : ℕ) → byte < 256 → AreBytes (byte ∷ [])
-one_byte byte small zero = small
-one_byte byte small (suc i) = omega arith
+one_byte byte small = search rules
 
 raw_back : (message : ClockContent) → Carried message → has_own_case message.id (length message.payload) ≡ false
     → Asks (words_text (raw_words message.id message.payload)) (ClockMessage message)
@@ -112,9 +111,7 @@ shown : (segments : ℕ) → is_shown (shown_character segments) ≡ true → Is
 shown segments is = grind (arith, nat_tests)
 
 both : (a b : Bool) → a && b ≡ true → (a ≡ true) × (b ≡ true)
-both true true e = (refl, refl)
-both true false e = cc
-both false b e = cc
+both a b e = search rules
 
 -- places that all show characters
 all_shown : (places : List ℕ) → list_all is_shown (map shown_character places) ≡ true → (i : ℕ) → i < length places
@@ -149,17 +146,12 @@ display_back : (payload : List ℕ) → AreBytes payload → length payload ≡ 
     → IsDisplay (display_word payload) (known_clock KnownId.Display payload)
 display_back payload are sized =
     by_eight (λ payload. AreBytes payload → IsDisplay (display_word payload) (known_clock KnownId.Display payload))
-    (λ a b c d e f g h are. display_choice a b c d e f g h are
-    (list_all is_shown (map shown_character (c ∷ b ∷ a ∷ f ∷ e ∷ d ∷ [])) && g == 0 && h == 0) refl)
+    (search (rules, display_choice))
     payload sized are
 
 -- the text of nine
 ascii_all : (xs : List ℕ) → list_all is_printable xs ≡ true → IsAscii xs
-ascii_all [] are i = omega arith
-ascii_all (x ∷ xs) are zero =
-    let first = both (is_printable x) (list_all is_printable xs) are in
-    omega (arith, leb-true x 126 (both (nat_le 32 x) (nat_le x 126) first.0).1)
-ascii_all (x ∷ xs) are (suc i) = ascii_all xs (both (is_printable x) (list_all is_printable xs) are).1 i
+ascii_all xs are = grind (arith, common_steps, both, leb-true)
 
 text_choice : (a b c d e f g h i : ℕ) → AreBytes (a ∷ b ∷ c ∷ d ∷ e ∷ f ∷ g ∷ h ∷ i ∷ []) → (plain : Bool)
     → (list_all is_printable (a ∷ b ∷ c ∷ d ∷ e ∷ f ∷ g ∷ h ∷ []) && i == 0) ≡ plain
@@ -175,8 +167,7 @@ text_back : (payload : List ℕ) → AreBytes payload → length payload ≡ 9
     → IsText (text_word payload) (known_clock KnownId.Text payload)
 text_back payload are sized =
     by_nine (λ payload. AreBytes payload → IsText (text_word payload) (known_clock KnownId.Text payload))
-    (λ a b c d e f g h i are. text_choice a b c d e f g h i are
-    (list_all is_printable (a ∷ b ∷ c ∷ d ∷ e ∷ f ∷ g ∷ h ∷ []) && i == 0) refl)
+    (search (rules, text_choice))
     payload sized are
 
 -- a clock message of a known kind
@@ -213,9 +204,7 @@ IsOneOf number ids =
 
 is_one_of : (number : ℕ) (id : KnownId) (ids : List KnownId) → IsOneOf number ids → (is : Bool)
     → (id_number id == number) ≡ is → IsOneOf number (id ∷ ids)
-is_one_of number id ids rest true is = inl (id, sym (eqb-true _ _ is))
-is_one_of number id ids (inl known) false is = inl known
-is_one_of number id ids (inr none) false is = inr (rw is none)
+is_one_of number id ids rest is h5 = search (rules, eqb-true)
 
 one_of : (number : ℕ) (ids : List KnownId) → IsOneOf number ids
 one_of number [] = inr refl
@@ -240,11 +229,7 @@ chosen_back : (message : ClockContent) → Carried message → (own : Bool)
     else raw_words message.id message.payload)) (ClockMessage message)
 chosen_back message carries false is = raw_back message carries is
 chosen_back message carries true is = elim (one_of message.id known_ids) [
-  | inl known ↦
-      subst (λ id. has_own_case id (length message.payload) ≡ true →
-      Asks (words_text (words_with (id_with id) id message.payload))
-      (ClockMessage (record { id = id; payload = message.payload })))
-      (sym known.1) (owned_back known.0 message.payload carries.are_bytes carries.few) is
+  | inl known ↦ search (rules, owned_back)
   | inr none ↦ let other = rw none at is in cc
 ]
 

@@ -1,10 +1,9 @@
 -- The result of an engine, and that of its task.
-use Rattle.std.proofs.Common.{◌≡◌, ℕ, List, Option, Some, None, Result, Ok, Err, false, ap}
+use Rattle.std.proofs.Common.{◌≡◌, ℕ, List, Option, Some, Result, Ok, Err, false, ap, rules}
 use Rattle.std.specs.Prelude.{IsErrAnd, MatchResult, OnOk}
 use Rattle.std.specs.Io.KnownBytes.{Consumes, IsAtEnd}
 use Rattle.std.proofs.lemmas.List.{append-nil}
 use Rattle.dgt_lines.specs.declared.faults.RunFault.{RunFault}
-use Rattle.dgt_lines.specs.declared.faults.RunFault.TheVariants.{ReadFailed, WriteFailed, TooManyTurns, BadLine}
 use Rattle.dgt_lines.specs.Turns.{HasTurns, source_mark_after}
 use Rattle.dgt_program.specs.declared.program.TheConstants.{MOST_TURNS}
 use Rattle.dgt_program.specs.declared.fault.Fault.{Fault}
@@ -14,28 +13,17 @@ use Rattle.dgt_program.specs.Tasks.{IsShown, task_answer}
 -- what holds for a result, if it follows in either case
 pub either_result : {A B : Type 0} (P P₁ : A → Type 0) (Q Q₁ : B → Type 0) (r : Result A B)
     → ((a : A) → P a → P₁ a) → ((b : B) → Q b → Q₁ b) → MatchResult r P Q → MatchResult r P₁ Q₁
-either_result P P₁ Q Q₁ (Ok a) f g h = f a h
-either_result P P₁ Q Q₁ (Err b) f g h = g b h
+either_result P P₁ Q Q₁ r f g h = search rules
 
 -- the fault of an engine is the task's
 pub failed : (r : Result (Unit {0}) Fault) (fault : RunFault) → IsErrAnd r (λ e. e ≡ Run fault)
     → r ≡ task_answer (Err fault)
-failed (Err e) fault is = ap Err is
-failed (Ok _) fault is = absurd is
+failed r fault is = search rules
 
 -- what an engine leaves, if its source had these bytes and refused no read
 pub shown : (leaves : Result (Unit {0}) RunFault → List ℕ → List ℕ → Type 0) (bytes : List ℕ)
     (left : Option (List ℕ)) (run : Result (Unit {0}) RunFault) (read out : List ℕ) → Consumes (Some bytes) left read
     → false ≡ source_mark_after run false → OnOk run (IsAtEnd left)
     → HasTurns MOST_TURNS run read → leaves run read out → IsShown leaves run bytes out
-shown leaves bytes None run read out consumed unrefused end turns stands = absurd consumed
-shown leaves bytes (Some rest) (Ok _) read out consumed unrefused end turns stands =
-    rw (consumed, end, append-nil) stands
-shown leaves bytes (Some rest) (Err WriteFailed) read out consumed unrefused end turns stands =
-    (read, (rest, consumed), stands)
-shown leaves bytes (Some rest) (Err TooManyTurns) read out consumed unrefused end turns stands =
-    (read, (rest, consumed), turns, stands)
-shown leaves bytes (Some rest) (Err ReadFailed) read out consumed unrefused end turns stands =
-    cc
-shown leaves bytes (Some rest) (Err (BadLine _ _)) read out consumed unrefused end turns stands =
-    (read, (rest, consumed), stands)
+shown leaves bytes left run read out consumed unrefused end turns stands =
+    search (rules, append-nil)

@@ -1,11 +1,11 @@
 -- The vocabulary of lines with faults is ordered, and words ask for one act at most.
-use Rattle.std.proofs.Common.{◌≡◌, ◌≢◌, ℕ, List, [], ◌∷◌, Option, Some, None, refl, sym, ◌∙◌, ap, arith, inl, inr, length}
-use Rattle.std.specs.Prelude.{bytes_eq, codes, if◌then◌else◌, Ok}
+use Rattle.std.proofs.Common.{◌≡◌, ◌≢◌, ℕ, List, [], ◌∷◌, Option, Some, None, inl, inr, length}
+use Rattle.std.proofs.Common.{rules}
+use Rattle.std.specs.Prelude.{bytes_eq, codes, if◌then◌else◌}
 use Rattle.hex.specs.Hex.{decode_of}
 use Rattle.hex.proofs.HexLemmas.{decode_of-same}
 use Rattle.dgt_command.specs.Laws.{EncodingsGiveCommands}
 use Rattle.dgt_link.specs.Faults.{FaultyContent}
-use Rattle.dgt_script.specs.ScriptWords.{words_text}
 use Rattle.dgt_script.specs.declared.script_words.FaultyVerb.{FaultyVerb}
 use Rattle.dgt_script.specs.declared.script_words.FaultyVerb.TheVariants as faulty
 use Rattle.dgt_script.specs.declared.script_words.Verb.{Verb}
@@ -34,13 +34,7 @@ abbrev pub faulty_named : List ℕ → Option FaultyVerb
 faulty_named word = plain_or_fault (verb_named word) word
 
 pub faulty_named-faulty_text : (named : FaultyVerb) → faulty_named (faulty_text named) ≡ Some named
-faulty_named-faulty_text (faulty.Plain named) =
-    ap (λ found. plain_or_fault found (verb_text named)) (verb_named-verb_text named)
-faulty_named-faulty_text faulty.GarbleUp = refl
-faulty_named-faulty_text faulty.GarbleDown = refl
-faulty_named-faulty_text faulty.BoardLost = refl
-faulty_named-faulty_text faulty.Restart = refl
-faulty_named-faulty_text faulty.GiveUp = refl
+faulty_named-faulty_text named = search (rules, verb_named-verb_text)
 
 -- the first word of a line that asks for the act
 abbrev pub faulty_verb_of : FaultyContent → FaultyVerb
@@ -89,29 +83,9 @@ faulty_order = record {
 
 -- ---- One act
 
--- `-` is not hexadecimal digits
-no_digits : (word bytes : List ℕ) → word ≡ codes "-" → decode_of word ≡ Ok bytes → ⊥
-no_digits word bytes e h = let both : decode_of (codes "-") ≡ Ok bytes = ap decode_of (sym e) ∙ h in absurd cc
-
--- a word has one list of bytes at most
-one_bytes : (word a b : List ℕ) → IsBytesWord word a → IsBytesWord word b → a ≡ b
-one_bytes word a b (inl h) (inl k) = h.1 ∙ sym k.1
-one_bytes word a b (inl h) (inr k) = absurd (no_digits word b h.0 k.2)
-one_bytes word a b (inr h) (inl k) = absurd (no_digits word a k.0 h.2)
-one_bytes word a b (inr h) (inr k) = decode_of-same word a b h.2 k.2
-
 pub same_faulty_act : IsRead → EncodingsGiveCommands → (parts : List (List ℕ)) (a b : FaultyContent)
     → faulty_verb_of a ≡ faulty_verb_of b → AsksFaulty parts a → AsksFaulty parts b → a ≡ b
-same_faulty_act exact gives parts (FaultyContent.Plain s) (FaultyContent.Plain t) e h k =
-    ap FaultyContent.Plain (same_act exact gives parts s t (cc e) h k)
-same_faulty_act exact gives parts (FaultyContent.GarbleUp s) (FaultyContent.GarbleUp t) e h k =
-    ap FaultyContent.GarbleUp (one_value IsBytesWord one_bytes (faulty_text faulty.GarbleUp) parts s t h k)
-same_faulty_act exact gives parts (FaultyContent.GarbleDown s) (FaultyContent.GarbleDown t) e h k =
-    ap FaultyContent.GarbleDown (one_value IsBytesWord one_bytes (faulty_text faulty.GarbleDown) parts s t h k)
-same_faulty_act exact gives parts FaultyContent.BoardLost FaultyContent.BoardLost e h k = refl
-same_faulty_act exact gives parts FaultyContent.Restart FaultyContent.Restart e h k = refl
-same_faulty_act exact gives parts FaultyContent.GiveUp FaultyContent.GiveUp e h k = refl
-same_faulty_act exact gives parts a b e h k = cc e
+same_faulty_act exact gives parts a b e h k = search (rules, same_act, one_value, decode_of-same)
 
 -- ---- Lines
 
@@ -119,9 +93,6 @@ same_faulty_act exact gives parts a b e h k = cc e
 pub bad_with_faults : (line : List ℕ) (at : ℕ) → IsBadAt plain_words line at → at ≢ 0
     → IsBadAt faulty_words line at
 bad_with_faults line at (inl g) later = inl g
-bad_with_faults line at (inr (short, bad, inl g, left)) later =
-    let whole = length-words line in
-    let e = ap (λ b. length (words_text b)) g.1 in
-    absurd (later (omega (arith, whole, e, left)))
+bad_with_faults line at (inr (short, bad, inl g, left)) later = search (rules, length-words)
 bad_with_faults line at (inr (short, bad, inr g, left)) later =
     inr (short, bad, inr (faulty.Plain g.0, g.1, g.2, g.3), left)

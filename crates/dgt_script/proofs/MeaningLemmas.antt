@@ -1,12 +1,13 @@
 -- The vocabulary of plain lines is ordered, and words ask for one act at most.
-use Rattle.std.proofs.Common.{◌≡◌, ℕ, List, [], ◌∷◌, Option, Some, None, refl, sym, ◌∙◌, ap, subst}
+use Rattle.std.proofs.Common.{◌≡◌, ℕ, List, [], ◌∷◌, Option, Some, None, refl, ap}
+use Rattle.std.proofs.Common.{rules}
 use Rattle.std.specs.Prelude.{bytes_eq, if◌then◌else◌}
 use Rattle.dgt_command.specs.Laws.{EncodingsGiveCommands}
 use Rattle.dgt_link.specs.Act.{ActContent, Change, ClockRead, Host, BoardSend, ToBoard, ToHost, Break, HostBreak}
 use Rattle.dgt_script.specs.declared.script_words.Verb.{Verb}
 use Rattle.dgt_script.specs.declared.script_words.Verb.TheVariants as verb
 use Rattle.dgt_script.specs.Script.{AreOf, Asks, a_clock, a_command, a_count, kinds_after, plain_words}
-use Rattle.dgt_script.specs.ScriptWords.{verb_text, IsClockWord, IsCommandWord, IsCountWord, IsPieceWord, IsSquareWord}
+use Rattle.dgt_script.specs.ScriptWords.{verb_text, IsClockWord, IsCommandWord, IsCountWord}
 use Rattle.dgt_script.proofs.ScriptWordLemmas.{IsRead, one_clock, one_command, one_count, one_piece, one_square}
 use Rattle.dgt_script.proofs.VocabularyLemmas.{IsOrdered, none_left, one_left, one_value}
 
@@ -25,14 +26,7 @@ verb_named word =
     else None
 
 pub verb_named-verb_text : (named : Verb) → verb_named (verb_text named) ≡ Some named
-verb_named-verb_text verb.Change = refl
-verb_named-verb_text verb.Clock = refl
-verb_named-verb_text verb.Host = refl
-verb_named-verb_text verb.Send = refl
-verb_named-verb_text verb.ToBoard = refl
-verb_named-verb_text verb.ToHost = refl
-verb_named-verb_text verb.Break = refl
-verb_named-verb_text verb.HostBreak = refl
+verb_named-verb_text named = search rules
 
 -- the first word of a line that asks for the act
 abbrev pub verb_of : ActContent → Verb
@@ -82,13 +76,7 @@ plain_order = record { named = verb_named; names = verb_named-verb_text; verb_of
 
 pub same_act : IsRead → EncodingsGiveCommands → (parts : List (List ℕ)) (a b : ActContent) → verb_of a ≡ verb_of b
     → Asks parts a → Asks parts b → a ≡ b
-same_act exact gives parts (Change s p) (Change t q) e h k =
-    let both : verb_text verb.Change ∷ h.0 ∷ h.1 ∷ [] ≡ verb_text verb.Change ∷ k.0 ∷ k.1 ∷ [] = sym h.2 ∙ k.2 in
-    let first : h.0 ≡ k.0 = cc both in
-    let second : h.1 ≡ k.1 = cc both in
-    let square : s ≡ t = one_square k.0 s t (subst (λ w. IsSquareWord w s) first h.3) k.3 in
-    let piece : p ≡ q = one_piece k.1 p q (subst (λ w. IsPieceWord w p) second h.4) k.4 in
-    cc (square, piece)
+same_act exact gives parts (Change s p) (Change t q) e h k = search (rules, one_square, one_piece)
 same_act exact gives parts (ClockRead s) (ClockRead t) e h k =
     ap ClockRead (one_value IsClockWord (one_clock exact) (verb_text verb.Clock) parts s t h k)
 same_act exact gives parts (Host s) (Host t) e h k =

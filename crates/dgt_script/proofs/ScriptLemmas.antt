@@ -1,5 +1,6 @@
 -- The words of a script's lines, and where they go wrong.
-use Rattle.std.proofs.Common.{◌≡◌, ◌≢◌, ℕ, ◌+◌, ◌-◌, ◌<◌, ◌≤◌, ◌==◌, List, [], ◌∷◌, Option, Some, None, refl, sym, ◌∙◌, ap, subst, arith, false, true, get_or, inl, inr, length, length-append, take, drop}
+use Rattle.std.proofs.Common.{◌≡◌, ◌≢◌, ℕ, ◌+◌, ◌-◌, ◌<◌, ◌≤◌, ◌==◌, List, [], ◌∷◌, Option, Some, None, sym, ◌∙◌, ap, subst, arith, false, true, get_or, inl, inr, length, length-append, take, drop}
+use Rattle.std.proofs.Common.{rules}
 use Rattle.std.specs.Prelude.{All, slice_index}
 use Rattle.std.specs.List.{position_or_len}
 use Rattle.std.specs.Slice.{IsGetRangeResult}
@@ -22,14 +23,11 @@ length-words line = ap length (words_text-words line)
 
 pub length-left_words : (rest : Option (Bor (List ℕ))) (bytes : Bor (List ℕ)) → rest ≡ Some bytes
     → length bytes.now ≡ length (words_text (left_words rest))
-length-left_words None bytes h = absurd cc
-length-left_words (Some other) bytes h = let same : bytes.now ≡ other.now = cc in
-    ap length same ∙ sym (length-words other.now)
+length-left_words rest bytes h = search (rules, length-words)
 
 -- a word where none should be
 one_too_many : (parts : List (List ℕ)) → 0 < length parts → GoesWrong [] parts parts
-one_too_many [] h = absurd (omega arith)
-one_too_many (word ∷ parts) h = refl
+one_too_many parts h = search rules
 
 pub word_left : (rest : Option (Bor (List ℕ))) (bytes : Bor (List ℕ)) (wrong : Wrong) → rest ≡ Some bytes
     → wrong.left ≡ length bytes.now → GoesWrongBefore [] (left_words rest) wrong
@@ -43,19 +41,17 @@ word_left (Some other) bytes wrong h e =
 
 words_text-tail : (word : List ℕ) (parts : List (List ℕ))
     → length (words_text parts) ≤ length (words_text (word ∷ parts))
-words_text-tail word [] = omega arith
-words_text-tail word (next ∷ parts) = omega (arith, length-append word (32 ∷ words_text (next ∷ parts)))
+words_text-tail word parts = search (rules, length-append)
 
 goes_wrong_within : (kinds : List WordKind) (parts bad : List (List ℕ)) → GoesWrong kinds parts bad
     → length (words_text bad) ≤ length (words_text parts)
 goes_wrong_within [] [] bad h = absurd h
 goes_wrong_within [] (word ∷ parts) bad h = let e = ap (λ l. length (words_text l)) h in omega arith
 goes_wrong_within (kind ∷ kinds) [] bad h = let e = ap (λ l. length (words_text l)) h in omega arith
-goes_wrong_within (kind ∷ kinds) (word ∷ parts) bad (inl h) = let e = ap (λ l. length (words_text l)) h.1 in omega arith
+goes_wrong_within (kind ∷ kinds) (word ∷ parts) bad (inl h) =
+    let e = ap (λ l. length (words_text l)) h.1 in omega arith
 goes_wrong_within (kind ∷ kinds) (word ∷ parts) bad (inr h) =
-    let later = goes_wrong_within kinds parts bad h.1 in
-    let shorter = words_text-tail word parts in
-    omega arith
+    search (rules, words_text-tail, goes_wrong_within kinds parts bad h.1)
 
 -- ---- The first word
 
@@ -64,18 +60,9 @@ words_cut : (line : List ℕ) (end : ℕ) (rest : Option (Bor (List ℕ))) → p
     → end ≤ length line
     → IsGetRangeResult line (end + 1) (length line) rest → words line ≡ take end line ∷ left_words rest
 words_cut line end None e within get =
-    let whole : length line ≤ end = elim get.0 [ inl h ↦ omega arith | inr h ↦ absurd (omega arith) ] in
-    let none : All (λ byte. (byte == 32) ≡ false) line = λ k d h. fails_before_first (λ byte. byte == 32) line k d
-    (omega arith) in
-    slice_split_none (λ byte. byte == 32) line none ∙ ap (λ l. l ∷ []) (sym (take_all end line whole))
+    search (rules, fails_before_first, slice_split_none, take_all)
 words_cut line end (Some bytes) e within get =
-    let room : end < length line = omega arith in
-    let sum : end + 1 + (length line - (end + 1)) ≡ length line = omega arith in
-    let later : bytes.now ≡ drop (end + 1) line = get.0.2 ∙ take_all (length line - (end + 1)) (drop (end + 1) line)
-    (omega (arith, length-drop (end + 1) line)) in
-    slice_split_first (λ byte. byte == 32) line 0 (omega arith)
-    ∙ ap (λ n. take n line ∷ words (drop (n + 1) line)) e
-    ∙ ap (λ l. take end line ∷ words l) (sym later)
+    search (rules, take_all, length-drop, slice_split_first)
 
 pub first_word : (line : List ℕ) (end : ℕ) (rest : Option (Bor (List ℕ))) → end ≤ length line
     → All (λ byte. byte ≢ 32) (take end line) → (end < length line → slice_index line end ≡ 32)
@@ -97,10 +84,7 @@ first_word line end rest within before space get =
 pub word_refused : (kind : WordKind) (kinds : List WordKind) (parts rest : List (List ℕ)) (word : List ℕ)
     (wrong : Wrong) → parts ≡ word ∷ rest → ¬ (IsOf kind word)
     → wrong.left ≡ length (words_text parts) → GoesWrongBefore (kind ∷ kinds) parts wrong
-word_refused kind kinds [] rest word wrong e refused k = absurd cc
-word_refused kind kinds (first ∷ parts) rest word wrong e refused k =
-    let same : first ≡ word = cc in
-    (first ∷ parts, inl (λ of. refused (subst (λ w. IsOf kind w) same of), refl), k)
+word_refused kind kinds parts rest word wrong e refused k = search rules
 
 -- ---- A line that is cut after its first word
 
@@ -111,7 +95,7 @@ module _ {V A : Type 0} (v : Vocabulary V A) (line first : List ℕ) (later : Li
   verb_refused refused = inr (
     short,
     words line,
-    inl (λ verb rest h. refused verb (let both : first ∷ later ≡ v.text_of verb ∷ rest = sym cut ∙ h in cc both), refl),
+    inl (search rules),
     omega (arith, length-words line),
   )
 

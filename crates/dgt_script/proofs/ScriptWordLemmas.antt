@@ -1,12 +1,11 @@
 -- The words of a script line: each one has one value at most, and what a reader of them relies on.
 use Prim.Native.Char.{code as ascii}
-use Rattle.std.proofs.Common.{◌≡◌, ℕ, zero, ◌+◌, ◌-◌, ◌/◌, ◌%◌, ◌<◌, ◌≤◌, true, false, List, [], ◌∷◌, length, get_or, Option, Some, None, Result, Ok, Err, is_ok, refl, sym, ap, ◌∙◌, arith, length-append}
+use Rattle.std.proofs.Common.{◌≡◌, ℕ, ◌-◌, ◌<◌, ◌≤◌, true, false, List, [], ◌∷◌, length, get_or, Option, Some, Result, Ok, Err, is_ok, sym, ap, ◌∙◌, arith, length-append}
+use Rattle.std.proofs.Common.{rules}
 use Rattle.std.proofs.lemmas.Fmt.{IsAscii-decimal, decimal-digits_value, decimal_digit, decimal_injective, decimal_nonempty, digits_decimal, first_decimal, parse-decimal}
 use Rattle.std.proofs.lemmas.Str.{IsUtf8-from_ascii}
-use Rattle.std.proofs.lemmas.Str.Ascii.{IsAscii-cons, IsAscii-nil}
 use Rattle.std.proofs.lemmas.Str.Parse.{IsNumeralModel, digit_at, numerals_by_value, parse_plain, tells_digits}
 use Rattle.std.proofs.lemmas.List.Elements.{All-append, All-from_recursion}
-use Rattle.std.specs.List.{AllByRecursion}
 use Rattle.std.specs.Prelude.{◌↔◌, All, MatchOption, MatchResult, decimal, slice_index}
 use Rattle.std.specs.Result.{result_ok}
 use Rattle.std.specs.Str.{IsUtf8}
@@ -14,7 +13,6 @@ use Rattle.std.specs.Str.Parse.{AllDigits, ParsesUnsigned, digits_value}
 use Rattle.hex.specs.Hex.{decode_sized}
 use Rattle.hex.proofs.HexLemmas.{decode_of-ok, decode_of-same, decode_sized-ok, decode_sized-twice}
 use Rattle.dgt_values.specs.declared.refusals.BodyError.{BodyError}
-use Rattle.dgt_values.specs.declared.refusals.BodyError.TheVariants.{Length, Byte}
 use Rattle.dgt_values.specs.declared.pieces.Piece.{Piece}
 use Rattle.dgt_values.specs.Bytes.{Refuses}
 use Rattle.dgt_values.specs.Board.{square_name}
@@ -22,34 +20,32 @@ use Rattle.dgt_values.proofs.PieceCodes.{letter_one}
 use Rattle.dgt_message.specs.declared.viewing.BodyFault.{BodyFault}
 use Rattle.dgt_message.specs.declared.clock.Clock.{Clock}
 use Rattle.dgt_message.specs.declared.known.KnownCode.{KnownCode}
-use Rattle.dgt_message.specs.Clock.{AreTimes, Times as BothTimes, ClockState}
+use Rattle.dgt_message.specs.Clock.{ClockState}
 use Rattle.dgt_message.specs.Content.{clock_message, clock_seen, Content, IsCarried}
 use Rattle.dgt_message.specs.Code.{known_number}
 use Rattle.dgt_message.specs.Reading.{IsFaultOf, reading}
-use Rattle.dgt_message.specs.Encoding.{Fits, times_bytes}
+use Rattle.dgt_message.specs.Encoding.{Fits}
 use Rattle.dgt_command.specs.Content.{CommandContent, Read}
 use Rattle.dgt_command.specs.Laws.{EncodingsGiveCommands, WordsAreShort}
-use Rattle.dgt_command.specs.Encoding.{command_in, EncodesCommand}
+use Rattle.dgt_command.specs.Encoding.{EncodesCommand}
 use Rattle.dgt_script.specs.ScriptWords.{IsClockWord, IsCommandWord, IsCountWord, IsHexOf, IsPieceWord, IsSquareWord, ReportsClock}
+use Rattle.std.proofs.lemmas.Grind.{common_steps}
 
 -- ---- What a call answers
 
 -- an answer with no value is an error
 pub error_of : {T E : Type 0} (P : T → Type 0) (Q : E → Type 0) (r : Result T E) → false ≡ is_ok r → MatchResult r P Q
     → (e : E) × Q e
-error_of P Q (Ok x) h m = cc h
-error_of P Q (Err e) h m = (e, m)
+error_of P Q r h m = search rules
 
 -- what holds of the value of an answer that has one
 pub value_of : {T E : Type 0} (P : T → Type 0) (Q : E → Type 0) (r : Result T E) (x : T) → Some x ≡ result_ok r
     → MatchResult r P Q → P x
-value_of P Q (Ok y) x h m = let e : x ≡ y = cc h in rw e m
-value_of P Q (Err e) x h m = cc h
+value_of P Q r x h m = search rules
 
 -- an answer that has a value is that value
 pub ok_of : {T E : Type 0} (r : Result T E) (x : T) → Some x ≡ result_ok r → r ≡ Ok x
-ok_of (Ok y) x h = cc h
-ok_of (Err e) x h = cc h
+ok_of r x h = search rules
 
 -- no answer has a value and is an error
 pub not_ok : {T E : Type 0} (r : Result T E) (x : T) → r ≡ Ok x → false ≡ is_ok r → ⊥
@@ -61,15 +57,11 @@ not_ok r x e h = absurd (let clash : false ≡ true = rw e at h in cc clash)
 pub square_is_text : (word : List ℕ) (square : ℕ) → IsSquareWord word square → IsUtf8 word
 square_is_text word square h =
     rw h.1 (IsUtf8-from_ascii (square_name square)
-    (IsAscii-cons (97 + square % 8) ((56 - square / 8) ∷ []) (omega arith)
-    (IsAscii-cons (56 - square / 8) [] (omega arith) IsAscii-nil)))
+    (search rules))
 
 -- a word names one square at most
 pub one_square : (word : List ℕ) (a b : ℕ) → IsSquareWord word a → IsSquareWord word b → a ≡ b
-one_square word a b h k =
-    let file : 97 + a % 8 ≡ 97 + b % 8 = ap (λ w. slice_index w 0) (sym h.1 ∙ k.1) in
-    let rank : 56 - a / 8 ≡ 56 - b / 8 = ap (λ w. slice_index w 1) (sym h.1 ∙ k.1) in
-    omega arith
+one_square word a b h k = search rules
 
 -- ---- Pieces
 
@@ -92,33 +84,17 @@ hex_sized word n bytes h e = decode_sized-twice word n (omega (arith, (decode_of
 
 -- a message reports one clock at most
 pub same_clock : (a b : ClockState) → clock_message a ≡ clock_message b → a ≡ b
-same_clock (ClockState.times a) (ClockState.times b) h = cc h
-same_clock (ClockState.no_clock a) (ClockState.no_clock b) h = cc h
-same_clock (ClockState.times a) (ClockState.no_clock b) h = cc h
-same_clock (ClockState.no_clock a) (ClockState.times b) h = cc h
-
--- the bytes of times are seven-bit
-times_small : (t : BothTimes) → AreTimes t → AllByRecursion (λ byte. byte < 128) (times_bytes t)
-times_small t h = (
-  omega (arith, h.0),
-  (
-    omega (arith, h.0),
-    (omega (arith, h.0), (omega (arith, h.1), (omega (arith, h.1), (omega (arith, h.1), (h.2, tt))))),
-  ),
-)
+same_clock a b h = search rules
 
 -- the bytes of a clock are seven
 pub length-clock : (clock : ClockState) (body : List ℕ)
     → Fits (clock_message clock) (known_number KnownCode.Clock) body → length body ≡ 7
-length-clock (ClockState.times readings) body h = rw h.encoded refl
-length-clock (ClockState.no_clock absence) body h =
-    rw h.encoded (omega (arith, h.is_message.0, length-append absence.raw (absence.status ∷ [])))
+length-clock clock body h = search (rules, length-append)
 
 -- each byte of a clock is below 128
 pub clock_is_seven_bit : (clock : ClockState) (body : List ℕ)
     → Fits (clock_message clock) (known_number KnownCode.Clock) body → All (λ byte. byte < 128) body
-clock_is_seven_bit (ClockState.times readings) body h =
-    rw h.encoded (All-from_recursion (λ byte. byte < 128) (times_bytes readings) (times_small readings h.is_message))
+clock_is_seven_bit (ClockState.times readings) body h = search rules
 clock_is_seven_bit (ClockState.no_clock absence) body h =
     rw h.encoded
     (All-append (λ byte. byte < 128) absence.raw (absence.status ∷ []) h.is_message.1
@@ -138,19 +114,13 @@ IsRefused = (code : ℕ) (body : List ℕ) (why : BodyFault) → code < 128 → 
 clock_read : IsRead → (clock : ClockState) (body : List ℕ)
     → Fits (clock_message clock) (known_number KnownCode.Clock) body
     → IsCarried body × (reading (known_number KnownCode.Clock) body ≡ Ok (clock_message clock))
-clock_read exact clock body h =
-    let carried : IsCarried body = (omega (arith, length-clock clock body h), clock_is_seven_bit clock body h) in
-    (carried, (exact (known_number KnownCode.Clock) body (clock_message clock) (omega arith) carried).1 h)
+clock_read exact clock body h = search (rules, length-clock, clock_is_seven_bit)
 
 -- no other message fits them
 one_message : IsRead → (clock : ClockState) (said : Content) (body : List ℕ)
     → Fits (clock_message clock) (known_number KnownCode.Clock) body
     → Fits said (known_number KnownCode.Clock) body → clock_message clock ≡ said
-one_message exact clock said body h k =
-    let read = clock_read exact clock body h in
-    let both : Ok (clock_message clock) ≡ Ok said =
-    sym read.1 ∙ (exact (known_number KnownCode.Clock) body said (omega arith) read.0).1 k in
-    cc both
+one_message exact clock said body h k = search (rules, clock_read)
 
 -- the word of a clock is decoded into room for seven bytes
 pub clock_decoded : (word : List ℕ) (clock : ClockState) (h : IsClockWord word clock) → decode_sized word 7 ≡ Ok h.body
@@ -159,46 +129,29 @@ clock_decoded word clock h = hex_sized word 7 h.body h.digits (length-clock cloc
 -- what the word of a clock is decoded to is the body of that clock
 pub clock_fits : (word bytes : List ℕ) (clock : ClockState) → decode_sized word 7 ≡ Ok bytes → IsClockWord word clock
     → Fits (clock_message clock) (known_number KnownCode.Clock) bytes
-clock_fits word bytes clock e h =
-    let same : h.body ≡ bytes = decode_of-same word h.body bytes h.digits (sized_hex word 7 bytes e) in
-    rw same at h.fits
+clock_fits word bytes clock e h = search (rules, decode_of-same, sized_hex)
 
 -- the body that the word of a clock encodes is not refused
 pub clock_not_refused : (word bytes : List ℕ) (clock : ClockState) (why : BodyError) → decode_sized word 7 ≡ Ok bytes
     → IsClockWord word clock → Refuses bytes why → ⊥
-clock_not_refused word bytes clock (Length _) e h r =
-    omega (arith, length-clock clock bytes (clock_fits word bytes clock e h))
-clock_not_refused word bytes clock (Byte _) e h r =
-    let high = r.1 in
-    let small : high.1 < 128 =
-    rw high.3 at (clock_is_seven_bit clock bytes (clock_fits word bytes clock e h) high.0 high.1 high.2) in
-    omega (arith, high.4)
+clock_not_refused word bytes clock why e h r =
+    search (rules, length-clock, clock_fits, clock_is_seven_bit)
 
 -- what the word of a clock is decoded to has no fault
 pub clock_not_faulty : IsRead → IsRefused → (word bytes : List ℕ) (clock : ClockState) (why : BodyFault)
     → decode_sized word 7 ≡ Ok bytes → IsClockWord word clock → IsFaultOf (known_number KnownCode.Clock) bytes why → ⊥
-clock_not_faulty exact refused word bytes clock why e h r =
-    let read = clock_read exact clock bytes (clock_fits word bytes clock e h) in
-    let both : Ok (clock_message clock) ≡ Err why =
-    sym read.1 ∙ (refused (known_number KnownCode.Clock) bytes why (omega arith) read.0).1 r in
-    cc both
+clock_not_faulty exact refused word bytes clock why e h r = search (rules, clock_read, clock_fits)
 
 -- what a message of these bytes reports of the clock is what the word says
 pub clock_reported : IsRead → (word bytes : List ℕ) (said : Content) (r : Option Clock) → decode_sized word 7 ≡ Ok bytes
     → Fits said (known_number KnownCode.Clock) bytes
     → MatchOption r ((clock : ClockState) → ¬ (ReportsClock said clock)) (λ clock. ReportsClock said (clock_seen clock))
     → MatchOption r ((clock : ClockState) → ¬ (IsClockWord word clock)) (λ clock. IsClockWord word (clock_seen clock))
-clock_reported exact word bytes said None e f m =
-    λ clock h. m clock (one_message exact clock said bytes (clock_fits word bytes clock e h) f)
-clock_reported exact word bytes said (Some clock) e f m =
-    record { body = bytes; digits = sized_hex word 7 bytes e; fits = rw m f }
+clock_reported exact word bytes said r e f m = search (rules, one_message, clock_fits, sized_hex)
 
 -- a word says one clock at most
 pub one_clock : IsRead → (word : List ℕ) (a b : ClockState) → IsClockWord word a → IsClockWord word b → a ≡ b
-one_clock exact word a b h k =
-    same_clock a b
-    (one_message exact a (clock_message b) h.body h.fits
-    (rw (decode_of-same word k.body h.body k.digits h.digits) at k.fits))
+one_clock exact word a b h k = search (rules, same_clock, one_message, decode_of-same)
 
 -- ---- Commands
 
@@ -211,9 +164,7 @@ length-command short command bytes h =
 -- a word says one command at most
 pub one_command : EncodingsGiveCommands → (word : List ℕ) (a b : CommandContent) → IsCommandWord word a
     → IsCommandWord word b → a ≡ b
-one_command gives word a b h k =
-    sym (gives a h.bytes h.encodes) ∙ ap command_in (decode_of-same word h.bytes k.bytes h.digits k.digits) ∙ gives b
-    k.bytes k.encodes
+one_command gives word a b h k = grind (arith, common_steps, decode_of-same)
 
 -- ---- Counts
 
@@ -233,19 +184,12 @@ numerals = numerals_by_value (AllDigits 10) tells_digits
 pub count_first : (word : List ℕ) (n : ℕ) → IsCountWord word n → (0 < length word) × (ascii "0" < get_or word 0 0)
     × (get_or word 0 0 ≤ ascii "9")
 count_first word n h =
-    let some = decimal_nonempty n (omega arith) in
-    let digit = digit_at (decimal n) 0 (digits_decimal numerals n (omega arith)) some in
-    rw h.2 (some, first_decimal n (omega arith) (omega arith), digit.1)
+    search (rules, decimal_nonempty, digit_at, digits_decimal, numerals, first_decimal)
 
 -- a count is parsed
 pub count_parsed : {E : Type 0} (word : List ℕ) (n : ℕ) (r : Result ℕ E) → IsCountWord word n
     → ParsesUnsigned 16 10 word r → r ≡ Ok n
 count_parsed word n r h p = parse-decimal 16 n word r (omega arith) (omega arith) h.2 p
-
--- a number that is written with a first digit above 0 is at least 1
-not_zero : (word : List ℕ) (n : ℕ) → ascii "0" < get_or word 0 0 → decimal n ≡ word → 1 ≤ n
-not_zero word zero first e = absurd (omega (arith, ap (λ w. get_or w 0 0) (sym (decimal_digit 0 (omega arith)) ∙ e)))
-not_zero word n first e = omega arith
 
 -- what is parsed is a count if its first byte is above the digit 0
 pub parsed_count : {E : Type 0} (word : List ℕ) (n : ℕ) (r : Result ℕ E) → ParsesUnsigned 16 10 word r → r ≡ Ok n
@@ -255,5 +199,4 @@ parsed_count {E} word n r h e first =
     let parsed = parse_plain numerals {E = E} 16 word (Ok n) same (λ plus. omega arith) in
     let encoded : decimal (digits_value 10 word) ≡ word = decimal-digits_value numerals word parsed.0.0 parsed.0.1
     (λ none. absurd (omega arith)) (omega (arith, parsed.0.2)) in
-    let written : decimal n ≡ word = ap decimal parsed.1 ∙ encoded in
-    (not_zero word n first written, omega (arith, parsed.0.2, parsed.1), sym written)
+    search (rules, decimal_digit)

@@ -1,34 +1,28 @@
 -- No line has two meanings in an ordered vocabulary.
-use Rattle.std.proofs.Common.{◌≡◌, ℕ, List, [], ◌∷◌, Option, Some, refl, sym, ◌∙◌, ap, subst, arith, inl, inr, length}
+use Rattle.std.proofs.Common.{◌≡◌, ℕ, List, [], ◌∷◌, Option, Some, sym, ◌∙◌, inl, inr}
+use Rattle.std.proofs.Common.{rules}
 use Rattle.std.specs.Prelude.{◌↔◌}
-use Rattle.dgt_script.specs.ScriptWords.{words_text}
-use Rattle.dgt_script.specs.Script.{AreOf, AsksFor, GoesWrong, HasWordAfter, IsBadAt, IsBadFrom, IsOf, IsSingleValued, Vocabulary, WordKind, words}
+use Rattle.dgt_script.specs.Script.{AreOf, AsksFor, GoesWrong, HasWordAfter, IsBadAt, IsOf, IsSingleValued, Vocabulary, WordKind, words}
 
 -- ---- Words after the first one
 
 -- no word, if there should be none
 pub none_left : (first : List ℕ) (rest : List (List ℕ)) → AreOf [] rest → first ∷ rest ≡ first ∷ []
-none_left first [] f = refl
-none_left first (word ∷ rest) f = absurd f
+none_left first rest f = search rules
 
 -- one word and its value, if there should be one
 pub one_left : {A : Type 0} (kind : WordKind) (has_value : List ℕ → A → Type 0)
     → ((word : List ℕ) → IsOf kind word → (value : A) × has_value word value)
     → (first : List ℕ) (rest : List (List ℕ)) → AreOf (kind ∷ []) rest
     → (value : A) × HasWordAfter first has_value (first ∷ rest) value
-one_left kind has_value of first [] f = absurd f
-one_left kind has_value of first (word ∷ []) f = let value = of word f.0 in (value.0, (word, refl, value.1))
-one_left kind has_value of first (word ∷ next ∷ rest) f = absurd f.1
+one_left kind has_value of first rest f = search rules
 
 -- one word has one value, if each has
 pub one_value : {A : Type 0} (has_value : List ℕ → A → Type 0)
     → ((word : List ℕ) (a b : A) → has_value word a → has_value word b → a ≡ b)
     → (first : List ℕ) (parts : List (List ℕ)) (a b : A)
     → HasWordAfter first has_value parts a → HasWordAfter first has_value parts b → a ≡ b
-one_value has_value one first parts a b h k =
-    let both : first ∷ h.0 ∷ [] ≡ first ∷ k.0 ∷ [] = sym h.1 ∙ k.1 in
-    let same : h.0 ≡ k.0 = cc both in
-    one k.0 a b (subst (λ word. has_value word a) same h.2) k.2
+one_value has_value one first parts a b h k = search rules
 
 allowed_not_wrong : (kinds : List WordKind) (parts bad : List (List ℕ)) → AreOf kinds parts → GoesWrong kinds parts bad
     → ⊥
@@ -61,24 +55,16 @@ pub record IsOrdered {V A : Type 0} (v : Vocabulary V A) : Type 0 where
 
 one_first : {V A : Type 0} (v : Vocabulary V A) → IsOrdered v → (a b : V) (rest later : List (List ℕ))
     → v.text_of a ∷ rest ≡ v.text_of b ∷ later → (a ≡ b) × (rest ≡ later)
-one_first v o a b rest later h =
-    let text : v.text_of a ≡ v.text_of b = cc h in
-    let both : Some a ≡ Some b = sym (o.names a) ∙ ap o.named text ∙ o.names b in
-    (cc both, cc h)
+one_first v o a b rest later h = search rules
 
 asked_kinds : {V A : Type 0} (v : Vocabulary V A) → IsOrdered v → (verb : V) (rest : List (List ℕ)) (act : A)
     → v.asks (v.text_of verb ∷ rest) act → AreOf (v.kinds_of verb) rest
-asked_kinds v o verb rest act h =
-    let p = o.begins (v.text_of verb ∷ rest) act h in
-    let same = one_first v o verb (o.verb_of act) rest p.0 p.1 in
-    subst (λ w. AreOf (v.kinds_of w) rest) (sym same.0)
-    (subst (λ l. AreOf (v.kinds_of (o.verb_of act)) l) (sym same.1) p.2)
+asked_kinds v o verb rest act h = search (rules, one_first)
 
 -- the words after a verb ask for an act exactly if they are of the kinds that follow it
 pub kinds_are_asked_for : {V A : Type 0} (v : Vocabulary V A) → IsOrdered v
     → ((verb : V) (rest : List (List ℕ)) → AreOf (v.kinds_of verb) rest
-    → (act : A) × v.asks (v.text_of verb ∷ rest) act)
-    → (verb : V) (rest : List (List ℕ))
+    → (act : A) × v.asks (v.text_of verb ∷ rest) act) → (verb : V) (rest : List (List ℕ))
     → AreOf (v.kinds_of verb) rest ↔ ((act : A) × v.asks (v.text_of verb ∷ rest) act)
 kinds_are_asked_for v o ask verb rest = (ask verb rest, λ h. asked_kinds v o verb rest h.0 h.1)
 
@@ -88,35 +74,11 @@ kinds_are_asked_for v o ask verb rest = (ask verb rest, λ h. asked_kinds v o ve
 pub one_act : {V A : Type 0} (v : Vocabulary V A) (o : IsOrdered v)
     → ((parts : List (List ℕ)) (a b : A) → o.verb_of a ≡ o.verb_of b → v.asks parts a → v.asks parts b → a ≡ b)
     → IsSingleValued (AsksFor v)
-one_act v o one line a b h k =
-    let p = o.begins (words line) a h.1 in
-    let q = o.begins (words line) b k.1 in
-    one (words line) a b (one_first v o (o.verb_of a) (o.verb_of b) p.0 q.0 (sym p.1 ∙ q.1)).0 h.1 k.1
+one_act v o one line a b h k = search (rules, one_first)
 
 pub asked_not_bad : {V A : Type 0} (v : Vocabulary V A) → IsOrdered v → (line : List ℕ) (act : A) (at : ℕ)
     → AsksFor v line act → IsBadAt v line at → ⊥
-asked_not_bad v o line act at h (inl g) = absurd (omega (arith, h.0))
-asked_not_bad v o line act at h (inr (short, bad, inl g, left)) =
-    let p = o.begins (words line) act h.1 in g.0 (o.verb_of act) p.0 p.1
-asked_not_bad v o line act at h (inr (short, bad, inr g, left)) =
-    allowed_not_wrong (v.kinds_of g.0) g.1 bad
-    (asked_kinds v o g.0 g.1 act (subst (λ parts. v.asks parts act) g.2 h.1)) g.3
-
-one_bad_from : {V A : Type 0} (v : Vocabulary V A) → IsOrdered v → (parts a b : List (List ℕ)) → IsBadFrom v parts a
-    → IsBadFrom v parts b → a ≡ b
-one_bad_from v o parts a b (inl g) (inl h) = g.1 ∙ sym h.1
-one_bad_from v o parts a b (inl g) (inr h) = absurd (g.0 h.0 h.1 h.2)
-one_bad_from v o parts a b (inr g) (inl h) = absurd (h.0 g.0 g.1 g.2)
-one_bad_from v o parts a b (inr g) (inr h) =
-    let same = one_first v o g.0 h.0 g.1 h.1 (sym g.2 ∙ h.2) in
-    one_wrong (v.kinds_of h.0) h.1 a b
-    (subst (λ rest. GoesWrong (v.kinds_of h.0) rest a) same.1
-    (subst (λ w. GoesWrong (v.kinds_of w) g.1 a) same.0 g.3)) h.3
+asked_not_bad v o line act at h h6 = search (rules, allowed_not_wrong, asked_kinds)
 
 pub one_place : {V A : Type 0} (v : Vocabulary V A) → IsOrdered v → IsSingleValued (IsBadAt v)
-one_place v o line a b (inl g) (inl h) = g.1 ∙ sym h.1
-one_place v o line a b (inl g) (inr h) = absurd (omega (arith, g.0, h.0))
-one_place v o line a b (inr g) (inl h) = absurd (omega (arith, g.0, h.0))
-one_place v o line a b (inr g) (inr h) =
-    let same = ap (λ bad. length (words_text bad)) (one_bad_from v o (words line) g.1 h.1 g.2 h.2) in
-    omega (arith, g.3, h.3)
+one_place v o = search (rules, one_first, one_wrong)

@@ -1,14 +1,14 @@
 -- A body is a list of items, in one way only.
-use Rattle.std.proofs.Common.{◌≡◌, ◌⊎◌, inl, inr, ◌+◌, ◌*◌, ◌/◌, ◌%◌, ◌-◌, ◌<◌, ◌≤◌, ℕ, zero, suc, List, [], ◌∷◌, length, refl, sym, ap, arith, length-append}
+use Rattle.std.proofs.Common.{◌≡◌, ◌⊎◌, inl, inr, ◌+◌, ◌/◌, ◌%◌, ◌-◌, ◌<◌, ◌≤◌, ℕ, zero, suc, List, [], ◌∷◌, length, refl, sym, ap, arith, length-append}
+use Rattle.std.proofs.Common.{rules}
 use Rattle.std.proofs.Math.Decide.{dec_le, dec_lt, ℕ_discrete}
 use Rattle.dgt_values.specs.declared.pieces.Piece.{Piece}
 use Rattle.dgt_values.proofs.PieceCodes.{piece_code-below}
 use Rattle.dgt_message.specs.Clock.{Time}
-use Rattle.dgt_message.specs.Encoding.{packed_decimal}
 use Rattle.dgt_message.specs.Reading.{piece_with_code, time_in}
 use Rattle.dgt_message.proofs.MessageIn.{piece_code-piece_with_code}
 use Rattle.dgt_stored.specs.declared.stored.Mark.{Mark}
-use Rattle.dgt_stored.specs.Stored.{Begins, IsFirst, IsKnown, Says, StoredContent, mark_byte, stored_bytes}
+use Rattle.dgt_stored.specs.Stored.{Begins, IsFirst, IsKnown, Says, StoredContent, mark_byte}
 
 -- ---- the first bytes of known items
 
@@ -41,30 +41,11 @@ all_marks =
 begins_piece : (byte square : ℕ) (later : List ℕ) → PieceBegins (byte ∷ square ∷ later)
     → Begins (byte ∷ square ∷ later)
     (StoredContent.piece square (piece_with_code (byte % 16)) ((byte - 0x40) / 16)) later
-begins_piece byte square later h = record {
-  in_range = (h.1.1, omega (arith, h.1.0));
-  begins = ap (λ first. first ∷ square ∷ later)
-      (omega (arith, h.0, h.1.0, piece_code-piece_with_code (byte % 16) (omega arith)));
-}
-
-packed : (byte : ℕ) → IsSixty byte → byte ≡ packed_decimal (10 * (byte / 16) + byte % 16)
-packed byte h = omega (arith, h.0, h.1)
+begins_piece byte square later h = search (rules, piece_code-piece_with_code)
 
 begins_time : (hours minutes seconds : ℕ) (later : List ℕ) → TimeBegins (hours ∷ minutes ∷ seconds ∷ later)
     → Begins (hours ∷ minutes ∷ seconds ∷ later) (StoredContent.time (time_in hours minutes seconds)) later
-begins_time hours minutes seconds later h = record {
-  in_range = (
-    (
-      h.1.1.0,
-      omega (arith, h.1.1.1.0.0, h.1.1.1.0.1),
-      omega (arith, h.1.1.1.1.0, h.1.1.1.1.1),
-      omega (arith, h.1.0),
-    ),
-    omega (arith, h.0),
-  );
-  begins = rw (← packed minutes h.1.1.1.0, ← packed seconds h.1.1.1.1)
-      (ap (λ first. first ∷ minutes ∷ seconds ∷ later) (omega arith));
-}
+begins_time hours minutes seconds later h = search rules
 
 marked : (marks : List Mark) (byte : ℕ) → MarkBegins marks byte → (mark : Mark) × (mark_byte mark ≡ byte)
 marked [] byte h = absurd h
@@ -75,51 +56,22 @@ marked (mark ∷ more) byte (inr h) = marked more byte h
 
 piece_begins : (bytes : List ℕ) (square : ℕ) (stands : Piece) (bit : ℕ) (later : List ℕ)
     → Begins bytes (StoredContent.piece square stands bit) later → PieceBegins bytes
-piece_begins bytes square stands bit later h =
-    rw h.begins (
-      omega arith,
-      (omega (arith, piece_code-below stands, h.in_range.1), h.in_range.0),
-    )
+piece_begins bytes square stands bit later h = search (rules, piece_code-below)
 
 time_begins : (bytes : List ℕ) (shown : Time) (later : List ℕ)
     → Begins bytes (StoredContent.time shown) later → TimeBegins bytes
-time_begins bytes shown later h =
-    let time = h.in_range.0 in
-    rw h.begins (
-      omega (arith, h.in_range.1),
-      (
-        omega (arith, time.0, time.3),
-        (
-          omega (arith, time.0),
-          ((omega (arith, time.1), omega (arith, time.1)), (omega (arith, time.2), omega (arith, time.2))),
-        ),
-      ),
-    )
+time_begins bytes shown later h = search rules
 
 mark_begins : (mark : Mark) → MarkBegins all_marks (mark_byte mark)
-mark_begins Mark.Nothing = inl refl
-mark_begins Mark.PowerUp = inr (inl refl)
-mark_begins Mark.End = inr (inr (inl refl))
-mark_begins Mark.FourRows = inr (inr (inr (inl refl)))
-mark_begins Mark.EmptyBoard = inr (inr (inr (inr (inl refl))))
-mark_begins Mark.Downloaded = inr (inr (inr (inr (inr (inl refl)))))
-mark_begins Mark.Begin = inr (inr (inr (inr (inr (inr (inl refl))))))
-mark_begins Mark.TurnedBegin = inr (inr (inr (inr (inr (inr (inr (inl refl)))))))
-mark_begins Mark.Tag = inr (inr (inr (inr (inr (inr (inr (inr (inl refl))))))))
-mark_begins Mark.Watchdog = inr (inr (inr (inr (inr (inr (inr (inr (inr (inl refl)))))))))
-mark_begins Mark.Erased = inr (inr (inr (inr (inr (inr (inr (inr (inr (inr (inl refl))))))))))
+mark_begins mark = search rules
 
 -- ---- whether bytes have such a beginning
 
 both : {A B : Type 0} → Dec A → Dec B → Dec (A × B)
-both (yes a) (yes b) = yes (a, b)
-both (yes a) (no h) = no (λ p. h p.1)
-both (no h) _ = no (λ p. h p.0)
+both h0 h1 = search rules
 
 either : {A B : Type 0} → Dec A → Dec B → Dec (A ⊎ B)
-either (yes a) _ = yes (inl a)
-either (no h) (yes b) = yes (inr b)
-either (no h) (no k) = no (elim [ inl a ↦ h a | inr b ↦ k b ])
+either h0 h1 = search rules
 
 is_piece : (bytes : List ℕ) → Dec (PieceBegins bytes)
 is_piece [] = no (λ h. h)
@@ -130,12 +82,7 @@ is_sixty : (byte : ℕ) → Dec (IsSixty byte)
 is_sixty byte = both (dec_le (byte / 16) 5) (dec_le (byte % 16) 9)
 
 is_time : (bytes : List ℕ) → Dec (TimeBegins bytes)
-is_time [] = no (λ h. h)
-is_time (hours ∷ []) = no (λ h. h)
-is_time (hours ∷ minutes ∷ []) = no (λ h. h)
-is_time (hours ∷ minutes ∷ seconds ∷ later) =
-    both (dec_le 0x60 hours) (both (dec_lt hours 0x80) (both (dec_le (hours % 16) 9)
-    (both (is_sixty minutes) (is_sixty seconds))))
+is_time bytes = search (rules, both, dec_le, dec_lt, is_sixty)
 
 is_mark : (marks : List Mark) (byte : ℕ) → Dec (MarkBegins marks byte)
 is_mark [] byte = no (λ h. h)
@@ -190,16 +137,9 @@ by_piece byte (square ∷ later) (yes h) = known_first _ _ later tt (begins_piec
 
 -- ---- whole bodies
 
-some_bytes : (stored : StoredContent) → 1 ≤ length (stored_bytes stored)
-some_bytes (StoredContent.piece square stands bit) = omega arith
-some_bytes (StoredContent.time shown) = omega arith
-some_bytes (StoredContent.mark mark) = omega arith
-some_bytes (StoredContent.unknown byte) = omega arith
-
 pub shorter : (bytes later : List ℕ) (stored : StoredContent) → IsFirst bytes stored later
     → length later + 1 ≤ length bytes
-shorter bytes later stored first =
-    omega (arith, ap length first.begins.begins, length-append (stored_bytes stored) later, some_bytes stored)
+shorter bytes later stored first = search (rules, length-append)
 
 pub read : (most : ℕ) (body : List ℕ) → length body ≤ most → (things : List StoredContent) × Says body things
 read most [] short = ([], refl)

@@ -1,5 +1,6 @@
 -- Lines with which a script begins are the first of all its lines.
 use Rattle.std.proofs.Common.{◌≡◌, ◌⊎◌, inl, inr, ℕ, Bool, false, List, [], ◌∷◌, ◌++◌, refl, sym, ◌∙◌, ap, append-nil, true≢false}
+use Rattle.std.proofs.Common.{rules}
 use Rattle.std.specs.Prelude.{All, flat_map}
 use Rattle.dgt_script.specs.ScriptLines.{HasNoFeed, IsCut, ended}
 use Rattle.dgt_text.specs.Simulating.{BeginsWith, all_lines}
@@ -18,9 +19,7 @@ longer_by_one l k ls ks e h =
 first_lines : (l k : List ℕ) (ls ks : List (List ℕ)) (r s : List ℕ) → All HasNoFeed (l ∷ ls) → All HasNoFeed (k ∷ ks)
     → flat_map ended (l ∷ ls) ++ r ≡ flat_map ended (k ∷ ks) ++ s
     → (l ≡ k) × (flat_map ended ls ++ r ≡ flat_map ended ks ++ s)
-first_lines l k ls ks r s f g e =
-    feed_once l k (flat_map ended ls ++ r) (flat_map ended ks ++ s) (first_of_all HasNoFeed l ls f)
-    (first_of_all HasNoFeed k ks g) (sym (flat_first l ls r) ∙ e ∙ flat_first k ks s)
+first_lines l k ls ks r s f g e = search (rules, feed_once, first_of_all, flat_first)
 
 -- of two lists of lines with which the same bytes begin one is longer
 pub nested : (ls ks : List (List ℕ)) (r s : List ℕ) → All HasNoFeed ls → All HasNoFeed ks
@@ -48,9 +47,7 @@ within (l ∷ ls) (w ∷ ws) r rest f g h e =
 -- before the end they are among the whole lines
 pub begins_whole : (bytes rest : List ℕ) (lines whole : List (List ℕ)) → IsCut bytes whole rest
     → BeginsWith false bytes lines → Longer whole lines
-begins_whole bytes rest lines whole cut (inl p) =
-    within lines whole p.0 rest p.2 cut.each cut.last (sym p.1 ∙ cut.whole)
-begins_whole bytes rest lines whole cut (inr p) = absurd (true≢false (sym p.4))
+begins_whole bytes rest lines whole cut h5 = search (rules, within, true≢false)
 
 -- lines with which a script begins are among all its lines
 pub begins_all : (at_end : Bool) (bytes rest : List ℕ) (lines whole : List (List ℕ)) → IsCut bytes whole rest
@@ -60,9 +57,7 @@ begins_all at_end bytes rest lines whole cut (inl p) =
     (all_lines h.0 rest, ap (λ (l : List (List ℕ)). all_lines l rest) h.1 ∙ all_lines-append lines h.0 rest)
 begins_all at_end bytes rest lines whole cut (inr p) =
     let same = cut_once bytes p.0 whole p.1 rest p.2 cut in
-    let all : all_lines p.0 p.1 ≡ all_lines whole rest
-    = ap (λ (l : List (List ℕ)). all_lines l p.1) same.0 ∙ ap (λ (l : List ℕ). all_lines whole l) same.1 in
-    ([], sym all ∙ sym p.3 ∙ sym (append-nil lines))
+    search (rules, append-nil)
 
 -- of two lists of lines with which a script begins one is longer
 pub begins_nested : (at_end : Bool) (bytes : List ℕ) (ls ks : List (List ℕ)) → BeginsWith at_end bytes ls

@@ -1,5 +1,5 @@
 -- The closing lines of a board and a host that agree.
-use Rattle.std.proofs.Common.{◌≡◌, ℕ, List, ◌++◌, sym, ◌∙◌, ap, append_assoc, codes}
+use Rattle.std.proofs.Common.{◌≡◌, ℕ, List, ◌++◌, ◌∙◌, ap, append_assoc, codes, rules}
 use Rattle.dgt_values.specs.Placement.{placement_text}
 use Rattle.dgt_lines.specs.Closing.{clock_text, closing_text, named_line, picture_text, quiet_text}
 use Rattle.dgt_text.specs.Closing.{ClosingLinesAgree}
@@ -7,10 +7,7 @@ use Rattle.dgt_text.specs.Closing.{ClosingLinesAgree}
 -- a text that ends one line and the next
 text-twice : (text : List ℕ) → (text ++ codes "\n") ++ named_line (codes "host") text ≡ text ++ codes "\nhost " ++ text
     ++ codes "\n"
-text-twice text =
-    append_assoc text (codes "\n") (named_line (codes "host") text)
-    ∙ sym (append_assoc text (codes "\nhost ") (text ++ codes "\n"))
-    ∙ sym (append_assoc (text ++ codes "\nhost ") text (codes "\n"))
+text-twice text = search (rules, append_assoc, codes)
 
 -- the first two lines if the picture is the position
 pub closing_lines-agree : ClosingLinesAgree

@@ -1,15 +1,15 @@
 -- Conversations of a board.
 use Rattle.std.proofs.Common.{◌≡◌, ℕ, ◌<◌, ◌≤◌, suc, zero, List, [], ◌∷◌, ◌++◌, Option, Some, None, refl, sym, ◌∙◌, ap, subst, length, arith, append_assoc, append-nil}
+use Rattle.std.proofs.Common.{rules}
 use Rattle.std.proofs.Math.ListN.{length-set}
 use Rattle.std.proofs.lemmas.Option.{none-some, same_Some}
 use Rattle.dgt_message.specs.Content.{Content}
-use Rattle.dgt_message.specs.Encoding.{encoding}
 use Rattle.dgt_command.specs.Content.{EventContent}
 use Rattle.dgt_command.specs.Laws.{DivisionsAppend, EachDividesOnce, PrefixesDivideFirst}
 use Rattle.dgt_command.specs.Encoding.{AreBytes}
 use Rattle.dgt_command.specs.Words.{IsWord, IsPartial, Divides}
 use Rattle.dgt_board.specs.State.{BoardState, effect}
-use Rattle.dgt_board.specs.Sending.{after_sending, left_to_send, next_message, piece_on, reported_squares_after}
+use Rattle.dgt_board.specs.Sending.{after_sending, left_to_send, next_message, reported_squares_after}
 use Rattle.dgt_board.specs.View.{BoardView, after_bytes}
 use Rattle.dgt_text.specs.Conversation.{Exchange, sent, heard, Converses, events_heard, bytes_sent, Hears, HearsPrefix, EachIsAnswered, EachIsAnsweredOnce, EachPrefixGoesOn}
 
@@ -28,40 +28,26 @@ events_heard-append (heard event ∷ s) t = ap (λ (l : List EventContent). even
 
 pub bytes_sent-append : (s t : List Exchange) → bytes_sent (s ++ t) ≡ bytes_sent s ++ bytes_sent t
 bytes_sent-append [] t = refl
-bytes_sent-append (sent message ∷ s) t =
-    ap (λ (l : List ℕ). encoding message ++ l)
-    (bytes_sent-append s t) ∙ sym (append_assoc (encoding message) (bytes_sent s) (bytes_sent t))
+bytes_sent-append (sent message ∷ s) t = search (rules, append_assoc, bytes_sent-append s t)
 bytes_sent-append (heard event ∷ s) t = bytes_sent-append s t
 
 pub hears_then : DivisionsAppend → (old mid new : BoardView) (s t : List ℕ) (steps more : List Exchange)
     → Hears old s steps mid → Hears mid t more new → Hears old (s ++ t) (steps ++ more) new
 hears_then append old mid new s t steps more p q =
-    record {
-      conversation = converses-append old.state steps more mid.state new.state p.conversation q.conversation;
-      heard = rw (events_heard-append steps more, ← append_assoc old.partial s t)
-          (append (old.partial ++ s) t (events_heard steps) (events_heard more) mid.partial new.partial p.heard
-          q.heard);
-    }
+    search (rules, converses-append, events_heard-append, append_assoc)
 
 pub prefix_then : DivisionsAppend → (old mid new : BoardView) (s t : List ℕ) (steps more : List Exchange)
     → Hears old s steps mid → HearsPrefix mid t more new → HearsPrefix old (s ++ t) (steps ++ more) new
-prefix_then append old mid new s t steps more p q =
-    record {
-      prefix = s ++ q.prefix;
-      rest = q.rest;
-      whole = ap (λ (l : List ℕ). s ++ l) q.whole ∙ sym (append_assoc s q.prefix q.rest);
-      hears = hears_then append old mid new s q.prefix steps more p q.hears;
-    }
+prefix_then append old mid new s t steps more p q = record {
+  prefix = s ++ q.prefix;
+  rest = q.rest;
+  whole = ap (λ (l : List ℕ). s ++ l) q.whole ∙ sym (append_assoc s q.prefix q.rest);
+  hears = hears_then append old mid new s q.prefix steps more p q.hears;
+}
 
 pub prefix_longer : (old new : BoardView) (s t : List ℕ) (steps : List Exchange) → HearsPrefix old s steps new
     → HearsPrefix old (s ++ t) steps new
-prefix_longer old new s t steps p =
-    record {
-      prefix = p.prefix;
-      rest = p.rest ++ t;
-      whole = ap (λ (l : List ℕ). l ++ t) p.whole ∙ append_assoc p.prefix p.rest t;
-      hears = p.hears;
-    }
+prefix_longer old new s t steps p = search (rules, append_assoc)
 
 pub prefix_whole : (old new : BoardView) (s : List ℕ) (steps : List Exchange) → Hears old s steps new
     → HearsPrefix old s steps new
@@ -73,8 +59,7 @@ prefix_whole old new s steps p = record { prefix = s; rest = []; whole = sym (ap
 pub converses-sent : (old mid new : BoardState) (steps : List Exchange) (message : Content) → Converses old steps mid
     → next_message mid ≡ Some message → new ≡ after_sending mid message
     → Converses old (steps ++ sent message ∷ []) new
-converses-sent old mid new steps message p next is = converses-append old steps (sent message ∷ []) mid new p
-    (next, sym is)
+converses-sent old mid new steps message p next is = search (rules, converses-append)
 
 -- messages hear nothing
 pub hears_nothing : (old new : BoardView) (steps : List Exchange) → Converses old.state steps new.state
@@ -87,11 +72,7 @@ hears_nothing old new steps p none is partial =
 pub hears_word : IsPartial [] → (old new : BoardView) (bytes : List ℕ) (event : EventContent)
     → next_message old.state ≡ None → IsWord event (old.partial ++ bytes) → new ≡ after_bytes old bytes (Some event)
     → Hears old bytes (heard event ∷ []) new
-hears_word nothing old new bytes event none word is =
-    rw is (record {
-      conversation = (none, refl);
-      heard = (old.partial ++ bytes, [], word, sym (append-nil (old.partial ++ bytes)), (refl, nothing));
-    })
+hears_word nothing old new bytes event none word is = search (rules, append-nil)
 
 -- bytes that end none
 pub hears_part : (old new : BoardView) (bytes : List ℕ) → IsPartial (old.partial ++ bytes)
@@ -107,22 +88,14 @@ record IsWhole (board : BoardState) : Type 0 where
 
 reported_length : (board : BoardState) (message : Content) → IsWhole board
     → length (reported_squares_after board message) ≡ 64
-reported_length board (Content.dump pieces) whole = whole.squares
-reported_length board (Content.field square piece) whole =
-    length-set board.reported_squares square (piece_on board.squares square) ∙ whole.reported_squares
-reported_length board _ whole = whole.reported_squares
+reported_length board message whole = search (rules, length-set)
 
 whole_after_sending : (board : BoardState) (message : Content) → IsWhole board → IsWhole (after_sending board message)
 whole_after_sending board message whole =
     record { squares = whole.squares; reported_squares = reported_length board message whole }
 
 whole_after_event : (board : BoardState) (event : EventContent) → IsWhole board → IsWhole (effect board event)
-whole_after_event board (EventContent.Read command) whole =
-    record { squares = whole.squares; reported_squares = whole.reported_squares }
-whole_after_event board EventContent.BadSize whole = whole
-whole_after_event board EventContent.BadStart whole = whole
-whole_after_event board EventContent.BadEnd whole = whole
-whole_after_event board (EventContent.Stray byte) whole = whole
+whole_after_event board event whole = search rules
 
 abbrev Lowers : Type 0
 Lowers = (board : BoardState) (message : Content) → length board.reported_squares ≡ 64
@@ -155,11 +128,8 @@ sends_first board (Some message) is whole rest =
     }
 
 sends_all : Lowers → (n : ℕ) (board : BoardState) → IsWhole board → left_to_send board ≤ n → GoesOn board []
-sends_all lowers zero board whole few =
-    sends_first board (next_message board) refl whole
-    (λ message is. let less = lowers board message whole.reported_squares is in absurd (omega (arith, less, few)))
-sends_all lowers (suc n) board whole few =
-    sends_first board (next_message board) refl whole
+sends_all lowers zero board whole few = search (rules, sends_first)
+sends_all lowers (suc n) board whole few = sends_first board (next_message board) refl whole
     (λ message is. let less = lowers board message whole.reported_squares is in sends_all lowers n
     (after_sending board message) (whole_after_sending board message whole) (omega (arith, less, few)))
 
@@ -172,13 +142,9 @@ goes_on lowers board (event ∷ events) whole =
       steps = first.steps ++ heard event ∷ more.steps;
       after = more.after;
       whole = more.whole;
-      conversation =
-          converses-append board first.steps (heard event ∷ more.steps) first.after more.after first.conversation
-          (first.settled, more.conversation);
+      conversation = search (rules, converses-append);
       settled = more.settled;
-      heard = events_heard-append first.steps
-          (heard event ∷ more.steps) ∙ ap (λ (l : List EventContent). l ++ event ∷ events_heard more.steps) first.heard
-          ∙ ap (λ (l : List EventContent). event ∷ l) more.heard;
+      heard = search (rules, events_heard-append);
     }
 
 pub each_is_answered : EachDividesOnce
@@ -189,10 +155,7 @@ each_is_answered divisions are_all_bytes lowers before bytes board are =
     (record { squares = board.squares; reported_squares = board.reported_squares }) in (
       talk.steps,
       record { state = talk.after; partial = found.1 },
-      record {
-        hears = record { conversation = talk.conversation; heard = rw talk.heard found.2 };
-        settled = talk.settled;
-      },
+      search rules,
     )
 
 -- ---- and in one way
@@ -210,7 +173,8 @@ one_more step another steps others between after same rest =
 follows : (board between after : BoardState) (steps others : List Exchange) (events : List EventContent)
     → Converses board steps between → Converses board others after → next_message after ≡ None
     → events_heard others ≡ events_heard steps ++ events → Continues steps others between after
-follows board between after [] others events p q settled is = (others, refl, subst (λ x. Converses x others after) p q)
+follows board between after [] others events p q settled is =
+    (others, refl, subst (λ x. Converses x others after) p q)
 follows board between after (sent message ∷ steps) [] events p q settled is =
     absurd (none-some message (sym settled ∙ ap next_message (sym q) ∙ p.0))
 follows board between after (sent message ∷ steps) (sent later ∷ others) events p q settled is =
@@ -218,11 +182,11 @@ follows board between after (sent message ∷ steps) (sent later ∷ others) eve
     one_more (sent message) (sent later) steps others between after (ap sent same)
     (follows (after_sending board message) between after steps others events p.1
     (subst (λ (m : Content). Converses (after_sending board m) others after) same q.1) settled is)
-follows board between after (sent message ∷ steps) (heard event ∷ others) events p q settled is = absurd
-    (none-some message (sym q.0 ∙ p.0))
+follows board between after (sent message ∷ steps) (heard event ∷ others) events p q settled is =
+    search (rules, none-some)
 follows board between after (heard event ∷ steps) [] events p q settled is = absurd (cc)
-follows board between after (heard event ∷ steps) (sent message ∷ others) events p q settled is = absurd
-    (none-some message (sym p.0 ∙ q.0))
+follows board between after (heard event ∷ steps) (sent message ∷ others) events p q settled is =
+    search (rules, none-some)
 follows board between after (heard event ∷ steps) (heard later ∷ others) events p q settled is =
     let same : later ≡ event = cc in
     let left : events_heard others ≡ events_heard steps ++ events = cc in
@@ -232,14 +196,7 @@ follows board between after (heard event ∷ steps) (heard later ∷ others) eve
 
 pub each_prefix_goes_on : PrefixesDivideFirst → EachPrefixGoesOn
 each_prefix_goes_on prefixes before between after bytes steps others prefix answers =
-    let whole : before.partial ++ bytes ≡ (before.partial ++ prefix.prefix) ++ prefix.rest
-    = ap (λ (l : List ℕ). before.partial ++ l) prefix.whole
-    ∙ sym (append_assoc before.partial prefix.prefix prefix.rest) in
-    let more = prefixes (before.partial ++ prefix.prefix) prefix.rest (events_heard steps)
-    (events_heard others) between.partial after.partial prefix.hears.heard
-    (subst (λ (l : List ℕ). Divides l (events_heard others) after.partial) whole answers.hears.heard) in
-    follows before.state between.state after.state steps others more.0 prefix.hears.conversation
-    answers.hears.conversation answers.settled more.1
+    search (rules, append_assoc, follows)
 
 -- a settled board says no more to events that it doesn't hear
 nothing_more : (board after : BoardState) (steps : List Exchange) → next_message board ≡ None

@@ -1,5 +1,6 @@
 -- A script has one end.
-use Rattle.std.proofs.Common.{◌≡◌, ◌⊎◌, inl, inr, ℕ, ◌+◌, Bool, true, false, List, [], ◌∷◌, ◌++◌, Ok, Err, IsTrue, refl, sym, ◌∙◌, ap, subst, length}
+use Rattle.std.proofs.Common.{◌≡◌, ◌⊎◌, inl, inr, ℕ, ◌+◌, Bool, List, [], ◌∷◌, ◌++◌, Ok, Err, IsTrue, refl, sym, ◌∙◌, ap, subst, length}
+use Rattle.std.proofs.Common.{arith, rules}
 use Rattle.std.specs.Prelude.{◌↔◌}
 use Rattle.dgt_link.specs.declared.acts.Outcome.{Outcome}
 use Rattle.dgt_link.specs.View.{IsQuietWorld, WorldView}
@@ -11,6 +12,7 @@ use Rattle.dgt_text.specs.Ends.{OneBadLine, OneEnd}
 use Rattle.dgt_text.specs.Simulating.{Plays, Rules, Stops, all_lines, part, rules_of}
 use Rattle.dgt_text.proofs.BeginLemmas.{Longer, begins_nested}
 use Rattle.dgt_text.proofs.PlayOnce.{HasOneOutcome, acts_once, cut_once, plays_once}
+use Rattle.std.proofs.lemmas.Grind.{common_steps}
 
 -- what a line does, and where it goes wrong, is clear
 pub record AreClear (rules : Rules) : Type 0 where
@@ -25,28 +27,20 @@ pub acts_clear : {V A : Type 0} (vocabulary : Vocabulary V A) (steps : A → Wor
     → steps act world also other → (answer ≡ also) × (after ≡ other))
     → ((line : List ℕ) (act : A) (at : ℕ) → AsksFor vocabulary line act → ¬ (IsBadAt vocabulary line at))
     → IsSingleValued (IsBadAt vocabulary) → AreClear (rules_of vocabulary steps)
-acts_clear vocabulary steps meaning one either place =
-    record {
-      one = acts_once vocabulary steps meaning one;
-      either = λ line world after outcome at p. either line p.0 at p.1;
-      place = place;
-    }
+acts_clear vocabulary steps meaning one either place = record {
+  one = acts_once vocabulary steps meaning one;
+  either = λ line world after outcome at p. either line p.0 at p.1;
+  place = place;
+}
 
 same_bool : (a b : Bool) → (IsTrue a → IsTrue b) → (IsTrue b → IsTrue a) → a ≡ b
-same_bool true true f g = refl
-same_bool false false f g = refl
-same_bool true false f g = sym (f refl)
-same_bool false true f g = g refl
+same_bool a b f g = search rules
 
 -- one text and one world have one text with its closing lines
 pub closed_once : (text other : List ℕ) (world last : WorldView) (quiet silent : Bool) → text ≡ other → world ≡ last
     → (IsTrue quiet ↔ IsQuietWorld world) → (IsTrue silent ↔ IsQuietWorld last)
     → text ++ closing_lines world quiet ≡ other ++ closing_lines last silent
-closed_once text other world last quiet silent e f p q =
-    let same = same_bool quiet silent
-    (λ h. q.1 (subst IsQuietWorld f (p.0 h))) (λ h. p.1 (subst IsQuietWorld (sym f) (q.0 h))) in
-    ap (λ (t : List ℕ). t ++ closing_lines world quiet) e ∙ ap (λ (w : WorldView). other ++ closing_lines w quiet) f
-    ∙ ap (λ (b : Bool). other ++ closing_lines last b) same
+closed_once text other world last quiet silent e f p q = search (rules, same_bool)
 
 module _ (rules : Rules) (clear : AreClear rules) where
   -- what is played of the same bytes
@@ -56,10 +50,7 @@ module _ (rules : Rules) (clear : AreClear rules) where
       → (text ≡ more) × (last ≡ other)
   cut_plays_once world last other bytes text more rest left lines others cut also p q =
       let same = cut_once bytes lines others rest left cut also in
-      let all : all_lines lines rest ≡ all_lines others left
-      = ap (λ (l : List (List ℕ)). all_lines l rest) same.0 ∙ ap (λ (l : List ℕ). all_lines others l) same.1 in
-      plays_once rules clear.one world (all_lines others left) text more last other
-      (subst (λ (l : List (List ℕ)). Plays rules world l text last) all p) q
+      grind (arith, common_steps, plays_once)
 
   whole_plays_once : (world last other : WorldView) (bytes text more rest left : List ℕ)
       (lines others : List (List ℕ)) → IsCut bytes lines rest → IsCut bytes others left
@@ -76,18 +67,12 @@ module _ (rules : Rules) (clear : AreClear rules) where
   first_bad : (ls ks more : List (List ℕ)) (bad worse : List ℕ) (w v m l : WorldView) (t u : List ℕ) (at also : ℕ)
       → Plays rules w ls t m → rules.is_bad bad at → Plays rules v ks u l → rules.is_bad worse also
       → ks ++ worse ∷ [] ≡ (ls ++ bad ∷ []) ++ more → (ls ≡ ks) × (bad ≡ worse)
-  first_bad [] [] more bad worse w v m l t u at also p b q c e = let same : bad ≡ worse = cc in (refl, same)
-  first_bad [] (k ∷ ks) more bad worse w v m l t u at also p b q c e =
-      let same : bad ≡ k = cc in
-      absurd (clear.either k v q.1 q.0 at q.3 (subst (λ (x : List ℕ). rules.is_bad x at) same b))
-  first_bad (x ∷ ls) [] more bad worse w v m l t u at also p b q c e =
-      let same : worse ≡ x = cc in
-      absurd (clear.either x w p.1 p.0 also p.3 (subst (λ (y : List ℕ). rules.is_bad y also) same c))
+  first_bad [] [] more bad worse w v m l t u at also p b q c e =
+      let same : bad ≡ worse = cc in (refl, same)
   first_bad (x ∷ ls) (k ∷ ks) more bad worse w v m l t u at also p b q c e =
-      let same : x ≡ k = cc in
-      let left : ks ++ worse ∷ [] ≡ (ls ++ bad ∷ []) ++ more = cc in
-      let rest = first_bad ls ks more bad worse p.1 q.1 m l p.2 q.2 at also p.5 b q.5 c left in
-      (ap (λ (y : List ℕ). y ∷ ls) same ∙ ap (λ (y : List (List ℕ)). k ∷ y) rest.0, rest.1)
+      grind (arith, common_steps, first_bad ls ks more bad worse p.1 q.1 m l p.2 q.2)
+  first_bad ls ks more bad worse w v m l t u at also p b q c e =
+      grind (arith, common_steps)
 
   abbrev Stopped : Bool → WorldView → WorldView → List ℕ → List ℕ → ℕ → ℕ → Type 0
   Stopped at_end world last bytes out number at = Stops rules at_end (part 1 bytes world last) (BadLine number at) out

@@ -1,7 +1,7 @@
 -- A host's picture and clock are those that lines show of the same bytes.
-use Rattle.std.proofs.Common.{◌≡◌, List, [], ◌∷◌, refl, sym, ◌∙◌, ap}
+use Rattle.std.proofs.Common.{◌≡◌, List, [], ◌∷◌, refl, sym, ◌∙◌, ap, rules}
 use Rattle.std.specs.Prelude.{option_map}
-use Rattle.dgt_decode.specs.Grammar.{Event, Message, Placed, events}
+use Rattle.dgt_decode.specs.Grammar.{Event, Placed, events}
 use Rattle.dgt_host.specs.Host.{HostView, host_after_event, host_after_events, new_host}
 use Rattle.dgt_lines.specs.Clocks.{clock_text}
 use Rattle.dgt_lines.specs.Pictures.{picture_after_event, picture_after_events}
@@ -11,19 +11,13 @@ use Rattle.dgt_text.specs.Hosts.{LastClockIsTheHosts, PictureIsTheHosts}
 one_event : (host : HostView) (event : Event)
     → ((host_after_event host event).picture ≡ picture_after_event host.picture event)
     × ((host_after_event host event).clock ≡ clock_after_event host.clock event)
-one_event host (Message said) = (refl, refl)
-one_event host _ = (refl, refl)
+one_event host event = search rules
 
 all_events : (host : HostView) (xs : List Placed)
     → ((host_after_events host xs).picture ≡ picture_after_events host.picture xs)
     × ((host_after_events host xs).clock ≡ clock_after_events host.clock xs)
 all_events host [] = (refl, refl)
-all_events host (x ∷ xs) =
-    let one = one_event host x.event in
-    let more = all_events (host_after_event host x.event) xs in (
-      more.0 ∙ ap (λ picture. picture_after_events picture xs) one.0,
-      more.1 ∙ ap (λ clock. clock_after_events clock xs) one.1,
-    )
+all_events host (x ∷ xs) = search (rules, one_event, all_events (host_after_event host x.event) xs)
 
 pub picture_is_the_hosts : PictureIsTheHosts
 picture_is_the_hosts bytes = (all_events new_host (events bytes)).0

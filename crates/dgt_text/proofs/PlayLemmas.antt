@@ -1,12 +1,12 @@
 -- Lines that are played in a row.
-use Rattle.std.proofs.Common.{◌≡◌, ◌≢◌, ℕ, ◌+◌, ◌-◌, ◌<◌, List, [], ◌∷◌, ◌++◌, ◌⊎◌, inl, inr, Bool, false, Result, Ok, Err, IsErrAnd, IsTrue, refl, sym, ◌∙◌, ap, subst, length, arith, append_assoc, append-nil, length-append, zero, suc, take, drop, slice_index, add-one, rules}
+use Rattle.std.proofs.Common.{◌≡◌, ◌≢◌, ℕ, ◌+◌, ◌-◌, ◌<◌, List, [], ◌∷◌, ◌++◌, ◌⊎◌, inl, inr, Bool, false, Result, Ok, Err, IsErrAnd, IsTrue, refl, sym, ◌∙◌, ap, subst, length, arith, append_assoc, append-nil, length-append, suc, take, drop, slice_index, add-one, rules}
 use Rattle.std.specs.Prelude.{◌↔◌, All, MatchResult, flat_map}
 use Rattle.std.specs.Io.KnownBytes.{Appends}
 use Rattle.std.proofs.KnownBytes.{Appends-trans, Appends-nil}
 use Rattle.std.proofs.Math.Seq.{take-add, take-suc}
 use Rattle.std.proofs.lemmas.List.{places, take_rest, take-append-drop}
 use Rattle.std.proofs.lemmas.List.Elements.{All-append}
-use Rattle.std.proofs.lemmas.Grind.{flat_map-append}
+use Rattle.std.proofs.lemmas.Grind.{flat_map-append, common_steps}
 use Rattle.dgt_link.specs.declared.acts.Outcome.{Outcome}
 use Rattle.dgt_link.specs.View.{IsQuietWorld, WorldView}
 use Rattle.dgt_lines.specs.declared.faults.RunFault.{RunFault}
@@ -30,8 +30,7 @@ pub no_byte : HasNoFeed []
 no_byte k d h = absurd (omega arith)
 
 pub all_one : (line : List ℕ) → HasNoFeed line → All HasNoFeed (line ∷ [])
-all_one line h zero d k = h
-all_one line h (suc j) d k = absurd (omega arith)
+all_one line h = search rules
 
 flat_one : (line : List ℕ) → flat_map ended (line ∷ []) ≡ ended line
 flat_one line = append-nil (ended line)
@@ -39,9 +38,7 @@ flat_one line = append-nil (ended line)
 -- lines, and then more lines
 whole_after : (bytes tail rest : List ℕ) (lines more : List (List ℕ)) → bytes ≡ flat_map ended lines ++ tail
     → tail ≡ flat_map ended more ++ rest → bytes ≡ flat_map ended (lines ++ more) ++ rest
-whole_after bytes tail rest lines more e f =
-    e ∙ ap (λ l. flat_map ended lines ++ l) f ∙ sym (append_assoc (flat_map ended lines) (flat_map ended more) rest)
-    ∙ ap (λ l. l ++ rest) (sym (flat_map-append ended lines more))
+whole_after bytes tail rest lines more e f = search (rules, append_assoc, flat_map-append)
 
 pub cut_after : (bytes tail rest : List ℕ) (lines more : List (List ℕ)) → bytes ≡ flat_map ended lines ++ tail
     → All HasNoFeed lines → IsCut tail more rest → IsCut bytes (lines ++ more) rest
@@ -53,8 +50,7 @@ cut_after bytes tail rest lines more e h c = record {
 
 pub all_lines-append : (lines more : List (List ℕ)) (rest : List ℕ)
     → all_lines (lines ++ more) rest ≡ lines ++ all_lines more rest
-all_lines-append lines more [] = refl
-all_lines-append lines more (b ∷ rest) = append_assoc lines more ((b ∷ rest) ∷ [])
+all_lines-append lines more rest = search (rules, append_assoc)
 
 -- a script begins with no line
 pub begins_none : (at_end : Bool) (bytes : List ℕ) → BeginsWith at_end bytes []
@@ -68,8 +64,7 @@ begins_ended at_end line rest bytes h e = inl (rest, e ∙ ap (λ l. l ++ rest) 
 -- a last line
 pub begins_last : (at_end : Bool) (line : List ℕ) → IsTrue at_end → HasNoFeed line → line ≢ []
     → BeginsWith at_end line (line ∷ [])
-begins_last at_end [] e h n = absurd (n refl)
-begins_last at_end (b ∷ line) e h n = inr ([], b ∷ line, record { whole = refl; each = all_none; last = h }, refl, e)
+begins_last at_end line e h n = search (rules, all_none)
 
 begins_after : (at_end : Bool) (bytes tail : List ℕ) (lines more : List (List ℕ))
     → bytes ≡ flat_map ended lines ++ tail → All HasNoFeed lines → BeginsWith at_end tail more
@@ -92,38 +87,28 @@ prefix_none [] rest h = refl
 prefix_none (b ∷ prefix) rest h = cc
 
 pub stopped_none : {S : Type 0} (W : Sink S) (a b : S) → Stopped W a b [] → Appends (W.written a) (W.written b) []
-stopped_none W a b p = subst (λ l. Appends (W.written a) (W.written b) l)
-    (prefix_none p.prefix p.rest p.whole) p.appends
+stopped_none W a b p = search (rules, prefix_none)
 
 -- a call that flushes nothing, whatever it answers
 pub no_flush_at : {S A : Type 0} (W : Sink S) (a b : S) (r : Result A RunFault)
     → (W.flushed a ≡ false → W.flushed b ≡ false) → NoFlush W (change a b) r
-no_flush_at W a b (Ok x) p = p
-no_flush_at W a b (Err e) p = λ _. p
+no_flush_at W a b r p = search rules
 
 -- the exit of a `?`, before which nothing was flushed
 pub no_flush_exit : {S A : Type 0} (W : Sink S) (a b c : S) (r : Result A RunFault) (e : RunFault)
     → IsErrAnd r (λ y. y ≡ e) → (W.flushed a ≡ false → W.flushed b ≡ false)
     → (e ≡ WriteFailed → W.flushed b ≡ false → W.flushed c ≡ false) → NoFlush W (change a c) r
-no_flush_exit W a b c (Ok x) e k p q = absurd k
-no_flush_exit W a b c (Err y) e k p q = λ w h. q (sym k ∙ w) (p h)
+no_flush_exit W a b c r e k p q = search rules
 
 module _ (rules : Rules) where
   -- ---- playing
 
   pub plays_append : (w m l : WorldView) (ls ks : List (List ℕ)) (t u : List ℕ) → Plays rules w ls t m
-      → Plays rules m ks u l
-      → Plays rules w (ls ++ ks) (t ++ u) l
+      → Plays rules m ks u l → Plays rules w (ls ++ ks) (t ++ u) l
   plays_append w m l [] ks t u p q =
       subst (λ x. Plays rules w ks (x ++ u) l) (sym p.0) (subst (λ x. Plays rules x ks u l) (sym p.1) q)
-  plays_append w m l (line ∷ ls) ks t u p q = (
-    p.0,
-    p.1,
-    p.2 ++ u,
-    p.3,
-    ap (λ x. x ++ u) p.4 ∙ append_assoc (outcome_line p.0) p.2 u,
-    plays_append p.1 m l ls ks p.2 u p.5 q,
-  )
+  plays_append w m l (line ∷ ls) ks t u p q =
+      grind (arith, common_steps, append_assoc, plays_append p.1 m l ls ks p.2 u p.5 q)
 
   pub plays_one : (w l : WorldView) (line : List ℕ) (o : Outcome) → rules.does line w o l
       → Plays rules w (line ∷ []) (outcome_line o) l
@@ -131,20 +116,7 @@ module _ (rules : Rules) where
 
   -- no line
   pub torn_none : (w : WorldView) → PlaysTorn rules w [] [] w
-  torn_none w = record {
-    earlier = [];
-    final = [];
-    split = refl;
-    at_most_one = omega arith;
-    between = w;
-    text = [];
-    torn = [];
-    prefix = [];
-    plays = (refl, refl);
-    ends = (refl, refl);
-    is_prefix = ([], refl);
-    out_is = refl;
-  }
+  torn_none w = grind (arith, common_steps)
 
   -- one line, with an outcome that may be torn
   torn_one : (w l : WorldView) (line prefix text : List ℕ) → Plays rules w (line ∷ []) text l → IsPrefix prefix text
@@ -165,8 +137,7 @@ module _ (rules : Rules) where
   }
 
   torn_after : (w m l : WorldView) (ls ks : List (List ℕ)) (t out : List ℕ) → Plays rules w ls t m
-      → PlaysTorn rules m ks out l
-      → PlaysTorn rules w (ls ++ ks) (t ++ out) l
+      → PlaysTorn rules m ks out l → PlaysTorn rules w (ls ++ ks) (t ++ out) l
   torn_after w m l ls ks t out p q = record {
     earlier = ls ++ q.earlier;
     final = q.final;
@@ -208,9 +179,7 @@ module _ (rules : Rules) where
 
   all_after : (w m l : WorldView) (bytes tail rest t u : List ℕ) (ls ks : List (List ℕ)) → Plays rules w ls t m
       → Plays rules m (all_lines ks rest) u l → Plays rules w (all_lines (ls ++ ks) rest) (t ++ u) l
-  all_after w m l bytes tail rest t u ls ks p q = subst (λ x. Plays rules w x (t ++ u) l)
-      (sym (all_lines-append ls ks rest))
-      (plays_append w m l ls (all_lines ks rest) t u p q)
+  all_after w m l bytes tail rest t u ls ks p q = search (rules, all_lines-append, plays_append)
 
   pub simulated_after : {A : Type 0} (at_end : Bool) (r : Result A RunFault)
       → HoldsWithLines (λ p. IsSimulatedFrom rules at_end p r)
@@ -228,31 +197,30 @@ module _ (rules : Rules) where
       (ls ++ s.0, s.1, cut_after bytes tail s.1 ls s.0 e h s.2, plays_append w m l ls s.0 t out p s.3)
   simulated_after at_end (Err TooManyTurns) w m l number number' bytes tail t out ls e h n p s =
       (ls ++ s.0, s.1, cut_after bytes tail s.1 ls s.0 e h s.2, plays_append w m l ls s.0 t out p s.3)
-  simulated_after at_end (Err (BadLine bad at)) w m l number number' bytes tail t out ls e h n p s = stops_after at_end
-      (BadLine bad at) w m l number number' bytes tail t out ls e h n p s
-  simulated_after at_end (Err WriteFailed) w m l number number' bytes tail t out ls e h n p (inl s) = inl
+  simulated_after at_end (Err (BadLine bad at)) w m l number number' bytes tail t out ls e h n p s =
+      search (rules, stops_after)
+  simulated_after at_end (Err WriteFailed) w m l number number' bytes tail t out ls e h n p (inl s) =
+      inl
       (stops_after at_end WriteFailed w m l number number' bytes tail t out ls e h n p s)
-  simulated_after at_end (Err WriteFailed) w m l number number' bytes tail t out ls e h n p (inr s) = inr (
-    ls ++ s.0,
-    s.1,
-    t ++ s.2,
-    s.3,
-    s.4,
-    cut_after bytes tail s.1 ls s.0 e h s.5,
-    all_after w m l bytes tail s.1 t s.2 ls s.0 p s.6,
-    s.7,
-    s.8,
-    ap (λ x. t ++ x) s.9 ∙ sym (append_assoc t s.2 s.4),
-    s.10,
-  )
+  simulated_after at_end (Err WriteFailed) w m l number number' bytes tail t out ls e h n p (inr s) =
+      inr (
+        ls ++ s.0,
+        s.1,
+        t ++ s.2,
+        s.3,
+        s.4,
+        cut_after bytes tail s.1 ls s.0 e h s.5,
+        all_after w m l bytes tail s.1 t s.2 ls s.0 p s.6,
+        s.7,
+        s.8,
+        ap (λ x. t ++ x) s.9 ∙ sym (append_assoc t s.2 s.4),
+        s.10,
+      )
 
   stops_simulated : (at_end : Bool) (A : Type 0) (e : RunFault) (w l : WorldView) (number : ℕ) (bytes out : List ℕ)
       → Stops rules at_end (part number bytes w l) e out → IsSimulatedFrom {A = A} rules at_end (part number bytes w l)
       (Err e) out
-  stops_simulated at_end A WriteFailed w l number bytes out s = inl s
-  stops_simulated at_end A (BadLine bad at) w l number bytes out s = s
-  stops_simulated at_end A ReadFailed w l number bytes out s = absurd s
-  stops_simulated at_end A TooManyTurns w l number bytes out s = absurd s
+  stops_simulated at_end A e w l number bytes out s = grind (arith, common_steps)
 
   -- ---- sinks
 
@@ -299,8 +267,7 @@ module _ (rules : Rules) where
         subst (λ x. PlaysLine {A = A} W at_end w w a b x number line bytes) (sym e)
         ([], p, ([], line, g, (refl, refl), h, omega arith))
     line_refused {A = A} at_end r w a b number at line bytes (inr e) p h g =
-        subst (λ x. PlaysLine {A = A} W at_end w w a b x number line bytes) (sym e)
-        ([], p, ([], begins_none at_end bytes, torn_none w))
+        grind (arith, common_steps, begins_none, torn_none)
 
     -- ---- chunks
 
@@ -325,11 +292,7 @@ module _ (rules : Rules) where
       lines = whole ∷ [];
       rest = [];
       text = p.0;
-      cut = record {
-        whole = sym (flat_one whole) ∙ sym (append-nil (flat_map ended (whole ∷ [])));
-        each = all_one whole h;
-        last = no_byte;
-      };
+      cut = search (rules, flat_one, append-nil, all_one, no_byte);
       kept = k;
       counted = omega arith;
       plays = p.2;
@@ -349,8 +312,7 @@ module _ (rules : Rules) where
       lines = q.lines ++ p.lines;
       rest = p.rest;
       text = q.text ++ p.text;
-      cut = cut_after (bytes ++ chunk) (q.rest ++ chunk) p.rest q.lines p.lines
-          (on_whole bytes q chunk) q.cut.each p.cut;
+      cut = search (rules, cut_after, on_whole);
       kept = p.kept;
       counted = let k = length-append q.lines p.lines in let i = q.counted in let j = p.counted in omega arith;
       plays = plays_append w m l q.lines p.lines q.text p.text q.plays p.plays;
@@ -361,8 +323,7 @@ module _ (rules : Rules) where
     pub on_held : (w m : WorldView) (a b : S) (line line' : LineBuffer) (n n' : ℕ) (bytes p : List ℕ)
         (q : PlaysOn rules W (part n bytes w m) a b line n') → HasNoFeed p → KeepsLine line' (q.rest ++ p)
         → PlaysOn rules W (part n (bytes ++ p) w m) a b line' n'
-    on_held w m a b line line' n n' bytes p q h k =
-        on_more w m m a b b line line' n n' n' bytes p q
+    on_held w m a b line line' n n' bytes p q h k = on_more w m m a b b line line' n n' n' bytes p q
         (on_none m b line' n' (q.rest ++ p) k (All-append (λ x. x ≢ 10) q.rest p q.cut.last h))
 
     -- a line feed after them
@@ -391,10 +352,7 @@ module _ (rules : Rules) where
         (line : LineBuffer) (n n' : ℕ) (bytes : List ℕ) → IsErrAnd r (λ y. y ≡ e)
         → Took W a b (Stops rules at_end (part n bytes w l) e)
         → PlaysPiece W at_end w l a b line n n' r bytes
-    piece_exit at_end (Ok x) e w l a b line n n' bytes k t = absurd k
-    piece_exit at_end (Err y) e w l a b line n n' bytes k t = subst
-        (λ f. Took W a b (Stops rules at_end (part n bytes w l) f))
-        (sym k) t
+    piece_exit at_end r e w l a b line n n' bytes k t = grind (arith, common_steps)
 
     -- ---- the end
 
@@ -402,18 +360,12 @@ module _ (rules : Rules) where
     pub end_exit : {A : Type 0} (at_end : Bool) (r : Result A RunFault) (e : RunFault) (w l : WorldView) (a b : S)
         (n : ℕ) (bytes : List ℕ) → IsErrAnd r (λ y. y ≡ e) → Took W a b (Stops rules at_end (part n bytes w l) e)
         → Took W a b (IsSimulatedFrom rules at_end (part n bytes w l) r)
-    end_exit at_end (Ok x) e w l a b n bytes k t = absurd k
-    end_exit {A = A} at_end
-        (Err y) e w l a b n bytes k t
-        = subst (λ f. let r : Result A RunFault = Err f in Took W a b
-        (IsSimulatedFrom rules at_end (part n bytes w l) r))
-        (sym k) (t.0, t.1, stops_simulated at_end A e w l n bytes t.0 t.2)
+    end_exit at_end r e w l a b n bytes k t = grind (arith, common_steps, stops_simulated)
 
     pub end_some : (w l : WorldView) (a b : S) (rest : List ℕ) → rest ≢ []
         → Took W a b (λ out. Plays rules w (rest ∷ []) out l) → Took W a b
         (λ out. Plays rules w (all_lines [] rest) out l)
-    end_some w l a b [] n t = absurd (n refl)
-    end_some w l a b (byte ∷ rest) n t = t
+    end_some w l a b rest n t = grind (arith, common_steps)
 
     pub end_none : (w l : WorldView) (a b : S) (rest : List ℕ) → rest ≡ [] → l ≡ w → b ≡ a
         → Took W a b (λ out. Plays rules w (all_lines [] rest) out l)
@@ -429,25 +381,13 @@ module _ (rules : Rules) where
       Appends-trans _ _ _ t.0 (closing_lines l quiet) t.1 p.appends,
       ([], rest, t.0, quiet, record { whole = refl; each = all_none; last = h }, t.2, k, refl),
     )
-    end_closing {A = A} at_end (Err f) w l a b c n rest quiet e h t k p
-        = subst (λ g. let r : Result A RunFault = Err g in Took W a c
+    end_closing {A = A} at_end (Err f) w l a b c n rest quiet e h t k p =
+        subst (λ g. let r : Result A RunFault = Err g in Took W a c
         (IsSimulatedFrom rules at_end (part n rest w l) r))
         (sym p.0) (
           t.0 ++ p.1.prefix,
           Appends-trans _ _ _ t.0 p.1.prefix t.1 p.1.appends,
-          inr (
-            [],
-            rest,
-            t.0,
-            quiet,
-            p.1.prefix,
-            record { whole = refl; each = all_none; last = h },
-            t.2,
-            k,
-            (p.1.rest, p.1.whole),
-            refl,
-            e,
-          ),
+          inr (grind (arith, common_steps, all_none)),
         )
 
 -- ---- the bytes of a chunk
@@ -460,10 +400,7 @@ line_feed : (chunk : List ℕ) (i n : ℕ) → i + n < length chunk
     → (n < length (take (length chunk - i) (drop i chunk))
     → slice_index (take (length chunk - i) (drop i chunk)) n ≡ 10)
     → take (n + 1) (take (length chunk - i) (drop i chunk)) ≡ take n (take (length chunk - i) (drop i chunk)) ++ 10 ∷ []
-line_feed chunk i n h k =
-    let room : n < length (take (length chunk - i) (drop i chunk)) = search (rules, places, h) in
-    rw add-one (take-suc (take (length chunk - i) (drop i chunk)) n 0 room) ∙
-    ap (λ b. take n (take (length chunk - i) (drop i chunk)) ++ b ∷ []) (k room)
+line_feed chunk i n h k = grind (arith, common_steps, places, add-one, take-suc)
 
 pub line_bytes : (rest chunk : List ℕ) (i n : ℕ) → i + n < length chunk
     → (n < length (take (length chunk - i) (drop i chunk))
@@ -477,8 +414,7 @@ line_bytes rest chunk i n h k =
 
 -- the bytes after those that were played
 pub left_bytes : (rest chunk : List ℕ) (i : ℕ) → (rest ++ take i chunk) ++ drop i chunk ≡ rest ++ chunk
-left_bytes rest chunk i = append_assoc rest (take i chunk) (drop i chunk) ∙ ap (λ l. rest ++ l)
-    (take-append-drop i chunk)
+left_bytes rest chunk i = search (rules, append_assoc, take-append-drop)
 
 -- they begin with a line
 pub feed_begins : (at_end : Bool) (rest chunk : List ℕ) (i n : ℕ) → i + n < length chunk

@@ -1,5 +1,6 @@
 -- A script divides into lines in one way, and is played in one way.
 use Rattle.std.proofs.Common.{◌≡◌, ◌≢◌, ℕ, List, [], ◌∷◌, ◌++◌, refl, sym, ◌∙◌, ap, subst, arith, append_assoc, suc, zero}
+use Rattle.std.proofs.Common.{rules}
 use Rattle.std.specs.Prelude.{All, flat_map}
 use Rattle.dgt_link.specs.declared.acts.Outcome.{Outcome}
 use Rattle.dgt_link.specs.View.{WorldView}
@@ -35,8 +36,7 @@ feed_once (c ∷ a) (d ∷ b) x y h k e =
 
 pub flat_first : (line : List ℕ) (lines : List (List ℕ)) (rest : List ℕ)
     → flat_map ended (line ∷ lines) ++ rest ≡ line ++ 10 ∷ (flat_map ended lines ++ rest)
-flat_first line lines rest = append_assoc (ended line) (flat_map ended lines) rest ∙ append_assoc line (10 ∷ [])
-    (flat_map ended lines ++ rest)
+flat_first line lines rest = search (rules, append_assoc)
 
 lines_once : (ls ks : List (List ℕ)) (r s : List ℕ) → All HasNoFeed ls → All HasNoFeed ks → HasNoFeed r → HasNoFeed s
     → flat_map ended ls ++ r ≡ flat_map ended ks ++ s → (ls ≡ ks) × (r ≡ s)
@@ -54,8 +54,7 @@ lines_once (line ∷ ls) (other ∷ ks) r s h k f g e =
 
 pub cut_once : (bytes : List ℕ) (lines others : List (List ℕ)) (rest other : List ℕ) → IsCut bytes lines rest
     → IsCut bytes others other → (lines ≡ others) × (rest ≡ other)
-cut_once bytes lines others rest other c d = lines_once lines others rest other c.each d.each c.last d.last
-    (sym c.whole ∙ d.whole)
+cut_once bytes lines others rest other c d = search (rules, lines_once)
 
 -- each line has one outcome
 abbrev pub HasOneOutcome : Rules → Type 0
@@ -79,6 +78,4 @@ pub acts_once : {V A : Type 0} (vocabulary : Vocabulary V A) (steps : A → Worl
     → ((act : A) (world after other : WorldView) (answer also : Outcome) → steps act world answer after
     → steps act world also other → (answer ≡ also) × (after ≡ other))
     → HasOneOutcome (rules_of vocabulary steps)
-acts_once vocabulary steps meaning one line w l k o v p q =
-    let same : p.0 ≡ q.0 = meaning line p.0 q.0 p.1 q.1 in
-    one q.0 w l k o v (subst (λ a. steps a w o l) same p.2) q.2
+acts_once vocabulary steps meaning one line w l k o v p q = search rules

@@ -1,41 +1,32 @@
 -- How a run of `simulate` ends.
-use Rattle.std.proofs.Common.{◌≡◌, ℕ, List, [], ◌++◌, Bool, true, Some, Result, Ok, Err, IsErrAnd, IsTrue, OnOk, sym, ◌∙◌, ap, subst, append-nil}
+use Rattle.std.proofs.Common.{◌≡◌, ℕ, List, [], ◌++◌, Bool, true, Some, Result, Ok, Err, IsErrAnd, IsTrue, OnOk, sym, ap, subst, append-nil}
+use Rattle.std.proofs.Common.{arith, rules}
 use Rattle.std.specs.Prelude.{IfErr}
 use Rattle.std.specs.Io.KnownBytes.{Appends, Consumes}
 use Rattle.std.proofs.KnownBytes.{Appends-trans, Consumes-nil, Consumes-trans}
 use Rattle.dgt_link.specs.View.{IsQuietWorld, WorldView}
 use Rattle.dgt_lines.specs.declared.faults.RunFault.{RunFault}
-use Rattle.dgt_lines.specs.declared.faults.RunFault.TheVariants.{ReadFailed, WriteFailed, TooManyTurns, BadLine}
+use Rattle.dgt_lines.specs.declared.faults.RunFault.TheVariants.{WriteFailed}
 use Rattle.dgt_script.specs.declared.script_lines.LineBuffer.{LineBuffer}
-use Rattle.dgt_text.specs.Closing.{ClosingLinesAgree, closing_lines}
+use Rattle.dgt_text.specs.Closing.{ClosingLinesAgree}
 use Rattle.dgt_lines.specs.Writing.{Stopped}
 use Rattle.dgt_lines.specs.Turns.{HasTurns, Ran, change, InTurns}
 use Rattle.dgt_text.specs.Simulating.{EndsAlike, IsOfLine, IsSimulated, IsSimulatedFrom, PlaysOn, Stops, Rules, Took, part}
 use Rattle.dgt_text.proofs.PlayLemmas.{begins_none, end_exit, on_rest, simulated_after, stopped_none, torn_none}
 use Rattle.dgt_lines.specs.declared.streams.Source.{Ghosts as Source}
 use Rattle.dgt_lines.specs.declared.streams.Sink.{Ghosts as Sink}
+use Rattle.std.proofs.lemmas.Grind.{common_steps}
 
 -- a fault of a line is none of turns
 line_turns : {A : Type 0} (limit : ℕ) (r : Result A RunFault) (bytes : List ℕ) → IfErr r IsOfLine
     → HasTurns limit r bytes
-line_turns limit (Ok x) bytes f = tt
-line_turns limit (Err WriteFailed) bytes f = tt
-line_turns limit (Err (BadLine number at)) bytes f = tt
-line_turns limit (Err ReadFailed) bytes f = absurd f
-line_turns limit (Err TooManyTurns) bytes f = absurd f
+line_turns limit r bytes f = search rules
 
 -- what stops a run at a line is a fault of a line
 stop_line : {A : Type 0} (rules : Rules) (at_end : Bool) (r : Result A RunFault) (e : RunFault) (w l : WorldView)
     (n : ℕ)
     (bytes out : List ℕ) → IsErrAnd r (λ y. y ≡ e) → Stops rules at_end (part n bytes w l) e out → IfErr r IsOfLine
-stop_line rules at_end (Ok x) e w l n bytes out k s = absurd k
-stop_line rules at_end (Err y) e w l n bytes out k s = subst IsOfLine (sym k) (go e s)
-  where
-    go : (e : RunFault) → Stops rules at_end (part n bytes w l) e out → IsOfLine e
-    go WriteFailed s = tt
-    go (BadLine number at) s = tt
-    go ReadFailed s = absurd s
-    go TooManyTurns s = absurd s
+stop_line rules at_end r e w l n bytes out k s = grind (arith, common_steps)
 
 is_true : {b : Bool} → IsTrue b → b ≡ true
 is_true h = cc
@@ -103,19 +94,15 @@ module _ (rules : Rules) {S T : Type 0} (R : Source S) (W : Sink T) where
       → ((out : List ℕ) → (IsQuietWorld l → l.host.picture ≡ Some l.board.state.squares → EndsAlike l out) → P out)
       → Ran R W (change a b) (change c d) (InTurns limit r (IsSimulated rules at_end r w l))
       → Ran R W (change a b) (change c d) (InTurns limit r (λ _ out. OnOk r (P out)))
-  simulated_pictures at_end limit (Ok x) a b c d w l P agree ends p =
-      let s = p.4.1 in (
-        p.0,
-        p.1,
-        p.2,
-        p.3,
-        (
-          p.4.0,
-          ends p.1 (λ quiet same. (
-            s.2,
-            s.7 ∙ ap (λ q. s.2 ++ closing_lines l q) (is_true (s.6.1 quiet)),
-            agree l true same,
-          )),
-        ),
-      )
-  simulated_pictures at_end limit (Err e) a b c d w l P agree ends p = (p.0, p.1, p.2, p.3, (p.4.0, tt))
+  simulated_pictures at_end limit (Ok x) a b c d w l P agree ends p = let s = p.4.1 in (
+    p.0,
+    p.1,
+    p.2,
+    p.3,
+    (
+      p.4.0,
+      ends p.1 (grind (arith, common_steps, is_true)),
+    ),
+  )
+  simulated_pictures at_end limit (Err e) a b c d w l P agree ends p =
+      (p.0, p.1, p.2, p.3, (p.4.0, tt))

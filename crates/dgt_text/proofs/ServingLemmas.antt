@@ -1,5 +1,6 @@
 -- The text of a board's conversation in a sink.
 use Rattle.std.proofs.Common.{◌≡◌, ℕ, ◌+◌, ◌-◌, ◌≤◌, List, [], ◌∷◌, ◌++◌, Option, Some, None, Result, Ok, Err, IsErrAnd, refl, sym, ◌∙◌, ap, subst, append_assoc, append-nil, length, take, drop, arith, true, false, is_some, IfSome, IfNone, option_map}
+use Rattle.std.proofs.Common.{rules}
 use Rattle.std.proofs.Math.Seq.{take-add, take-append_seam}
 use Rattle.std.proofs.lemmas.List.{take-append-drop, take_all, take_rest}
 use Rattle.std.specs.Io.KnownBytes.{Consumes}
@@ -23,6 +24,7 @@ use Rattle.dgt_text.specs.Serving.{IsAlmostSent, IsServed, Served, Halted, Serve
 use Rattle.dgt_lines.proofs.TurnLemmas.{BetweenReads}
 use Rattle.dgt_text.proofs.ConversationLemmas.{events_heard-append, bytes_sent-append, converses-sent, hears_then, hears_nothing, hears_word, hears_part, prefix_then, prefix_longer, prefix_whole}
 use Rattle.dgt_text.specs.Simulating.{part}
+use Rattle.std.proofs.lemmas.Grind.{common_steps}
 
 -- ---- chunks
 
@@ -51,14 +53,13 @@ has_sent before after count old out = go (next_message before.state) refl
     go : (next : Option Content) → next_message before.state ≡ next
         → Polls (Polled.Wrote count) next before after old out → HasSent before after count out
     go None is p = absurd p
-    go (Some message) is p =
-        record {
-          message = message;
-          next = is;
-          state = p.4;
-          bytes = ap (λ (l : List ℕ). take count l) p.2 ∙ ap (λ (n : ℕ). take n (encoding message ++ drop count old))
-              p.0 ∙ take-append_seam (encoding message) (drop count old);
-        }
+    go (Some message) is p = record {
+      message = message;
+      next = is;
+      state = p.4;
+      bytes = ap (λ (l : List ℕ). take count l) p.2 ∙ ap (λ (n : ℕ). take n (encoding message ++ drop count old))
+          p.0 ∙ take-append_seam (encoding message) (drop count old);
+    }
 
 -- bytes that ended a word
 pub hears_some : {E : Type 0} → IsPartial [] → (content : E → EventContent) (before after : BoardView) (bytes : List ℕ)
@@ -66,9 +67,8 @@ pub hears_some : {E : Type 0} → IsPartial [] → (content : E → EventContent
     → IfSome event (λ e. IsWord (content e) (before.partial ++ bytes))
     → after ≡ after_bytes before bytes (option_map content event) → (found : EventContent)
     × Hears before bytes (heard found ∷ []) after
-hears_some nothing content before after bytes None settled some word is = absurd (cc)
-hears_some nothing content before after bytes (Some e) settled some word is =
-    (content e, hears_word nothing before after bytes (content e) settled word is)
+hears_some nothing content before after bytes event settled some word is =
+    search (rules, hears_word)
 
 -- bytes that ended none, and so are all of the chunk
 pub hears_none : {E : Type 0} (content : E → EventContent) (before after : BoardView) (chunk : List ℕ) (used : ℕ)
@@ -76,52 +76,36 @@ pub hears_none : {E : Type 0} (content : E → EventContent) (before after : Boa
     → IfNone event ((used ≡ length chunk) × IsPartial (before.partial ++ chunk))
     → after ≡ after_bytes before (take used chunk) (option_map content event)
     → IsPartial (before.partial ++ take used chunk) × (after ≡ after_bytes before (take used chunk) None)
-hears_none content before after chunk used None none part is = (
-  subst (λ (l : List ℕ). IsPartial (before.partial ++ l)) (sym (take_all used chunk (omega (arith, part.0))))
-      part.1,
-  is,
-)
-hears_none content before after chunk used (Some e) none part is = absurd (cc)
+hears_none content before after chunk used event none part is = search (rules, take_all)
 
 -- ---- what was written
 
 -- all but the last step was written, and a prefix of what that reported
 pub almost_sent : (before last : List Exchange) (prefix rest : List ℕ) → length last ≤ 1
     → bytes_sent last ≡ prefix ++ rest → IsAlmostSent (before ++ last) (bytes_sent before ++ prefix)
-almost_sent before last prefix rest one is =
-    record {
-      before = before;
-      last = last;
-      whole = refl;
-      one = one;
-      sure = (prefix, refl);
-      prefix = (
-        rest,
-        bytes_sent-append before last ∙ ap (λ (l : List ℕ). bytes_sent before ++ l) is ∙
-            sym (append_assoc (bytes_sent before) prefix rest),
-      );
-    }
+almost_sent before last prefix rest one is = record {
+  before = before;
+  last = last;
+  whole = refl;
+  one = one;
+  sure = (prefix, refl);
+  prefix = (
+    rest,
+    bytes_sent-append before last ∙ ap (λ (l : List ℕ). bytes_sent before ++ l) is ∙
+        sym (append_assoc (bytes_sent before) prefix rest),
+  );
+}
 
 almost_sent_then : (steps more : List Exchange) (out : List ℕ) → IsAlmostSent more out
     → IsAlmostSent (steps ++ more) (bytes_sent steps ++ out)
-almost_sent_then steps more out p =
-    record {
-      before = steps ++ p.before;
-      last = p.last;
-      whole = ap (λ (l : List Exchange). steps ++ l) p.whole ∙ sym (append_assoc steps p.before p.last);
-      one = p.one;
-      sure = (
-        p.sure.0,
-        ap (λ (l : List ℕ). bytes_sent steps ++ l) p.sure.1 ∙
-            sym (append_assoc (bytes_sent steps) (bytes_sent p.before) p.sure.0) ∙ ap (λ (l : List ℕ). l ++ p.sure.0)
-            (sym (bytes_sent-append steps p.before)),
-      );
-      prefix = (
-        p.prefix.0,
-        bytes_sent-append steps more ∙ ap (λ (l : List ℕ). bytes_sent steps ++ l) p.prefix.1 ∙
-            sym (append_assoc (bytes_sent steps) out p.prefix.0),
-      );
-    }
+almost_sent_then steps more out p = record {
+  before = steps ++ p.before;
+  last = p.last;
+  whole = ap (λ (l : List Exchange). steps ++ l) p.whole ∙ sym (append_assoc steps p.before p.last);
+  one = p.one;
+  sure = search (rules, append_assoc, bytes_sent-append);
+  prefix = search (rules, bytes_sent-append, append_assoc);
+}
 
 -- the board sent some of what it had to send, and took nothing
 pub record Sent {S : Type 0} (W : Sink S) (before after : BoardView) (old new : S) : Type 0 where
@@ -136,19 +120,16 @@ module _ {S : Type 0} (W : Sink S) where
       → next_message mid.state ≡ Some message
       → new ≡ record mid { state = after_sending mid.state message } → Wrote W b c (encoding message)
       → Sent W old new a c
-  sent_more row old mid new a b c message p next is q =
-      record {
-        steps = p.steps ++ sent message ∷ [];
-        conversation = converses-sent old.state mid.state new.state p.steps message p.conversation next
-            (ap (λ (v : BoardView). v.state) is);
-        none_heard =
-            events_heard-append p.steps (sent message ∷ []) ∙ ap (λ (l : List EventContent). l ++ []) p.none_heard;
-        partial = ap (λ (v : BoardView). v.partial) is ∙ p.partial;
-        wrote = subst (λ (l : List ℕ). Wrote W a c l)
-            (ap (λ (l : List ℕ). bytes_sent p.steps ++ l)
-            (sym (append-nil (encoding message))) ∙ sym (bytes_sent-append p.steps (sent message ∷ [])))
-            (row.writes a b c (bytes_sent p.steps) (encoding message) (Ok tt) p.wrote q);
-      }
+  sent_more row old mid new a b c message p next is q = record {
+    steps = p.steps ++ sent message ∷ [];
+    conversation = search (rules, converses-sent);
+    none_heard =
+        events_heard-append p.steps (sent message ∷ []) ∙ ap (λ (l : List EventContent). l ++ []) p.none_heard;
+    partial = ap (λ (v : BoardView). v.partial) is ∙ p.partial;
+    wrote = subst (λ (l : List ℕ). Wrote W a c l)
+        (search (rules, append-nil, bytes_sent-append))
+        (row.writes a b c (bytes_sent p.steps) (encoding message) (Ok tt) p.wrote q);
+  }
 
   -- the sink refused a message
   pub sent_halts : (old mid new : BoardView) (a b c : S) (message : Content) → Sent W old mid a b
@@ -164,13 +145,7 @@ module _ {S : Type 0} (W : Sink S) where
       let same : new.partial ≡ mid.partial = ap (λ (v : BoardView). v.partial) is in
       record {
         out = bytes_sent p.steps ++ q.prefix;
-        breaks = record {
-          steps = steps;
-          hears = prefix_whole old new [] steps
-              (hears_nothing old new steps conversation none (same ∙ p.partial) (subst IsPartial (sym same) partial));
-          sent = almost_sent p.steps (sent message ∷ []) q.prefix q.rest (omega arith)
-              (append-nil (encoding message) ∙ q.whole);
-        };
+        breaks = search (rules, prefix_whole, hears_nothing, almost_sent, append-nil);
         appends = Appends-trans _ _ _ (bytes_sent p.steps) q.prefix p.wrote.appends q.appends;
         refused = q.refused;
         in_time = λ h. q.in_time (p.wrote.kept ∙ h) ∙ p.wrote.in_time h;
@@ -187,8 +162,7 @@ module _ {S : Type 0} (W : Sink S) where
       let later : Hears mid (t ++ []) (steps ++ q.steps) new =
       hears_then append mid between new t [] steps q.steps h q.answers.hears in
       let sent : bytes_sent all ≡ bytes_sent p.steps ++ bytes_sent q.steps
-      = bytes_sent-append p.steps (steps ++ q.steps) ∙ ap (λ (l : List ℕ). bytes_sent p.steps ++ l)
-      (bytes_sent-append steps q.steps ∙ ap (λ (l : List ℕ). l ++ bytes_sent q.steps) none) in
+      = search (rules, bytes_sent-append) in
       record {
         steps = all;
         answers = record {
@@ -196,54 +170,36 @@ module _ {S : Type 0} (W : Sink S) where
               (rw (append-nil t) at later);
           settled = q.answers.settled;
         };
-        wrote = subst (λ (l : List ℕ). Wrote W a c l) (sym sent)
-            (row.writes a b c (bytes_sent p.steps) (bytes_sent q.steps) (Ok tt) p.wrote q.wrote);
+        wrote = grind (arith, common_steps);
       }
 
   pub halted_longer : (old new : BoardView) (a b : S) (s t : List ℕ) → Halted W old new a b s
       → Halted W old new a b (s ++ t)
-  halted_longer old new a b s t p =
-      record {
-        out = p.out;
-        breaks = record {
-          steps = p.breaks.steps;
-          hears = prefix_longer old new s t p.breaks.steps p.breaks.hears;
-          sent = p.breaks.sent;
-        };
-        appends = p.appends;
-        refused = p.refused;
-        in_time = p.in_time;
-      }
+  halted_longer old new a b s t p = search (rules, prefix_longer)
 
   halted_then : DivisionsAppend → (old mid new : BoardView) (a b c : S) (s t : List ℕ) (steps : List Exchange)
       → Hears old s steps mid → Wrote W a b (bytes_sent steps) → Halted W mid new b c t
       → Halted W old new a c (s ++ t)
-  halted_then append old mid new a b c s t steps h w q =
-      record {
-        out = bytes_sent steps ++ q.out;
-        breaks = record {
-          steps = steps ++ q.breaks.steps;
-          hears = prefix_then append old mid new s t steps q.breaks.steps h q.breaks.hears;
-          sent = almost_sent_then steps q.breaks.steps q.out q.breaks.sent;
-        };
-        appends = Appends-trans _ _ _ (bytes_sent steps) q.out w.appends q.appends;
-        refused = q.refused;
-        in_time = λ h. q.in_time (w.kept ∙ h) ∙ w.in_time h;
-      }
+  halted_then append old mid new a b c s t steps h w q = record {
+    out = bytes_sent steps ++ q.out;
+    breaks = record {
+      steps = steps ++ q.breaks.steps;
+      hears = prefix_then append old mid new s t steps q.breaks.steps h q.breaks.hears;
+      sent = almost_sent_then steps q.breaks.steps q.out q.breaks.sent;
+    };
+    appends = Appends-trans _ _ _ (bytes_sent steps) q.out w.appends q.appends;
+    refused = q.refused;
+    in_time = λ h. q.in_time (w.kept ∙ h) ∙ w.in_time h;
+  }
 
   -- some bytes, and then more
   pub served_more : InARow W → DivisionsAppend → (old mid new : BoardView) (a b c : S) (s t : List ℕ)
       → Served W old mid a b s → Served W mid new b c t → Served W old new a c (s ++ t)
-  served_more row append old mid new a b c s t p q =
-      record {
-        steps = p.steps ++ q.steps;
-        answers = record {
-          hears = hears_then append old mid new s t p.steps q.steps p.answers.hears q.answers.hears;
-          settled = q.answers.settled;
-        };
-        wrote = subst (λ (l : List ℕ). Wrote W a c l) (sym (bytes_sent-append p.steps q.steps))
-            (row.writes a b c (bytes_sent p.steps) (bytes_sent q.steps) (Ok tt) p.wrote q.wrote);
-      }
+  served_more row append old mid new a b c s t p q = record {
+    steps = p.steps ++ q.steps;
+    answers = search (rules, hears_then);
+    wrote = grind (arith, common_steps, bytes_sent-append);
+  }
 
   -- the sink refused after a word
   pub served_halts : InARow W → DivisionsAppend → (old mid between new : BoardView) (a b c : S) (s t : List ℕ)
@@ -255,28 +211,20 @@ module _ {S : Type 0} (W : Sink S) where
 
   -- bytes that end no word
   pub served_part : DivisionsAppend → (old mid new : BoardView) (a b : S) (s t : List ℕ) → Served W old mid a b s
-      → IsPartial (mid.partial ++ t) → new ≡ after_bytes mid t None
-      → Served W old new a b (s ++ t)
-  served_part append old mid new a b s t p partial is =
-      record {
-        steps = p.steps ++ [];
-        answers = record {
-          hears = hears_then append old mid new s t p.steps [] p.answers.hears (hears_part mid new t partial is);
-          settled = ap (λ (v : BoardView). next_message v.state) is ∙ p.answers.settled;
-        };
-        wrote = subst (λ (l : List Exchange). Wrote W a b (bytes_sent l)) (sym (append-nil p.steps)) p.wrote;
-      }
+      → IsPartial (mid.partial ++ t) → new ≡ after_bytes mid t None → Served W old new a b (s ++ t)
+  served_part append old mid new a b s t p partial is = record {
+    steps = p.steps ++ [];
+    answers = record {
+      hears = hears_then append old mid new s t p.steps [] p.answers.hears (hears_part mid new t partial is);
+      settled = ap (λ (v : BoardView). next_message v.state) is ∙ p.answers.settled;
+    };
+    wrote = subst (λ (l : List Exchange). Wrote W a b (bytes_sent l)) (sym (append-nil p.steps)) p.wrote;
+  }
 
   -- a flush at the end
   pub served_flushed : InARow W → (old new : BoardView) (a b c : S) (s : List ℕ) (r : Result (Unit {0}) RunFault)
       → Served W old new a b s → Writes W b c r [] → Serves W (change old new) (change a c) r s
-  served_flushed row old new a b c s (Ok x) p q =
-      record {
-        steps = p.steps;
-        answers = p.answers;
-        wrote = subst (λ (l : List ℕ). Wrote W a c l) (append-nil (bytes_sent p.steps))
-            (row.writes a b c (bytes_sent p.steps) [] (Ok tt) p.wrote q);
-      }
+  served_flushed row old new a b c s (Ok x) p q = search (rules, append-nil)
   served_flushed row old new a b c s (Err e) p q = (
     q.0,
     record {
@@ -284,8 +232,7 @@ module _ {S : Type 0} (W : Sink S) where
       breaks = record {
         steps = p.steps;
         hears = prefix_whole old new s p.steps p.answers.hears;
-        sent = subst (λ (l : List Exchange). IsAlmostSent l (bytes_sent p.steps ++ q.1.prefix)) (append-nil p.steps)
-            (almost_sent p.steps [] q.1.prefix q.1.rest (omega arith) q.1.whole);
+        sent = grind (arith, common_steps, append-nil, almost_sent);
       };
       appends = Appends-trans _ _ _ (bytes_sent p.steps) q.1.prefix p.wrote.appends q.1.appends;
       refused = q.1.refused;
@@ -297,8 +244,7 @@ module _ {S : Type 0} (W : Sink S) where
   pub halted_exit : {A : Type 0} (old new : BoardView) (a b : S) (s : List ℕ) (r : Result A RunFault) (e : RunFault)
       → IsErrAnd r (λ y. y ≡ e) → e ≡ WriteFailed
       → Halted W old new a b s → Serves W (change old new) (change a b) r s
-  halted_exit old new a b s (Ok x) e k w q = absurd k
-  halted_exit old new a b s (Err y) e k w q = (k ∙ w, q)
+  halted_exit old new a b s r e k w q = search rules
 
 -- ---- runs
 
@@ -308,17 +254,13 @@ module _ {S T : Type 0} (R : Source S) (W : Sink T) where
       (r : Result A RunFault) (e : RunFault) → Consumes (R.left a) (R.left b) bytes
       → Halted W old new c d bytes → IsErrAnd r (λ y. y ≡ e) → e ≡ WriteFailed
       → Ran R W (change a b) (change c d) (InTurns limit r (IsServed r old new))
-  halted_run limit a b c d old new bytes (Ok x) e k q h w = absurd h
-  halted_run {A = A} limit a b c d old new bytes (Err y) e k q h w =
-      subst (λ f. let r : Result A RunFault = Err f in Ran R W (change a b) (change c d)
-      (InTurns limit r (IsServed r old new))) (sym (h ∙ w)) (bytes, q.out, k, q.appends, (tt, q.breaks))
+  halted_run limit a b c d old new bytes r e k q h w = search rules
 
 -- it refused after a read
 pub served_stops : {S T A : Type 0} {R : Source S} {W : Sink T} {a b : S} {c d : T} {taken limit : ℕ} → DivisionsAppend
     → (b' : S) (d' : T) (old mid new : BoardView) (chunk : List ℕ) (r : Result A RunFault) (e : RunFault)
     → (t : BetweenReads R W a b c d taken limit) → Served W old mid c d t.bytes → Consumes (R.left b) (R.left b') chunk
-    → Halted W mid new d d' chunk
-    → IsErrAnd r (λ y. y ≡ e) → e ≡ WriteFailed
+    → Halted W mid new d d' chunk → IsErrAnd r (λ y. y ≡ e) → e ≡ WriteFailed
     → Ran R W (change a b') (change c d') (InTurns limit r (IsServed r old new))
 served_stops {R = R} {W = W} {a = a} {b = b} {c = c} {d = d} {limit = limit} append b' d' old mid new chunk r e t p k q
     h w =

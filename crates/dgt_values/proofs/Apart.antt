@@ -1,5 +1,5 @@
 -- Texts in which no two digits are adjacent.
-use Rattle.std.proofs.Common.{◌≡◌, ℕ, zero, suc, ◌+◌, arith, List, [], ◌∷◌, ◌++◌, get_or}
+use Rattle.std.proofs.Common.{◌≡◌, ℕ, zero, suc, ◌+◌, arith, List, [], ◌∷◌, ◌++◌, get_or, rules}
 use Rattle.std.specs.Char.{IsAsciiDigit}
 use Rattle.dgt_values.specs.Placement.{DigitsApart}
 
@@ -14,13 +14,11 @@ Apart (byte ∷ bytes) = (IsAsciiDigit byte → BeginsWithDigit bytes → ⊥) �
 
 -- if the first byte of a text is a digit, the text begins with one
 first_begins : (bytes : List ℕ) → IsAsciiDigit (get_or bytes 0 0) → BeginsWithDigit bytes
-first_begins [] h = omega (arith, h.0)
-first_begins (byte ∷ bytes) h = h
+first_begins bytes h = search rules
 
 -- the first byte of a text that begins with a digit is one
 begins_first : (bytes : List ℕ) → BeginsWithDigit bytes → IsAsciiDigit (get_or bytes 0 0)
-begins_first [] h = absurd h
-begins_first (byte ∷ bytes) h = h
+begins_first bytes h = search rules
 
 -- both forms say the same
 pub apart_digits : (text : List ℕ) → Apart text → DigitsApart text

@@ -1,6 +1,6 @@
 -- The mask of a comparison of codes, bit by bit.
-use Rattle.std.proofs.Common.{◌≡◌, ℕ, ◌%◌, ◌^◌, ◌<◌, ◌∙◌, eqb, Bool, false, not, cond, List, map, length, get_or, Some}
-use Rattle.std.proofs.Common.{sym, ap, arith, w8, eq-eqb, ne_eqb}
+use Rattle.std.proofs.Common.{◌≡◌, ℕ, ◌%◌, ◌^◌, ◌<◌, ◌∙◌, eqb, Bool, false, not, cond, List, map, length, get_or}
+use Rattle.std.proofs.Common.{sym, ap, arith, w8, eq-eqb, ne_eqb, rules}
 use Rattle.std.specs.Prelude.{◌≢◌, ◌↔◌, IsBitSet, slice_get}
 use Rattle.std.specs.Int.{bit_at}
 use Rattle.std.proofs.lemmas.Nat.{bit_set_by_shift}
@@ -30,23 +30,12 @@ unequal_bits xs ys xs_long ys_long n within =
 
 -- a bit that says whether two codes differ is set exactly if the pieces do
 code_bit : (a b : Piece) (bit : ℕ) → bit ≡ cond (unequal (piece_code a) (piece_code b)) 1 0 → (bit ≡ 1) ↔ (a ≢ b)
-code_bit a b bit is = (
-  λ one same.
-      let zero_bit : bit ≡ 0 = is ∙ ap (λ b. cond b 1 0) (ap not (eq-eqb _ _ (ap piece_code same))) in
-      omega arith,
-  λ other. is ∙ ap (λ b. cond b 1 0) (ap not (ne_eqb _ _ (λ same. other (same_code a b same)))),
-)
+code_bit a b bit is = search (rules, eq-eqb, ne_eqb, same_code)
 
 -- the piece on a square of the board
 square_same : (a b : List Piece) (n : ℕ) → n < length a → n < length b
     → (get_or a n Empty ≢ get_or b n Empty) ↔ (slice_get a n ≢ slice_get b n)
-square_same a b n h k =
-    let own = slice_get-get_or a n Empty h in
-    let others = slice_get-get_or b n Empty k in (
-      λ differs same. differs (let e : Some (get_or a n Empty) ≡ Some (get_or b n Empty) = sym own ∙ same ∙ others in
-          cc),
-      λ differs same. differs (own ∙ ap Some same ∙ sym others),
-    )
+square_same a b n h k = search (rules, slice_get-get_or)
 
 -- the mask of the codes of two positions reports the squares that differ
 pub mask_differs : (a b : List Piece) (xs ys : List ℕ) → length a ≡ 64 → length b ≡ 64 → length xs ≡ 64 → length ys ≡ 64

@@ -1,7 +1,7 @@
 -- Each text has an outcome.
 use Prim.Native.Char.{code as ascii}
 use Rattle.std.proofs.Common.{◌≡◌, ℕ, zero, suc, ◌+◌, ◌-◌, ◌<◌, ◌≤◌, ◌⊎◌, inl, inr, refl, sym, ap, ◌∙◌, arith, List, []}
-use Rattle.std.proofs.Common.{◌∷◌, ◌++◌, length, take, replicate, get_or, append_assoc, length-append}
+use Rattle.std.proofs.Common.{◌∷◌, ◌++◌, length, take, replicate, get_or, append_assoc, length-append, rules}
 use Rattle.std.specs.Prelude.{◌≢◌, Result, Ok, Err}
 use Rattle.std.proofs.lemmas.Bool.{cases_lt}
 use Rattle.std.proofs.lemmas.Bool.Decides.{eqb_tells}
@@ -22,8 +22,7 @@ use Rattle.dgt_values.proofs.Reading.{Leaves, leaves_start, leaves_more, leaves_
 letter_or_not : (byte : ℕ) → ((piece : Piece) × (piece ≢ Empty) × (byte ≡ piece_letter piece)) ⊎ ((piece : Piece)
     → piece ≢ Empty → byte ≡ piece_letter piece → ⊥)
 letter_or_not byte = elim (eqb_tells byte (ascii ".")) [
-  | inl dot ↦ inr (λ piece full e. full (sym (letter_piece-letter piece) ∙ ap letter_piece (sym e)
-      ∙ ap letter_piece dot.1))
+  | inl dot ↦ search (rules, letter_piece-letter, letter_piece)
   | inr other ↦ elim (eqb_tells (piece_letter (letter_piece byte)) byte) [
     | inl same ↦ inl (letter_piece byte, λ e. other.1 (sym same.1 ∙ ap piece_letter e), sym same.1)
     | inr none ↦ inr (λ piece full e. none.1 (ap piece_letter (ap letter_piece e ∙ letter_piece-letter piece) ∙ sym e))
@@ -33,9 +32,7 @@ letter_or_not byte = elim (eqb_tells byte (ascii ".")) [
 -- a byte that isn't a letter or a digit from 1 to 8 means nothing
 means_none : (byte : ℕ) → ((piece : Piece) → piece ≢ Empty → byte ≡ piece_letter piece → ⊥)
     → (byte ≤ ascii "0") ⊎ (ascii "9" ≤ byte) → (squares : List Piece) → MeansSquares byte squares → ⊥
-means_none byte none (inl low) squares (inl run) = omega (arith, run.digit, run.at_least_one)
-means_none byte none (inr high) squares (inl run) = omega (arith, run.digit, run.at_most_eight)
-means_none byte none out squares (inr letter) = none letter.piece letter.not_empty letter.letter
+means_none byte none out squares h4 = search rules
 
 -- a byte that isn't a letter is a digit from 1 to 8 or means nothing
 digit_or_not : (byte : ℕ) → ((piece : Piece) → piece ≢ Empty → byte ≡ piece_letter piece → ⊥)
@@ -45,13 +42,7 @@ digit_or_not byte none (inl low) (inl high) =
     let digit : byte ≡ ascii "0" + (byte - ascii "0") = omega arith in
     inl (
       replicate (byte - ascii "0") Empty,
-      inl (record {
-        count = byte - ascii "0";
-        at_least_one = omega arith;
-        at_most_eight = omega arith;
-        digit = digit;
-        all_empty = refl;
-      }),
+      inl (search rules),
     )
 digit_or_not byte none (inr low) high = inr (means_none byte none (inl (omega arith)))
 digit_or_not byte none (inl low) (inr high) = inr (means_none byte none (inr high))
@@ -100,26 +91,23 @@ with_squares byte n s squares le stands (inr fits) =
 
 -- a byte that means nothing and isn't a slash in its place has no effect
 no_slash : (byte n s : ℕ) → ((squares : List Piece) → MeansSquares byte squares → ⊥)
-    → (byte ≡ ascii "/" → s ≡ 0 → 0 < n → ⊥)
-    → IsStuck byte n s
+    → (byte ≡ ascii "/" → s ≡ 0 → 0 < n → ⊥) → IsStuck byte n s
 no_slash byte n s none refused n' s' first (inl x) = refused x.slash x.full (omega (arith, x.one_less))
 no_slash byte n s none refused n' s' first (inr x) = none first x.stands
 
 -- a byte that means nothing is a step if it is a slash in its place
 with_slash : (byte n s : ℕ) → ((squares : List Piece) → MeansSquares byte squares → ⊥)
-    → ((byte ≡ ascii "/") ⊎ (byte ≢ ascii "/"))
-    → Step byte n s ⊎ IsStuck byte n s
+    → ((byte ≡ ascii "/") ⊎ (byte ≢ ascii "/")) → Step byte n s ⊎ IsStuck byte n s
 with_slash byte n s none (inr other) = inr (no_slash byte n s none (λ slash _ _. other slash))
 with_slash byte zero s none (inl slash) = inr (no_slash byte zero s none (λ _ _ less. omega arith))
 with_slash byte (suc n) (suc s) none (inl slash) = inr (no_slash byte (suc n) (suc s) none (λ _ full _. omega arith))
-with_slash byte (suc n) zero none (inl slash) =
-    inl (record {
-      ranks = n;
-      left = 8;
-      first = [];
-      left_in = omega arith;
-      steps = inl (record { slash = slash; full = refl; one_less = refl; eight = refl; none = refl });
-    })
+with_slash byte (suc n) zero none (inl slash) = inl (record {
+  ranks = n;
+  left = 8;
+  first = [];
+  left_in = omega arith;
+  steps = inl (record { slash = slash; full = refl; one_less = refl; eight = refl; none = refl });
+})
 
 -- a byte is a slash or not
 slash_or_not : (byte : ℕ) → (byte ≡ ascii "/") ⊎ (byte ≢ ascii "/")
@@ -162,8 +150,7 @@ outcome_from : (rest text : List ℕ) (n s : ℕ) (done : List Piece) → s ≤ 
     → Outcome (text ++ rest)
 outcome_from [] text n s done le h = rw (append-nil text) (outcome_at_end text n s done le h)
 outcome_from (byte ∷ rest) text n s done le h = elim (step_or_not byte n s le) [
-  | inl step ↦
-      rw (append_assoc text (byte ∷ []) rest) at
+  | inl step ↦ rw (append_assoc text (byte ∷ []) rest) at
       (outcome_from rest (text ++ byte ∷ []) step.ranks step.left (done ++ step.first) step.left_in
       (leaves_more text n s done byte step.ranks step.left step.first h step.steps))
   | inr stuck ↦ (Err (record { at = length text }), stuck_is_bad text rest byte n s done le h stuck)

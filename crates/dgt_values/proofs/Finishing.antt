@@ -2,7 +2,7 @@
 -- and this many squares of this rank are left.
 use Prim.Native.Char.{code as ascii}
 use Rattle.std.proofs.Common.{◌≡◌, ℕ, suc, ◌+◌, ◌<◌, ◌⊎◌, inl, inr, refl, sym, ap, ◌∙◌, arith, List, [], ◌∷◌, ◌++◌}
-use Rattle.std.proofs.Common.{length, replicate, append_assoc, length-append}
+use Rattle.std.proofs.Common.{length, append_assoc, length-append, rules}
 use Rattle.std.specs.Prelude.{◌≢◌}
 use Rattle.std.specs.List.{join_with_byte}
 use Rattle.std.proofs.lemmas.List.{append-nil}
@@ -19,22 +19,11 @@ letter_above _ h = omega arith
 
 -- a byte that means squares isn't a slash
 pub above_slash : (byte : ℕ) (squares : List Piece) → MeansSquares byte squares → ascii "/" < byte
-above_slash byte squares (inl run) = omega (arith, run.digit)
-above_slash byte squares (inr letter) = omega (arith, letter.letter, letter_above letter.piece letter.not_empty)
+above_slash byte squares h2 = search (rules, letter_above)
 
 -- a byte means at most one list of squares
 pub means_one : (byte : ℕ) (a b : List Piece) → MeansSquares byte a → MeansSquares byte b → a ≡ b
-means_one byte a b (inl run) (inl other) =
-    let same : run.count ≡ other.count = omega (arith, run.digit, other.digit) in
-    run.all_empty ∙ ap (λ n. replicate n Empty) same ∙ sym other.all_empty
-means_one byte a b (inl run) (inr letter) =
-    absurd (omega (arith, run.digit, run.at_most_eight, letter.letter, letter_above letter.piece letter.not_empty))
-means_one byte a b (inr letter) (inl run) =
-    absurd (omega (arith, run.digit, run.at_most_eight, letter.letter, letter_above letter.piece letter.not_empty))
-means_one byte a b (inr letter) (inr other) =
-    letter.one_square
-    ∙ ap (λ piece. piece ∷ []) (letter_one letter.piece other.piece (sym letter.letter ∙ other.letter))
-    ∙ sym other.one_square
+means_one byte a b h3 h4 = search (rules, letter_above, letter_one)
 
 -- after a full rank a slash begins the next one
 pub record IsSlash (byte ranks left ranks' left' : ℕ) (first : List Piece) : Type 0 where
@@ -72,22 +61,7 @@ pub record SameStep (ranks left ranks' left' : ℕ) (first first' : List Piece) 
 -- two steps of a byte are equal
 pub steps_one : (byte n s n1 s1 n2 s2 : ℕ) (a b : List Piece) → Steps byte n s n1 s1 a → Steps byte n s n2 s2 b
     → SameStep n1 s1 n2 s2 a b
-steps_one byte n s n1 s1 n2 s2 a b (inl x) (inl y) =
-    record {
-      ranks_same = omega (arith, x.one_less, y.one_less);
-      left_same = x.eight ∙ sym y.eight;
-      first_same = x.none
-          ∙ sym y.none;
-    }
-steps_one byte n s n1 s1 n2 s2 a b (inl x) (inr y) = absurd (omega (arith, x.slash, above_slash byte b y.stands))
-steps_one byte n s n1 s1 n2 s2 a b (inr x) (inl y) = absurd (omega (arith, y.slash, above_slash byte a x.stands))
-steps_one byte n s n1 s1 n2 s2 a b (inr x) (inr y) =
-    let same : a ≡ b = means_one byte a b x.stands y.stands in
-    record {
-      ranks_same = x.same_rank ∙ sym y.same_rank;
-      left_same = omega (arith, x.fewer, y.fewer, ap length same);
-      first_same = same;
-    }
+steps_one byte n s n1 s1 n2 s2 a b h9 h10 = search (rules, above_slash, means_one)
 
 -- a text ends a placement with at most one list of pieces
 pub finishes_one : (text : List ℕ) (n s : ℕ) (a b : List Piece) → Finishes text n s a → Finishes text n s b → a ≡ b
@@ -95,8 +69,7 @@ finishes_one [] n s a b h k = h.2 ∙ sym k.2
 finishes_one (byte ∷ text) n s a b (n1, s1, first, rest, step, more, is) (n2, s2, first', rest', step', more', is') =
     let same = steps_one byte n s n1 s1 n2 s2 first first' step step' in
     let over : Finishes text n1 s1 rest' = rw (same.ranks_same, same.left_same) more' in
-    let tail : rest ≡ rest' = finishes_one text n1 s1 rest rest' more over in
-    rw (is, is', same.first_same, tail) refl
+    search (rules, finishes_one text n1 s1 rest rest' more over)
 
 -- a rank, and the text after it
 rank_finishes : (bytes : List ℕ) (squares : List Piece) → IsRank bytes squares
@@ -104,37 +77,16 @@ rank_finishes : (bytes : List ℕ) (squares : List Piece) → IsRank bytes squar
     → Finishes more n 0 rest → Finishes (bytes ++ more) n (length squares) (squares ++ rest)
 rank_finishes [] squares h n more rest f = rw h f
 rank_finishes (byte ∷ bytes) squares (first, others, stands, h, is) n more rest f =
-    let fewer : length squares ≡ length first + length others = ap length is ∙ length-append first others in
-    let grouped : squares ++ rest ≡ first ++ (others ++ rest) = ap (λ l. l ++ rest) is
-    ∙ append_assoc first others rest in (
-      n,
-      length others,
-      first,
-      others ++ rest,
-      inr (record { same_rank = refl; fewer = fewer; stands = stands }),
-      rank_finishes bytes others h n more rest f,
-      grouped,
-    )
+    search (rules, length-append, append_assoc, rank_finishes bytes others h n more rest f)
 
 -- ranks that are joined by slashes
 ranks_finish : (ranks : List (List ℕ)) (rank : List ℕ) (pieces : List Piece) → AreRanks (rank ∷ ranks) pieces
     → Finishes (join_with_byte (ascii "/") (rank ∷ ranks)) (length ranks) 8 pieces
 ranks_finish [] rank pieces (squares, rest, eight, h, none, is) =
     let f = rank_finishes rank squares h 0 [] [] (refl, refl, refl) in
-    let whole : pieces ≡ squares ++ [] = is ∙ ap (λ l. squares ++ l) none in
-    rw (whole, ← eight, ← append-nil rank) f
+    search (rules, append-nil)
 ranks_finish (next ∷ ranks) rank pieces (squares, rest, eight, h, after, is) =
-    let others : List ℕ = ascii "/" ∷ join_with_byte (ascii "/") (next ∷ ranks) in
-    let f = rank_finishes rank squares h (suc (length ranks)) others rest (
-      length ranks,
-      8,
-      [],
-      rest,
-      inl (record { slash = refl; full = refl; one_less = refl; eight = refl; none = refl }),
-      ranks_finish ranks next rest after,
-      refl,
-    ) in
-    rw (is, ← eight) f
+    search (rules, rank_finishes, ranks_finish ranks next rest after)
 
 -- the rest of a placement in parts: this rank's text and the texts of the others
 record Parts (text : List ℕ) (n s : ℕ) (pieces : List Piece) : Type 0 where
@@ -152,24 +104,22 @@ record Parts (text : List ℕ) (n s : ℕ) (pieces : List Piece) : Type 0 where
 -- one more byte of the first rank
 longer_rank : (byte : ℕ) (rank : List ℕ) (ranks : List (List ℕ)) → byte ∷ join_with_byte (ascii "/") (rank ∷ ranks)
     ≡ join_with_byte (ascii "/") ((byte ∷ rank) ∷ ranks)
-longer_rank byte rank [] = refl
-longer_rank byte rank (next ∷ ranks) = refl
+longer_rank byte rank ranks = search rules
 
 -- a text that ends a placement can be divided
 parts : (text : List ℕ) (n s : ℕ) (pieces : List Piece) → Finishes text n s pieces → Parts text n s pieces
-parts [] n s pieces h =
-    record {
-      rank = [];
-      ranks = [];
-      squares = [];
-      rest = [];
-      so_many = sym h.0;
-      joined = refl;
-      is_rank = refl;
-      so_long = sym h.1;
-      others = refl;
-      whole = h.2;
-    }
+parts [] n s pieces h = record {
+  rank = [];
+  ranks = [];
+  squares = [];
+  rest = [];
+  so_many = sym h.0;
+  joined = refl;
+  is_rank = refl;
+  so_long = sym h.1;
+  others = refl;
+  whole = h.2;
+}
 parts (byte ∷ bytes) n s pieces (n', s', first, rest, inl slash, h, is) =
     let after = parts bytes n' s' rest h in
     record {
@@ -203,9 +153,7 @@ parts (byte ∷ bytes) n s pieces (n', s', first, rest, inr more, h, is) =
 from_ranks : (text : List ℕ) (pieces : List Piece) (ranks : List (List ℕ)) → length ranks ≡ 8
     → text ≡ join_with_byte (ascii "/") ranks → AreRanks ranks pieces → Finishes text 7 8 pieces
 from_ranks text pieces [] eight joined each = absurd (omega (arith, eight))
-from_ranks text pieces (rank ∷ ranks) eight joined each =
-    let seven : length ranks ≡ 7 = omega (arith, eight) in
-    rw (joined, ← seven) (ranks_finish ranks rank pieces each)
+from_ranks text pieces (rank ∷ ranks) eight joined each = search (rules, ranks_finish)
 
 -- the counters say the same as the definition
 pub placement_finishes : (text : List ℕ) (pieces : List Piece) → IsPlacement text pieces → Finishes text 7 8 pieces

@@ -1,9 +1,10 @@
 -- Bytes that are looked at and copied 128 at a time, as lanes.
 use Rattle.std.proofs.Common.{◌≡◌, ℕ, ◌+◌, ◌-◌, ◌%◌, ◌^◌, ◌<◌, ◌≤◌, cond, leb, List, ◌++◌, map, length, replicate, take, get_or, sym, ap, ◌∙◌, append_assoc, arith, w8}
+use Rattle.std.proofs.Common.{rules}
 use Rattle.std.proofs.Math.Seq.{take-add}
 use Rattle.std.proofs.lemmas.Bool.{leb-false}
 use Rattle.std.proofs.lemmas.List.{append-nil, length-map, take_all}
-use Rattle.std.proofs.lemmas.List.Elements.{All-append, All-from_get_or, All-nil}
+use Rattle.std.proofs.lemmas.List.Elements.{All-append, All-from_get_or}
 use Rattle.std.proofs.lemmas.Simd.{length-chunk, length-put_chunk, mask_l-mod, none_from_empty_mask, take_more_put_chunk, tops_compared, zip2_splat_left}
 use Rattle.dgt_values.specs.Bytes.{AreSevenBit}
 use lib.Lanes.{chunk, mask_l, put_chunk, top, zip2}
@@ -31,14 +32,7 @@ pub record IsCopied (old bytes new : List ℕ) (start most at : ℕ) : Type 0 wh
 
 -- none at first
 pub copied_none : (old bytes : List ℕ) (start most : ℕ) → IsCopied old bytes old start most 0
-copied_none old bytes start most =
-    let here : start + 0 ≡ start = omega arith in
-    record {
-      within = omega arith;
-      long = omega arith;
-      clear = All-nil (λ byte. byte < 128);
-      copied = ap (λ n. take n old) here ∙ sym (append-nil (take start old));
-    }
+copied_none old bytes start most = search (rules, append-nil)
 
 -- and then 128 more
 pub copied_more : (old bytes new : List ℕ) (start most at : ℕ) → start + most ≤ length old → most ≤ length bytes
@@ -68,7 +62,5 @@ copied_more old bytes new start most at room enough more low_clear high_clear h 
       long = omega (arith, length-put_chunk (start + at + 64) some high, some_long, h.long);
       clear = rw bytes_are (All-append (λ byte. byte < 128) (take at bytes ++ low) high
           (All-append (λ byte. byte < 128) (take at bytes) low h.clear low_clear) high_clear);
-      copied = second ∙ ap (λ xs. xs ++ high) (first ∙ ap (λ xs. xs ++ low) h.copied)
-          ∙ ap (λ xs. xs ++ high) (append_assoc before (take at bytes) low)
-          ∙ append_assoc before (take at bytes ++ low) high ∙ ap (λ xs. before ++ xs) (sym bytes_are);
+      copied = search (rules, append_assoc);
     }

@@ -1,8 +1,7 @@
 -- A piece is determined by its code, and by its letter.
 use Prim.Native.Char.{code as ascii}
-use Rattle.std.proofs.Common.{◌≡◌, ◌<◌, ℕ, List, [], ◌∷◌, arith, get_or, length, lit<, map, refl, sym, ◌∙◌, ap}
+use Rattle.std.proofs.Common.{◌≡◌, ◌<◌, ℕ, List, [], ◌∷◌, get_or, lit<, sym, ◌∙◌, ap, rules}
 use Rattle.std.specs.Prelude.{◌==◌, if◌then◌else◌}
-use Rattle.std.proofs.lemmas.List.{get_or-map, get_or_default, length-map, same_lists}
 use Rattle.dgt_values.specs.declared.pieces.Piece.{Piece}
 use Rattle.dgt_values.specs.declared.pieces.Piece.TheVariants.{Empty, WhitePawn, WhiteRook, WhiteKnight, WhiteBishop}
 use Rattle.dgt_values.specs.declared.pieces.Piece.TheVariants.{WhiteKing, WhiteQueen, BlackPawn, BlackRook, BlackKnight}
@@ -18,16 +17,14 @@ by_code =
 
 piece_of_code : (piece : Piece) → get_or by_code (piece_code piece) Empty ≡ piece
 unfolding by_code
-piece_of_code Empty = refl
-piece_of_code _ = refl
+piece_of_code piece = search rules
 
 pub same_code : (a b : Piece) → piece_code a ≡ piece_code b → a ≡ b
 same_code a b same = sym (piece_of_code a) ∙ ap (λ code. get_or by_code code Empty) same ∙ piece_of_code b
 
 -- the piece with a letter
 abbrev pub letter_piece : ℕ → Piece
-letter_piece b =
-    if b == ascii "P" then WhitePawn else (if b == ascii "R" then WhiteRook else
+letter_piece b = if b == ascii "P" then WhitePawn else (if b == ascii "R" then WhiteRook else
     (if b == ascii "N" then WhiteKnight else (if b == ascii "B" then WhiteBishop else
     (if b == ascii "K" then WhiteKing else (if b == ascii "Q" then WhiteQueen else
     (if b == ascii "p" then BlackPawn else (if b == ascii "r" then BlackRook else
@@ -38,8 +35,7 @@ letter_piece b =
 
 -- each piece has its own letter
 pub letter_piece-letter : (piece : Piece) → letter_piece (piece_letter piece) ≡ piece
-letter_piece-letter Empty = refl
-letter_piece-letter _ = refl
+letter_piece-letter piece = search rules
 
 -- no two pieces have the same letter
 pub letter_one : (a b : Piece) → piece_letter a ≡ piece_letter b → a ≡ b
@@ -47,13 +43,4 @@ letter_one a b e = sym (letter_piece-letter a) ∙ ap letter_piece e ∙ letter_
 
 -- a code has four bits
 pub piece_code-below : (piece : Piece) → piece_code piece < 16
-piece_code-below Empty = lit< tt
-piece_code-below _ = lit< tt
-
--- codes of 64 pieces, each in its place
-pub coded : (codes : List ℕ) (pieces : List Piece) → length codes ≡ 64 → length pieces ≡ 64
-    → ((n : ℕ) → n < 64 → get_or codes n 0 ≡ piece_code (get_or pieces n Empty)) → codes ≡ map piece_code pieces
-coded codes pieces long all each =
-    same_lists codes (map piece_code pieces) (long ∙ sym (length-map pieces piece_code ∙ all))
-    (λ n d h. get_or_default codes n d 0 h ∙ each n (omega (arith, long))
-    ∙ sym (get_or-map piece_code pieces n Empty d (omega (arith, long, all))))
+piece_code-below piece = search (rules, lit<)

@@ -1,8 +1,8 @@
 -- How a placement may continue after a part of it was read.
 use Prim.Native.Char.{code as ascii}
-use Rattle.std.proofs.Common.{◌≡◌, ℕ, zero, suc, ◌+◌, ◌-◌, ◌*◌, ◌<◌, ◌≤◌, inl, inr, refl, sym, ap, ◌∙◌, arith, List, []}
+use Rattle.std.proofs.Common.{◌≡◌, ℕ, zero, suc, ◌+◌, ◌-◌, ◌*◌, ◌<◌, ◌≤◌, inl, inr, refl, ap, arith, List, []}
 use Rattle.std.proofs.Common.{◌∷◌, ◌++◌, length, take, drop, replicate, append_assoc, length-append}
-use Rattle.std.proofs.Common.{get_or}
+use Rattle.std.proofs.Common.{get_or, rules}
 use Rattle.std.proofs.lemmas.List.{append-nil, length-replicate, length-take, length-drop, take_more, take_all}
 use Rattle.std.proofs.lemmas.Slice.{put_mid-paste}
 use borrow.Rule.Slice.PartMut.{put_mid}
@@ -21,10 +21,7 @@ pub record Leaves (text : List ℕ) (ranks left : ℕ) (done : List Piece) : Typ
 
 -- nothing was read yet: eight ranks are left
 pub leaves_start : Leaves [] 7 8 []
-leaves_start = record {
-  on = λ more rest f. finishes_placement more rest f;
-  back = λ more pieces h. (pieces, placement_finishes more pieces h, refl);
-}
+leaves_start = search (rules, finishes_placement, placement_finishes)
 
 -- what finishes a text from a byte on, finishes it from the byte after
 after_step : (more : List ℕ) (n s byte n' s' : ℕ) (done first pieces rest : List Piece) → Steps byte n s n' s' first
@@ -32,18 +29,13 @@ after_step : (more : List ℕ) (n s byte n' s' : ℕ) (done first pieces rest : 
     → (left : List Piece) × Finishes more n' s' left × (pieces ≡ (done ++ first) ++ left)
 after_step more n s byte n' s' done first pieces rest step (n2, s2, first2, rest2, step2, f, is) e =
     let same = steps_one byte n s n' s' n2 s2 first first2 step step2 in
-    let over : Finishes more n' s' rest2 = rw (same.ranks_same, same.left_same) f in
-    let whole : pieces ≡ (done ++ first) ++ rest2 =
-    rw (e, is, same.first_same) (sym (append_assoc done first2 rest2)) in
-    (rest2, over, whole)
+    search (rules, append_assoc)
 
 -- one more byte was read
 pub leaves_more : (text : List ℕ) (n s : ℕ) (done : List Piece) (byte n' s' : ℕ) (first : List Piece)
     → Leaves text n s done → Steps byte n s n' s' first → Leaves (text ++ byte ∷ []) n' s' (done ++ first)
 leaves_more text n s done byte n' s' first h step = record {
-  on = λ more rest f.
-      rw (append_assoc text (byte ∷ []) more, append_assoc done first rest)
-      (h.on (byte ∷ more) (first ++ rest) (n', s', first, rest, step, f, refl));
+  on = search (rules, append_assoc);
   back = λ more pieces p.
       let known = h.back (byte ∷ more) pieces (rw (append_assoc text (byte ∷ []) more) at p) in
       after_step more n s byte n' s' done first pieces known.0 step known.1 known.2;
@@ -58,8 +50,7 @@ ranks_left : (n : ℕ) → (more : List ℕ) × (rest : List Piece) × Finishes 
 ranks_left zero = ([], [], (refl, refl, refl))
 ranks_left (suc n) =
     let others = ranks_left n in
-    let empty : MeansSquares (ascii "8") (replicate 8 Empty) =
-    inl (record {
+    let empty : MeansSquares (ascii "8") (replicate 8 Empty) = inl (record {
       count = 8;
       at_least_one = omega arith;
       at_most_eight = omega arith;
@@ -145,17 +136,14 @@ leaves_slash bytes pieces at rank file lt less full slash h =
 
 -- more squares of the rank
 pub leaves_squares : (bytes : List ℕ) (pieces after squares : List Piece) (at rank file count : ℕ) → at < length bytes
-    → file + count ≤ 8
-    → MeansSquares (get_or bytes at 0) squares → length squares ≡ count
+    → file + count ≤ 8 → MeansSquares (get_or bytes at 0) squares → length squares ≡ count
     → take (8 * rank + (file + count)) after ≡ take (8 * rank + file) pieces ++ squares
     → Leaves (take at bytes) (7 - rank) (8 - file) (take (8 * rank + file) pieces)
     → Leaves (take (at + 1) bytes) (7 - rank) (8 - (file + count)) (take (8 * rank + (file + count)) after)
 leaves_squares bytes pieces after squares at rank file count lt room stands long written h =
     let fewer : 8 - file ≡ length squares + (8 - (file + count)) = omega arith in
     rw (take_more bytes at 0 lt, written)
-    (leaves_more (take at bytes) (7 - rank) (8 - file) (take (8 * rank + file) pieces) (get_or bytes at 0) (7 - rank)
-    (8 - (file + count)) squares h
-    (inr (record { same_rank = refl; fewer = fewer; stands = stands })))
+    (search (rules, leaves_more))
 
 -- a byte without effect is the first wrong one
 pub first_bad : (bytes : List ℕ) (done : List Piece) (at n s : ℕ) → at < length bytes → s ≤ 8
@@ -164,8 +152,7 @@ pub first_bad : (bytes : List ℕ) (done : List Piece) (at n s : ℕ) → at < l
 first_bad bytes done at n s lt le h stuck = record {
   within = omega arith;
   begins = leaves_begins (take at bytes) n s done h le;
-  no_longer =
-      λ _ begins. leaves_stuck (take at bytes) n s done (get_or bytes at 0) h stuck
+  no_longer = λ _ begins. leaves_stuck (take at bytes) n s done (get_or bytes at 0) h stuck
       (rw (take_more bytes at 0 lt) at begins);
   too_short = λ end _ _. absurd (omega arith);
 }
@@ -174,21 +161,14 @@ first_bad bytes done at n s lt le h stuck = record {
 pub no_step : (byte rank file : ℕ) → file ≤ 8 → (byte ≡ ascii "/" → file ≡ 8 → rank < 7 → ⊥)
     → ((squares : List Piece) → MeansSquares byte squares → 8 < file + length squares)
     → (n' s' : ℕ) (first : List Piece) → Steps byte (7 - rank) (8 - file) n' s' first → ⊥
-no_step byte rank file le no_slash too_many n' s' first (inl x) =
-    no_slash x.slash (omega (arith, x.full)) (omega (arith, x.one_less))
-no_step byte rank file le no_slash too_many n' s' first (inr x) =
-    let more = too_many first x.stands in
-    omega (arith, x.fewer)
+no_step byte rank file le no_slash too_many n' s' first h9 = search rules
 
 -- the whole text was read, and nothing is left
 pub whole_placement : (bytes : List ℕ) (pieces : List Piece) (at rank file : ℕ) → length bytes ≤ at → rank ≡ 7
     → file ≡ 8 → length pieces ≡ 64
     → Leaves (take at bytes) (7 - rank) (8 - file) (take (8 * rank + file) pieces) → IsPlacement bytes pieces
 whole_placement bytes pieces at rank file end seven eight long h =
-    let none : 7 - rank ≡ 0 = omega arith in
-    let empty : 8 - file ≡ 0 = omega arith in
-    let all : length pieces ≤ 8 * rank + file = omega arith in
-    leaves_none bytes pieces (rw (take_all at bytes end, none, empty, take_all (8 * rank + file) pieces all) at h)
+    search (rules, leaves_none, take_all)
 
 -- a text that leaves something is too short
 pub ends_short : (text : List ℕ) (n s : ℕ) (done : List Piece) → s ≤ 8 → Leaves text n s done → (n ≡ 0 → s ≡ 0 → ⊥)
@@ -212,15 +192,10 @@ short_placement bytes pieces at rank file end rank_in file_in some h =
 -- the squares that are filled at the next place
 pub all_filled : (pieces filled : List Piece) (piece : Piece) (next count : ℕ) → next + count ≤ length pieces
     → filled ≡ replicate (length (take (next + count - next) (drop next pieces))) piece → filled ≡ replicate count piece
-all_filled pieces filled piece next count room is =
-    let many : length (take (next + count - next) (drop next pieces)) ≡ count =
-    simp (length-take, length-drop) (omega arith) in
-    is ∙ ap (λ n. replicate n piece) many
+all_filled pieces filled piece next count room is = search (rules, length-take, length-drop)
 
 -- a list keeps its length if part of it is overwritten
 pub length_mid : {X : Type 0} (next count : ℕ) (pieces filled : List X) → next + count ≤ length pieces
-    → length filled ≡ count
-    → length (put_mid next count pieces filled) ≡ length pieces
+    → length filled ≡ count → length (put_mid next count pieces filled) ≡ length pieces
 length_mid next count pieces filled room many =
-    rw (put_mid-paste next count pieces filled filled count refl refl (sym many))
-    (simp (length-append, length-take, length-drop) (omega arith))
+    search (rules, put_mid-paste, length-append, length-take, length-drop)

@@ -2,31 +2,29 @@
 use Prim.Native.Char.{code as ascii}
 use Rattle.std.proofs.Common.{◌≡◌, ℕ, zero, suc, ◌+◌, ◌*◌, ◌≤◌, ◌⊎◌, inl, inr, refl, sym, ap, ◌∙◌, arith, List, [], ◌∷◌}
 use Rattle.std.proofs.Common.{◌++◌, length, take, drop, replicate, append_assoc, length-append, length-take}
-use Rattle.std.proofs.Common.{length-drop, zero-add}
+use Rattle.std.proofs.Common.{length-drop, zero-add, rules}
 use Rattle.std.specs.Prelude.{◌≢◌}
 use Rattle.std.specs.List.{join_with_byte}
 use Rattle.std.specs.Prelude.{◌<◌, Bool, true, false, cond, ◌&&◌, nat_le}
 use Rattle.std.proofs.lemmas.List.Sums.{sum_by-append}
 use Rattle.std.proofs.lemmas.Bool.{ne_eqb}
 use Rattle.std.proofs.lemmas.Bool.Decides.{eqb_tells, nat_tests}
-use Rattle.std.proofs.lemmas.Grind.{replicate_next}
+use Rattle.std.proofs.lemmas.Grind.{replicate_next, common_steps}
 use Rattle.std.proofs.lemmas.List.{append-nil, nil_from_length, take-append-drop, take_at, drop_at}
 use Rattle.dgt_values.specs.declared.pieces.Piece.{Piece}
 use Rattle.dgt_values.specs.declared.pieces.Piece.TheVariants.{Empty}
 use Rattle.dgt_values.specs.Board.{piece_letter}
-use Rattle.std.specs.Char.{IsAsciiDigit}
 use Rattle.dgt_values.specs.Placement.{MeansSquares, digit_count, IsRank, AreRanks, IsPlacement, run_text, rank_text_after, ranks_text, placement_text}
 use Rattle.dgt_values.proofs.Finishing.{letter_above}
 use Rattle.dgt_values.proofs.PieceCodes.{letter_one}
 use Rattle.dgt_values.proofs.Placing.{text_after_piece}
-use Rattle.dgt_values.proofs.Apart.{Apart, BeginsWithDigit, apart_around, apart_before, apart_after}
+use Rattle.dgt_values.proofs.Apart.{Apart, apart_around, apart_before, apart_after}
+use Rattle.std.specs.Char.{IsAsciiDigit}
+use Rattle.dgt_values.proofs.Apart.{BeginsWithDigit}
 
 -- a square is empty or not
 empty_or_not : (piece : Piece) → (piece ≡ Empty) ⊎ (piece ≢ Empty)
-empty_or_not piece = elim (eqb_tells (piece_letter piece) (ascii ".")) [
-  | inl same ↦ inl (letter_one piece Empty same.1)
-  | inr other ↦ inr (λ e. other.1 (ap piece_letter e))
-]
+empty_or_not piece = search (rules, eqb_tells, letter_one)
 
 -- a run of one or more empty squares is one digit
 run_digit : (count : ℕ) → 1 ≤ count → run_text count ≡ (ascii "0" + count) ∷ []
@@ -35,21 +33,7 @@ run_digit count some = rw (ne_eqb count 0 (λ h. omega arith)) refl
 -- a run of empty squares, and the text after it
 run_rank : (empty : ℕ) (bytes : List ℕ) (squares : List Piece) → empty ≤ 8 → IsRank bytes squares
     → IsRank (run_text empty ++ bytes) (replicate empty Empty ++ squares)
-run_rank zero bytes squares le h = h
-run_rank (suc empty) bytes squares le h =
-    rw (run_digit (suc empty) (omega arith)) (
-      replicate (suc empty) Empty,
-      squares,
-      inl (record {
-        count = suc empty;
-        at_least_one = omega arith;
-        at_most_eight = le;
-        digit = refl;
-        all_empty = refl;
-      }),
-      h,
-      refl,
-    )
+run_rank empty bytes squares le h = search (rules, run_digit)
 
 -- an empty square makes the run before it longer
 text_after_empty : (piece : Piece) (empty : ℕ) (squares : List Piece) → piece ≡ Empty
@@ -59,24 +43,19 @@ text_after_empty piece empty squares is = ap (λ p. rank_text_after empty (p ∷
 -- the squares of a longer run
 one_more : (piece : Piece) (empty : ℕ) (squares : List Piece) → piece ≡ Empty → replicate empty Empty ++ piece ∷ squares
     ≡ replicate (empty + 1) Empty ++ squares
-one_more piece empty squares is =
-    ap (λ p. replicate empty Empty ++ p ∷ squares) is
-    ∙ sym (ap (λ l. l ++ squares) (replicate_next empty Empty)
-    ∙ append_assoc (replicate empty Empty) (Empty ∷ []) squares)
+one_more piece empty squares is = search (rules, replicate_next, append_assoc)
 
 -- the text of a rank, after a run of empty squares, is one of its texts
 rank_after : (squares : List Piece) (empty : ℕ) → empty + length squares ≤ 8
     → IsRank (rank_text_after empty squares) (replicate empty Empty ++ squares)
 rank_after [] empty le = rw (← append-nil (run_text empty)) (run_rank empty [] [] (omega arith) refl)
 rank_after (piece ∷ squares) empty le = elim (empty_or_not piece) [
-  | inl is ↦ rw (text_after_empty piece empty squares is, one_more piece empty squares is)
-      (rank_after squares (empty + 1) (omega arith))
-  | inr other ↦
-      let stands : MeansSquares (piece_letter piece) (piece ∷ []) =
+  | inl is ↦
+      search (rules, text_after_empty, one_more, rank_after squares (empty + 1) (omega arith))
+  | inr other ↦ let stands : MeansSquares (piece_letter piece) (piece ∷ []) =
       inr (record { piece = piece; not_empty = other; letter = refl; one_square = refl }) in
       rw (text_after_piece piece empty squares other)
-      (run_rank empty (piece_letter piece ∷ rank_text_after 0 squares) (piece ∷ squares) (omega arith)
-      (piece ∷ [], squares, stands, rank_after squares 0 (omega arith), refl))
+      (search (rules, run_rank, rank_after squares 0 (omega arith)))
 ]
 
 -- the texts of the ranks of a position are texts of its ranks
@@ -111,8 +90,7 @@ placement_long text pieces p = omega (arith, are_long p.ranks pieces p.each, p.e
 
 -- the text of a run is one digit at most
 run_apart : (empty : ℕ) → Apart (run_text empty)
-run_apart zero = tt
-run_apart (suc empty) = rw (run_digit (suc empty) (omega arith)) (λ a b. b, tt)
+run_apart empty = search (rules, run_digit)
 
 -- no two digits of a written rank are adjacent
 rank_apart : (squares : List Piece) (empty : ℕ) → Apart (rank_text_after empty squares)
@@ -130,10 +108,7 @@ ranks_apart : (n : ℕ) (pieces : List Piece) → Apart (join_with_byte (ascii "
 ranks_apart zero pieces = tt
 ranks_apart (suc zero) pieces = rank_apart (take 8 pieces) 0
 ranks_apart (suc (suc n)) pieces =
-    apart_around (rank_text_after 0 (take 8 pieces)) (ascii "/")
-    (join_with_byte (ascii "/") (ranks_text (suc n) (drop 8 pieces)))
-    (rank_apart (take 8 pieces) 0)
-    (λ digit. omega (arith, digit.0)) (ranks_apart (suc n) (drop 8 pieces))
+    search (rules, apart_around, rank_apart, ranks_apart (suc n) (drop 8 pieces))
 
 -- no two digits of the written text are adjacent
 pub written_apart : (pieces : List Piece) → Apart (placement_text pieces)
@@ -144,9 +119,7 @@ written_apart pieces = ranks_apart 8 pieces
 run_after : (count empty : ℕ) (rest : List Piece) → rank_text_after empty (replicate count Empty ++ rest)
     ≡ rank_text_after (empty + count) rest
 run_after zero empty rest = let same : empty + 0 ≡ empty = omega arith in rw same refl
-run_after (suc count) empty rest =
-    let same : empty + suc count ≡ empty + 1 + count = omega arith in
-    rw same (run_after count (empty + 1) rest)
+run_after (suc count) empty rest = search (rules, run_after count (empty + 1) rest)
 
 -- the text after a run of empty squares is written unchanged if it doesn't begin with a digit
 after_run : (bytes : List ℕ) (rest : List Piece) (count : ℕ) → IsRank bytes rest → (BeginsWithDigit bytes → ⊥)
@@ -182,10 +155,7 @@ only_rank (byte ∷ bytes) squares (first, rest, inl run, h, is) apart =
 -- the first rank of a text, and the others
 apart_ranks : (rank : List ℕ) (ranks : List (List ℕ)) → Apart (join_with_byte (ascii "/") (rank ∷ ranks))
     → Apart rank × Apart (join_with_byte (ascii "/") ranks)
-apart_ranks rank [] apart = (apart, tt)
-apart_ranks rank (next ∷ ranks) apart =
-    let others : List ℕ = ascii "/" ∷ join_with_byte (ascii "/") (next ∷ ranks) in
-    (apart_before rank others apart, (apart_after rank others apart).1)
+apart_ranks rank ranks apart = search (rules, apart_before, apart_after)
 
 -- the squares of the first rank
 first_eight : (squares rest pieces : List Piece) → length squares ≡ 8 → pieces ≡ squares ++ rest
@@ -198,8 +168,7 @@ after_eight squares rest pieces eight is = ap (drop 8) is ∙ drop_at squares re
 
 -- no other texts of the ranks keep their digits apart
 only_ranks : (ranks : List (List ℕ)) (pieces : List Piece) → AreRanks ranks pieces
-    → Apart (join_with_byte (ascii "/") ranks)
-    → ranks ≡ ranks_text (length ranks) pieces
+    → Apart (join_with_byte (ascii "/") ranks) → ranks ≡ ranks_text (length ranks) pieces
 only_ranks [] pieces none apart = refl
 only_ranks (rank ∷ ranks) pieces (squares, rest, eight, h, more, is) apart =
     let each = apart_ranks rank ranks apart in
@@ -214,10 +183,7 @@ only_ranks (rank ∷ ranks) pieces (squares, rest, eight, h, more, is) apart =
 pub only_placement : (text : List ℕ) (pieces : List Piece) → IsPlacement text pieces → Apart text
     → text ≡ placement_text pieces
 unfolding placement_text
-only_placement text pieces p apart =
-    let joined : Apart (join_with_byte (ascii "/") p.ranks) = rw p.joined at apart in
-    p.joined
-    ∙ ap (join_with_byte (ascii "/")) (only_ranks p.ranks pieces p.each joined ∙ ap (λ n. ranks_text n pieces) p.eight)
+only_placement text pieces p apart = search (rules, only_ranks)
 
 -- a byte from 0 to 9 counts as a digit, and no other byte does
 abbrev is_digit : ℕ → Bool
@@ -237,52 +203,35 @@ counts_joined before after = sum_by-append (λ byte. cond (is_digit byte) 1 0) b
 
 -- a byte that isn't a digit adds nothing
 counts_other : (byte : ℕ) (bytes : List ℕ) → is_digit byte ≡ false → digit_count (byte ∷ bytes) ≡ digit_count bytes
-counts_other byte bytes h =
-    let none : digit_count (byte ∷ []) ≡ 0 = rw h refl in
-    omega (arith, counts_joined (byte ∷ []) bytes)
+counts_other byte bytes h = search (rules, counts_joined)
 
 -- a digit adds one
 counts_one : (byte : ℕ) (bytes : List ℕ) → is_digit byte ≡ true → digit_count (byte ∷ bytes) ≡ suc (digit_count bytes)
-counts_one byte bytes h =
-    let one : digit_count (byte ∷ []) ≡ 1 = rw h refl in
-    omega (arith, counts_joined (byte ∷ []) bytes)
-
--- one byte is at most one digit
-few_in_one : (byte : ℕ) (test : Bool) → is_digit byte ≡ test → digit_count (byte ∷ []) ≤ 1
-few_in_one byte true h = omega (arith, counts_one byte [] h)
-few_in_one byte false h = omega (arith, counts_other byte [] h)
+counts_one byte bytes h = grind (arith, common_steps, counts_joined)
 
 -- a run has one digit at most
 few_in_run : (empty : ℕ) → digit_count (run_text empty) ≤ 1
-few_in_run zero = omega arith
-few_in_run (suc empty) =
-    rw (run_digit (suc empty) (omega arith))
-    (few_in_one (ascii "0" + suc empty) (is_digit (ascii "0" + suc empty)) refl)
+few_in_run empty = search (rules, run_digit, counts_one, counts_other)
 
 -- a rank after a run of empty squares, written with no more digits than another of its texts
 few_in_rank : (bytes : List ℕ) (squares : List Piece) (empty : ℕ) → IsRank bytes squares
     → digit_count (rank_text_after empty squares) ≤ digit_count (run_text empty) + digit_count bytes
 few_in_rank [] squares empty none = rw none (omega arith)
 few_in_rank (byte ∷ bytes) squares empty (first, rest, inl run, h, is) =
-    let whole : squares ≡ replicate run.count Empty ++ rest = is ∙ ap (λ l. l ++ rest) run.all_empty in
-    let longer = ap (rank_text_after empty) whole ∙ run_after run.count empty rest in
-    let one =
-    counts_one byte bytes
-    (counts_digit byte (omega (arith, run.digit)) (omega (arith, run.digit, run.at_most_eight))) in
-    omega (
-      arith,
-      ap digit_count longer,
+    search (
+      rules,
+      run_after,
+      counts_one,
+      counts_digit,
+      few_in_run,
       few_in_rank bytes rest (empty + run.count) h,
-      few_in_run (empty + run.count),
-      one,
     )
 few_in_rank (byte ∷ bytes) squares empty (first, rest, inr letter, h, is) =
     let whole : squares ≡ letter.piece ∷ rest = is ∙ ap (λ l. l ++ rest) letter.one_square in
     let after = ap (rank_text_after empty) whole ∙ text_after_piece letter.piece empty rest letter.not_empty in
     let above = letter_above letter.piece letter.not_empty in
     let one = counts_other byte bytes (counts_above byte (omega (arith, letter.letter, above))) in
-    let other =
-    counts_other (piece_letter letter.piece) (rank_text_after 0 rest)
+    let other = counts_other (piece_letter letter.piece) (rank_text_after 0 rest)
     (counts_above (piece_letter letter.piece) above) in
     omega (
       arith,
@@ -314,15 +263,7 @@ few_joined (rank ∷ []) (other ∷ []) h = h.0
 few_joined (rank ∷ []) (other ∷ more ∷ others) h = absurd h.1
 few_joined (rank ∷ next ∷ ranks) (other ∷ []) h = absurd h.1
 few_joined (rank ∷ next ∷ ranks) (other ∷ more ∷ others) h =
-    omega (
-      arith,
-      counts_joined rank (ascii "/" ∷ join_with_byte (ascii "/") (next ∷ ranks)),
-      counts_joined other (ascii "/" ∷ join_with_byte (ascii "/") (more ∷ others)),
-      slash_counts (join_with_byte (ascii "/") (next ∷ ranks)),
-      slash_counts (join_with_byte (ascii "/") (more ∷ others)),
-      h.0,
-      few_joined (next ∷ ranks) (more ∷ others) h.1,
-    )
+    search (rules, counts_joined, slash_counts, few_joined (next ∷ ranks) (more ∷ others) h.1)
 
 -- written ranks have no more digits than others
 few_in_ranks : (ranks : List (List ℕ)) (pieces : List Piece) → AreRanks ranks pieces

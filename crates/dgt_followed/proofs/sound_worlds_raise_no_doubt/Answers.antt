@@ -22,8 +22,7 @@ returns-clause-heard c =
     })
 
 pub returns-clause-always : goal.returns-clause-always
-returns-clause-always c =
-    runs_are_calm
+returns-clause-always c = runs_are_calm
     (act_restates c.acts_are_moves.ensures.one c.picture_after_moves.ensures.exact c.moves_keep.ensures.sound)
     (beginning_restates c.divisions_append.ensures c.zeros_settle_the_reader.ensures c.parts_of_words.ensures.nothing)
     (returns-clause-heard c)

@@ -1,4 +1,4 @@
-//! Boards in worked conversations. `checks/rows` contains others.
+//! Boards in worked conversations. `tests/program/rows` contains others.
 
 use super::asserting::{assert_same, assert_that};
 use super::fixtures::*;
@@ -157,9 +157,9 @@ fn comes_true(board: &mut Board, step: Step) -> Result<bool, Fail> {
 
 #[test]
 fn boards(rt: HostRuntime) -> Result<(), Fail> {
-    for (name, steps) in SCENES {
+    for (name, steps) in &SCENES {
         let mut board = new_board();
-        for step in steps {
+        for step in *steps {
             assert_that(&rt, comes_true(&mut board, *step)?, name);
         }
     }

@@ -1,5 +1,5 @@
-//! Calls of commands, and their encodings. `checks/rows` tests how bytes are read, and
-//! `checks/divisions` tests that in any chunks.
+//! Calls of commands, and their encodings. `tests/program/rows` tests how bytes are read, and
+//! `tests/libraries/divisions` tests that in any chunks.
 
 use super::asserting::{assert_same, assert_that};
 use dgt_command::{

@@ -1,5 +1,5 @@
-//! The decoder, the framer, and the plain reader. `checks/rows` tests how bytes are read, and
-//! `checks/divisions` tests that in any chunks.
+//! The decoder, the framer, and the plain reader. `tests/program/rows` tests how bytes are read,
+//! and `tests/libraries/divisions` tests that in any chunks.
 
 use super::asserting::{assert_same, assert_that};
 use dgt_decode::{Decoder, Event, Found, Framer, Listener, Unfinished, first_top, plain};

@@ -1,5 +1,5 @@
-//! Followers: when they send requests, and which. `checks/follower_calls.py` tests more of their
-//! calls.
+//! Followers: when they send requests, and which. `tests/testing/follower_calls.py` tests more of
+//! their calls.
 
 use super::asserting::{assert_same, assert_that};
 use super::fixtures::*;

@@ -1,4 +1,4 @@
-//! Calls of messages, and the texts of their errors. `checks/rows` tests how bytes are read.
+//! Calls of messages, and the texts of their errors. `tests/program/rows` tests how bytes are read.
 
 use super::asserting::{assert_said, assert_same, assert_that};
 use dgt_message::{

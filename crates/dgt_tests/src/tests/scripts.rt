@@ -1,4 +1,4 @@
-//! Calls of lines of scripts, and the longest line. `checks/rows` contains the lines.
+//! Calls of lines of scripts, and the longest line. `tests/program/rows` contains the lines.
 
 use super::asserting::{assert_same, assert_that};
 use dgt_command::{Command, LedBytes};

@@ -1,4 +1,4 @@
-//! Calls of values, and the texts of their errors. `checks/rows` contains the tables of the
+//! Calls of values, and the texts of their errors. `tests/program/rows` contains the tables of the
 //! protocol.
 
 use super::asserting::{assert_said, assert_same};

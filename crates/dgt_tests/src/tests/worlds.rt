@@ -1,5 +1,5 @@
-//! Worlds: refused memory, and conversations. `checks/rows` contains others, and
-//! `checks/world_memory` refuses each allocation.
+//! Worlds: refused memory, and conversations. `tests/program/rows` contains others, and
+//! `tests/libraries/world_memory` refuses each allocation.
 
 use super::asserting::{assert_same, assert_that};
 use super::fixtures::*;
@@ -10,27 +10,27 @@ use dgt_link::Act::{BoardSend, Change, ToBoard, ToHost};
 use dgt_link::{Act, FaultyAct, Outcome, WorldFault};
 use dgt_script::read_faulty_act;
 use dgt_values::{Kind, Piece, Square};
+use std::alloc::AllocGlobal;
 use std::process::Abort;
 use std::test::Fail;
 
+// Asserts that no world is made with lines of these capacities.
+fn assert_no_world(rt: &(impl Abort + AllocGlobal), up: usize, down: usize, fault: WorldFault) {
+    let refused = world_of(rt.alloc(), up, down).err();
+    assert!(rt; refused == Some(fault), "{up} and {down}");
+}
+
 #[test]
-fn small_lines_and_refused_memory(rt: HostRuntime) -> Result<(), Fail> {
+fn small_lines_and_refused_memory(rt: HostRuntime) {
+    let (small, memory) = (WorldFault::LineTooSmall, WorldFault::OutOfMemory);
     let much = 1 << 62;
-    for (up, down, fault) in [
-        (66, 257, WorldFault::LineTooSmall),
-        (67, 256, WorldFault::LineTooSmall),
-        (much, 256, WorldFault::LineTooSmall),
-        (66, much, WorldFault::LineTooSmall),
-        (much, 257, WorldFault::OutOfMemory),
-        (67, much, WorldFault::OutOfMemory),
-        (much, much, WorldFault::OutOfMemory),
-    ] {
-        assert!(rt;
-            world_of(rt.alloc(), up, down).err() == Some(fault),
-            "{up} and {down}"
-        );
-    }
-    Ok(())
+    assert_no_world(&rt, 66, 257, small);
+    assert_no_world(&rt, 67, 256, small);
+    assert_no_world(&rt, much, 256, small);
+    assert_no_world(&rt, 66, much, small);
+    assert_no_world(&rt, much, 257, memory);
+    assert_no_world(&rt, 67, much, memory);
+    assert_no_world(&rt, much, much, memory);
 }
 
 // Asserts that the board and the host's picture have this placement.

@@ -1,4 +1,5 @@
 use Rattle.std.proofs.Common.{◌≡◌, ◌≢◌, ◌++◌, List, ℕ, [], arith, inl, inr, length, refl, suc}
+use Rattle.std.proofs.Common.{rules}
 use Rattle.std.specs.Fmt.{digits as decimal_digits}
 use Rattle.std.specs.Prelude.{codes, Ok}
 use Rattle.hex.specs.Hex.{decode_of, decode_pairs}
@@ -51,16 +52,7 @@ returns-clause-clock_message c digits bytes read many = inr (
   detail.ClockMessage,
   codes "fF " ++ digits,
   refl,
-  (
-    102,
-    70,
-    digits,
-    refl,
-    refl,
-    inr (no_hyphen digits bytes read, some_digits digits bytes 251 read many, read),
-    omega (arith, many),
-    refl,
-  ),
+  (search (rules, no_hyphen, some_digits)),
 )
 
 pub returns-clause-other_size : goal.returns-clause-other_size

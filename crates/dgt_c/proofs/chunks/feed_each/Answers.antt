@@ -1,14 +1,10 @@
-use Rattle.std.proofs.Common.{refl, sym, ◌∙◌, ap, append-nil}
+use Rattle.std.proofs.Common.{refl, sym, ◌∙◌, ap, append-nil, rules}
 use Rattle.std.proofs.lemmas.List.{take_rest}
-use Rattle.dgt_decode.specs.Grammar.{unfinished_message}
 use Rattle.dgt_c.proofs.ChunkLemmas.{decoder, fed_in_chunks, heard_nothing, none_heard, one_heard, uses, uses_some}
 use Rattle.dgt_c.proofs.chunks.feed_each.Goals as goal
 
 pub loop-decoder-init : goal.loop-decoder-init
-loop-decoder-init c =
-    heard_nothing decoder c.events_append.ensures c.args.decoder.now c.args.chunk.now c.args.reported.now
-    c.args.body.now c.unfinished_is_quiet.ensures c.rest.ensures.unfinished (ap unfinished_message (append-nil
-    c.args.decoder.now) ∙ c.rest.ensures.unfinished)
+loop-decoder-init c = search (rules, heard_nothing, decoder, append-nil)
 
 pub loop-decoder-preserved-then-is_some : goal.loop-decoder-preserved-then-is_some
 loop-decoder-preserved-then-is_some c =
@@ -32,13 +28,7 @@ loop-decoder-preserved c =
     c.is_some.ensures ∙ c.if-is_some.false)
 
 pub returns-clause-uses : goal.returns-clause-uses
-returns-clause-uses c =
-    uses decoder c.events_append.ensures c.args.decoder.now c.args.chunk.now c.args.reported.now c.args.body.now
-    c.loop-decoder.decoder c.loop-decoder.used c.loop-decoder.count c.loop-decoder.body_len c.loop-decoder.reported
-    c.loop-decoder.body c.loop-decoder.invariant c.loop-decoder-test.ensures.1
+returns-clause-uses c = search (rules, uses, decoder)
 
 pub returns-clause-progress : goal.returns-clause-progress
-returns-clause-progress c =
-    uses_some decoder c.events_append.ensures c.args.decoder.now c.args.chunk.now c.args.reported.now
-    c.args.body.now c.unfinished_is_quiet.ensures c.rest.ensures.unfinished c.loop-decoder.used (returns-clause-uses
-    c)
+returns-clause-progress c = search (rules, uses_some, decoder, returns-clause-uses)

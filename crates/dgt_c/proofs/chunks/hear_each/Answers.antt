@@ -1,13 +1,11 @@
-use Rattle.std.proofs.Common.{refl, sym, ◌∙◌}
+use Rattle.std.proofs.Common.{refl, sym, ◌∙◌, arith, rules}
 use Rattle.std.proofs.lemmas.List.{take_rest}
 use Rattle.dgt_c.proofs.ChunkLemmas.{heard_nothing, host, none_heard, one_heard, uses, uses_some}
 use Rattle.dgt_c.proofs.chunks.hear_each.Goals as goal
+use Rattle.std.proofs.lemmas.Grind.{common_steps}
 
 pub loop-host-init : goal.loop-host-init
-loop-host-init c =
-    heard_nothing host c.events_append.ensures c.args.host.now c.args.chunk.now c.args.reported.now c.args.body.now
-    c.unfinished_is_quiet.ensures c.unread.ensures.all_unfinished (c.nothing_heard.ensures c.args.host.now
-    c.unread.ensures.all_unfinished)
+loop-host-init c = grind (arith, common_steps, heard_nothing, host)
 
 pub loop-host-preserved-then-is_some : goal.loop-host-preserved-then-is_some
 loop-host-preserved-then-is_some c =
@@ -30,12 +28,7 @@ loop-host-preserved c =
     (c.loop-host-test.ensures.0 refl) call.first after (sym c.is_some.ensures ∙ c.if-is_some.false)
 
 pub returns-clause-uses : goal.returns-clause-uses
-returns-clause-uses c =
-    uses host c.events_append.ensures c.args.host.now c.args.chunk.now c.args.reported.now c.args.body.now
-    c.loop-host.host c.loop-host.used c.loop-host.count c.loop-host.body_len c.loop-host.reported c.loop-host.body
-    c.loop-host.invariant c.loop-host-test.ensures.1
+returns-clause-uses c = search (rules, uses, host)
 
 pub returns-clause-progress : goal.returns-clause-progress
-returns-clause-progress c =
-    uses_some host c.events_append.ensures c.args.host.now c.args.chunk.now c.args.reported.now c.args.body.now
-    c.unfinished_is_quiet.ensures c.unread.ensures.all_unfinished c.loop-host.used (returns-clause-uses c)
+returns-clause-progress c = search (rules, uses_some, host, returns-clause-uses)

@@ -1,4 +1,4 @@
-use Rattle.std.proofs.Common.{arith, rules}
+use Rattle.std.proofs.Common.{rules}
 use Rattle.dgt_values.specs.Bytes.{body_bytes}
 use Rattle.dgt_message.specs.Content.{code_number}
 use Rattle.dgt_c.proofs.EncodingLemmas.{no_case, no_clock, no_dump, no_message, other_said}
@@ -8,19 +8,13 @@ pub returns-in_default : goal.returns-in_default
 returns-in_default c = no_message c.args.said.now c.args.body.now (search rules)
 
 pub returns-in_err-read_position-in-1 : goal.returns-in_err-read_position-in-1
-returns-in_err-read_position-in-1 c =
-    rw c.from_residual.ensures
-    (no_dump c.args.said.now c.args.body.now c.in-1.is c.in_err-read_position-in-1.ensures)
+returns-in_err-read_position-in-1 c = search (rules, no_dump)
 
 pub returns-in_err-times-in-3 : goal.returns-in_err-times-in-3
-returns-in_err-times-in-3 c =
-    rw c.from_residual-in_err-times-in-3.ensures
-    (no_clock c.args.said.now c.args.body.now (omega arith) (omega arith) c.in_err-times-in-3.ensures)
+returns-in_err-times-in-3 c = search (rules, no_clock)
 
 pub returns-in_err-absence-in-4 : goal.returns-in_err-absence-in-4
-returns-in_err-absence-in-4 c =
-    rw c.from_residual-in_err-absence-in-4.ensures
-    (no_clock c.args.said.now c.args.body.now (omega arith) (omega arith) c.in_err-absence-in-4.ensures)
+returns-in_err-absence-in-4 c = search (rules, no_clock)
 
 pub returns-in_ok-read_body-in-11 : goal.returns-in_ok-read_body-in-11
 returns-in_ok-read_body-in-11 c =

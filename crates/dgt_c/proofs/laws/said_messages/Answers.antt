@@ -1,6 +1,5 @@
-use Rattle.std.proofs.Common.{◌∙◌, subst, sym}
+use Rattle.std.proofs.Common.{subst, sym, rules}
 use Rattle.dgt_c.specs.Encoding.{IsMessageKind}
-use Rattle.dgt_message.specs.Code.{known_with}
 use Rattle.dgt_c.proofs.EncodingLemmas.{message_kinds, said_apart}
 use Rattle.dgt_c.proofs.laws.said_messages.Goals as goal
 
@@ -26,8 +25,7 @@ pub returns-clause-version : goal.returns-clause-version
 returns-clause-version c = λ said body first second p. (p.0, let same = p.1.1 in cc, let same = p.1.1 in cc)
 
 pub returns-clause-carried : goal.returns-clause-carried
-returns-clause-carried c = λ said body bytes code kind p. p.1.1
-    ∙ said_apart said body (known_with code) code bytes kind p.0
+returns-clause-carried c = search (rules, said_apart)
 
 pub returns-clause-other : goal.returns-clause-other
 returns-clause-other c = λ said body bytes code kind p. p.1.0 kind

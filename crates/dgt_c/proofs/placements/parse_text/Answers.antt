@@ -1,6 +1,7 @@
 use Rattle.std.proofs.lemmas.Str.{IsUtf8-from_ascii}
 use Rattle.dgt_c.proofs.AsciiLemmas.{ascii_prefix, bad_behind, bad_in_prefix}
 use Rattle.dgt_c.proofs.placements.parse_text.Goals as goal
+use Rattle.std.proofs.Common.{rules}
 
 pub unreachable-requires : goal.unreachable-requires
 unreachable-requires c =
@@ -14,7 +15,4 @@ returns-in-Err-parse_placement c =
     (rw c.in-Ok.ensures.cases.0 at c.in-Err-parse_placement.ensures)
 
 pub returns-in-Ok-parse_placement : goal.returns-in-Ok-parse_placement
-returns-in-Ok-parse_placement c =
-    bad_behind c.args.text.now c.ascii_len-end.result _ c.if-end-text.true
-    (c.ascii_len-end.ensures.there c.if-end-text.true)
-    (rw c.in-Ok.ensures.cases.0 at c.in-Ok-parse_placement.ensures)
+returns-in-Ok-parse_placement c = search (rules, bad_behind)

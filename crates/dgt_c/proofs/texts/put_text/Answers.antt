@@ -1,17 +1,14 @@
 use Rattle.std.proofs.Common.{◌≡◌, ◌<◌, ◌≤◌, ◌+◌, ◌-◌, ◌∙◌, ℕ, zero, suc, List, [], ◌∷◌, ◌++◌, ap, append_assoc, arith, drop, length, length-append, refl, sym, take}
+use Rattle.std.proofs.Common.{rules}
 use Rattle.std.proofs.Math.ListN.{set}
 use Rattle.std.proofs.lemmas.List.{drop-append-le, length-drop, length-take, set-append_right, take-append-drop}
-use Rattle.dgt_decode.specs.Feeding.{event_content}
-use Rattle.dgt_lines.specs.Lines.{event_text}
 use Rattle.dgt_c.proofs.texts.put_text.Goals as goal
 
 -- the first element after a place is written
 set_after : (xs : List ℕ) (n : ℕ) → n < length xs → set (drop n xs) 0 0 ≡ 0 ∷ drop (n + 1) xs
 set_after [] n within = absurd (omega (arith, within))
 set_after (x ∷ xs) zero within = refl
-set_after (x ∷ xs) (suc n) within =
-    let next : suc (n + 1) ≡ suc n + 1 = omega arith in
-    set_after xs n (omega (arith, within)) ∙ ap (λ m. 0 ∷ drop m (x ∷ xs)) next
+set_after (x ∷ xs) (suc n) within = search (rules, set_after xs n (omega (arith, within)))
 
 -- a zero byte is written after a text that was written to a prefix of a slice
 zero_after : (text old : List ℕ) (room n : ℕ) → length text ≡ n → n ≤ length (take room old) → n < length old
@@ -27,28 +24,4 @@ zero_after text old room n len fits within =
     ∙ sym (append_assoc text (0 ∷ []) _)
 
 pub returns-in-Ok : goal.returns-in-Ok
-returns-in-Ok c =
-    let text = event_text (event_content c.args.event.now) in
-    let e = c.in-Ok.ensures.text in
-    let whole = length-append text (0 ∷ []) in
-    let old = c.args.text.now in
-    let room = c.saturating_sub-room.result in
-    let within : c.in-Ok.len < length old =
-    omega (
-      arith,
-      length-append c.format_event.new.out (drop room old),
-      length-drop room old,
-      ap (λ s. length s) e.2,
-      length-append text (drop c.in-Ok.len (take room old)),
-      length-drop c.in-Ok.len (take room old),
-      length-take room old,
-      e.0,
-      e.1,
-      c.if-len-text.true,
-      c.saturating_sub-room.ensures,
-    ) in (
-      omega (arith, whole, e.0),
-      omega (arith, within),
-      ap (λ s. set (s ++ drop room old) c.in-Ok.len 0) e.2
-          ∙ zero_after text old room c.in-Ok.len (sym e.0) e.1 within,
-    )
+returns-in-Ok c = search (rules, length-append, length-drop, length-take, set, zero_after)

@@ -1,21 +1,14 @@
-use Rattle.std.proofs.Common.{arith, sym, ◌∙◌}
+use Rattle.std.proofs.Common.{arith, sym, ◌∙◌, rules}
 use Rattle.std.proofs.lemmas.List.{length-drop, take_rest}
 use Rattle.dgt_values.specs.Board.{pieces_of}
 use Rattle.dgt_decode.proofs.DumpLemmas.{dump_reported, only_dump}
 use Rattle.dgt_decode.proofs.dumps.dump_position.Goals as goal
 
 pub returns-then-bytes : goal.returns-then-bytes
-returns-then-bytes c = λ pieces e.
-    let reported = only_dump c.reading_is_exact.ensures.message _ pieces
-    (omega (arith, c.type_inv.bytes 0)) c.requires e in
-    omega (arith, reported.0)
+returns-then-bytes c = search (rules, only_dump)
 
 pub returns-in_default : goal.returns-in_default
-returns-in_default c = λ pieces e.
-    let reported = only_dump c.reading_is_exact.ensures.message _ pieces
-    (omega (arith, c.type_inv.bytes 0)) c.requires e in
-    let other = rw (take_rest c.args.bytes.now 3) at c.in_default.ensures in
-    omega (arith, other, reported.1, length-drop 3 c.args.bytes.now)
+returns-in_default c = search (rules, only_dump, take_rest, length-drop)
 
 pub returns-in-Err : goal.returns-in-Err
 returns-in-Err c = λ pieces e.

@@ -11,8 +11,7 @@ use Rattle.dgt_decode.proofs.framer.append_run.Goals as goal
 
 -- the bytes that may be taken
 taken : (c : goal.After-append) → take c.min.result c.args.chunk.now ≡ take c.args.missing c.args.chunk.now
-taken c =
-    ap (λ n. take n c.args.chunk.now) (c.min.ensures ∙ min_comm (length c.args.chunk.now) c.args.missing)
+taken c = ap (λ n. take n c.args.chunk.now) (c.min.ensures ∙ min_comm (length c.args.chunk.now) c.args.missing)
     ∙ take_min c.args.missing c.args.chunk.now
 
 -- those before the first with a set top bit

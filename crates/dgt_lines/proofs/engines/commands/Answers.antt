@@ -1,14 +1,10 @@
-use Rattle.std.proofs.Common.{ap, arith}
-use Rattle.dgt_command.specs.Framing.{rest_of}
+use Rattle.std.proofs.Common.{rules}
 use Rattle.dgt_lines.proofs.Listed.{listed, listed_none}
 use Rattle.dgt_lines.proofs.Printed.{ran_with}
 use Rattle.dgt_lines.proofs.engines.commands.Goals as goal
 
 pub print_input-requires : goal.print_input-requires
-print_input-requires g c = (
-  omega arith,
-  (listed_none c.parts_of_words.ensures.nothing _ (ap rest_of c.new.ensures), c.new-outgoing.ensures),
-)
+print_input-requires g c = search (rules, listed_none)
 
 pub returns-clause-output : goal.returns-clause-output
 returns-clause-output g c =

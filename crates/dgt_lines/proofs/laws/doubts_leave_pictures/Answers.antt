@@ -1,9 +1,6 @@
 use Rattle.dgt_lines.proofs.DoubtLemmas.{doubts_leave_pictures, ignored_faults_are_silent, picture_kept}
 use Rattle.dgt_lines.proofs.laws.doubts_leave_pictures.Goals as goal
+use Rattle.std.proofs.Common.{rules}
 
 pub returns : goal.returns
-returns c = record {
-  shown = doubts_leave_pictures;
-  picture = picture_kept;
-  ignored = ignored_faults_are_silent;
-}
+returns c = search (rules, doubts_leave_pictures, picture_kept, ignored_faults_are_silent)

@@ -1,15 +1,9 @@
-use Rattle.std.proofs.Common.{◌≡◌, ◌∙◌, ◌+◌, ◌^◌, ◌<◌, ◌≤◌, ℕ, arith, refl}
+use Rattle.std.proofs.Common.{◌≡◌, ◌∙◌, ◌+◌, ◌^◌, ◌<◌, ℕ, arith, refl, rules}
 use Rattle.dgt_lines.proofs.laws.marks_after_three_turns.Goals as goal
 
 -- the numbers of a count
 few : (before : ℕ) → before ≡ 7 → before + 3 < 2 ^ 64
 few before seven = omega (arith, seven)
-
-at_most_ten : (before after : ℕ) → before ≡ 7 → after ≤ before + 3 → after ≤ 10
-at_most_ten before after seven most = omega (arith, seven, most)
-
-ten : (before after : ℕ) → before ≡ 7 → after ≡ before + 3 → after ≡ 10
-ten before after seven all = omega (arith, seven, all)
 
 pub returns-clause-all_read : goal.returns-clause-all_read
 returns-clause-all_read g c a b d e run = run.in_turns.all_read
@@ -40,14 +34,10 @@ pub returns-clause-sink_in_time : goal.returns-clause-sink_in_time
 returns-clause-sink_in_time g c a b d e r run = run.in_turns.sink_in_time run.sink_stands ∙ run.sink_in_time
 
 pub returns-clause-reads : goal.returns-clause-reads
-returns-clause-reads g c a b d e r run =
-    at_most_ten (g.R.Source.reads a) (g.R.Source.reads b) run.reads
-    (run.in_turns.turns (few (g.R.Source.reads a) run.reads))
+returns-clause-reads g c a b d e r run = search (rules, few)
 
 pub returns-clause-all_reads : goal.returns-clause-all_reads
-returns-clause-all_reads g c a b d e run =
-    ten (g.R.Source.reads a) (g.R.Source.reads b) run.reads
-    (run.in_turns.all_turns refl (few (g.R.Source.reads a) run.reads))
+returns-clause-all_reads g c a b d e run = search (rules, few)
 
 pub returns-clause-flushed : goal.returns-clause-flushed
 returns-clause-flushed g c a b d e run = run.in_turns.flushed run.flushed (λ same. cc)

@@ -1,13 +1,11 @@
-use Rattle.std.proofs.Common.{[], append-nil, arith, refl, sym}
+use Rattle.std.proofs.Common.{append-nil, arith, refl, rules}
 use Rattle.std.proofs.lemmas.Fmt.{decimal_digit}
 use Rattle.hex.specs.Hex.{encode_with}
 use Rattle.dgt_lines.specs.Lines.{event_text, message_text}
-use Rattle.dgt_lines.specs.NamedLines.{named_line}
 use Rattle.dgt_lines.proofs.laws.named_lines_by_example.Goals as goal
 
 pub returns-clause-two : goal.returns-clause-two
-returns-clause-two c = λ x y one other p q.
-    (one, named_line y other, p, refl, (other, [], q, sym (append-nil _), refl))
+returns-clause-two c = search (rules, append-nil)
 
 pub returns-clause-line : goal.returns-clause-line
 unfolding event_text message_text encode_with

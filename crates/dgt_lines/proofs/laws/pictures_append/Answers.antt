@@ -1,8 +1,6 @@
 use Rattle.dgt_lines.proofs.PictureLemmas.{picture_reported-append, pictures_text-append}
 use Rattle.dgt_lines.proofs.laws.pictures_append.Goals as goal
+use Rattle.std.proofs.Common.{rules}
 
 pub returns : goal.returns
-returns c = record {
-  lines = pictures_text-append c.chunks_in_a_row.ensures.add;
-  picture = picture_reported-append c.chunks_in_a_row.ensures.add;
-}
+returns c = search (rules, pictures_text-append, picture_reported-append)

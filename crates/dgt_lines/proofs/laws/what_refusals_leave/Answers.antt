@@ -1,4 +1,5 @@
 use Rattle.std.proofs.Common.{◌≡◌, ◌⊎◌, ◌∙◌, ℕ, List, [], ◌∷◌, ◌++◌, Option, None, Some, ap, append-nil, arith, inl, inr}
+use Rattle.std.proofs.Common.{rules}
 use Rattle.std.specs.Io.KnownBytes.{Appends}
 use Rattle.dgt_lines.proofs.laws.what_refusals_leave.Goals as goal
 
@@ -11,6 +12,4 @@ had_or_both (Some x) (Some y) (p ∷ []) rest had whole appends = inr (grind (ar
 had_or_both (Some x) (Some y) (p ∷ q ∷ more) rest had whole appends = grind (arith, whole)
 
 pub returns : goal.returns
-returns g c a b fault stops had =
-    had_or_both (g.W.Sink.written a) (g.W.Sink.written b) stops.1.prefix stops.1.rest had stops.1.whole
-    stops.1.appends
+returns g c a b fault stops had = search (rules, had_or_both)

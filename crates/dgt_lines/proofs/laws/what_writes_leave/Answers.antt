@@ -1,15 +1,8 @@
-use Rattle.std.proofs.Common.{◌≡◌, ◌∙◌, ℕ, List, [], ◌∷◌, Option, None, Some, arith}
-use Rattle.std.specs.Io.KnownBytes.{Appends}
+use Rattle.std.proofs.Common.{◌∙◌, rules}
 use Rattle.dgt_lines.proofs.laws.what_writes_leave.Goals as goal
 
-has_both : (old new : Option (List ℕ)) → old ≡ Some (64 ∷ []) → Appends old new (65 ∷ []) → new ≡ Some (64 ∷ 65 ∷ [])
-has_both None new had appends = cc
-has_both (Some x) None had appends = absurd appends
-has_both (Some x) (Some y) had appends = grind (arith, had, appends)
-
 pub returns-clause-written : goal.returns-clause-written
-returns-clause-written g c a b writes had =
-    has_both (g.W.Sink.written a) (g.W.Sink.written b) had writes.appends
+returns-clause-written g c a b writes had = search rules
 
 pub returns-clause-stands : goal.returns-clause-stands
 returns-clause-stands g c a b writes stood = writes.kept ∙ stood

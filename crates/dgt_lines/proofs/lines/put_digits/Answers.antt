@@ -1,15 +1,11 @@
-use Rattle.std.proofs.Common.{arith, drop, take}
+use Rattle.std.proofs.Common.{arith, drop, take, rules}
 use Rattle.hex.specs.Hex.{encode_lower}
 use Rattle.dgt_lines.proofs.HexLemmas.{encode_lower-nil, encode_lower-upto, encode_lower-around}
 use Rattle.dgt_lines.proofs.GatherLemmas.{gathered_none, gathered_then, gathers_stopped}
 use Rattle.dgt_lines.proofs.lines.put_digits.Goals as goal
 
 pub loop-at-init : goal.loop-at-init
-loop-at-init g c = record {
-  within = omega arith;
-  output = rw encode_lower-nil (gathered_none g.W.Sink c.args.outgoing.now c.args.writer.now);
-  no_flush = λ h. h;
-}
+loop-at-init g c = search (rules, encode_lower-nil, gathered_none)
 
 pub returns-in_err-put_part-clause-output : goal.returns-in_err-put_part-clause-output
 returns-in_err-put_part-clause-output g c =
@@ -24,9 +20,4 @@ loop-at-preserved g c =
     let step =
     gathered_then _ _ _ _ _ _ _ (encode_lower (take c.loop-at.at c.args.bytes.now)) _ c.loop-at.invariant.output
     c.in_ok-put_part.ensures.output in
-    record {
-      within = omega (arith, c.min-end.ensures);
-      output = rw (encode_lower-upto c.args.bytes.now c.loop-at.at c.min-end.result (omega (arith, c.min-end.ensures)))
-          step;
-      no_flush = λ h. c.in_ok-put_part.ensures.no_flush (c.loop-at.invariant.no_flush h);
-    }
+    search (rules, encode_lower-upto)

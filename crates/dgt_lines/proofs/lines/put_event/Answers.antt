@@ -1,4 +1,4 @@
-use Rattle.std.proofs.Common.{◌++◌, ◌∷◌, codes, refl}
+use Rattle.std.proofs.Common.{◌++◌, ◌∷◌, codes, refl, rules}
 use Rattle.dgt_decode.specs.Feeding.{event_content}
 use Rattle.dgt_lines.specs.Lines.{event_line, event_text, offset_text}
 use Rattle.dgt_lines.proofs.GatherLemmas.{gathers_first, gathers_then}
@@ -11,6 +11,4 @@ returns-in_err-put_text-clause-output g c =
     c.from_residual.ensures.1 c.in_err-put_text.ensures.output
 
 pub returns-clause-output : goal.returns-clause-output
-returns-clause-output g c =
-    gathers_then _ _ _ _ _ _ _ (offset_text c.args.offset ++ 32 ∷ event_text (event_content c.args.event.now))
-    (codes "\n") _ c.in_ok-put_text.ensures.output c.add.ensures.output
+returns-clause-output g c = search (rules, gathers_then, codes)

@@ -1,4 +1,4 @@
-use Rattle.std.proofs.Common.{[], append_assoc, refl}
+use Rattle.std.proofs.Common.{[], append_assoc, refl, rules}
 use Rattle.dgt_values.specs.Board.{square_number}
 use Rattle.dgt_message.specs.Content.Content.{field}
 use Rattle.dgt_decode.specs.Grammar.{Message}
@@ -13,6 +13,4 @@ returns-in_err-make_room-clause-output g c =
 
 pub returns-clause-output : goal.returns-clause-output
 unfolding event_text
-returns-clause-output g c =
-    gathered_pushed _ _ _ _ _ _ _ c.in_ok-make_room.ensures.output
-    (rw (c.push.ensures.bytes, c.push_field.ensures.text, c.push_offset.ensures.text) (simp append_assoc refl))
+returns-clause-output g c = search (rules, gathered_pushed, append_assoc)

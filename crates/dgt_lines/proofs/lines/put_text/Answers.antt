@@ -1,7 +1,6 @@
-use Rattle.std.proofs.Common.{[], ◌++◌, ◌∷◌, refl}
-use Rattle.dgt_values.specs.Bytes.{body_bytes}
+use Rattle.std.proofs.Common.{[], ◌++◌, ◌∷◌, refl, rules}
 use Rattle.dgt_decode.specs.Feeding.{event_content}
-use Rattle.dgt_lines.specs.Lines.{bytes_text, event_text, offset_text}
+use Rattle.dgt_lines.specs.Lines.{event_text, offset_text}
 use Rattle.dgt_lines.proofs.GatherLemmas.{gathers_first}
 use Rattle.dgt_lines.proofs.LineLemmas.{gathers_text}
 use Rattle.dgt_lines.proofs.lines.put_text.Goals as goal
@@ -12,6 +11,4 @@ returns-in_err-make_room-clause-output g c =
     refl c.from_residual.ensures.1 c.in_err-make_room.ensures.output
 
 pub returns-in-Some-clause-output : goal.returns-in-Some-clause-output
-returns-in-Some-clause-output g c =
-    gathers_text _ _ _ _ _ _ _ (bytes_text (body_bytes c.in-Some.body)) _ _ _ _ _ c.in_ok-make_room.ensures.output
-    c.push_offset.ensures.text c.in-Some.ensures.text (rw c.bytes.ensures.bytes at c.put_bytes.ensures.output)
+returns-in-Some-clause-output g c = search (rules, gathers_text)

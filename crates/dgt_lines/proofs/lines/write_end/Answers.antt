@@ -1,15 +1,13 @@
-use Rattle.std.proofs.Common.{◌∙◌, append-nil, arith, rules, sym}
+use Rattle.std.proofs.Common.{append-nil, arith, rules}
 use Rattle.dgt_lines.proofs.GatherLemmas.{wrote_none, writes_then}
 use Rattle.dgt_lines.proofs.LineLemmas.{unfinished_line-none, unfinished_line-some}
 use Rattle.dgt_lines.proofs.lines.write_end.Goals as goal
 
 pub returns-then-have-eq0-clause-output : goal.returns-then-have-eq0-clause-output
-returns-then-have-eq0-clause-output g c = λ held e.
-    rw (unfinished_line-none held c.args.offset (sym c.if-have-eq0.true ∙ e)) (wrote_none g.W.Sink _)
+returns-then-have-eq0-clause-output g c = search (rules, unfinished_line-none, wrote_none)
 
 pub returns-in_err-write_unfinished-clause-output : goal.returns-in_err-write_unfinished-clause-output
-returns-in_err-write_unfinished-clause-output g c = λ held e.
-    rw (unfinished_line-some held c.args.offset c.args.have (omega (arith, e, c.if-have-eq0.false)) e) (search rules)
+returns-in_err-write_unfinished-clause-output g c = search (rules, unfinished_line-some)
 
 pub returns-clause-output : goal.returns-clause-output
 returns-clause-output g c = λ held e.

@@ -7,5 +7,4 @@ returns-in_err-put_event-clause-output g c =
     search (rules, rw c.new-outgoing.ensures at c.in_err-put_event.ensures.output)
 
 pub returns-clause-output : goal.returns-clause-output
-returns-clause-output g c = gathered_out _ _ _ _ _ _ _ (rw c.new-outgoing.ensures at c.in_ok-put_event.ensures.output)
-    c.write_out.ensures.output
+returns-clause-output g c = search (rules, gathered_out)

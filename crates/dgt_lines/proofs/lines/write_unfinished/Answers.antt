@@ -5,8 +5,7 @@ use Rattle.dgt_lines.proofs.lines.write_unfinished.Goals as goal
 
 pub returns-clause-output : goal.returns-clause-output
 returns-clause-output g c =
-    let whole : c.push-2.new.self ≡ line c.args.offset (unfinished_text c.args.have) =
-    rw (
+    let whole : c.push-2.new.self ≡ line c.args.offset (unfinished_text c.args.have) = rw (
       c.push-2.ensures.bytes,
       c.push_decimal.ensures.bytes,
       c.push.ensures.bytes,

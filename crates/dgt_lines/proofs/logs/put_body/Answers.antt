@@ -1,12 +1,9 @@
-use Rattle.std.proofs.Common.{arith, rules}
+use Rattle.std.proofs.Common.{rules}
 use Rattle.dgt_lines.proofs.StoredLines.{put_all, put_more, put_none, put_stopped}
 use Rattle.dgt_lines.proofs.logs.put_body.Goals as goal
 
 pub loop-at-init : goal.loop-at-init
-loop-at-init g c = record {
-  bound = omega arith;
-  some = λ things says. put_none g.W.Sink _ _ _ _ things says;
-}
+loop-at-init g c = search (rules, put_none)
 
 pub loop-at-preserved : goal.loop-at-preserved
 loop-at-preserved g c = record {
@@ -22,5 +19,4 @@ returns-in_err-at g c = λ things says.
     c.from_residual.ensures.1 c.in_err-at.ensures.puts
 
 pub returns : goal.returns
-returns g c = λ things says.
-    put_all g.W.Sink _ _ _ _ _ _ _ things c.loop-at-test.false (c.loop-at.invariant.some things says)
+returns g c = search (rules, put_all)

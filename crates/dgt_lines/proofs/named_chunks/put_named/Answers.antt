@@ -1,5 +1,6 @@
 use Rattle.dgt_lines.proofs.NamedLemmas.{gathers_named, name_refused, text_refused}
 use Rattle.dgt_lines.proofs.named_chunks.put_named.Goals as goal
+use Rattle.std.proofs.Common.{rules}
 
 pub returns-in_err-put_text-clause-output : goal.returns-in_err-put_text-clause-output
 returns-in_err-put_text-clause-output g c =
@@ -11,6 +12,4 @@ returns-in_err-put_name-clause-output g c =
     c.from_residual-in_err-put_name.ensures.1 c.in_err-put_name.ensures.output
 
 pub returns-clause-output : goal.returns-clause-output
-returns-clause-output g c =
-    gathers_named g.W.Sink _ _ _ _ _ _ c.in_ok-put_text.ensures.output _ _ _ _ _ c.in_ok-put_name.ensures.output
-    c.add.ensures.output
+returns-clause-output g c = search (rules, gathers_named)

@@ -5,11 +5,7 @@ use Rattle.dgt_lines.proofs.ChunkLemmas.{all_bytes, counted_on, gathered_first, 
 use Rattle.dgt_lines.proofs.printers.print_chunk.Goals as goal
 
 pub loop-at-init : goal.loop-at-init
-loop-at-init g c = record {
-  bound = omega arith;
-  gathered = λ first bytes text has counted. gathered_first _ _ bytes text c.requires.empty has;
-  no_flush = λ h. h;
-}
+loop-at-init g c = search (rules, gathered_first)
 
 pub loop-at-preserved : goal.loop-at-preserved
 loop-at-preserved g c = record {

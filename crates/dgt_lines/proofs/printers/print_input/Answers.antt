@@ -1,4 +1,4 @@
-use Rattle.std.proofs.Common.{[], Err, append-nil, arith, refl}
+use Rattle.std.proofs.Common.{[], Err, append-nil, arith, rules}
 use Rattle.std.proofs.lemmas.List.{length-take-le}
 use Rattle.dgt_lines.proofs.Printed.{printed_end, printed_more, printed_none, printed_stopped}
 use Rattle.dgt_lines.proofs.TurnLemmas.{no_read, next_read}
@@ -40,9 +40,7 @@ loop-preserved g c =
     let printed = c.loop.invariant.printed in
     let chunk = c.in_ok-print_chunk.ensures.output _ _ _ printed.has printed.counted in
     let flushed = c.in_ok-flush.ensures in record {
-      in_turns = next_read c.loop.invariant.in_turns c.loop-test.true _ _ read.bound read.bytes.0 read.not_refused
-          read.no_end read.counted read.in_time c.if-given-eq0.false chunk.writes.kept chunk.writes.in_time
-          flushed.output flushed.flushed;
+      in_turns = search (rules, next_read);
       printed = printed_more c.writes_in_a_row.ensures _ _ _ _ _ _ _ _ _ printed
           (length-take-le c.in-Ok.given c.read_some.new.buffer read.bound) chunk.writes flushed.output chunk.keeps;
       empty = c.in_ok-print_chunk.ensures.empty;
@@ -53,13 +51,4 @@ pub returns-clause-output : goal.returns-clause-output
 returns-clause-output g c =
     let turns = c.loop.invariant.in_turns in
     let printed = c.loop.invariant.printed in
-    let lines = g.met.P.Printer.are_lines _ _ _ _ printed.has in (
-      turns.bytes,
-      printed.text,
-      turns.given,
-      printed.wrote.appends,
-      (
-        omega (arith, turns.each, c.loop-test.false),
-        record { text = printed.text; last = lines.0; has = lines.1; stands = refl },
-      ),
-    )
+    let lines = g.met.P.Printer.are_lines _ _ _ _ printed.has in (search rules)

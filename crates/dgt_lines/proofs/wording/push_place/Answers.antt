@@ -1,8 +1,6 @@
-use Rattle.std.proofs.Common.{append_assoc, arith, refl}
+use Rattle.std.proofs.Common.{append_assoc, rules}
 use Rattle.dgt_lines.proofs.TextLemmas.{padded_one}
 use Rattle.dgt_lines.proofs.wording.push_place.Goals as goal
 
 pub returns-clause-text : goal.returns-clause-text
-returns-clause-text g c =
-    rw (c.push_decimal.ensures.bytes, c.push.ensures.bytes, padded_one c.args.at (omega (arith, c.ranges.at.fits)))
-    (simp append_assoc refl)
+returns-clause-text g c = search (rules, padded_one, append_assoc)

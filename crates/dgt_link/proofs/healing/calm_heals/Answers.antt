@@ -31,8 +31,7 @@ returns-clause-dump c =
     (c.steps_heal.ensures.dump between begun following step) runs) quiet
 
 pub returns-clause-any_state : goal.returns-clause-any_state
-returns-clause-any_state c =
-    λ later world after answers sane room calm runs quiet.
+returns-clause-any_state c = λ later world after answers sane room calm runs quiet.
     let ran = restart_runs later world after answers room runs in
     returns-clause-restart c [] later FaultyContent.Restart world world ran.0 after [] ran.1 sane refl refl ran.2 calm
     ran.3 quiet

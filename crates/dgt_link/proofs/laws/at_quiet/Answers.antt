@@ -2,11 +2,10 @@ use Rattle.dgt_link.proofs.Quiet.{quiet_awaited, quiet_clock, quiet_clock_report
 use Rattle.dgt_link.proofs.laws.at_quiet.Goals as goal
 
 pub returns : goal.returns
-returns c =
-    record {
-      awaited = quiet_awaited;
-      picture = quiet_picture;
-      clock = quiet_clock;
-      clock_reported = quiet_clock_reported;
-      promised = promised_picture;
-    }
+returns c = record {
+  awaited = quiet_awaited;
+  picture = quiet_picture;
+  clock = quiet_clock;
+  clock_reported = quiet_clock_reported;
+  promised = promised_picture;
+}

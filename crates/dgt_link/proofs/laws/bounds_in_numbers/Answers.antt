@@ -5,16 +5,14 @@ use Rattle.dgt_link.specs.Settling.{HasRounds, IsRound}
 use Rattle.dgt_link.proofs.laws.bounds_in_numbers.Goals as goal
 
 one_round : IsRound (ActContent.BoardSend ∷ ActContent.ToBoard 1 ∷ ActContent.ToHost 1 ∷ [])
-one_round =
-    record {
-      settling = (tt, (tt, (tt, tt)));
-      sends = (0, omega arith, refl);
-      takes = (1, omega arith, (1, omega arith, refl));
-      hears = (1, omega arith, (2, omega arith, refl));
-    }
+one_round = record {
+  settling = (tt, (tt, (tt, tt)));
+  sends = (0, omega arith, refl);
+  takes = (1, omega arith, (1, omega arith, refl));
+  hears = (1, omega arith, (2, omega arith, refl));
+}
 
-all_rounds : (rounds : ℕ)
-    → HasRounds rounds (flat_map (λ round. round) (replicate rounds
+all_rounds : (rounds : ℕ) → HasRounds rounds (flat_map (λ round. round) (replicate rounds
     (ActContent.BoardSend ∷ ActContent.ToBoard 1 ∷ ActContent.ToHost 1 ∷ [])))
 all_rounds zero = tt
 all_rounds (suc rounds) = (_, _, refl, one_round, all_rounds rounds)
@@ -23,8 +21,7 @@ pub returns-clause-rounds : goal.returns-clause-rounds
 returns-clause-rounds c = all_rounds
 
 pub returns-clause-steps : goal.returns-clause-steps
-returns-clause-steps c =
-    λ world capacity up backlog down. rw (capacity, up, backlog, down) refl
+returns-clause-steps c = λ world capacity up backlog down. rw (capacity, up, backlog, down) refl
 
 pub returns-clause-moves : goal.returns-clause-moves
 returns-clause-moves c =

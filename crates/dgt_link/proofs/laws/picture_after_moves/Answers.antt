@@ -2,10 +2,9 @@ use Rattle.dgt_link.proofs.AfterMoves.{moves_sound, moves_exact, moves_promise, 
 use Rattle.dgt_link.proofs.laws.picture_after_moves.Goals as goal
 
 pub returns : goal.returns
-returns c =
-    record {
-      sound = moves_sound;
-      exact = moves_exact;
-      promised = moves_promise;
-      picture = moves_picture;
-    }
+returns c = record {
+  sound = moves_sound;
+  exact = moves_exact;
+  promised = moves_promise;
+  picture = moves_picture;
+}

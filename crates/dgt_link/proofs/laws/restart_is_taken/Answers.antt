@@ -8,8 +8,7 @@ pub returns-clause-noise : goal.returns-clause-noise
 returns-clause-noise c = noise_keeps_mode
 
 pub returns-clause-zeros : goal.returns-clause-zeros
-returns-clause-zeros c =
-    λ board after is taken.
+returns-clause-zeros c = λ board after is taken.
     let noise = c.zeros_settle_the_reader.ensures board.partial is in
     let same = c.one_division.ensures.1 _ taken.events noise.0 after.partial [] taken.divided noise.2 in (
       same.1,

@@ -2,8 +2,7 @@ use Rattle.dgt_link.proofs.OneOutcome.{one_state}
 use Rattle.dgt_link.proofs.laws.worlds_stand_for_one_state.Goals as goal
 
 pub returns : goal.returns
-returns c =
-    one_state
+returns c = one_state
     (record {
       encodes = c.encoding_encodes.ensures;
       one_message = c.encoded_once.ensures.one_message;

@@ -6,8 +6,7 @@ returns-in-Host c =
     rw c.in-Host.is (c.ask.ensures (world_of c.args.board.now c.args.host.now c.args.up.now c.args.down.now))
 
 pub returns-in-BoardSend : goal.returns-in-BoardSend
-returns-in-BoardSend c =
-    rw c.in-BoardSend.is (c.send_next.ensures.sends
+returns-in-BoardSend c = rw c.in-BoardSend.is (c.send_next.ensures.sends
     (world_of c.args.board.now c.args.host.now c.args.up.now c.args.down.now))
 
 pub returns-in-ToBoard : goal.returns-in-ToBoard

@@ -7,8 +7,7 @@ loop-moved-preserved c =
     let rest = left_length _ _ c.args.line.now c.loop-moved.line c.loop-moved.moved c.loop-moved.invariant.taking in
     record {
       most = omega arith;
-      taking =
-          taking_more c.takings_append.ensures _ _ _ c.args.line.now c.loop-moved.line _ c.loop-moved.moved
+      taking = taking_more c.takings_append.ensures _ _ _ c.args.line.now c.loop-moved.line _ c.loop-moved.moved
           c.take_front-moved.result c.loop-moved.invariant.taking c.take_front-moved.ensures.some
           (omega (arith, rest, c.take_front-moved.ensures.within)) (omega arith)
           c.take_front-moved.ensures.taken c.take_front-moved.ensures.earlier c.take_front-moved.ensures.left;

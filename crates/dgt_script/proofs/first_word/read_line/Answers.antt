@@ -1,4 +1,4 @@
-use Rattle.std.proofs.Common.{arith}
+use Rattle.std.proofs.Common.{arith, rules}
 use Rattle.dgt_script.specs.ScriptReading.{left_words}
 use Rattle.dgt_script.proofs.ScriptLemmas.{bad_from_there, left_within, line_asks, verb_refused}
 use Rattle.dgt_script.proofs.first_word.read_line.Goals as goal
@@ -10,10 +10,7 @@ returns-in_default-clause-bad g c =
     c.in_default.ensures
 
 pub returns-in-Ok-clause-asked : goal.returns-in-Ok-clause-asked
-returns-in-Ok-clause-asked g c =
-    let cut = c.cut_word.result in
-    line_asks g.V.FirstWord.vocabulary c.args.line.now cut.0.now (left_words cut.1) c.cut_word.ensures (omega arith)
-    c.in-Some.verb c.in-Some.ensures c.in-Ok.act c.in-Ok.ensures
+returns-in-Ok-clause-asked g c = search (rules, line_asks)
 
 pub overflow_sub-result : goal.overflow_sub-result
 overflow_sub-result g c =
@@ -22,7 +19,4 @@ overflow_sub-result g c =
     c.in-Some.verb c.in-Some.ensures c.in-Err.field-0 c.in-Err.ensures
 
 pub returns-in-Err-clause-bad : goal.returns-in-Err-clause-bad
-returns-in-Err-clause-bad g c =
-    let cut = c.cut_word.result in
-    bad_from_there g.V.FirstWord.vocabulary c.args.line.now cut.0.now (left_words cut.1) c.cut_word.ensures
-    (omega arith) c.in-Some.verb c.in-Some.ensures c.in-Err.field-0 c.in-Err.ensures
+returns-in-Err-clause-bad g c = search (rules, bad_from_there)

@@ -1,12 +1,10 @@
-use Rattle.std.proofs.Common.{arith}
+use Rattle.std.proofs.Common.{arith, rules}
 use Rattle.dgt_script.proofs.ScriptWordLemmas.{count_first, count_is_text, count_parsed, error_of, not_ok, ok_of, parsed_count, value_of}
 use Rattle.dgt_script.proofs.script_words.count_word.Goals as goal
 use Rattle.dgt_script.proofs.script_words.count_word.Goals.{then-first-eq48-via-then-first-eq48, then-first-eq48-via-else-first-eq48+then-not-is_ascii_digit}
 
 pub returns-in_err-first : goal.returns-in_err-first
-returns-in_err-first c =
-    rw c.from_residual.ensures
-    (λ count h. omega (arith, count_first c.args.word.now count h, c.in_err-first.ensures.item.3))
+returns-in_err-first c = search (rules, count_first)
 
 pub returns-then-first-eq48 : goal.returns-then-first-eq48
 returns-then-first-eq48 c = λ count h.
@@ -24,12 +22,7 @@ returns-in_err-ok c =
     (count_is_text c.args.word.now count h))
 
 pub returns-in_err-count : goal.returns-in_err-count
-returns-in_err-count c =
-    let text = value_of _ _ c.from_utf8.result _ c.in_ok-ok.ensures.value c.from_utf8.ensures.cases in
-    rw c.from_residual-in_err-count.ensures
-    (λ count h. not_ok c.parse.result count
-    (count_parsed c.args.word.now count c.parse.result h (rw text.0 at c.parse.ensures.value.0))
-    c.in_err-count.ensures.variant)
+returns-in_err-count c = search (rules, value_of, not_ok, count_parsed)
 
 pub returns : goal.returns
 returns c =

@@ -297,10 +297,10 @@ const SWEEPS: [Sweep; 12] = [
 
 #[test]
 fn each_engine_meets_each_trouble_at_each_place(rt: HostRuntime) -> Result<(), Fail> {
-    for sweep in SWEEPS {
-        for step in STEPS {
-            for trouble in TROUBLES {
-                meets_all(&rt, sweep, step, trouble)?;
+    for sweep in &SWEEPS {
+        for step in &STEPS {
+            for trouble in &TROUBLES {
+                meets_all(&rt, *sweep, *step, *trouble)?;
             }
         }
     }

@@ -1,4 +1,4 @@
-use Rattle.std.proofs.Common.{◌+◌, ◌∷◌, [], take, drop, length, ◌-◌, refl, rules}
+use Rattle.std.proofs.Common.{◌+◌, ◌∷◌, [], take, drop, ◌-◌, refl, rules}
 use Rattle.std.proofs.lemmas.List.{places, take_all}
 use Rattle.dgt_command.specs.Content.{command_event_content}
 use Rattle.dgt_text.specs.Conversation.{heard}
@@ -37,20 +37,7 @@ returns-in_err-send_all-2-clause-served g c =
     (halted_longer _ _ _ _ _ _ (drop (c.loop-at.at + c.unwrap-used.result.used) c.args.chunk.now) halted))
 
 pub loop-at-preserved : goal.loop-at-preserved
-loop-at-preserved g c =
-    let taken = rw c.unwrap-used.ensures at c.take.follows.holds-at-none in
-    let part =
-    hears_none command_event_content _ _
-    (take (length c.args.chunk.now - c.loop-at.at) (drop c.loop-at.at c.args.chunk.now)) _ _ c.if-is_some.ensures
-    (rw c.unwrap-used.ensures at c.take.ensures.none) taken.0 in
-    record {
-      bound = search (rules, places, c.loop-at.invariant.bound, rw c.unwrap-used.ensures at c.take.ensures.within);
-      served = rw (chunk_more c.args.chunk.now c.loop-at.at c.unwrap-used.result.used)
-          (served_part _ c.divisions_append.ensures _ _ _ _ _ _ _ c.loop-at.invariant.served part.0 part.1);
-      no_flush = c.loop-at.invariant.no_flush;
-    }
+loop-at-preserved g c = search (rules, hears_none, places, chunk_more, served_part)
 
 pub returns-clause-served : goal.returns-clause-served
-returns-clause-served g c =
-    let whole = take_all _ c.args.chunk.now c.loop-at-test.false in
-    rw whole at c.loop-at.invariant.served
+returns-clause-served g c = search (rules, take_all)

@@ -1,4 +1,4 @@
-use Rattle.std.proofs.Common.{[], refl}
+use Rattle.std.proofs.Common.{[], rules}
 use Rattle.std.proofs.KnownBytes.{Consumes-nil}
 use Rattle.dgt_text.proofs.ServingLemmas.{served_more, served_stops, halted_run}
 use Rattle.dgt_lines.proofs.TurnLemmas.{no_read, next_read}
@@ -25,9 +25,6 @@ pub loop-preserved : goal.loop-preserved
 loop-preserved g c =
     let read = c.in-Ok.ensures in
     let answered = c.in_ok-answer-2.ensures in record {
-      in_turns = next_read c.loop.invariant.in_turns c.loop-test.true _ _ read.bound read.bytes.0 read.not_refused
-          read.no_end read.counted read.in_time c.if-given-eq0.false refl
-          (λ _. refl) answered.served.wrote answered.flushed;
-      served = served_more g.W.Sink c.writes_in_a_row.ensures c.divisions_append.ensures _ _ _ _ _ _ _ _
-          c.loop.invariant.served answered.served;
+      in_turns = search (rules, next_read);
+      served = search (rules, served_more);
     }

@@ -2,9 +2,7 @@ use Rattle.std.proofs.Common.{[], append-nil, rules}
 use Rattle.dgt_text.proofs.simulating.close.Goals as goal
 
 pub returns-in_err-end-clause-output : goal.returns-in_err-end-clause-output
-returns-in_err-end-clause-output g c =
-    let closing = c.in_err-end.ensures.output in
-    (closing.0, closing.1, search (rules, closing.2))
+returns-in_err-end-clause-output g c = search rules
 
 pub returns-clause-output : goal.returns-clause-output
 returns-clause-output g c =

@@ -1,4 +1,4 @@
-use Rattle.std.proofs.Common.{arith, true, [], append-nil}
+use Rattle.std.proofs.Common.{arith, true, [], append-nil, rules}
 use Rattle.std.proofs.lemmas.List.{length-take-le}
 use Rattle.std.proofs.KnownBytes.{Consumes-trans}
 use Rattle.dgt_text.proofs.PlayLemmas.{no_byte, on_more, on_none}
@@ -20,9 +20,7 @@ loop-preserved g c =
     let chunk = c.in_ok-play_chunk.ensures in
     let flushed = c.in_ok-flush.ensures in
     let given = length-take-le c.in-Ok.given c.read_some.new.buffer read.bound in record {
-      in_turns = next_read c.loop.invariant.in_turns c.loop-test.true _ _ read.bound read.bytes.0 read.not_refused
-          read.no_end read.counted read.in_time c.if-given-eq0.false chunk.marks.failed chunk.marks.in_time
-          flushed.output flushed.flushed;
+      in_turns = search (rules, next_read);
       played = plays_flushed g.S.Stage.rules g.W.Sink _ _ _ _ _ _ _ _
           (on_more g.S.Stage.rules g.W.Sink _ _ _ _ _ _ _ _ _ _ _ _ _ q (chunk.played true q.rest q.kept q.cut.last))
           flushed.output.appends;

@@ -1,4 +1,4 @@
-use Rattle.std.proofs.Common.{[], ap, ◌≡◌, Bool, IsTrue, true, false}
+use Rattle.std.proofs.Common.{[], ◌≡◌, Bool, IsTrue, true, false, rules}
 use Rattle.std.specs.Prelude.{◌≢◌}
 use Rattle.dgt_text.specs.Simulating.{Plays, Took, all_lines}
 use Rattle.dgt_text.proofs.PlayLemmas.{begins_last, end_exit, end_some, end_none, end_closing}
@@ -23,16 +23,12 @@ pub returns-clause-played : goal.returns-clause-played
 returns-clause-played g c = λ at_end rest e h k.
     let played : Took g.W.Sink c.args.writer.now c.if-not-is_empty.writer
     (λ out. Plays g.S.Stage.rules (g.S.Stage.seen c.args.world.now) (all_lines [] rest) out
-    (g.S.Stage.seen c.if-not-is_empty.world)) =
-    elim c.if-not-is_empty.branch [
+    (g.S.Stage.seen c.if-not-is_empty.world)) = elim c.if-not-is_empty.branch [
       | then-not-is_empty+in_ok-play_line w ↦
           let some : rest ≢ [] = λ f. not_true w.if-not-is_empty.true ((c.is_empty.ensures rest h).1 f) in
           rw (w.world-is, w.writer-is)
           (end_some g.S.Stage.rules g.W.Sink _ _ _ _ rest some
           (w.in_ok-play_line.ensures.played at_end rest rest h (begins_last at_end rest e k some)))
-      | else-not-is_empty w ↦ end_none g.S.Stage.rules g.W.Sink _ _ _ _ rest
-          ((c.is_empty.ensures rest h).0 (same_true w.if-not-is_empty.false)) (ap g.S.Stage.seen w.world-is) w.writer-is
+      | else-not-is_empty w ↦ search (rules, end_none, same_true)
     ] in
-    let closing = c.close.ensures.output in
-    end_closing g.S.Stage.rules g.W.Sink at_end c.close.result _ _ _ _ _ c.args.number rest
-    closing.0 e k played closing.1 closing.2
+    search (rules, end_closing)

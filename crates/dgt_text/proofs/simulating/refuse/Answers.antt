@@ -1,4 +1,4 @@
-use Rattle.std.proofs.Common.{◌∙◌}
+use Rattle.std.proofs.Common.{rules}
 use Rattle.dgt_text.proofs.PlayLemmas.{no_flush_exit, stopped_none}
 use Rattle.dgt_text.proofs.simulating.refuse.Goals as goal
 
@@ -6,5 +6,4 @@ pub returns-in_err-flush-clause-bytes : goal.returns-in_err-flush-clause-bytes
 returns-in_err-flush-clause-bytes g c = stopped_none g.W.Sink _ _ c.in_err-flush.ensures.output.1
 
 pub returns-in_err-flush-clause-no_flush : goal.returns-in_err-flush-clause-no_flush
-returns-in_err-flush-clause-no_flush g c =
-    no_flush_exit g.W.Sink _ _ _ _ _ c.from_residual.ensures.1 (λ h. h) (λ _ h. c.in_err-flush.ensures.same_flushed ∙ h)
+returns-in_err-flush-clause-no_flush g c = search (rules, no_flush_exit)

@@ -1,6 +1,5 @@
 use Rattle.std.proofs.Common.{rules, ◌≡◌, refl, [], ◌++◌, take}
 use Rattle.dgt_command.specs.Content.{EventContent, Read, command_content, command_event_content}
-use Rattle.dgt_command.specs.Framing.{rest_of}
 use Rattle.dgt_command.specs.Words.{IsWord}
 use Rattle.dgt_board.specs.State.{effect}
 use Rattle.dgt_board.specs.Kept.{state_of}
@@ -20,11 +19,7 @@ returns c =
     rw (is, ← c.self.view_is) (rw c.in-Some-found.is at c.advance-advanced.ensures.first) in
     let state : state_of c.obey.new.self ≡ effect c.args.self.now.state event =
     rw (← c.self.view_is) c.obey.ensures in
-    let rest : rest_of c.advance-advanced.new.self ≡ [] = rw c.in-Some-found.is at c.advance-advanced.ensures.held in
-    let after : BoardView = record { state = state_of c.obey.new.self; partial = rest_of c.advance-advanced.new.self }
-    in
-    let both = takes_word c.parts_of_words.ensures.nothing c.args.self.now after bytes event word state rest in
-    search rules
+    search (rules, takes_word)
 
 pub returns-in-Some : goal.returns-in-Some
 returns-in-Some c =

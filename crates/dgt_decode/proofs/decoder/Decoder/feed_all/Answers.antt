@@ -1,4 +1,4 @@
-use Rattle.std.proofs.Common.{◌∙◌, ◌++◌, ap}
+use Rattle.std.proofs.Common.{ap, rules}
 use Rattle.std.proofs.lemmas.List.{take_all, take_rest}
 use Rattle.dgt_decode.specs.Grammar.{unfinished_message}
 use Rattle.dgt_decode.specs.Feeding.{event_found_in}
@@ -7,8 +7,7 @@ use Rattle.dgt_decode.proofs.Steps.{IsHeld-unfinished}
 use Rattle.dgt_decode.proofs.decoder.Decoder.feed_all.Goals as goal
 
 pub loop-at-init : goal.loop-at-init
-loop-at-init g c =
-    rw (← c.self.view_is)
+loop-at-init g c = rw (← c.self.view_is)
     (heard_none g.L.Listener.hears (unfinished_message c.self.inside.framer) c.args.chunk.now c.args.listener.now
     (IsHeld-unfinished c.self.inside.framer))
 
@@ -34,6 +33,4 @@ returns-clause-reported g c =
     rw (take_all _ c.args.chunk.now c.loop-at-test.false) at c.loop-at.invariant.reported
 
 pub returns-clause-held : goal.returns-clause-held
-returns-clause-held g c =
-    c.loop-at.invariant.holds
-    ∙ ap (λ xs. unfinished_message (c.args.self.now ++ xs)) (take_all _ c.args.chunk.now c.loop-at-test.false)
+returns-clause-held g c = search (rules, take_all)

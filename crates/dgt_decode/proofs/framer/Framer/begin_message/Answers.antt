@@ -8,9 +8,9 @@ invariant_of-self c =
     rw (c.push.ensures.kept (rw c.clear.ensures (omega arith)), c.clear.ensures) (kept-first c.args.byte c.requires)
 
 pub returns : goal.returns
-returns c =
-    rw (c.push.ensures.kept (rw c.clear.ensures (omega arith)), c.clear.ensures) (elim c.if-have-eq0.branch [
-      | then-have-eq0 w ↦ rw w.result-is (frames-first c.args.self.now c.args.byte (omega arith) c.requires)
-      | else-have-eq0 w ↦ rw (w.result-is, c.unfinished_len-have.ensures)
-          (frames-cut c.args.self.now c.args.byte (omega arith) c.requires)
-    ])
+returns c = rw (c.push.ensures.kept (rw c.clear.ensures (omega arith)), c.clear.ensures) (elim c.if-have-eq0.branch [
+  | then-have-eq0 w ↦
+      rw w.result-is (frames-first c.args.self.now c.args.byte (omega arith) c.requires)
+  | else-have-eq0 w ↦ rw (w.result-is, c.unfinished_len-have.ensures)
+      (frames-cut c.args.self.now c.args.byte (omega arith) c.requires)
+])

@@ -20,8 +20,7 @@ invariant_of-self c =
     (frames-beginning c.args.self.now c.args.rest.now c.args.total _ c.requires.closed c.requires.begins run).1
 
 pub returns : goal.returns
-returns c =
-    let run = beginning _ _ _ _ _ c.requires.begins c.min.ensures c.min-end.ensures c.first_top-used.ensures in
+returns c = let run = beginning _ _ _ _ _ c.requires.begins c.min.ensures c.min-end.ensures c.first_top-used.ensures in
     let fits : min (3 + c.first_top-used.result) 16383 ≡ 3 + c.first_top-used.result =
     omega (arith, run.fits, run.short) in
     rw (c.after_byte-state.ensures, c.set_prefix.ensures, fits)

@@ -4,8 +4,7 @@ use Rattle.dgt_decode.proofs.Framing.{closed, kept_room, frames-stray, frames-sh
 use Rattle.dgt_decode.proofs.framer.Framer.take_byte.Goals as goal
 
 pub returns-in-Hunting : goal.returns-in-Hunting
-returns-in-Hunting c =
-    rw (← c.self.view_is, c.reset.ensures)
+returns-in-Hunting c = rw (← c.self.view_is, c.reset.ensures)
     (frames-stray c.self.inside.kept c.args.byte (closed _ _ c.self.invariant c.in-Hunting.is)
     c.if-byte-ge-TOP_BIT.false)
 

@@ -21,5 +21,4 @@ invariant_of-self c =
     rw (c.push.ensures.kept (rw c.clear.ensures (omega arith)), c.clear.ensures) (kept-first _ (cut c).1)
 
 pub returns : goal.returns
-returns c =
-    rw (← c.self.view_is, c.push.ensures.kept (rw c.clear.ensures (omega arith)), c.clear.ensures) (cut c).0
+returns c = rw (← c.self.view_is, c.push.ensures.kept (rw c.clear.ensures (omega arith)), c.clear.ensures) (cut c).0

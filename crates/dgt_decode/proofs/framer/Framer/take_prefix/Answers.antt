@@ -3,8 +3,7 @@ use Rattle.dgt_decode.proofs.Framing.{prefix-stray}
 use Rattle.dgt_decode.proofs.framer.Framer.take_prefix.Goals as goal
 
 pub returns-then-rest-lt-TOP_BIT : goal.returns-then-rest-lt-TOP_BIT
-returns-then-rest-lt-TOP_BIT c =
-    rw c.reset.ensures
+returns-then-rest-lt-TOP_BIT c = rw c.reset.ensures
     (prefix-stray c.args.self.now c.args.rest.now (c.is_between.ensures c.if-not-is_between.false) c.requires
     c.if-rest-lt-TOP_BIT.true)
 

@@ -15,6 +15,5 @@ loop-at-preserved c =
     }
 
 pub returns : goal.returns
-returns c =
-    c.loop-at.invariant.heard
+returns c = c.loop-at.invariant.heard
     ∙ ap (follower_after c.args.self.now c.args.now) (take_all _ c.args.chunk.now c.loop-at-test.false)

@@ -26,6 +26,5 @@ returns-clause-heard g c =
     (heard_once host c.self.inside.pace c.args.now c.hear.result.used c.args.chunk.now event c.hear.ensures.first)
 
 pub returns-clause-reported : goal.returns-clause-reported
-returns-clause-reported g c =
-    rw (← c.self.view_is)
+returns-clause-reported g c = rw (← c.self.view_is)
     (event_content_if_any c.hear.result.event, c.hear.ensures.first, c.hear.ensures.unasked, c.report.ensures)

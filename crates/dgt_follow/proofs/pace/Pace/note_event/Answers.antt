@@ -2,8 +2,7 @@ use Rattle.std.proofs.Common.{refl}
 use Rattle.dgt_follow.proofs.pace.Pace.note_event.Goals as goal
 
 pub returns : goal.returns
-returns c =
-    λ awaited picture unasked changed known.
+returns c = λ awaited picture unasked changed known.
     let disturbs = c.is_disturbance-disturbs.ensures awaited picture unasked changed in
     let answers = c.is_awaited_dump-answers.ensures awaited unasked in
     let confirms = c.is_confirmed-self-inside.ensures awaited picture unasked changed known in

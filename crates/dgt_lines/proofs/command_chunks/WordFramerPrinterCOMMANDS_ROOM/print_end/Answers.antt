@@ -1,7 +1,6 @@
-use Rattle.std.proofs.Common.{refl}
-use Rattle.dgt_command.specs.Framing.{rest_of}
+use Rattle.std.proofs.Common.{arith}
 use Rattle.dgt_lines.proofs.command_chunks.WordFramerPrinterCOMMANDS_ROOM.print_end.Goals as goal
+use Rattle.std.proofs.lemmas.Grind.{common_steps}
 
 pub returns-clause-output : goal.returns-clause-output
-returns-clause-output g c = λ first bytes text printed counted.
-    (_, (_, printed, rw counted refl), c.write_end.ensures.output (rest_of c.args.self.now) c.partial.ensures.length)
+returns-clause-output g c = grind (arith, common_steps)

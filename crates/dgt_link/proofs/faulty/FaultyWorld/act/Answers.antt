@@ -28,7 +28,6 @@ invariant_of-self-in-Restart c =
     (world_of c.self.inside.board c.self.inside.host c.self.inside.up c.self.inside.down))
 
 pub returns-in-Restart : goal.returns-in-Restart
-returns-in-Restart c =
-    rw (← c.self.view_is, c.in-Restart.is)
+returns-in-Restart c = rw (← c.self.view_is, c.in-Restart.is)
     (c.restart_behind.ensures
     (world_of c.self.inside.board c.self.inside.host c.self.inside.up c.self.inside.down))

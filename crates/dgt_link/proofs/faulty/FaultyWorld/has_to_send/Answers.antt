@@ -5,7 +5,6 @@ use Rattle.dgt_link.specs.View.{WorldView}
 use Rattle.dgt_link.proofs.faulty.FaultyWorld.has_to_send.Goals as goal
 
 pub returns : goal.returns
-returns c =
-    subst
+returns c = subst
     (λ (world : WorldView). IsTrue c.owes.result ↔ IsSome
     (next_message world.board.state)) c.self.view_is c.owes.ensures

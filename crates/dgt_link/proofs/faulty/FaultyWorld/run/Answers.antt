@@ -12,8 +12,7 @@ returns-clause-from_any_state c =
     calm (rw are at c.act_all.ensures.2)
 
 pub returns-clause-awaited_kept : goal.returns-clause-awaited_kept
-returns-clause-awaited_kept c =
-    λ none is. sane_keeps c.faults_heal.ensures.sane _ IsInTurnWorld
+returns-clause-awaited_kept c = λ none is. sane_keeps c.faults_heal.ensures.sane _ IsInTurnWorld
     (λ act old new answer. c.awaited_replies_come.ensures.kept act old new answer) _ _ _
     c.act_all.ensures.0 none c.is_faulty.ensures.sane is c.act_all.ensures.2
 
@@ -22,8 +21,7 @@ returns-clause-clock_kept c =
     λ calm is. c.clocks_heal.ensures.kept_by_all _ _ _ c.act_all.ensures.0 calm is c.act_all.ensures.2
 
 pub returns-clause-kept : goal.returns-clause-kept
-returns-clause-kept c =
-    λ calm is. sane_keeps c.faults_heal.ensures.sane _ IsPromisedWorld
+returns-clause-kept c = λ calm is. sane_keeps c.faults_heal.ensures.sane _ IsPromisedWorld
     (λ act old new answer quiet. c.steps_heal.ensures.kept act old new answer quiet.0 quiet.1) _ _ _
     c.act_all.ensures.0 calm c.is_faulty.ensures.sane is c.act_all.ensures.2
 

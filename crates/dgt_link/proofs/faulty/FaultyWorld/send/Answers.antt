@@ -12,7 +12,6 @@ invariant_of-self c =
     (world_of c.self.inside.board c.self.inside.host c.self.inside.up c.self.inside.down)))
 
 pub returns-clause-exact : goal.returns-clause-exact
-returns-clause-exact c =
-    rw (← c.self.view_is)
+returns-clause-exact c = rw (← c.self.view_is)
     (c.send_next.ensures.sends
     (world_of c.self.inside.board c.self.inside.host c.self.inside.up c.self.inside.down))

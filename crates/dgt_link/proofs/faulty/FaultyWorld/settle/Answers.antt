@@ -14,8 +14,7 @@ pub loop-done-preserved : goal.loop-done-preserved
 loop-done-preserved c =
     let more = c.loop-done-test.ensures.moved refl in
     record {
-      run =
-          settled_more c.args.self.now c.loop-done.self c.settle_once.new.self c.loop-done.done
+      run = settled_more c.args.self.now c.loop-done.self c.settle_once.new.self c.loop-done.done
           c.loop-done.invariant.run more;
       most = omega (arith, more.3, c.loop-done.invariant.most);
     }

@@ -4,11 +4,10 @@ use Rattle.dgt_link.specs.Work.{work_left}
 use Rattle.dgt_link.proofs.faulty.FaultyWorld.settle.Given as goal
 
 abbrev pub invariant-loop-done : goal.invariant-loop-done
-invariant-loop-done l =
-    record {
-      run : SettlesIn l.done l.fn.self l.self;
-      most : l.done + work_left l.self ≤ work_left l.fn.self;
-    }
+invariant-loop-done l = record {
+  run : SettlesIn l.done l.fn.self l.self;
+  most : l.done + work_left l.self ≤ work_left l.fn.self;
+}
 
 abbrev pub decreases-loop-done : goal.decreases-loop-done
 decreases-loop-done l = work_left l.self

@@ -8,5 +8,4 @@ invariant_of-self c =
     (plain_step (act_content c.args.act) _ _ _ c.step.ensures.exact)
 
 pub returns : goal.returns
-returns c =
-    rw (← c.self.view_is) (plain_step (act_content c.args.act) _ _ _ c.step.ensures.exact)
+returns c = rw (← c.self.view_is) (plain_step (act_content c.args.act) _ _ _ c.step.ensures.exact)

@@ -5,8 +5,7 @@ use Rattle.dgt_link.proofs.ActRuns.{HasRun}
 use Rattle.dgt_link.proofs.world.World.act_all.Given as goal
 
 abbrev pub invariant-loop-act : goal.invariant-loop-act
-invariant-loop-act l =
-    record {
-      bounded : l.done ≤ l.act-index;
-      run : HasRun Step act_content l.fn.self l.self (take l.act-index l.acts) l.done;
-    }
+invariant-loop-act l = record {
+  bounded : l.done ≤ l.act-index;
+  run : HasRun Step act_content l.fn.self l.self (take l.act-index l.acts) l.done;
+}

@@ -4,8 +4,7 @@ use Rattle.dgt_link.proofs.Counting.{faulty_step}
 use Rattle.dgt_link.proofs.world.World.step.Goals as goal
 
 pub returns-clause-kept : goal.returns-clause-kept
-returns-clause-kept c =
-    λ other x y stands also coming. c.promise_by_acts.ensures.kept
+returns-clause-kept c = λ other x y stands also coming. c.promise_by_acts.ensures.kept
     (act_content c.args.act) _ _ c.act.result x y other stands c.act.ensures also coming
 
 pub returns-clause-restarted : goal.returns-clause-restarted

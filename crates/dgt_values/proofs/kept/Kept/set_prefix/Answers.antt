@@ -1,4 +1,4 @@
-use Rattle.std.proofs.Common.{◌≡◌, ◌≤◌, ◌++◌, List, length, min, take, ℕ, refl, ◌∙◌, arith}
+use Rattle.std.proofs.Common.{◌≡◌, ◌≤◌, ◌++◌, List, length, min, take, ℕ, refl, ◌∙◌, arith, rules}
 use Rattle.std.proofs.lemmas.List.{take-append-le, take-take, take_min, length-take-le}
 use Rattle.std.proofs.lemmas.Simd.{put_chunk_is}
 use Rattle.dgt_values.proofs.kept.Kept.set_prefix.Goals as goal
@@ -20,6 +20,5 @@ returns g c =
           (let eight : length (take 8 bytes) ≡ 8 = length-take-le 8 bytes w.if-bytes-ge-FEW.true in
           rw (w.self-inside-is, put_chunk_is 0 c.self.inside.bytes (take 8 bytes) (omega (arith, eight, c.self.told)))
           (prefix len 8 bytes _ w.if-len-le-FEW.true w.if-bytes-ge-FEW.true ∙ all))
-      | else-len-le-FEW w ↦ rw (w.self-inside-is, w.copy_from_slice.ensures.after)
-          (prefix len len bytes _ (omega arith) (omega (arith, c.min-len.ensures)) ∙ all)
+      | else-len-le-FEW w ↦ search (rules, prefix)
     ]

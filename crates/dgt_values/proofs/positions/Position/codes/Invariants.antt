@@ -4,8 +4,7 @@ use Rattle.dgt_values.specs.Board.{piece_code}
 use Rattle.dgt_values.proofs.positions.Position.codes.Given as goal
 
 abbrev pub invariant-loop-square : goal.invariant-loop-square
-invariant-loop-square l =
-    record {
-      len : length l.codes ≡ 64;
-      filled : (n : ℕ) → n < l.square → get_or l.codes n 0 ≡ piece_code (get_or l.self.pieces n Empty);
-    }
+invariant-loop-square l = record {
+  len : length l.codes ≡ 64;
+  filled : (n : ℕ) → n < l.square → get_or l.codes n 0 ≡ piece_code (get_or l.self.pieces n Empty);
+}

@@ -1,4 +1,4 @@
-use Rattle.std.proofs.Common.{◌≡◌, ◌<◌, ℕ, arith, get_or, length, List, map}
+use Rattle.std.proofs.Common.{◌≡◌, ◌<◌, ℕ, arith, get_or, length, List, map, rules}
 use Rattle.std.proofs.lemmas.List.{get_or-map}
 use Rattle.dgt_values.specs.declared.pieces.Piece.{Piece}
 use Rattle.dgt_values.specs.declared.pieces.Piece.TheVariants.{Empty}
@@ -12,8 +12,4 @@ code_at : (pieces : List Piece) (codes : List ℕ) (n : ℕ) → codes ≡ map p
 code_at pieces codes n are all h = rw are (get_or-map piece_code pieces n Empty 0 (omega arith))
 
 pub returns : goal.returns
-returns c =
-    λ n h. mask_differs c.args.self.now.pieces c.args.other.now.pieces c.codes-own.result c.codes-others.result
-    (omega (arith, c.args.self.now.all)) (omega (arith, c.args.other.now.all)) (omega arith) (omega arith) n h
-    (code_at c.args.self.now.pieces c.codes-own.result n c.codes-own.ensures.codes c.args.self.now.all h)
-    (code_at c.args.other.now.pieces c.codes-others.result n c.codes-others.ensures.codes c.args.other.now.all h)
+returns c = search (rules, mask_differs, code_at)

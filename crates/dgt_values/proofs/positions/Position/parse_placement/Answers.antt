@@ -13,14 +13,13 @@ pub loop-at-init : goal.loop-at-init
 loop-at-init c = record { file_in = omega arith; rank_in = omega arith; so_many = refl; read = leaves_start }
 
 pub loop-at-preserved-then-more_ranks : goal.loop-at-preserved-then-more_ranks
-loop-at-preserved-then-more_ranks c =
-    record {
-      file_in = omega arith;
-      rank_in = omega arith;
-      so_many = c.loop-at.invariant.so_many;
-      read = leaves_slash _ c.loop-at.pieces c.loop-at.at c.loop-at.rank c.loop-at.file (omega arith) (omega arith)
-          (omega arith) c.if-byte-eq47.true c.loop-at.invariant.read;
-    }
+loop-at-preserved-then-more_ranks c = record {
+  file_in = omega arith;
+  rank_in = omega arith;
+  so_many = c.loop-at.invariant.so_many;
+  read = leaves_slash _ c.loop-at.pieces c.loop-at.at c.loop-at.rank c.loop-at.file (omega arith) (omega arith)
+      (omega arith) c.if-byte-eq47.true c.loop-at.invariant.read;
+}
 
 -- a byte that means no squares, or too many
 pub returns-in_default : goal.returns-in_default
@@ -44,15 +43,13 @@ loop-at-preserved c =
     (c.fill.ensures.after (λ y e. e)) in
     let many : length c.fill.new.self ≡ c.in-Some.count =
     ap length new ∙ length-replicate c.in-Some.count c.in-Some.piece in
-    let written =
-    take-put_mid next (next + c.in-Some.count - next) c.loop-at.pieces c.fill.new.self
+    let written = take-put_mid next (next + c.in-Some.count - next) c.loop-at.pieces c.fill.new.self
     (8 * c.loop-at.rank + (c.loop-at.file + c.in-Some.count)) (omega (arith, many)) (omega arith)
     ∙ ap (λ l. take next c.loop-at.pieces ++ l) new in
     record {
       file_in = omega arith;
       rank_in = c.loop-at.invariant.rank_in;
-      so_many =
-          length_mid next (next + c.in-Some.count - next) c.loop-at.pieces c.fill.new.self
+      so_many = length_mid next (next + c.in-Some.count - next) c.loop-at.pieces c.fill.new.self
           (omega (arith, c.loop-at.invariant.so_many)) (omega (arith, many)) ∙ c.loop-at.invariant.so_many;
       read = leaves_squares c.as_bytes-byte-items.result.now c.loop-at.pieces _ squares c.loop-at.at c.loop-at.rank
           c.loop-at.file c.in-Some.count (omega arith) (omega arith)
@@ -60,15 +57,13 @@ loop-at-preserved c =
     }
 
 pub returns-then-squares_read-eq64 : goal.returns-then-squares_read-eq64
-returns-then-squares_read-eq64 c =
-    rw (← c.as_bytes-byte-items.ensures.value, c.from_pieces.ensures)
+returns-then-squares_read-eq64 c = rw (← c.as_bytes-byte-items.ensures.value, c.from_pieces.ensures)
     (whole_placement c.as_bytes-byte-items.result.now c.loop-at.pieces c.loop-at.at c.loop-at.rank c.loop-at.file
     (omega arith) (omega arith) (omega arith)
     c.loop-at.invariant.so_many c.loop-at.invariant.read)
 
 pub returns-else-squares_read-eq64 : goal.returns-else-squares_read-eq64
-returns-else-squares_read-eq64 c =
-    rw (← c.as_bytes-byte-items.ensures.value)
+returns-else-squares_read-eq64 c = rw (← c.as_bytes-byte-items.ensures.value)
     (short_placement c.as_bytes-byte-items.result.now c.loop-at.pieces c.loop-at.at c.loop-at.rank c.loop-at.file
     (omega arith) (omega arith) (omega arith)
     (λ seven eight. omega arith) c.loop-at.invariant.read)

@@ -1,0 +1,20 @@
+use Rattle.std.proofs.Common.{refl}
+use Rattle.dgt_link.specs.Machine.{IsHostBreak, Move, commands_anew}
+use Rattle.dgt_link.specs.Promise.{requests}
+use Rattle.std.specs.Prelude.{◌≡◌, Some, map}
+use Rattle.dgt_link.proofs.BothWays.{moves-squares}
+use Rattle.dgt_link.proofs.Asking.{requests-act}
+use Rattle.dgt_link.proofs.laws.moves_do_as_acts.Goals as goal
+
+breaks : (move : Move) → IsHostBreak move → requests move ≡ map Some commands_anew
+breaks (Move.HostBreak noise is_noise) is = refl
+breaks _ none = absurd none
+
+pub returns-clause-requests : goal.returns-clause-requests
+returns-clause-requests c = requests-act
+
+pub returns-clause-squares : goal.returns-clause-squares
+returns-clause-squares c = moves-squares
+
+pub returns-clause-host_break : goal.returns-clause-host_break
+returns-clause-host_break c = breaks
