@@ -11,13 +11,14 @@
  * argument. Each returned value is a copy: no view of the module's memory leaves this file.
  * bindings/c/include/dgt.h documents each call.
  *
- * Squares are numbered from a8 (0) to h1 (63). White's pawn, rook, knight, bishop, king and queen
- * are 1 to 6, Black's are 7 to 12, and 0 is an empty square. Times are in milliseconds.
+ * Squares have names such as "e4", and pieces the letters of a FEN, with "." for none. The bytes of
+ * a position are numbers of pieces, from a8 to h1: White's pawn, rook, knight, bishop, king and
+ * queen are 1 to 6, Black's are 7 to 12, and 0 is an empty square. Times are in milliseconds.
  */
 
-import { ASK, BATTERY_UNKNOWN, BUTTONS, CALLS, CLOCKS, EVENTS, FAULTS, FLAGS, IDS, MARKS, MAX_BODY,
-         MODES, NO_COMMAND, NO_SUCH, NOT_ENCODED, PLACEMENT_ROOM, SIGNALS, STATUS, STORED, STRUCTS,
-         TOO_MANY, VERSION, WORDS, WROTE } from "./header.js";
+import { ASK, BATTERY_UNKNOWN, BUTTONS, CALLS, CLOCKS, EVENTS, FAULTS, FLAGS, IDS, LEAST_PERIOD,
+         MARKS, MAX_BODY, MODES, NO_COMMAND, NO_SUCH, NOT_ENCODED, PLACEMENT_ROOM, SIGNALS, STATUS,
+         STORED, STRUCTS, TOO_MANY, VERSION, WORDS, WROTE } from "./header.js";
 
 export { ASK, FLAGS, IDS, MODES, STATUS };
 
@@ -48,11 +49,11 @@ export class BadPlacement extends DgtError {
  * @typedef {{hours: number, minutes: number, seconds: number, flags: number}} Time
  * @typedef {{kind: "times", status: number, first: Time, second: Time}} Times
  * @typedef {{kind: "none", status: number, raw: Uint8Array}} NoClock
- * @typedef {{kind: "unknown"} | Times | NoClock} Clock
+ * @typedef {Times | NoClock} Clock
  *
  * @typedef {(
- *   {type: "dump", pieces: Uint8Array} |
- *   {type: "field", square: number, piece: number} |
+ *   {type: "dump", pieces: Uint8Array, placement: string} |
+ *   {type: "field", square: string, piece: string} |
  *   {type: "times", clock: Times} |
  *   {type: "noClock", clock: NoClock} |
  *   {type: "ack", ack: Uint8Array, ackStatus: number} |
@@ -65,8 +66,9 @@ export class BadPlacement extends DgtError {
  *   {type: "badLength"} |
  *   {type: "stray", byte: number}
  * )} Message  of a board, or a fault of its bytes
+ * @typedef {Message | {type: "dump", pieces: ArrayLike<number>}} Encodable
  * @typedef {Message & {offset: number, unasked: boolean}} Event  `offset` is the number of bytes
- *   received since the handle was made
+ *   received since the handle was made, finished or reset, or its line was lost
  *
  * @typedef {(
  *   {type: "command", code: number, id: number, word: Uint8Array} |
@@ -75,12 +77,12 @@ export class BadPlacement extends DgtError {
  * )} Command
  *
  * @typedef {(
- *   {type: "piece", square: number, piece: number, bit: boolean} |
+ *   {type: "piece", square: string, piece: string, bit: boolean} |
  *   {type: "time", time: Time} |
  *   {type: "mark", mark: keyof typeof MARKS} |
  *   {type: "unknown", byte: number}
- * )} Stored  by a board while no host listens: a square and its piece or 0, a player's time (with
- *   flags 6 or 7, one for each player), or a byte
+ * )} Stored  by a board while no host listens: a square and its piece, a player's time (with flags
+ *   6 or 7, one for each player), or a byte
  * @typedef {(
  *   {type: "done", id: number} |
  *   {type: "version", mainNumber: number, subNumber: number} |
@@ -106,7 +108,7 @@ export class BadPlacement extends DgtError {
 /**
  * @template S
  * @typedef {S extends "u8" | "u32" | "char" | "wide" ? number : S extends "bool" ? boolean :
- *   S extends "void" ? void : S extends number ? Uint8Array : S extends "clock" ? Clock :
+ *   S extends "void" ? void : S extends number ? Uint8Array : S extends "clock" ? Clock | null :
  *   S extends keyof Structs ? Struct<S> : never} Value
  */
 /**
@@ -153,7 +155,7 @@ const MEMBERS = {
   command: ["code", "id"], badSize: [], badStart: [], badEnd: [], strayByte: ["byte"],
 };
 /** @type {Record<string, string[]>} the members of each kind of clock */
-const OF_CLOCKS = { unknown: [], times: ["status", "first", "second"], none: ["status", "raw"] };
+const OF_CLOCKS = { times: ["status", "first", "second"], none: ["status", "raw"] };
 const OF_ALL = ["kind", "unasked", "place", "bodyLen"];
 /** @type {Record<string, Map<string, [number, any]>>} each struct's members by name */
 const PLACES = Object.fromEntries(Object.entries(STRUCTS).map(([struct, { members }]) =>
@@ -413,18 +415,19 @@ export class Library {
 
   /**
    * @param {number} at
-   * @returns {Clock}
+   * @returns {Clock | null}
    */
   clock(at) {
     const kind = CLOCK_NAMES[this.#bytes[at]];
+    if (kind === "unknown") return null;
     return /** @type {any} */ ({ kind, ...this.#members("clock", at, OF_CLOCKS[kind]) });
   }
 
   /** @param {number} at @param {Clock} clock */
   writeClock(at, clock) {
     /** @type {Record<string, any>} */
-    const given = clock, members = OF_CLOCKS[clock.kind];
-    if (!members) throw new BadValue(`not a kind of clock: '${clock.kind}'`);
+    const given = clock, members = OF_CLOCKS[clock?.kind];
+    if (!members) throw new BadValue(`not a clock: ${clock?.kind ?? clock}`);
     const said = Object.fromEntries(members.map(name => [name, given[name]]));
     return this.write("clock", at, { kind: CLOCKS[clock.kind], ...said });
   }
@@ -443,13 +446,22 @@ export class Library {
     const event = { type, offset: before + place, unasked: unasked === 1,
                     ...this.#members("event", at, MEMBERS[type]) };
     if (type === "refused") event.fault = FAULT_NAMES[event.fault];
+    if (type === "dump") event.placement = this.placement(event.pieces);
     if (MEMBERS[type] === CARRIED) event.body = this.bytes(this.body, bodyLen);
-    return event;
+    return type === "field" ? { ...event, ...this.#named(event) } : event;
+  }
+
+  /**
+   * The name of a square, and the letter of a piece.
+   * @param {{square: number, piece: number}} numbers
+   */
+  #named({ square, piece }) {
+    return { square: this.squareName(square), piece: this.pieceLetter(piece) };
   }
 
   /**
    * Writes a message to `events`, and its body to `body`. Returns a call's arguments for both.
-   * @param {Message} message
+   * @param {Encodable} message
    * @returns {[number, number, number]}
    */
   #writeMessage(message) {
@@ -460,6 +472,8 @@ export class Library {
     if (lacking.length) throw new BadValue(`a ${type} lacks its ${lacking.join(" and ")}`);
     const said = Object.fromEntries(members.map(name => [name, given[name]]));
     if ("fault" in message) said.fault = FAULTS[message.fault];
+    if (type === "field") said.square = this.squareNumber(said.square);
+    if (type === "field") said.piece = this.pieceCode(said.piece);
     const body = "body" in message ? checked(message.body) : [];
     if (body.length > MAX_BODY) throw new BadValue(`a body of more than ${MAX_BODY} bytes`);
     this.write("event", this.events, { ...said, kind: EVENTS[type] });
@@ -477,7 +491,7 @@ export class Library {
 
   /**
    * The bytes of a message, as a board sends them.
-   * @param {Message} message
+   * @param {Encodable} message
    */
   encodeMessage(message) {
     return this.#encoded(this.calls.encode_message(...this.#writeMessage(message), this.out, ROOM));
@@ -485,7 +499,7 @@ export class Library {
 
   /**
    * The line that `dgt monitor` prints for an event, without the offset.
-   * @param {Message} event
+   * @param {Encodable} event
    */
   eventText(event) {
     return String.fromCharCode(...this.#encoded(
@@ -568,8 +582,9 @@ export class Library {
     for (let at = 0; at < length;) {
       at += this.calls.stored_first(begin + at, length - at, this.small);
       const { kind, square, piece, bit, byte, time } = this.read("stored", this.small);
-      if (kind === STORED.piece) found.push({ type: "piece", square, piece, bit: bit === 1 });
-      else if (kind === STORED.time) found.push({ type: "time", time });
+      if (kind === STORED.piece) {
+        found.push({ type: "piece", ...this.#named({ square, piece }), bit: bit === 1 });
+      } else if (kind === STORED.time) found.push({ type: "time", time });
       else if (kind === STORED.mark) found.push({ type: "mark", mark: MARK_NAMES[byte] });
       else found.push({ type: "unknown", byte });
     }
@@ -701,26 +716,38 @@ export class Library {
    */
   #such(name, text, length) {
     /** @type {(...values: number[]) => number} */
-    const call = this.calls[name], found = text.length === length ? call(...latin(text)) : NO_SUCH;
+    const call = this.calls[name], isOne = typeof text === "string" && text.length === length;
+    const found = isOne ? call(...latin(text)) : NO_SUCH;
     if (found === NO_SUCH) throw new BadValue(`not a ${name.split("_")[0]}: '${text}'`);
     return found;
   }
 }
 
 /**
- * Loads the module. Without an argument it fetches one from this file's folder: dgt64.wasm if
- * 64-bit memories are supported, or dgt.wasm.
+ * The bytes at a URL. In Node, `fetch` reads no files.
+ * @param {URL | string} url
+ */
+async function fetched(url) {
+  if ("process" in globalThis && String(url).startsWith("file:")) {
+    const files = "node:fs/promises"; // bundlers for browsers mustn't look for it
+    const { readFile } = await import(/* @vite-ignore */ /* webpackIgnore: true */ files);
+    return readFile(new URL(url));
+  }
+  const answer = await fetch(url);
+  if (!answer.ok) throw new DgtError(`${url} can't be fetched: status ${answer.status}`);
+  return answer.arrayBuffer(); // whatever content type the server sends
+}
+
+/**
+ * Loads the module. Without an argument it takes one from this file's folder, also in Node:
+ * dgt64.wasm if 64-bit memories are supported, or dgt.wasm.
  * @param {BufferSource | WebAssembly.Module | URL | string} [source]  the module, its bytes, or its
  *   URL
  */
 export async function load(source) {
   const name = isWide() ? "dgt64.wasm" : "dgt.wasm";
   let taken = source ?? new URL(name, import.meta.url);
-  if (typeof taken === "string" || taken instanceof URL) {
-    const answer = await fetch(taken);
-    if (!answer.ok) throw new DgtError(`${taken} can't be fetched: status ${answer.status}`);
-    taken = await answer.arrayBuffer(); // whatever content type the server sends
-  }
+  if (typeof taken === "string" || taken instanceof URL) taken = await fetched(taken);
   const module = taken instanceof WebAssembly.Module ? taken : await WebAssembly.compile(taken);
   return new Library(await WebAssembly.instantiate(module, {}));
 }
@@ -732,14 +759,15 @@ export function isWide() {
 
 /**
  * The bytes for `sendLeds` that light two squares, or none.
- * @param {number[]} squares
+ * @param {string[]} squares  such as "e2", "e4"
  */
 export function lighting(...squares) {
   if (squares.length === 0) return Uint8Array.of(0, 64, 64, 0);
-  if (squares.length !== 2 || squares.some(n => byte(n) > 63)) {
-    throw new BadValue(`not two squares from 0 to 63: ${squares.join(", ")}`);
+  if (squares.length !== 2 || !squares.every(name => /^[a-h][1-8]$/.test(name))) {
+    throw new BadValue(`not two squares: ${squares.join(", ")}`);
   }
-  return Uint8Array.of(1, ...squares, 0);
+  const numbers = squares.map(([file, rank]) => "abcdefgh".indexOf(file) + 8 * (8 - Number(rank)));
+  return Uint8Array.of(1, ...numbers, 0);
 }
 
 /** @type {FinalizationRegistry<{dgt: Library, at: number, size: number}>} */
@@ -788,7 +816,7 @@ class Handle {
  * @extends {Handle<"host" | "follower" | "decoder">}
  */
 class Reader extends Handle {
-  /** The number of bytes used since it was made. */
+  /** The number of bytes used since it was made, finished or reset, or its line was lost. */
   total = 0;
 
   /**
@@ -858,12 +886,15 @@ export class Decoder extends Reader {
 
   /** Returns the same at the end of the bytes, and resets the decoder. */
   finish() {
-    return this.call("finish");
+    const count = this.call("finish");
+    this.total = 0;
+    return count;
   }
 
-  /** Returns to the first state, but `offset` isn't reset. */
+  /** Returns to the first state. */
   reset() {
     this.call("reset");
+    this.total = 0;
   }
 }
 
@@ -920,10 +951,11 @@ class Sender extends Reader {
   }
 
   /**
-   * Shows at most eight characters.
+   * Shows at most eight ASCII characters.
    * @param {string} text
    */
   sendText(text, beep = 0) {
+    if (latin(text).some(one => one > 127)) throw new BadValue(`not ASCII: '${text}'`);
     return this.sent("send_text", this.#carried(latin(text, 8))[0], byte(beep));
   }
 
@@ -981,7 +1013,7 @@ class Sender extends Reader {
     return this.call("placement", dgt.small) ? dgt.text(dgt.small) : null;
   }
 
-  /** The board's last report of its clock. */
+  /** The board's last report of its clock, or null. */
   get clock() {
     const { dgt } = this;
     this.call("clock", dgt.small);
@@ -996,6 +1028,7 @@ class Sender extends Reader {
   /** Call it when the line was lost, with everything in transit. */
   lineLost() {
     this.call("line_lost");
+    this.total = 0;
   }
 }
 
@@ -1043,11 +1076,17 @@ export class Follower extends Sender {
   /**
    * @param {Library} dgt
    * @param {{period?: number, patience?: number, mode?: ReportingMode, confirm?: boolean,
-   *   identify?: boolean}} [options]
+   *   identify?: boolean, clock?: boolean}} [options]  `clock` stands for the mode updateNice, in
+   *   which the board also reports its clock
    */
   constructor(dgt, options = {}) {
-    const { period = 10000, patience = 6, mode = MODES.updateBoard } = options;
+    const { period = 10000, patience = 6, clock = false } = options;
+    const { mode = clock ? MODES.updateNice : MODES.updateBoard } = options;
+    if (clock && "mode" in options) throw new BadValue("clock and mode exclude each other");
     const wanted = whole(period);
+    if (wanted < LEAST_PERIOD) {
+      throw new BadValue(`not a period of ${LEAST_PERIOD} milliseconds or more: ${period}`);
+    }
     if (!(patience >>> 0 === patience)) {
       throw new BadValue(`not a patience from 0 to 4294967295: ${patience}`);
     }
@@ -1207,18 +1246,16 @@ export class Board extends Handle {
   }
 
   /**
-   * Puts a piece on a square, or empties it with 0.
-   * @param {number} square @param {number} piece
+   * Puts the piece with this letter on a square, or empties it with ".".
+   * @param {string} square @param {string} piece
    */
   change(square, piece) {
-    if (!this.call("change", byte(square), byte(piece))) {
-      throw new BadValue(`square ${square} is above 63, or piece ${piece} is above 15`);
-    }
+    this.call("change", this.dgt.squareNumber(square), this.dgt.pieceCode(piece));
   }
 
   /**
    * Sets the times of the clock.
-   * @param {Times | NoClock} clock
+   * @param {Clock} clock
    */
   handClock(clock) {
     const { dgt } = this;
@@ -1282,7 +1319,7 @@ export class Board extends Handle {
   get clock() {
     const { dgt } = this;
     this.call("clock", dgt.small);
-    return dgt.clock(dgt.small);
+    return /** @type {Clock} */ (dgt.clock(dgt.small));
   }
 
   lineLost() {

@@ -202,6 +202,7 @@ function resultAt(position) {
 export class Game {
   /** @type {{position: Position, text: string}[]} the first one has no text */
   line = [];
+  #seen = "";
   /** @type {{of: Position | undefined, is: string}} the result found last */
   #found = { of: undefined, is: "*" };
 
@@ -213,6 +214,7 @@ export class Game {
   see(picture) {
     const letters = picture.replaceAll("/", "").replace(/\d/g, n => ".".repeat(Number(n)));
     const last = this.line.at(-1);
+    this.#seen = letters;
     if (last?.position.letters === letters) return false;
     const before = this.line.at(-2);
     if (before?.position.letters === letters) { // taken back
@@ -253,6 +255,15 @@ export class Game {
   /** @param {Position} position @param {Move} move */
   #push(position, move) {
     this.line.push({ position: move.after, text: san(position, move) });
+  }
+
+  /**
+   * Why no moves are recognised: "turned" if the board shows the starting position turned round,
+   * "late" if it has never shown the starting position, otherwise "".
+   */
+  get lacks() {
+    if ([...this.#seen].reverse().join("") === BEGIN.letters) return "turned";
+    return this.#seen && !this.line.length ? "late" : "";
   }
 
   get moves() { // with their numbers

@@ -83,8 +83,8 @@ export class World {
 
 /** @type {Record<string, (world: World, value: string, other: string) => string | void>} */
 const ACTS = {
-  change({ dgt, board }, square, letter) {
-    board.change(dgt.squareNumber(square), dgt.pieceCode(letter));
+  change({ board }, square, letter) {
+    board.change(square, letter);
   },
   host({ dgt, host, down }, value) { // a command of one byte
     const room = LINE_ROOM - down.length;

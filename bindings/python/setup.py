@@ -19,7 +19,7 @@ try:
 except ImportError:  # setuptools before 70.1
     from wheel.bdist_wheel import bdist_wheel
 
-BUILT = Path(__file__).resolve().parent.parent / "lib" / "out" / "libdgt.so"
+BUILT = Path(__file__).resolve().parents[1] / "c" / "out" / "libdgt.so"
 EARLIEST = 315532800  # 1 January 1980, the first time that a zip file can name
 
 
@@ -47,6 +47,8 @@ class BuildWithLibrary(build_py):
         if not library.is_file():
             raise FileError(f"{library} is missing: run bindings/c/build, or name the library in "
                             "DGT_LIBRARY")
+        if b"dgt_unproved" in library.read_bytes():
+            raise FileError(f"{library} is not proved: packages need that of bindings/c/build")
         package = Path(self.build_lib, "dgt")
         shutil.rmtree(package, ignore_errors=True)  # left by an earlier build
         super().run()

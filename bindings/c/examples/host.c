@@ -1,6 +1,7 @@
 /* Follows a board on a serial line, and prints the position after each change:
  *
- *     cc -I bindings/c/include bindings/c/examples/host.c -L bindings/c/out -l:libdgt.a -o host && ./host /dev/ttyUSB0
+ *     cc -I bindings/c/include bindings/c/examples/host.c bindings/c/out/libdgt.a -o host
+ *     ./host /dev/ttyUSB0
  *
  * It requests all squares every ten seconds, and sooner if the line lost or altered bytes. A line
  * with " ?" at its end may be wrong: the next answer corrects it. The program ends when the serial

@@ -1,7 +1,7 @@
 // Follows a board: reads its bytes from standard input, and prints the position after each change
 // and the board's other reports. A line with " ?" at its end may be wrong. It ends with its input:
 //
-//     c++ -std=c++17 -I bindings/c/include bindings/c/examples/host.cpp -L bindings/c/out -l:libdgt.a -o host
+//     g++ -I bindings/c/include bindings/c/examples/host.cpp bindings/c/out/libdgt.a -o host
 //     ./dgt ask dump version | ./dgt board | ./host
 //
 // If you name a file, it writes its requests there, every ten seconds and after faults of the line.
@@ -56,7 +56,7 @@ static void show(const dgt::Event &event) {
 
 /// Waits for bytes and hears them, or until a request is due. False at the end of the input.
 static bool hear(Board &board) {
-    auto due = board.follower.due();
+    auto due = board.follower.due_at();
     int wait = due ? int(std::max(*due - dgt::now(), dgt::Milliseconds(0)).count()) : -1;
     pollfd input{STDIN_FILENO, POLLIN, 0};
     int ready = poll(&input, 1, wait);

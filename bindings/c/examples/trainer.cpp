@@ -18,7 +18,7 @@ static void show(dgt::Follower &board, dgt::Port &port) {
     auto picture = board.in_doubt() ? std::nullopt : board.picture();
     if (!picture || picture == shown) return;
     std::cout << (shown = picture)->placement() << '\n';
-    port.write(board.text(std::to_string(++changes)));
+    port.write(board.send_text(std::to_string(++changes)));
 }
 
 int main(int count, char **words) {

@@ -1,5 +1,5 @@
-/* docs/PROTOCOL.md and bindings/c/include/dgt.h again, as simply as possible in C. The harnesses compare the
- * library with it after each call. */
+/* docs/PROTOCOL.md and dgt.h again, as simply as possible in C. The harnesses compare the library
+ * with it after each call. */
 #ifndef MODEL_H
 #define MODEL_H
 

@@ -561,8 +561,9 @@ void dgt_host_line_lost(dgt_host *host) DGT_NONNULL_(1);
  * Disturbances are a cut or refused message, a bad length, a stray byte, an unasked message, and a
  * dump that differs from the known picture. So is a message that is unfinished for a second after
  * its last byte. A clock without digits, as while it is being set (DGT_BAD_READING), is not a
- * disturbance. Neither is an unasked message before the next request, if a new start gave up
- * requests of yours although nothing was wrong.
+ * disturbance. Neither is an unasked message between a calm new start and the next request: it may
+ * answer a request of yours that was given up. A new start is calm if the request before it was
+ * answered, without a disturbance since.
  *
  * In a mode that reports the clock, DGT_MODE_UPDATE or DGT_MODE_UPDATE_NICE, a request ends with
  * DGT_SEND_CLOCK, which requests a reading of the clock. A heartbeat is then 3 bytes long, and a
@@ -597,10 +598,11 @@ void dgt_follower_init(dgt_follower *follower) DGT_NONNULL_(1);
  * over, whatever it has heard; with 0 it always starts over. */
 void dgt_follower_start(dgt_follower *follower, uint64_t period, uint32_t patience) DGT_NONNULL_(1);
 
-/* Both calls. Returns false and does nothing if the sizes differ, as with dgt_host_new. */
+/* Both calls. Returns false and does nothing if the sizes differ, as with dgt_host_new, or if the
+ * period is below DGT_LEAST_PERIOD: it may be in seconds. */
 DGT_MUST_USE_ DGT_NONNULL_(1)
 static inline bool dgt_follower_new(dgt_follower *follower, uint64_t period, uint32_t patience) {
-    if (dgt_follower_size() != sizeof *follower) return false;
+    if (dgt_follower_size() != sizeof *follower || period < DGT_LEAST_PERIOD) return false;
     dgt_follower_init(follower);
     dgt_follower_start(follower, period, patience);
     return true;
@@ -610,7 +612,7 @@ static inline bool dgt_follower_new(dgt_follower *follower, uint64_t period, uin
  * all of them, and returns how many: at least 1 if n > 0. The event is written to `event`, and its
  * body copied, as dgt_host_hear does. Call again with the remaining bytes. */
 size_t dgt_follower_hear(dgt_follower *follower, uint64_t now, const uint8_t *bytes, size_t n,
-                         dgt_event *event, uint8_t *body, size_t capacity)
+                         dgt_event *event, uint8_t *body, size_t room)
     DGT_MUST_USE_ DGT_NONNULL_(1, 5) DGT_READS_(3, 4) DGT_WRITES_(5) DGT_WRITES_(6, 7);
 
 /* Uses all bytes, as dgt_follower_hear does event by event, and reports no events. However bytes
@@ -621,8 +623,8 @@ void dgt_follower_hear_all(dgt_follower *follower, uint64_t now, const uint8_t *
 /* Writes a request, if one is due at this time. DGT_SENT: `bytes` bytes are at the beginning of the
  * buffer, 0 if none is due. DGT_NO_ROOM: the buffer is shorter than the `bytes` bytes of the
  * request, and nothing changed. There is no other status. The picture stays known, and a dump is
- * then awaited. The first request is due at any time. Each other one is due a period after the last
- * request, or earlier:
+ * then awaited (or a serial number, see dgt_follower_set_identify). The first request is due at any
+ * time. Each other one is due a period after the last request, or earlier:
  *  - after a disturbance, a quarter of the period after the last request, rounded down;
  *  - if the last request has no answer, at the same time, but no less than a second after it;
  *  - if the picture is to be confirmed, a second after it changed and after the last request;
@@ -656,8 +658,11 @@ void dgt_follower_ask_now(dgt_follower *follower) DGT_NONNULL_(1);
  * last change, and a second after the last request, until it is confirmed. */
 void dgt_follower_set_confirm(dgt_follower *follower, bool confirm) DGT_NONNULL_(1);
 
-/* Sets whether the serial number of the board is requested while it is unknown: DGT_SEND_SERIAL
- * once after each answered request, at most three times. A lost reply is noticed like any other,
+/* Sets whether the serial number of the board is requested while it is unknown. Once after each
+ * answered request, at most three times until the line is lost, dgt_follower_ask then writes
+ * DGT_SEND_SERIAL, 1 byte: at once, and before a heartbeat or a new start that is due. No dump is
+ * awaited for it, and it doesn't change when those are due. After a disturbance it isn't written,
+ * and while 16 replies are awaited a new start is, at once. A lost reply is noticed like any other,
  * because the next dump is then unasked. */
 void dgt_follower_set_identify(dgt_follower *follower, bool identify) DGT_NONNULL_(1);
 
@@ -725,9 +730,10 @@ bool dgt_follower_picture(dgt_follower *follower, uint8_t pieces[64])
 bool dgt_follower_placement(dgt_follower *follower, char text[DGT_PLACEMENT_ROOM])
     DGT_MUST_USE_ DGT_NONNULL_(1, 2) DGT_WRITES_(2);
 
-/* The clock as last reported. It is unknown if the last report contains no reading: either the
- * clock shows no digits, and the report was refused, or all its bytes are zero, as before its first
- * reading. */
+/* The clock as last reported. It stays unknown until it is requested: by DGT_SEND_CLOCK, or in a
+ * mode that reports the clock (dgt_follower_set_mode). It is also unknown if the last report
+ * contains no reading: either the clock shows no digits, and the report was refused, or all its
+ * bytes are zero, as before its first reading. */
 void dgt_follower_clock(dgt_follower *follower, dgt_clock *clock) DGT_NONNULL_(1, 2) DGT_WRITES_(2);
 
 /* How many bytes of an unfinished message were heard: at most 16382. */

@@ -5,7 +5,7 @@
 //     dgt::Follower follower;                            // 39 KiB
 //     for (;;) {
 //         write_to_line(follower.ask(dgt::now()));       // nothing if that is not due
-//         read_from_line(chunk, follower.due());         // waits for bytes until then
+//         read_from_line(chunk, follower.due_at());      // waits for bytes until then
 //         follower.hear(dgt::now(), chunk);
 //         if (auto placement = follower.placement()) ...
 //     }
@@ -20,11 +20,11 @@
 // that only reads.
 //
 // Each call names the exceptions that it throws: std::invalid_argument for an argument out of
-// range, TooManyAwaited and WrongLibrary. Then nothing has changed. A call that returns a container
-// may also throw std::bad_alloc. A function that you pass may throw anything. The exception is
-// passed on to you, and the object has heard the bytes up to and including those of the event that
-// the function was called with, and none after them. If the rest matters, call hear_one and the
-// other calls of this kind, which return how many bytes they used.
+// range (BadPlacement is one), TooManyAwaited and WrongLibrary. Then nothing has changed. A call
+// that returns a container may also throw std::bad_alloc. A function that you pass may throw
+// anything. The exception is passed on to you, and the object has heard the bytes up to and
+// including those of the event that the function was called with, and none after them. If the rest
+// matters, call hear_one and the other calls of this kind, which return how many bytes they used.
 //
 // Squares are numbered rank by rank from a8 (0) to h1 (63).
 #ifndef DGT_HPP
@@ -132,6 +132,19 @@ public:
     TooManyAwaited() : std::runtime_error("16 replies are awaited already") {}
 };
 
+/// A text is not a placement.
+class BadPlacement : public std::invalid_argument {
+public:
+    BadPlacement(std::string_view text, std::size_t at)
+        : std::invalid_argument("not a placement: '" + std::string(text) + "'"), at_(at) {}
+
+    /// The offset of the first wrong character, or the length of the text.
+    std::size_t at() const noexcept { return at_; }
+
+private:
+    std::size_t at_;
+};
+
 // ---- Squares, pieces and positions.
 
 enum class Piece : std::uint8_t {
@@ -198,10 +211,10 @@ public:
             throw std::invalid_argument("pieces are numbered from 0 to 15");
     }
 
-    /// By the first field of a FEN. Throws std::invalid_argument for any other text.
+    /// By the first field of a FEN. Throws BadPlacement for any other text.
     explicit Position(std::string_view placement) : codes_{} {
-        if (!dgt_parse_placement(placement.data(), placement.size(), codes_.data()).ok)
-            throw std::invalid_argument("not a placement: '" + std::string(placement) + "'");
+        auto parsed = dgt_parse_placement(placement.data(), placement.size(), codes_.data());
+        if (!parsed.ok) throw BadPlacement(placement, parsed.at);
     }
 
     /// The initial position of a game.
@@ -345,9 +358,20 @@ enum class Ask : std::uint8_t {
     long_serial = DGT_SEND_LONG_SERIAL
 };
 
+/// The id of a clock message, which may also be another byte.
+enum class ClockId : std::uint8_t {
+    display = DGT_ID_DISPLAY,
+    icons = DGT_ID_ICONS,
+    end = DGT_ID_END,
+    button = DGT_ID_BUTTON,
+    version = DGT_ID_VERSION,
+    set_and_run = DGT_ID_SET_AND_RUN,
+    beep = DGT_ID_BEEP,
+    text = DGT_ID_TEXT
+};
+
 struct Asked { Ask ask; };
-/// A clock message: its id, such as DGT_ID_BEEP, and its payload.
-struct ClockMessage { std::uint8_t id; Bytes payload; };
+struct ClockMessage { ClockId id; Bytes payload; };
 struct Leds { Bytes leds; };
 /// The size of a clock message is below 3, its third byte isn't 03, or its last one isn't 00.
 struct BadSize {};
@@ -456,7 +480,7 @@ inline std::optional<Word> read_word(const dgt_command &command, const std::uint
     default: return StrayByte{command.byte};
     }
     if (command.code == DGT_SEND_CLOCK_MESSAGE)
-        return ClockMessage{command.id, Bytes(word + 4, end - 1)};
+        return ClockMessage{static_cast<ClockId>(command.id), Bytes(word + 4, end - 1)};
     if (command.code == DGT_SEND_LEDS) return Leds{Bytes(word + 2, end)};
     return Asked{static_cast<Ask>(command.code)};
 }
@@ -704,8 +728,10 @@ inline Bytes encode_command(const Word &word) {
     std::uint8_t code = 0, id = 0;
     ByteView carried;
     if (auto *asked = std::get_if<Asked>(&word)) code = static_cast<std::uint8_t>(asked->ask);
-    if (auto *clock = std::get_if<ClockMessage>(&word))
-        code = DGT_SEND_CLOCK_MESSAGE, id = clock->id, carried = clock->payload;
+    if (auto *clock = std::get_if<ClockMessage>(&word)) {
+        code = DGT_SEND_CLOCK_MESSAGE, id = static_cast<std::uint8_t>(clock->id);
+        carried = clock->payload;
+    }
     if (auto *leds = std::get_if<Leds>(&word)) code = DGT_SEND_LEDS, carried = leds->leds;
     return detail::encoded([&](auto *out, auto n) {
         return dgt_encode_command(code, id, carried.data(), carried.size(), out, n);
@@ -774,8 +800,8 @@ enum class Button : std::uint8_t {
     ok = DGT_BUTTON_OK
 };
 
-/// The clock has executed the message with this id, such as DGT_ID_BEEP.
-struct Done { std::uint8_t id; };
+/// The clock has executed the message with this id.
+struct Done { ClockId id; };
 struct ClockVersion { std::uint8_t main_number, sub_number; };
 /// This button was pressed, even if no message asked for it.
 struct Pressed { Button button; };
@@ -791,7 +817,7 @@ inline std::optional<Signal> signal_of(const Ack &ack) {
     dgt_signal it;
     if (!dgt_signal_of(ack.ack.data(), &it)) return std::nullopt;
     switch (it.kind) {
-    case DGT_SIGNAL_DONE: return Done{it.id};
+    case DGT_SIGNAL_DONE: return Done{static_cast<ClockId>(it.id)};
     case DGT_SIGNAL_VERSION: return ClockVersion{it.main_number, it.sub_number};
     case DGT_SIGNAL_PRESSED: return Pressed{static_cast<Button>(it.button)};
     case DGT_SIGNAL_OFF: return Off{};
@@ -811,7 +837,7 @@ struct BatteryState {
 };
 
 /// The meaning of the body of a battery message, if it is nine bytes long.
-inline std::optional<BatteryState> state_of(const Battery &battery) {
+inline std::optional<BatteryState> battery_of(const Battery &battery) {
     dgt_battery it;
     if (!dgt_battery_of(battery.body.data(), battery.body.size(), &it)) return std::nullopt;
     auto known = [](std::uint8_t n) {
@@ -837,7 +863,7 @@ inline std::optional<std::string> text_of(ByteView bytes) {
 template <class Sender> class ClockCommands {
 public:
     /// Shows at most six digits, spaces and hyphens, from left to right.
-    Commands display(std::string_view text, std::uint8_t dots = 0, std::uint8_t beep = 0) {
+    Commands send_display(std::string_view text, std::uint8_t dots = 0, std::uint8_t beep = 0) {
         auto shown = padded<6>(text);
         for (std::uint8_t each : shown)
             if (dgt_segment(each) == DGT_NO_SUCH)
@@ -848,7 +874,7 @@ public:
     }
 
     /// Shows at most eight ASCII characters, from left to right.
-    Commands text(std::string_view text, std::uint8_t beep = 0) {
+    Commands send_text(std::string_view text, std::uint8_t beep = 0) {
         auto shown = padded<8>(text);
         for (std::uint8_t each : shown)
             if (each > 127) throw std::invalid_argument("the text is not ASCII");
@@ -857,7 +883,7 @@ public:
         });
     }
 
-    Commands beep(std::uint8_t duration) {
+    Commands send_beep(std::uint8_t duration) {
         return sent([&](auto *it, auto *out, auto n) {
             return detail::send_beep(it, duration, out, n);
         });
@@ -865,7 +891,7 @@ public:
 
     /// Sets the times of both sides. The clock interprets the bits of `control`. Throws
     /// std::invalid_argument if a time is out of range, or has flags.
-    Commands set_and_run(const Time &left, const Time &right, std::uint8_t control) {
+    Commands send_set_and_run(const Time &left, const Time &right, std::uint8_t control) {
         auto one = side(left), other = side(right);
         return sent([&](auto *it, auto *out, auto n) {
             return detail::send_set_and_run(it, one.data(), other.data(), control, out, n);
@@ -873,24 +899,24 @@ public:
     }
 
     /// Shows the icons of these bytes. Throws std::invalid_argument above DGT_MAX_PAYLOAD of them.
-    Commands icons(ByteView payload) {
+    Commands send_icons(ByteView payload) {
         return sent([&](auto *it, auto *out, auto n) {
             return detail::send_icons(it, payload.data(), payload.size(), out, n);
         });
     }
 
     /// Ends the display of a text or icons: the clock shows its times again.
-    Commands end() {
+    Commands send_end() {
         return sent([](auto *it, auto *out, auto n) { return detail::send_end(it, out, n); });
     }
 
     /// Requests the state of the clock's buttons.
-    Commands button() {
+    Commands send_button() {
         return sent([](auto *it, auto *out, auto n) { return detail::send_button(it, out, n); });
     }
 
     /// Requests the version of the clock.
-    Commands clock_version() {
+    Commands send_clock_version() {
         return sent([](auto *it, auto *out, auto n) {
             return detail::send_clock_version(it, out, n);
         });
@@ -963,11 +989,12 @@ public:
         return detail::sent([&](auto *out, auto n) { return dgt_host_send(&host_, code, out, n); });
     }
 
-    /// Sends the clock message with this id, such as DGT_ID_BEEP. Throws std::invalid_argument for
-    /// more than DGT_MAX_PAYLOAD bytes.
-    Commands send_clock(std::uint8_t id, ByteView payload) {
+    /// Sends the clock message with this id. Throws std::invalid_argument for more than
+    /// DGT_MAX_PAYLOAD bytes.
+    Commands send_clock(ClockId id, ByteView payload) {
+        auto code = static_cast<std::uint8_t>(id);
         return detail::sent([&](auto *out, auto n) {
-            return dgt_host_send_clock(&host_, id, payload.data(), payload.size(), out, n);
+            return dgt_host_send_clock(&host_, code, payload.data(), payload.size(), out, n);
         });
     }
 
@@ -1032,13 +1059,19 @@ private:
 /// period. 39 KiB.
 class Follower : public ClockCommands<Follower> {
 public:
-    /// `period` is the time from one request to the next, at least DGT_LEAST_PERIOD: a shorter one
-    /// counts as that. `patience` is how many heartbeats may follow one another. Throws
-    /// WrongLibrary, and std::invalid_argument if `mode` is idle.
+    /// `period` is the time from one request to the next. `patience` is how many heartbeats may
+    /// follow one another. `confirm` and `identify` are those of set_confirm and set_identify.
+    /// Throws WrongLibrary, and std::invalid_argument if the period is less than DGT_LEAST_PERIOD
+    /// milliseconds, or `mode` is idle.
     explicit Follower(Milliseconds period = std::chrono::seconds(10), std::uint32_t patience = 6,
-                      Mode mode = Mode::update_board) {
+                      Mode mode = Mode::update_board, bool confirm = false,
+                      bool identify = false) {
+        if (period.count() < DGT_LEAST_PERIOD)
+            throw std::invalid_argument("a period is less than a second");
         if (!dgt_follower_new(&follower_, detail::count(period), patience)) throw WrongLibrary();
         set_mode(mode);
+        set_confirm(confirm);
+        set_identify(identify);
     }
     Follower(const Follower &) = delete;
     Follower &operator=(const Follower &) = delete;
@@ -1054,7 +1087,7 @@ public:
     /// When to call `ask` next, if nothing is heard before: 0 if a request is due at once. An
     /// answer or the rest of a message may be overdue then, which is a doubt. Nothing if it is out
     /// of range.
-    std::optional<Milliseconds> due() {
+    std::optional<Milliseconds> due_at() {
         std::uint64_t time = 0;
         bool is_known = dgt_follower_due_at(&follower_, &time);
         return detail::time(is_known, time);
@@ -1102,9 +1135,11 @@ public:
             return dgt_follower_send(&follower_, code, out, n);
         });
     }
-    Commands send_clock(std::uint8_t id, ByteView payload) {
+    Commands send_clock(ClockId id, ByteView payload) {
+        auto code = static_cast<std::uint8_t>(id);
         return detail::sent([&](auto *out, auto n) {
-            return dgt_follower_send_clock(&follower_, id, payload.data(), payload.size(), out, n);
+            return dgt_follower_send_clock(&follower_, code, payload.data(), payload.size(), out,
+                                           n);
         });
     }
     Commands send_leds(ByteView leds) {

@@ -79,7 +79,7 @@ public:
     /// has yet to hear the bytes.
     template <std::size_t Room = 256> Written<Room> exchange(Follower &follower) {
         write(follower.ask(now()));
-        return read<Room>(follower.due());
+        return read<Room>(follower.due_at());
     }
 
     /// Whether the port has lost or altered bytes since the last call. Call it once a follower has

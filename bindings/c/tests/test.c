@@ -364,6 +364,7 @@ static bool is_sent(dgt_sent sent, uint8_t *out, const uint8_t *bytes, size_t n)
 
 static void follower(void) {
     dgt_follower *follower = room(dgt_follower_size());
+    CHECK(!dgt_follower_new(follower, DGT_LEAST_PERIOD - 1, 1));
     CHECK(dgt_follower_new(follower, 1000, 1));
     uint8_t dump[67] = {0x86, 0, 67, [3 + 52] = 1}, out[DGT_MAX_WORD], pieces[64];
     char text[DGT_PLACEMENT_ROOM];
@@ -1080,6 +1081,7 @@ static void no_bytes_for_commands(void) {
 
 static void no_bytes_of_followers(void) {
     dgt_follower *follower = room(dgt_follower_size());
+    CHECK(!dgt_follower_new(follower, DGT_LEAST_PERIOD - 1, 1));
     CHECK(dgt_follower_new(follower, 1000, 1));
     CHECK(dgt_follower_hear(follower, 1, NULL, 0, &heard, NULL, 0) == 0);
     CHECK(heard.kind == DGT_EVENT_NONE && heard.place == 0);

@@ -257,13 +257,13 @@ static void names(void) {
 
 static void note(unsigned which) {
     switch (which) {
-    case 0: dgt_host_line_lost(&host); break;
-    case 1: dgt_follower_line_lost(&follower); break;
+    case 0: dgt_host_line_lost(&host), host_total = 0; break;
+    case 1: dgt_follower_line_lost(&follower), follower_total = 0; break;
     case 2: dgt_board_line_lost(&board); break;
-    case 3: say_number(dgt_decoder_finish(&decoder)); break;
+    case 3: say_number(dgt_decoder_finish(&decoder)), decoder_total = 0; break;
     case 4: say_number(dgt_host_give_up_awaited(&host)); break;
     case 5: say_number(dgt_command_decoder_finish(&reader)); break;
-    case 6: dgt_decoder_reset(&decoder); break;
+    case 6: dgt_decoder_reset(&decoder), decoder_total = 0; break;
     case 7: dgt_command_decoder_reset(&reader); break;
     case 8: dgt_follower_ask_now(&follower); break;
     default: dgt_follower_line_disturbed(&follower);

@@ -37,19 +37,20 @@ const HEX = Array.from({ length: 256 }, (_, n) => n.toString(16).padStart(2, "0"
 const sayBytes = bytes => say(Array.from(bytes, n => HEX[n]).join("") + " ");
 const sayNumbers = (...numbers) => say(numbers.map(n => `${Number(n)} `).join(""));
 function sayClock(c) {
-  sayNumbers(CLOCKS[c.kind]);
-  if (c.kind === "unknown") return;
-  sayNumbers(c.status);
+  if (c === null) return sayNumbers(CLOCKS.unknown);
+  sayNumbers(CLOCKS[c.kind], c.status);
   if (c.kind === "none") return sayBytes(c.raw);
   for (const side of [c.first, c.second]) {
     sayNumbers(side.hours, side.minutes, side.seconds, side.flags);
   }
 }
+const sayPlace = ({ square, piece }) =>
+  sayNumbers(dgt.squareNumber(square), dgt.pieceCode(piece));
 function sayMessage(e) {
   sayNumbers(EVENTS[e.type]);
   switch (e.type) {
-    case "dump": return sayBytes(e.pieces);
-    case "field": return sayNumbers(e.square, e.piece);
+    case "dump": return sayBytes(dgt.placement(e.pieces) === e.placement ? e.pieces : []);
+    case "field": return sayPlace(e);
     case "times": case "noClock": return sayClock(e.clock);
     case "ack": sayBytes(e.ack); return sayNumbers(e.ackStatus);
     case "serial": return sayBytes(e.serial);
@@ -78,7 +79,7 @@ function sayCommand(c) {
 function sayStored(it) {
   sayNumbers(STORED[it.type]);
   switch (it.type) {
-    case "piece": return sayNumbers(it.square, it.piece, it.bit);
+    case "piece": sayPlace(it); return sayNumbers(it.bit);
     case "time": return sayNumbers(it.time.hours, it.time.minutes, it.time.seconds, it.time.flags);
     case "mark": return sayNumbers(MARKS[it.mark]);
     default: return sayNumbers(it.byte);
@@ -170,11 +171,15 @@ function clockBytes() {
   return [bytes, clock];
 }
 
+// A square and a piece by name. There may be none.
+const place = (square, piece) => ({ square: square > 63 ? "i9" : dgt.squareName(square),
+                                    piece: piece > 15 ? "x" : dgt.pieceLetter(piece) });
+
 // A message with members of any range, and its dgt_event: 16 bytes and a clock.
 function anyMessage() {
   const [bytes, clock] = clockBytes(), n = some(9, random(4) ? 128 : 256);
   const message = pick([
-    { type: "field", square: n[0] & 71, piece: n[1] & 17 },
+    { type: "field", ...place(n[0] & 71, n[1] & 17) },
     { type: "version", mainNumber: n[0], subNumber: n[1] },
     { type: "ack", ack: n.slice(0, 4), ackStatus: n[4] }, { type: "serial", serial: n.slice(0, 5) },
     { type: clock.kind === "times" ? "times" : "noClock", clock },
@@ -230,8 +235,8 @@ const ACTS = [
     }
   }],
   [4, () => {
-    const [square, piece] = [random(66), random(17)];
-    ops.push(7, square, piece);
+    const [n, code] = [random(66), random(17)], { square, piece } = place(n, code);
+    ops.push(7, n, code);
     sayResult(() => has.board.change(square, piece));
   }],
   [4, () => {
@@ -403,7 +408,7 @@ const hashes = [];
 let acts = 0, heard = 0;
 
 function runCase() {
-  const period = pick([0, 1, 1000, 10000]), patience = pick([0, 1, 6, 255]), says = random(4);
+  const period = pick([1000, 1001, 2500, 10000]), patience = pick([0, 1, 6, 255]), says = random(4);
   ops.push(0);
   u32(period);
   ops.push(patience, says);

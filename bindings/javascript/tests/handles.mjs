@@ -40,7 +40,7 @@ const dgt = await load(bytes);
   const [event] = host.hear(board.poll()), picture = host.picture;
   picture.fill(3);
   event.pieces.fill(3);
-  assert.equal(host.placement, START);
+  assert.deepEqual([host.placement, event.placement, host.clock], [START, START, null]);
   const [{ body }] = new Decoder(dgt).feed(Uint8Array.of(0x92, 0, 5, 65, 66));
   new Decoder(dgt).feed(Uint8Array.of(0x92, 0, 5, 67, 68));
   assert.deepEqual([...body], [65, 66]);
@@ -60,12 +60,25 @@ const dgt = await load(bytes);
   follower.lineDisturbed();
   assert.equal(follower.inDoubt, true);
   assert.equal(new Follower(dgt, { patience: 2 ** 32 - 1 }).heartbeatsLeft, 2 ** 32 - 1);
+  const modes = [true, false].map(clock => new Follower(dgt, { clock }).mode);
+  assert.deepEqual(modes, [MODES.updateNice, MODES.updateBoard]);
+}
+{ // Offsets begin again.
+  const decoder = new Decoder(dgt), host = new Host(dgt), field = Uint8Array.of(0x8e, 0, 5, 52, 0);
+  const offset = () => [decoder.feed(field)[0].offset, host.hear(field)[0].offset];
+  const seen = [offset(), offset()];
+  host.lineLost();
+  for (const act of [() => decoder.finish(), () => decoder.reset()]) {
+    act();
+    seen.push(offset());
+  }
+  assert.deepEqual(seen, [[5, 5], [10, 10], [5, 5], [5, 10]]);
 }
 { // What a board has stored, and the meanings of carried bytes.
   assert.deepEqual(dgt.readStored([0x6f, 0x40, 0x34, 0x51, 0x24, 0x61, 0x30, 5, 0x41]), [
     { type: "mark", mark: "begin" },
-    { type: "piece", square: 52, piece: 0, bit: false },
-    { type: "piece", square: 36, piece: 1, bit: true },
+    { type: "piece", square: "e2", piece: ".", bit: false },
+    { type: "piece", square: "e4", piece: "P", bit: true },
     { type: "time", time: { hours: 1, minutes: 30, seconds: 5, flags: 6 } },
     { type: "unknown", byte: 0x41 },
   ]);
@@ -85,26 +98,30 @@ const dgt = await load(bytes);
 { // Wrong arguments do nothing.
   const board = new Board(dgt), host = new Host(dgt), follower = new Follower(dgt);
   const wrong = [
-    () => board.change(64, 1), () => board.change(0, 16), () => board.change(-1, 1),
-    () => board.change(1.5, 1), () => board.change(NaN, 1), () => board.change("a", 1),
-    () => board.change(256, 1), () => board.handClock({ kind: "unknown" }),
+    () => board.change("i1", "P"), () => board.change("e2", "x"), () => board.change("e2", ""),
+    () => board.change("e2", 1), () => board.change(52, "P"), () => board.change(["e", "2"], "P"),
+    () => board.change(null, "P"), () => board.handClock({ kind: "unknown" }),
     () => board.handClock({ kind: "none", status: 32, raw: [1, 2, 3, 4, 5, 6, 7] }),
-    () => board.handClock({ kind: "other" }),
+    () => board.handClock({ kind: "other" }), () => board.handClock(null),
     () => board.take([1, 2]), () => host.hear("text"), () => host.hear(null),
     () => follower.ask(-1), () => follower.ask(NaN), () => follower.ask(Infinity),
     () => follower.hear(1e300, new Uint8Array(1)), () => { follower.mode = 0; },
     () => new Follower(dgt, { patience: -1 }), () => new Follower(dgt, { period: -1 }),
+    () => new Follower(dgt, { period: 999.9 }), () => host.sendText("\u00e4"),
+    () => new Follower(dgt, { clock: true, mode: MODES.update }),
     () => new Follower(dgt, { patience: 2 ** 32 }), () => host.sendText("123456789"),
     () => host.sendText("\u2654"), () => host.send(1000), () => host.send(0x20),
     () => dgt.placement([1]), () => dgt.placement(new Uint8Array(64).fill(16)),
     () => dgt.squareName(64), () => dgt.pieceLetter(16), () => dgt.pieceCode("x"),
     () => dgt.squareNumber("i1"), () => dgt.squareNumber("e4x"), () => dgt.segment("x"),
     () => dgt.encodeMessage({ type: "cut", have: 1 }), () => dgt.encodeMessage({ type: "dump" }),
-    () => dgt.encodeMessage({ type: "none" }), () => dgt.eventText({ type: "field", square: 64 }),
+    () => dgt.encodeMessage({ type: "none" }), () => dgt.eventText({ type: "field", square: "e2" }),
+    () => dgt.encodeMessage({ type: "field", square: 52, piece: "P" }),
     () => dgt.viewMessage(128, []), () => dgt.viewMessage(1, new Uint8Array(16381)),
     () => dgt.encodeCommand(ASK.dump, 0, [1]), () => dgt.encodeCommand(0x20),
-    () => lighting(1), () => lighting(64, 1), () => host.sendDisplay("abcdef"),
-    () => host.sendLeds(new Uint8Array(256)), () => host.sendClock(1, new Uint8Array(253)),
+    () => lighting("e2"), () => lighting("e2", "e9"), () => lighting(52, 36),
+    () => host.sendDisplay("abcdef"), () => host.sendLeds(new Uint8Array(256)),
+    () => host.sendClock(1, new Uint8Array(253)),
     () => host.sendSetAndRun([1, 2], [1, 2, 3], 0), () => dgt.readStored([256]),
     () => dgt.readStored(new Uint8Array(16381)), () => dgt.signalOf([16, 8, 0]),
     () => dgt.batteryOf("text"), () => dgt.textOf([-1]),
@@ -123,7 +140,7 @@ const dgt = await load(bytes);
   const fresh = new Library(instance), stack = 1048576;
   new Uint8Array(instance.exports.memory.buffer, 0, stack).fill(0xa5);
   const board = new Board(fresh), host = new Host(fresh), reader = new CommandDecoder(fresh);
-  const follower = new Follower(fresh, { period: 0, mode: MODES.update });
+  const follower = new Follower(fresh, { period: 1000, mode: MODES.update });
   const decoder = new Decoder(fresh);
   board.start(new Uint8Array(64), { kind: "none", status: 32, raw: [1, 2, 3, 4, 5, 6] },
     { serial: [1, 2, 3, 4, 5], mainNumber: 1, subNumber: 2, clockVersion: 3,

@@ -53,7 +53,13 @@ for (let round = 0; round < GAMES; round++) {
 
 // The package gives placements. The day of a PGN is the local one.
 const game = new Game();
+assert.equal(game.lacks, "");
+game.see("rnbqkbnr/pppppppp/8/8/4P3/8/PPPP1PPP/RNBQKBNR");
+assert.equal(game.lacks, "late");
+game.see("RNBKQBNR/PPPPPPPP/8/8/8/8/pppppppp/rnbkqbnr");
+assert.equal(game.lacks, "turned");
 game.see("rnbqkbnr/pppppppp/8/8/8/8/PPPPPPPP/RNBQKBNR");
+assert.equal(game.lacks, "");
 assert.ok(game.see("rnbqkbnr/pppppppp/8/8/4P3/8/PPPP1PPP/RNBQKBNR"));
 assert.deepEqual(game.moves, ["1. e4"]);
 for (const hours of [14, -12]) { // in one of these zones it is another day than in UTC

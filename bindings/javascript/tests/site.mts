@@ -6,12 +6,13 @@ import { ASK, Board, CommandDecoder, Follower, Host, IDS, MODES, lighting, load,
 import { Game } from "dgt-board/moves.js";
 
 const dgt: Library = await load(new URL("https://example.org/dgt64.wasm"));
-const follower = new Follower(dgt, { period: 2000, mode: MODES.updateNice, confirm: true });
+const follower = new Follower(dgt, { period: 2000, clock: true, confirm: true });
 const game = new Game();
 
 function describe(event: Event): string {
   switch (event.type) {
-    case "field": return dgt.squareName(event.square) + dgt.pieceLetter(event.piece);
+    case "dump": return event.placement;
+    case "field": return event.square + event.piece;
     case "times": return `${event.clock.first.hours}:${event.clock.second.minutes}`;
     case "refused": return event.fault === "badPiece" ? "a piece" : `byte ${event.at}`;
     default: return `${event.offset} ${dgt.eventText(event)}`;
@@ -28,8 +29,8 @@ export function hear(now: number, chunk: Uint8Array): string[] {
 }
 
 export const sent: Uint8Array[] = [
-  follower.send(ASK.battery), follower.sendClock(IDS.end), follower.sendLeds(lighting(52, 36)),
-  new Host(dgt).restart(), dgt.encodeCommand(ASK.leds, 0, lighting(1, 2)),
+  follower.send(ASK.battery), follower.sendClock(IDS.end), follower.sendLeds(lighting("e2", "e4")),
+  new Host(dgt).restart(), dgt.encodeCommand(ASK.leds, 0, lighting("a1", "h8")),
 ];
 const board = new Board(dgt);
 export const commands: Command[] = new CommandDecoder(dgt).feed(sent[0]);
@@ -51,7 +52,7 @@ follower.hearEach(sent[0]);
 // @ts-expect-error not a type of event
 export const is = (event: Event): boolean => event.type === "dumps";
 // @ts-expect-error not each event has a square
-export const square = (event: Event): number => event.square;
+export const square = (event: Event): string => event.square;
 // @ts-expect-error the placement may not be known
 export const { length } = follower.placement;
 // @ts-expect-error a board has no placement
@@ -59,6 +60,8 @@ board.placement;
 // @ts-expect-error it is a number
 used.length;
 // @ts-expect-error a field has its piece
-dgt.encodeMessage({ type: "field", square: 1 });
+dgt.encodeMessage({ type: "field", square: "e2" });
+// @ts-expect-error squares have names
+board.change(52, "P");
 // @ts-expect-error no call of the library has this name
 dgt.calls.host_hears;

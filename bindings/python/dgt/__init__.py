@@ -35,7 +35,7 @@ whole chunk first.
 
 The package contains:
 
-    follow, ports   follow the board on a port, and list the ports
+    follow, ports   follow the board on a port, and list the ports; follow_async uses asyncio
     Host            makes commands, takes in a board's bytes, keeps the picture and the clock
     Follower        is a host that repeats its requests, so that its picture becomes right again
     Decoder         turns a board's bytes into events; CommandDecoder a host's into commands
@@ -66,7 +66,8 @@ from .errors import (BadFen, BadPlacement, BadValue, Busy, Closed, DgtError, Ill
 from .events import (Ack, BadLength, Battery, Cut, Dump, Event, Fault, Field, LongSerial, Message,
                      Other, Refused, Serial, Stray, Trademark, Version)
 from .follower import Follower
-from .following import BoardView, Following, SerialLine, follow, follow_async
+from .following import BoardView, Following, SerialLine, follow
+from .following_async import AsyncFollowing, follow_async
 from .games import Games, GameStore
 from .host import Host
 from .logging_board import LoggingBoard
@@ -84,17 +85,17 @@ from .world import Outcome, World
 __version__ = VERSION
 
 __all__ = [
-    "Ack", "Ask", "Asked", "BadEnd", "BadFen", "BadLength", "BadPlacement", "BadSize", "BadStart",
-    "BadValue", "Battery", "BatteryState", "Board", "BoardView", "Busy", "Button", "Clock",
-    "ClockCommands", "ClockId", "ClockMessage", "ClockVersion", "Closed", "Command",
-    "CommandDecoder", "Cut", "Decoder", "DgtError", "Done", "Dump", "Event", "Fault", "Field",
-    "Follower", "Following", "GameBegun", "GameState", "GameStore", "Games", "Host", "Identity",
-    "IllegalMove", "KeptGame", "LETTERS", "Leds", "LoggingBoard", "LongSerial", "Mark", "Message",
-    "Mode", "MoveEvent", "MoveMade", "MoveRecogniser", "MoveTakenBack", "Nested", "NoClock",
-    "NoSuchCommand", "Off", "Other", "Outcome", "PgnFile", "PgnGame", "PgnMove", "Position",
-    "Pressed", "Ready", "Refused", "SQUARES", "START_FEN", "STORED_REQUEST", "Serial", "SerialLine",
-    "SerialPort", "Signal", "Stored", "StoredPiece", "StoredTime", "Stray", "StrayByte", "Time",
-    "Times", "TooManyAwaited", "Trademark", "UnknownByte", "Version", "Word", "World",
-    "encode_command", "encode_message", "follow", "follow_async", "piece_code", "ports",
+    "Ack", "Ask", "Asked", "AsyncFollowing", "BadEnd", "BadFen", "BadLength", "BadPlacement",
+    "BadSize", "BadStart", "BadValue", "Battery", "BatteryState", "Board", "BoardView", "Busy",
+    "Button", "Clock", "ClockCommands", "ClockId", "ClockMessage", "ClockVersion", "Closed",
+    "Command", "CommandDecoder", "Cut", "Decoder", "DgtError", "Done", "Dump", "Event", "Fault",
+    "Field", "Follower", "Following", "GameBegun", "GameState", "GameStore", "Games", "Host",
+    "Identity", "IllegalMove", "KeptGame", "LETTERS", "Leds", "LoggingBoard", "LongSerial", "Mark",
+    "Message", "Mode", "MoveEvent", "MoveMade", "MoveRecogniser", "MoveTakenBack", "Nested",
+    "NoClock", "NoSuchCommand", "Off", "Other", "Outcome", "PgnFile", "PgnGame", "PgnMove",
+    "Position", "Pressed", "Ready", "Refused", "SQUARES", "START_FEN", "STORED_REQUEST", "Serial",
+    "SerialLine", "SerialPort", "Signal", "Stored", "StoredPiece", "StoredTime", "Stray",
+    "StrayByte", "Time", "Times", "TooManyAwaited", "Trademark", "UnknownByte", "Version", "Word",
+    "World", "encode_command", "encode_message", "follow", "follow_async", "piece_code", "ports",
     "read_stored", "san", "segment", "square_number", "view_command", "view_message",
 ]

@@ -43,7 +43,7 @@ class Asker(Handle, ClockCommands[bytes]):
 
     def send_clock(self, id: ClockId | int, payload: Bytes = b"") -> bytes:
         """Returns a message to the clock with this payload, even if it is too short for this id:
-        `display`, `text` and so on make complete ones. `BadValue` if the id isn't a byte,
+        `send_display` and so on make complete ones. `BadValue` if the id isn't a byte,
         `NoSuchCommand` if the payload has more than 252 bytes, `TypeError` if it isn't bytes."""
         number = byte(id, "an id")
         held, address = readable(payload)

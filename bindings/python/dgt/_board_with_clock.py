@@ -51,7 +51,7 @@ class BoardWithClock(Following):
         begun, views, changes = time.monotonic(), list[BoardView](), self._steps.changes
         while not self.has_confirmed(begun) and time.monotonic() < until:
             self.follower.ask_now()
-            if view := self.wait(until):
+            if view := self.wait(until=until):
                 views.append(view)
         views += changes
         changes.clear()

@@ -21,6 +21,7 @@ LATE = 1.0
 LOOK = 0.5
 """The seconds between two looks for a port that has disappeared."""
 LONGEST = 3600.0
+LEFT_OUT = "left out: the board doesn't answer"
 _DRAUGHTS = 103
 _DONE = 0x10
 
@@ -70,7 +71,9 @@ class Examination:
         self.facts, self.delays = dict[str, str](), dict[str, list[float]]()
         self.fields = list[tuple[str, str]]()
         """The reported squares since the list was cleared."""
-        self._has_missed = self._has_recovered = False
+        self._has_missed = self._has_recovered = self.is_understood = False
+        self._faults = dict[str, str]()
+        """The findings before the first message that was understood."""
         self._raw, self._queue = b"", deque[Event]()
         self.recorder, self._stop = recorder, stop
         self._port: RecordedPort | None = RecordedPort(name, stop, recorder)
@@ -99,6 +102,10 @@ class Examination:
             self.find("mode lost" if self._has_recovered else "no updates")
         if failed := [name for name, fact in self.facts.items() if fact.startswith("failed: ")]:
             self.find("failed steps", "; ".join(failed))
+        if left := [name for name, fact in self.facts.items() if fact == LEFT_OUT]:
+            self.find("skipped steps", f"from {left[0]} on")
+        if self.has_heard and not self.is_understood:
+            self.find("not understood")
 
     # ---- The line
 
@@ -139,6 +146,11 @@ class Examination:
         """Whether there are events that `hear` hasn't returned yet."""
         return bool(self._queue)
 
+    @property
+    def has_heard(self) -> bool:
+        """Whether any bytes have arrived."""
+        return bool(self._raw)
+
     def open(self) -> bool:
         """Reopens a port that had disappeared, if it is back. Returns whether it is open."""
         self._check_stop()
@@ -154,15 +166,23 @@ class Examination:
             raise Stopped
 
     def _note(self, event: Event) -> None:
-        """Adds the findings of an event."""
+        """Adds the findings of an event. Those of faults wait for a message: without one the port
+        may be that of another device."""
         if isinstance(event, Field):
             self.fields.append((event.square, event.piece))
             self._has_recovered = self._has_missed
-        elif isinstance(event, Other):
-            self.find("another board's code", f"{event.code | 0x80:02x}")
+        if isinstance(event, Other):
+            self._faults["another board's code"] = f"{event.code | 0x80:02x}"
         elif isinstance(event, FAULTS):
             self.hold("faults", False, str(event))
-            self.find(*self._fault(event))
+            name, detail = self._fault(event)
+            self._faults.setdefault(name, detail)
+        else:
+            self.is_understood = True
+        if self.is_understood:
+            for found in self._faults.items():
+                self.find(*found)
+            self._faults.clear()
 
     def _fault(self, event: Event) -> tuple[str, str]:
         """Returns the finding for a fault."""
@@ -196,16 +216,16 @@ class Examination:
             return None
         delay = time.monotonic() - asked
         self.delays.setdefault(what, []).append(delay)
-        if delay > LATE:
+        if delay > LATE and self.is_understood:
             self.find("late answers", f"{what} after {delay:.1f} s")
         return answer
 
-    def dump(self) -> Dump | None:
-        """Requests all squares, up to three times if the report is refused."""
-        for _ in range(3):
+    def dump(self, tries: int = 3) -> Dump | None:
+        """Requests all squares, up to three times until they are reported."""
+        for _ in range(tries):
             answer = self.ask(self.host.send(Ask.DUMP), (Dump, Refused), "dump")
-            if not isinstance(answer, Refused):
-                return answer if isinstance(answer, Dump) else None
+            if isinstance(answer, Dump):
+                return answer
         return None
 
     def begin_anew(self, unfinished: bytes = b"") -> bool:

@@ -3,6 +3,8 @@
 FINDINGS = {
     "silent board": "it doesn't answer. Check its power, its cable and the port's name; try "
     "another USB socket",
+    "not understood": "bytes come from this port, but no message of a board. Most likely it is "
+    "another device's port, or doesn't use 9600 baud: `python3 -m dgt ports` lists the ports",
     "bus mode": "it answered only after it was switched off and on. Most likely another program "
     "had left it in bus mode, in which it hears only its bus address. Do the same when a program "
     "says that the board doesn't answer",
@@ -27,6 +29,8 @@ FINDINGS = {
     "new beginning": "it doesn't answer after zeros that complete a half-sent command. If a byte "
     "is lost, switch it off and on. Attach this report to a bug report",
     "failed steps": "the board didn't show what was done. Each failed step says what to do",
+    "skipped steps": "the board didn't report all squares in three attempts. Switch it off and on, "
+    "and start again",
     "port gone": "the port disappeared during the examination. Check the cable, and start again",
 }
 """The meaning of each finding, and what to do."""

@@ -15,14 +15,15 @@ def _place() -> str:
     """Returns the first of these libraries: the one that DGT_LIBRARY names, the one in this folder,
     the source tree's, the system's."""
     here = Path(__file__).resolve().parent
-    places = [here / "libdgt.so", here.parent.parent / "lib" / "out" / "libdgt.so"]
+    places = [here / "libdgt.so", here.parents[1] / "c" / "out" / "libdgt.so"]
     found = [str(place) for place in places if place.exists()]
     return os.environ.get("DGT_LIBRARY") or (found + [SONAME])[0]
 
 
 def _load() -> ctypes.CDLL:
-    """Loads the library. `ImportError` if it is missing or another library, or if Python isn't
-    CPython: the package needs the address of an object's bytes."""
+    """Loads the library. `ImportError` if it is missing or another library, if it isn't proved and
+    DGT_LIBRARY doesn't name it, or if Python isn't CPython: the package needs the address of an
+    object's bytes."""
     if sys.implementation.name != "cpython":
         raise ImportError(f"the package dgt needs CPython: this is {sys.implementation.name}")
     place = _place()
@@ -31,6 +32,8 @@ def _load() -> ctypes.CDLL:
     except OSError as fault:
         raise ImportError(f"the library of the package dgt can't be loaded: {fault}. Make it with "
                           "bindings/c/build, or name it in DGT_LIBRARY") from fault
+    if hasattr(library, "dgt_unproved") and not os.environ.get("DGT_LIBRARY"):
+        raise ImportError(f"{place} is not proved: only DGT_LIBRARY may name such a library")
     another = f"{place} is another library, not that of this package dgt"
     try:
         _declare(library)

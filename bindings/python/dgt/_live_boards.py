@@ -69,7 +69,7 @@ class Game:
 
     def wait(self, now: float) -> None:
         """Notes that the board hasn't changed until this time."""
-        self._take(self.recogniser.wait(now))
+        self._take(self.recogniser.tick(now))
 
     def _take(self, events: list[MoveEvent]) -> None:
         for event in events:

@@ -189,8 +189,9 @@ class Client:
             case "subscribe":
                 self._subscribe(_read_id(param["id"]), param["feed"], param.get("param") or {})
             case "unsubscribe":
-                self._feed(param).close()
-                del self._feeds[param["id"]]
+                feed = self._feed(param)
+                feed.close()
+                del self._feeds[feed.number]
             case "call":
                 self._set_up(self._feed(param), param["method"], param.get("param") or {})
             case _:
@@ -229,8 +230,9 @@ class Client:
         board.watchers.append(self._feeds[number])
 
     def _feed(self, param: Json) -> Feed:
-        if (feed := self._feeds.get(param["id"])) is None:
-            raise Refused(f"no feed has the id {param['id']!r}")
+        number = _read_id(param["id"])
+        if number is None or (feed := self._feeds.get(number)) is None:
+            raise Refused(f"no feed has the id {number!r}")
         return feed
 
     def _set_up(self, feed: Feed, method: object, param: Json) -> None:
@@ -244,6 +246,7 @@ class Client:
 
 def _read_id(held: object) -> int | str | None:
     """Returns an id. `Refused` if it isn't one."""
-    if held is None or isinstance(held, (int, str)) and len(str(held)) <= _MOST_ID:
+    if held is None or (isinstance(held, (int, str)) and not isinstance(held, bool)
+                        and len(str(held)) <= _MOST_ID):
         return held
     raise Refused("an id must be a number or a short text")

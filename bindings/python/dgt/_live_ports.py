@@ -43,7 +43,7 @@ class PortBoard(Board):
     def turn(self) -> None:
         now, self._is_late = time.monotonic(), True
         for _ in range(_AT_ONCE):
-            if (view := self._line.wait(now)) is None:
+            if (view := self._line.wait(0)) is None:
                 self._is_late = False
                 break
             self.see(self._identified(view, now))
@@ -79,8 +79,8 @@ class PortBoard(Board):
             self._line.shown_move.end()
         if self._has_lights:
             squares = [move[:2], move[2:4]] if move else []
-            self._line.leds(*(SQUARES[63 - square_number(each)] if is_turned else each
-                              for each in squares))
+            self._line.light(*(SQUARES[63 - square_number(each)] if is_turned else each
+                               for each in squares))
 
     def _watch(self, descriptor: int | None) -> None:
         """Makes the loop call `turn` when the board sends something. The port may have changed."""

@@ -204,7 +204,7 @@ class LoggedGames:
         """Handles that nothing changes until this time."""
         keeper = self._keeper
         while keeper is not None and keeper.due is not None and keeper.due <= until:
-            keeper.wait(keeper.due)
+            keeper.tick(keeper.due)
             self._look()
         self._now = max(self._now, until)
 

@@ -93,6 +93,11 @@ class Port:
             self._counted, self._late_until = counted, now + _LATE
         return now < self._late_until
 
+    @property
+    def is_unsent(self) -> bool:
+        """Whether the port hasn't taken all bytes yet."""
+        return bool(self._unsent)
+
     def ask(self, chunk: bytes) -> None:
         """Sends a chunk, and drops the unsent rest of earlier ones."""
         self._unsent = b""

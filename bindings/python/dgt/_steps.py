@@ -7,7 +7,7 @@ import time
 from collections.abc import Callable
 from dataclasses import dataclass
 
-from ._examination import LONGEST, LOOK, Examination
+from ._examination import LEFT_OUT, LONGEST, LOOK, Examination
 from .commands import Ask, ClockId
 from .events import Ack, Event, Field
 from .values import SQUARES, Position, Times
@@ -17,7 +17,9 @@ _PRESSED = (0x08, 0x88)
 _WITH_TEXT = 2
 """The first main version of a clock that shows text."""
 _NAMED = 6
-"""The most squares that a text names."""
+"""The most squares that a text names with their pieces."""
+_REST = 10.0
+"""The seconds without a report after which wrong squares are named."""
 _NO_ANSWER = "the board doesn't answer"
 
 
@@ -47,11 +49,13 @@ class Step:
     """Whether the person presses Enter when it is done."""
 
 
-def _watch(board: Examination, is_done: Callable[[Event], bool]) -> bool:
-    """Prints events until the step is done or a line is typed. Returns whether it is done."""
-    has_seen = False
+def _watch(board: Examination, is_done: Callable[[Event], bool],
+           hint: Callable[[], str] = str) -> bool:
+    """Prints events until the step is done or a line is typed, and the hint if nothing happens.
+    Returns whether it is done."""
+    has_seen, said = False, ""
     while True:
-        event = board.hear(time.monotonic() + LONGEST, 0)
+        event = board.hear(time.monotonic() + _REST, 0)
         if event is not None:
             board.person.say(f"  {event}")
             has_seen = is_done(event) or has_seen
@@ -61,6 +65,9 @@ def _watch(board: Examination, is_done: Callable[[Event], bool]) -> bool:
             if line == "s":
                 raise Skipped
             return False
+        if event is None and (text := hint()) not in ("", said):
+            board.person.say(f"  {text}")
+            said = text
 
 
 def _pairs(text: str) -> list[tuple[str, str]]:
@@ -71,9 +78,20 @@ def _differences(shown: Position, right: Position) -> str:
     """Returns the wrong squares as text."""
     if shown.letters == right.letters[::-1]:
         return "the board is turned: turn it round, and put the pieces where they were"
-    named = [f"{square} shows {shown[square]} instead of {letter}"
-             for square, letter in shown.changes(right).items()]
-    return ", ".join(named[:_NAMED] + ["and so on"] * (len(named) > _NAMED))
+    wrong = shown.changes(right)
+    if len(wrong) > _NAMED:
+        return f"these squares show another piece or none: {' '.join(wrong)}"
+    return ", ".join(f"{square} shows {shown[square]} instead of {letter}"
+                     for square, letter in wrong.items())
+
+
+def _twice(board: Examination, attempt: Callable[[], str], text: str = "") -> str:
+    """Makes an attempt, and another one if it fails. Returns what is wrong at last."""
+    if why := attempt():
+        board.person.forget()
+        board.person.say(f"  {why}. Try again{text}")
+        why = attempt()
+    return why
 
 
 def _on_board(board: Examination, step: Step, before: Position) -> str:
@@ -82,18 +100,22 @@ def _on_board(board: Examination, step: Step, before: Position) -> str:
     goal = Position.of_letters("".join(after.values())) if step.changes else Position.start()
     if not step.changes and before == goal:
         return ""
-    why = _move(board, step, goal)
-    if why:
-        board.person.forget()
-        board.person.say(f"  {why}. Try again: {step.text}. Press Enter if nothing happens")
-        why = _move(board, step, goal)
-    return why
+    return _twice(board, lambda: _move(board, step, goal),
+                  f": {step.text}. Press Enter if nothing happens")
 
 
 def _move(board: Examination, step: Step, goal: Position) -> str:
     """Waits until the board shows the result of the step. Returns what is wrong."""
     must = set(_pairs(step.changes))
-    is_noticed = _watch(board, lambda _: board.host.picture == goal and must <= {*board.fields})
+
+    def hint() -> str:
+        shown = board.host.picture
+        if shown is None or shown == goal or must and not board.fields:
+            return ""
+        return f"{_differences(shown, goal)}. Press Enter if the pieces stand right"
+
+    is_noticed = _watch(board, lambda _: board.host.picture == goal and must <= {*board.fields},
+                        hint)
     dump = board.dump()
     if dump is None:
         return _NO_ANSWER
@@ -109,10 +131,18 @@ def _move(board: Examination, step: Step, goal: Position) -> str:
 
 
 def _in_idle_mode(board: Examination, step: Step, before: Position) -> str:
-    """A knight is lifted in idle mode."""
-    mode, [(square, _)] = board.mode, _pairs(step.needs)
+    """A knight is lifted in idle mode, and put back."""
+    [(square, _)] = _pairs(step.needs)
+    return (_twice(board, lambda: _lift(board, square))
+            or _twice(board, lambda: _put_back(board, before)))
+
+
+def _lift(board: Examination, square: str) -> str:
+    """Waits until the knight is lifted in idle mode. Returns what is wrong."""
+    mode = board.mode
     board.set_mode(Ask.RESET)
-    board.dump()  # its reply shows that the board has read the mode command
+    stood = board.dump()  # it shows that the board has read the mode command
+    board.person.forget()
     board.person.say(f"  now lift the knight from {square}, and press Enter")
     has_come = _watch(board, lambda event: isinstance(event, Field))
     board.set_mode(mode)
@@ -121,8 +151,14 @@ def _in_idle_mode(board: Examination, step: Step, before: Position) -> str:
     if lifted is None or lifted.position[square] != ".":
         return f"{square} isn't empty"
     board.hold("idle", not has_come)
-    if not has_come:
+    if not has_come and stood is not None and stood.position[square] != ".":
         board.hold("later", comes_later)
+    return ""
+
+
+def _put_back(board: Examination, before: Position) -> str:
+    """Waits until the knight is back. Returns what is wrong."""
+    board.person.forget()
     board.person.say("  now put it back")
     _watch(board, lambda _: board.host.picture == before)
     after = board.dump()
@@ -136,13 +172,13 @@ def _on_clock(board: Examination, step: Step, before: Position) -> str:
     """The clock shows a text. The person confirms it."""
     has_text = int(board.facts.get("clock version", "1").partition(".")[0]) >= _WITH_TEXT
     shown = "hello" if has_text else "12-34"
-    message = board.host.text(shown, 3) if has_text else board.host.display(shown, 0, 3)
+    message = board.host.send_text(shown, 3) if has_text else board.host.send_display(shown, 0, 3)
     if board.send_clock(message, ClockId.TEXT if has_text else ClockId.DISPLAY) is None:
         return "the clock didn't acknowledge it"
     board.person.say(f"  does it show {shown}? (Enter: yes, n and Enter: no)")
     while (line := board.person.typed()) is None:
         board.hear(time.monotonic() + LONGEST, 0)
-    board.send_clock(board.host.end(), ClockId.END)
+    board.send_clock(board.host.send_end(), ClockId.END)
     if line == "s":
         raise Skipped
     return "it wasn't shown" if line == "n" else ""
@@ -233,7 +269,7 @@ def do_step(board: Examination, step: Step, prompt: str) -> str:
         board.set_mode(Ask.UPDATE_NICE)
     dump = board.dump()
     if dump is None:
-        return f"left out: {_NO_ANSWER}"
+        return LEFT_OUT
     if any(dump.position[square] != piece for square, piece in _pairs(step.needs)):
         return f"left out: it needs other pieces on some squares ({step.needs})"
     board.fields.clear()

@@ -18,9 +18,9 @@ class ClockCommands(Generic[_Sent]):
     """The commands for the clock of a board. A `Host` and a `Follower` return the bytes to write to
     the line. A `Following` sends them, and returns `None`.
 
-    >>> Host().display("12-34").hex(" ")
+    >>> Host().send_display("12-34").hex(" ")
     '2b 0b 03 01 40 5b 06 00 66 4f 00 00 00'
-    >>> Host().text("Résumé")
+    >>> Host().send_text("Résumé")
     Traceback (most recent call last):
     dgt.errors.BadValue: text must be at most 8 ASCII characters: 'Résumé'
 
@@ -31,7 +31,7 @@ class ClockCommands(Generic[_Sent]):
     def _clock_message(self, id: ClockId, payload: bytes) -> _Sent:
         raise NotImplementedError
 
-    def display(self, text: str, dots: int = 0, beep: int = 0) -> _Sent:
+    def send_display(self, text: str, dots: int = 0, beep: int = 0) -> _Sent:
         """Shows at most six digits, spaces and hyphens on the display, from left to right. A
         shorter text is padded with spaces. `dots` and `beep` are from 0 to 255. `BadValue` if an
         argument is out of range."""
@@ -42,7 +42,7 @@ class ClockCommands(Generic[_Sent]):
         payload = bytes((c, b, a, f, e, d, number(dots, 255, "dots"), number(beep, 255, "beep")))
         return self._clock_message(ClockId.DISPLAY, payload)
 
-    def text(self, text: str, beep: int = 0) -> _Sent:
+    def send_text(self, text: str, beep: int = 0) -> _Sent:
         """Shows at most eight ASCII characters, from left to right. A shorter text is padded with
         spaces. `beep` is from 0 to 255. `BadValue` if an argument is out of range."""
         letters = _characters(text, 8)
@@ -50,14 +50,14 @@ class ClockCommands(Generic[_Sent]):
             raise BadValue(f"text must be at most 8 ASCII characters: {text!r}")
         return self._clock_message(ClockId.TEXT, letters + bytes([number(beep, 255, "beep")]))
 
-    def beep(self, duration: int) -> _Sent:
+    def send_beep(self, duration: int) -> _Sent:
         """Beeps for this duration, from 0 to 255. `BadValue` if it is not."""
         return self._clock_message(ClockId.BEEP, bytes([number(duration, 255, "duration")]))
 
-    def set_and_run(self, left: Time, right: Time, control: int) -> _Sent:
+    def send_set_and_run(self, left: Time, right: Time, control: int) -> _Sent:
         """Sets the times of both sides, and controls the clock with the bits of `control`.
 
-        >>> Host().set_and_run(Time(1, 0, 0), Time(0, 59, 30), control=1).hex(" ")
+        >>> Host().send_set_and_run(Time(1, 0, 0), Time(0, 59, 30), control=1).hex(" ")
         '2b 0a 03 0a 01 00 00 00 3b 1e 01 00'
 
         The flags of both times are 0. `control` is from 0 to 255: bits for the clock, sent
@@ -66,7 +66,7 @@ class ClockCommands(Generic[_Sent]):
         control = number(control, 255, "control")
         return self._clock_message(ClockId.SET_AND_RUN, bytes([*sides, control]))
 
-    def icons(self, payload: Bytes) -> _Sent:
+    def send_icons(self, payload: Bytes) -> _Sent:
         """Shows the icons of these bytes, at most 252 of any value. `BadValue` if there are more,
         `TypeError` if the payload isn't bytes."""
         held, _ = readable(payload)
@@ -74,15 +74,15 @@ class ClockCommands(Generic[_Sent]):
             raise BadValue(f"payload must be at most {MAX_PAYLOAD} bytes: {len(held)}")
         return self._clock_message(ClockId.ICONS, held)
 
-    def end(self) -> _Sent:
+    def send_end(self) -> _Sent:
         """Makes the clock show its times again."""
         return self._clock_message(ClockId.END, b"")
 
-    def button(self) -> _Sent:
+    def send_button(self) -> _Sent:
         """Requests the state of the clock's buttons."""
         return self._clock_message(ClockId.BUTTON, b"")
 
-    def clock_version(self) -> _Sent:
+    def send_clock_version(self) -> _Sent:
         """Requests the version of the clock."""
         return self._clock_message(ClockId.VERSION, b"")
 

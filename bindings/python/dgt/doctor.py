@@ -25,7 +25,7 @@ import time
 from collections.abc import Iterator
 from typing import TextIO
 
-from ._examination import LONGEST, LOOK, Examination, Person, Stopped
+from ._examination import LEFT_OUT, LONGEST, LOOK, Examination, Person, Stopped
 from ._findings import FINDINGS, STATEMENTS
 from ._session import Recorder
 from ._steps import STEPS, do_step
@@ -51,6 +51,7 @@ _UNFINISHED = bytes([0x2B, 4, 3, ClockId.BEEP])
 _QUIET = 1.0
 """The seconds to wait for an answer that shouldn't come."""
 _HOLDS = {True: "held", False: "did not hold", None: "not tried"}
+_SIZES = {"draughts board", "wrong size of dump"}
 _BUSY = (errno.EWOULDBLOCK, errno.EBUSY)
 
 
@@ -58,9 +59,13 @@ _BUSY = (errno.EWOULDBLOCK, errno.EBUSY)
 
 
 def _is_there(board: Examination) -> bool:
-    """Whether the board answers: at once, after zeros, or once it was switched off and on."""
-    if board.dump() or board.findings or board.begin_anew():
+    """Whether the board answers: at once, after zeros, or once it was switched off and on. If bytes
+    come, but no message, it may be another device."""
+    if board.dump(tries=1) or board.begin_anew() and board.is_understood:
         return True
+    if board.has_heard:
+        return any(board.ask(board.host.send(question), kinds, what)
+                   for what, question, kinds in _QUESTIONS[1:4])
     board.person.say("The board doesn't answer. Switch it off and on, or pull its cable and plug "
                      "it in again; then press Enter (q and Enter: stop)")
     try:
@@ -77,7 +82,8 @@ def _is_there(board: Examination) -> bool:
 def _ask_all(board: Examination) -> None:
     """Sends each request of the protocol, one by one and then all at once."""
     for what, question, kinds in _QUESTIONS:
-        answer = board.ask(board.host.send(question), kinds, what)
+        answer = (board.dump() if question == Ask.DUMP else
+                  board.ask(board.host.send(question), kinds, what))
         board.hold(what, answer is not None)
         board.person.say(f"{what}: {_shown(answer)}")
         if answer is not None and not isinstance(answer, NoClock):
@@ -119,9 +125,9 @@ def _examine(board: Examination) -> None:
     if not begins:
         board.find("new beginning")
     if "clock" in board.facts:
-        if ack := board.send_clock(board.host.clock_version(), ClockId.VERSION):
+        if ack := board.send_clock(board.host.send_clock_version(), ClockId.VERSION):
             board.facts["clock version"] = f"{ack.ack[2] >> 4}.{ack.ack[2] & 15}"
-    if "dump" not in board.facts:
+    if "dump" not in board.facts and _SIZES & board.findings.keys():
         return
     board.set_mode(Ask.UPDATE_BOARD)
     board.person.say("Now do what each step says (s and Enter: skip it, q and Enter: stop)")
@@ -131,6 +137,8 @@ def _examine(board: Examination) -> None:
         prompt = f"step {number} of {len(STEPS)}, {step.name}: {step.text}"
         board.facts[name] = do_step(board, step, prompt)
         board.person.say(f"{name}: {board.facts[name]}")
+        if board.facts[name] == LEFT_OUT:
+            return
 
 
 # ---- The report

@@ -25,16 +25,16 @@ class TooManyAwaited(DgtError):
     """A host awaits sixteen replies already."""
 
 
-class NoSuchCommand(DgtError):
-    """No command has these bytes."""
-
-
 class Busy(DgtError):
     """A board owes eight replies, and takes no byte until it has sent one."""
 
 
 class BadValue(DgtError, ValueError):
     """An argument isn't a valid square, piece, number, byte or text, or is out of its range."""
+
+
+class NoSuchCommand(BadValue):
+    """No command has these bytes."""
 
 
 class BadPlacement(BadValue):

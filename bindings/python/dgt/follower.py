@@ -31,17 +31,17 @@ class Follower(EventReader, Asker):
     """A host that requests the whole position again and again, so that its picture becomes right
     again whatever the line lost or altered. It owns neither a line nor a clock. Pass it the time in
     seconds, of a clock that never goes back, such as `time.monotonic`. Write the bytes of `ask` to
-    the line, and pass it the bytes from there.
+    the line, and pass it the bytes from there. The time comes first, as in the other languages.
 
     >>> follower, board = Follower(period=10.0), dgt.Board()
     >>> for message in board.answers(follower.ask(0.0)):
-    ...     follower.hear(message, 0.1)
+    ...     follower.hear(0.1, message)
     >>> follower.placement, follower.due_at
     ('rnbqkbnr/pppppppp/8/8/8/8/PPPPPPPP/RNBQKBNR', 10.0)
     >>> follower.ask(9.9), follower.ask(10.0), follower.in_doubt
     (b'', b'DB', False)
     >>> for message in board.answers(b"DB"):
-    ...     for event in follower.hear_each(message, 10.1):
+    ...     for event in follower.hear_each(10.1, message):
     ...         print(type(event).__name__, follower.confirmed)
     Dump True
 
@@ -58,7 +58,7 @@ class Follower(EventReader, Asker):
 
     _prefix, _feed_name, _most = "dgt_follower", "hear", 1
 
-    def __init__(self, period: float = 10.0, patience: int = 6, mode: Mode = Mode.UPDATE_BOARD, *,
+    def __init__(self, period: float = 10.0, *, patience: int = 6, mode: Mode = Mode.UPDATE_BOARD,
                  confirm: bool = False, identify: bool = False) -> None:
         """`period` is in seconds, from one request to the next. With a patience of 0 each request
         starts over. `confirm` and `identify` are the properties. `BadValue` if the period is less
@@ -68,7 +68,7 @@ class Follower(EventReader, Asker):
         self._call(dgt.dgt_follower_start, _milliseconds(period, "period", _LEAST), held)
         self.mode, self.confirm, self.identify = mode, confirm, identify
 
-    def hear(self, chunk: Bytes, now: float) -> None:
+    def hear(self, now: float, chunk: Bytes) -> None:
         """Hears a chunk of bytes that arrived at this time."""
         time = _milliseconds(now)
         held, address = readable(chunk)
@@ -78,7 +78,7 @@ class Follower(EventReader, Asker):
         self._feed_all(at, time, address, count)
         self._offset += count
 
-    def hear_each(self, chunk: Bytes, now: float) -> Iterator[Event]:
+    def hear_each(self, now: float, chunk: Bytes) -> Iterator[Event]:
         """Yields the events of a chunk of bytes that arrived at this time. A byte is heard once you
         have taken the event before it. So the picture, `confirmed` and `in_doubt` are those after
         that event."""

@@ -10,9 +10,9 @@ import select
 import threading
 import time
 from collections import deque
-from collections.abc import AsyncGenerator, Iterator
+from collections.abc import Iterator
 from dataclasses import dataclass, field
-from typing import TYPE_CHECKING, Any, Protocol, Self
+from typing import Any, Protocol, Self
 
 from ._handle import Bytes, Uncopied, readable
 from ._port import Port, raised
@@ -22,10 +22,7 @@ from .commands import ClockId, Leds
 from .errors import BadValue, Closed
 from .events import Dump, Event, Fault, Refused
 from .follower import Follower
-from .values import Clock, Position, Times
-
-if TYPE_CHECKING:
-    from asyncio import StreamReader, StreamWriter, Task
+from .values import Clock, Position, Times, checked, seconds
 
 _linux: Any = os  # mypy 1.0 knows no eventfd
 _LOOK = 2.0
@@ -40,13 +37,8 @@ _GOES = (errno.ENOENT, errno.ENXIO, errno.ENODEV, errno.EIO)
 """The errors of a port that has disappeared."""
 _LATE = 1.0
 """The least seconds between two unanswered requests of a silent board."""
-_CHUNK = 4096
 _DUMP = 0x06
 """The code of a report of all squares."""
-_STALE = 1.0
-"""The seconds after which a waiting view is dropped if there is a newer one."""
-_MOST_UNSENT = 1000
-"""No request is made while a stream has more bytes to send: those of a second."""
 
 
 @dataclass(frozen=True, slots=True)
@@ -56,8 +48,9 @@ class BoardView:
     picture: Position | None = None
     """The position, or `None` before the board has reported it."""
     clock: Clock | None = None
-    """The last report of the board's clock. `None` before the first, and while the clock has no
-    reading: it shows no digits, for instance while it is being set, or sends zeros."""
+    """The last report of the board's clock. `None` unless `follow` is called with `clock`, before
+    the first report, and while the clock has no reading: it shows no digits, for instance while it
+    is being set, or sends zeros."""
     in_doubt: bool = False
     """Whether the picture may be wrong: the line lost or altered bytes, or the board is away. The
     doubt ends when the board reports all squares again."""
@@ -105,7 +98,8 @@ class _Steps:
 
     def __init__(self, period: float, patience: int, mode: Mode, confirm: bool,
                  identify: bool = False) -> None:
-        self.follower = Follower(period, patience, mode, confirm=confirm, identify=identify)
+        self.follower = Follower(period, patience=patience, mode=mode, confirm=confirm,
+                                 identify=identify)
         self.view = BoardView()
         self.changes: deque[BoardView] = deque()
         self._missing: str | None = None
@@ -130,7 +124,7 @@ class _Steps:
         events = []
         if self.is_disturbed:
             self.follower.line_disturbed()
-        for event in self.follower.hear_each(chunk, now):
+        for event in self.follower.hear_each(now, chunk):
             events.append(event)
             if isinstance(event, Dump):
                 self._refusals = 0
@@ -197,6 +191,22 @@ def _has_input(descriptor: int | None, seconds: float, other: int | None = None)
     return bool(poll.poll(1000 * seconds))
 
 
+def _mode(mode: Mode | None, clock: bool) -> Mode:
+    """Returns the mode of a follower with these arguments."""
+    if checked(clock, bool) and mode is not None:
+        raise BadValue("clock and mode exclude each other")
+    return mode if mode is not None else Mode.UPDATE_NICE if clock else Mode.UPDATE_BOARD
+
+
+def _end(timeout: float | None, until: float | None) -> float | None:
+    """Returns the time at which a call with these arguments ends. `None` is never."""
+    if timeout is None:
+        return until if until is None else seconds(until, "until", float("-inf"))
+    if until is not None:
+        raise BadValue("timeout and until exclude each other")
+    return time.monotonic() + seconds(timeout, "timeout", float("-inf"))
+
+
 class _Given:
     """A line that the caller has opened."""
 
@@ -241,22 +251,23 @@ class _Given:
 
 class Following(Uncopied, ClockCommands[None]):
     """Follows a board on a serial port: the result of `follow`. It is an iterator of `BoardView`s;
-    `wait` returns one until a time. The calls of `ClockCommands` send a command to the board's
-    clock. Use it in one thread; any other may `close` it. It is also closed when nothing refers to
-    it any more, for instance after a `break` out of a loop over `dgt.follow(..)`.
+    `wait` returns one or gives up after a timeout. The calls of `ClockCommands` send a command to
+    the board's clock. Use it in one thread; any other may `close` it. It is also closed when
+    nothing refers to it any more, for instance after a `break` out of a loop over
+    `dgt.follow(..)`.
 
     >>> with dgt.follow("/dev/ttyUSB0") as board:
-    ...     board.text("hello")
+    ...     board.send_text("hello")
     """
 
     _line: Port | _Given | None
     _closing = -1
 
     def __init__(self, port: str | os.PathLike[str] | SerialLine, period: float = 10.0, *,
-                 patience: int = 6, mode: Mode = Mode.UPDATE_BOARD, confirm: bool = False,
-                 wait_for_port: bool = False, identify: bool = False) -> None:
+                 patience: int = 6, mode: Mode | None = None, confirm: bool = False,
+                 wait_for_port: bool = False, identify: bool = False, clock: bool = False) -> None:
         """Like `follow`."""
-        self._steps = _Steps(period, patience, mode, confirm, identify)
+        self._steps = _Steps(period, patience, _mode(mode, clock), confirm, identify)
         self._waits, self._was_there, self._look_at = wait_for_port, False, 0.0
         self._is_given = False
         self._is_closed, self._line, self._name = False, None, ""
@@ -288,8 +299,8 @@ class Following(Uncopied, ClockCommands[None]):
 
     @property
     def descriptor(self) -> int | None:
-        """A descriptor for a loop that follows many boards: call `wait(time.monotonic())` when it
-        has something to read, and at `due_at`. `None` while the port is away, and for a line that
+        """A descriptor for a loop that follows many boards: call `wait(0)` when it has something
+        to read, and at `due_at`. `None` while the port is away, and for a line that
         you have opened."""
         return self._line.descriptor if isinstance(self._line, Port) else None
 
@@ -299,6 +310,11 @@ class Following(Uncopied, ClockCommands[None]):
         due = self._look_at if self._line is None else self.follower.due_at
         return time.monotonic() + _LONGEST if due is None else due
 
+    @property
+    def _is_unsent(self) -> bool:
+        """Whether the port has yet to take bytes: then it is to be called once it takes some."""
+        return isinstance(self._line, Port) and self._line.is_unsent
+
     def write(self, chunk: Bytes) -> None:
         """Sends a chunk of bytes to the board. The chunk is lost if the port is away, or takes
         nothing for a period. `Closed` after `close`."""
@@ -306,7 +322,7 @@ class Following(Uncopied, ClockCommands[None]):
         if self._line is not None:
             self._line.write(readable(chunk)[0])
 
-    def leds(self, *squares: str) -> None:
+    def light(self, *squares: str) -> None:
         """Lights two squares of a board with lights, or none, with the frame of `Leds.lighting`.
         For other frames, `write` the bytes of `Follower.send_leds`. `BadValue` as in `lighting`,
         and `Closed` after `close`."""
@@ -315,11 +331,15 @@ class Following(Uncopied, ClockCommands[None]):
     def _clock_message(self, id: ClockId, payload: bytes) -> None:
         self.write(self.follower.send_clock(id, payload))
 
-    def wait(self, until: float | None = None, wakes: int | None = None) -> BoardView | None:
-        """Returns the view after the next change, or `None` if there was none until a time of
-        `time.monotonic`, or until the descriptor `wakes` has something to read. `Closed` after
-        `close`. When a line that you have opened ends, it returns a view in doubt with the reason
-        in `away`, and the next call raises `Closed`. `BadValue` for `wakes` with such a line."""
+    def wait(self, timeout: float | None = None, *, until: float | None = None,
+             wakes: int | None = None) -> BoardView | None:
+        """Returns the view after the next change, or `None` if there was none for `timeout`
+        seconds. With 0 it doesn't wait. `until` is a time of `time.monotonic` instead, such as
+        `MoveRecogniser.due`. It also returns `None` once the descriptor `wakes` has something to
+        read. `Closed` after `close`. When a line that you have opened ends, it returns a view in
+        doubt with the reason in `away`, and the next call raises `Closed`. `BadValue` for `wakes`
+        with such a line, for `timeout` together with `until`, and if either isn't a number."""
+        until = _end(timeout, until)
         changes = self._steps.changes
         with self._lock:
             self._check_open()
@@ -419,8 +439,8 @@ class Following(Uncopied, ClockCommands[None]):
 
 
 def follow(port: str | os.PathLike[str] | SerialLine, period: float = 10.0, *, patience: int = 6,
-           mode: Mode = Mode.UPDATE_BOARD, confirm: bool = False, wait_for_port: bool = False,
-           identify: bool = False) -> Following:
+           mode: Mode | None = None, confirm: bool = False, wait_for_port: bool = False,
+           identify: bool = False, clock: bool = False) -> Following:
     """Follows a board on a serial port, and yields a `BoardView` after each change.
 
     >>> with dgt.follow("/dev/ttyUSB0") as board:
@@ -442,99 +462,11 @@ def follow(port: str | os.PathLike[str] | SerialLine, period: float = 10.0, *, p
     says so.
 
     All squares are requested every `period` seconds, so that a lost change becomes known.
-    `patience` and `mode` are those of `Follower`. In the modes `UPDATE` and `UPDATE_NICE` a board
-    reports its clock, and a reading of it is also requested in each period. With `confirm` a
-    changed picture is also requested after a second, until it is `BoardView.confirmed`. With
-    `identify` the serial number is requested (`BoardView.serial`). `BadValue` and `TypeError` as in
-    `Follower`, and `TypeError` if `port` isn't a port."""
+    With `clock` the board also reports its clock, and a reading of it is requested in each period
+    (`BoardView.clock`); without it the clock stays unknown. With `confirm` a changed picture is
+    also requested after a second, until it is `BoardView.confirmed`. With `identify` the serial
+    number is requested (`BoardView.serial`). `patience` and `mode` are those of `Follower`; `clock`
+    stands for the mode `UPDATE_NICE`. `BadValue` and `TypeError` as in `Follower`, `BadValue` for
+    `clock` together with a mode, and `TypeError` if `port` isn't a port."""
     return Following(port, period, patience=patience, mode=mode, confirm=confirm,
-                     wait_for_port=wait_for_port, identify=identify)
-
-
-class _Streams:
-    """Follows a board on a pair of asyncio streams, for `follow_async`."""
-
-    def __init__(self, steps: _Steps, reader: StreamReader, writer: StreamWriter) -> None:
-        import asyncio
-
-        self._steps, self._reader, self._writer = steps, reader, writer
-        self._clock, self._timeout = asyncio.get_running_loop().time, asyncio.timeout
-        self._views: deque[tuple[float, BoardView]] = deque()
-        self._news = asyncio.Event()
-
-    async def serve(self) -> None:
-        """Serves the board until the end of the reader."""
-        try:
-            while (fault := await self._exchange()) is None:
-                self._note()
-            self._steps.lose(fault)
-        finally:
-            self._note()
-
-    async def _exchange(self) -> str | None:
-        """Sends the due request, and hears bytes that arrive. Returns why the line has ended, if it
-        has. It never waits for the writer."""
-        asked = self._steps.ask(self._clock())
-        if asked and self._writer.transport.get_write_buffer_size() <= _MOST_UNSENT:
-            self._writer.write(asked)
-        self._note()
-        limit = self._timeout(self._steps.seconds_left(self._clock(), None))
-        try:
-            async with limit:
-                chunk = await self._reader.read(_CHUNK)
-        except OSError as fault:  # a TimeoutError is one
-            return None if limit.expired() else fault.strerror or str(fault) or _CLOSED
-        self._steps.hear(chunk, self._clock())
-        return None if chunk else _CLOSED
-
-    def _note(self) -> None:
-        """Queues the newest views."""
-        now, changes = self._clock(), self._steps.changes
-        self._views.extend((now, view) for view in changes)
-        changes.clear()
-        self._news.set()
-        while len(self._views) > 1 and self._views[0][0] < now - _STALE:
-            self._views.popleft()
-
-    async def next_view(self, serving: Task[None]) -> BoardView | None:
-        """Returns the next view, or `None` after the last one."""
-        self._note()
-        while not self._views and not serving.done():
-            self._news.clear()
-            await self._news.wait()
-        return self._views.popleft()[1] if self._views else None
-
-
-async def follow_async(reader: StreamReader, writer: StreamWriter, period: float = 10.0, *,
-                       patience: int = 6, mode: Mode = Mode.UPDATE_BOARD, confirm: bool = False
-                       ) -> AsyncGenerator[BoardView, None]:
-    """Follows a board on a pair of asyncio streams, like `follow` on a port. The caller closes the
-    streams. It ends when the reader ends or fails, after a view in doubt that says so in `away`.
-
-    >>> import asyncio, serial_asyncio
-    >>> async def show():
-    ...     streams = await serial_asyncio.open_serial_connection(url="/dev/ttyUSB0", baudrate=9600)
-    ...     async for view in dgt.follow_async(*streams):
-    ...         print(view.away or view.picture)
-    >>> asyncio.run(show())
-    rnbqkbnr/pppppppp/8/8/8/8/PPPPPPPP/RNBQKBNR
-    rnbqkbnr/pppppppp/8/8/8/8/PPPP1PPP/RNBQKBNR
-    rnbqkbnr/pppppppp/8/8/4P3/8/PPPP1PPP/RNBQKBNR
-    the line was closed
-
-    A separate task serves the board, also while the loop over the views waits for something else.
-    Views come in order. One that has waited for more than a second is dropped if there is a newer
-    one, so that a slow loop gets recent views. `aclose` ends the task; `contextlib.aclosing` calls
-    it.
-    """
-    import asyncio
-
-    streams = _Streams(_Steps(period, patience, mode, confirm), reader, writer)
-    serving = asyncio.create_task(streams.serve())
-    try:
-        while view := await streams.next_view(serving):
-            yield view
-        await serving
-    finally:
-        serving.cancel()
-        await asyncio.wait([serving])
+                     wait_for_port=wait_for_port, identify=identify, clock=clock)

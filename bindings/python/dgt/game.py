@@ -135,9 +135,9 @@ def _record(board: Following, games: Games, output: _Output, notes: _Output) -> 
         if not all([output.send(), notes.send()]):
             later = time.monotonic() + _OUTPUT_WAIT
             due = later if due is None else min(due, later)
-        view = board.wait(due, stop)
+        view = board.wait(until=due, wakes=stop)
         if view is None:
-            games.wait(time.monotonic())
+            games.tick(time.monotonic())
         else:
             games.see(view, time.monotonic())
             if games.unconfirmed and view.picture != asked:

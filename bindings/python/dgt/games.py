@@ -62,7 +62,7 @@ class GameStore(Protocol):
 
 class Games(Uncopied):
     """The games on a board. Pass each view of the board to `see`, from `follow` or another source,
-    and call `wait` at the time `due`. Unconfirmed moves are reported later: see `unconfirmed`.
+    and call `tick` at the time `due`. Unconfirmed moves are reported later: see `unconfirmed`.
     `tell` gets the lines that `dgt-game` prints, and `warn` gets warnings.
 
     >>> lines = []
@@ -72,7 +72,7 @@ class Games(Uncopied):
     >>> for time, position in enumerate((start, lifted, put)):
     ...     games.see(BoardView(position, confirmed=True), float(time))
     the board shows rnbqkbnr/pppppppp/8/8/8/8/PPPPPPPP/RNBQKBNR
-    >>> games.wait(games.due)
+    >>> games.tick(games.due)
     >>> lines[1:], games.game.moves[-1].san
     (['1. e4 e2e4'], 'e4')
 
@@ -110,7 +110,7 @@ class Games(Uncopied):
 
     @property
     def due(self) -> float | None:
-        """The time at which to call `wait`."""
+        """The time at which to call `tick`."""
         times = (self.recogniser.due, self._hint_at, self._save_at,
                  self._result_at if self._result and self._is_confirmed else None)
         return min((each for each in times if each is not None), default=None)
@@ -143,10 +143,10 @@ class Games(Uncopied):
         self._learner.see(self._shown, self._clock)
         self._learn()
 
-    def wait(self, now: float) -> None:
+    def tick(self, now: float) -> None:
         """Notes that the board hasn't changed until this time."""
         is_lost = self.recogniser.lost
-        self._take(self.recogniser.wait(now), is_lost, now)
+        self._take(self.recogniser.tick(now), is_lost, now)
         self._learn()
         if self._result and now >= self._result_at and self._is_confirmed:
             self._end(self._result, "kings", now)

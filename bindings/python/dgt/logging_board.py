@@ -49,11 +49,10 @@ class LoggingBoard(Board):
     def __init__(self, position: Position | None = None, clock: Clock | None = None,
                  identity: Identity | None = None, room: int = 8192) -> None:
         """Like `Board`. `BadValue` if the room isn't a number from 3 to 65536."""
-        self._log_room = number(room, 1 << 16, "room")
-        if room < _HEAD:
+        if (room := number(room, 1 << 16, "room")) < _HEAD:
             raise BadValue(f"room must be a number from 3 to 65536: {room!r}")
         super().__init__(position, clock, identity)
-        self._log, self._log_size = deque[bytes](), 0
+        self._log, self._log_size, self._log_room = deque[bytes](), 0, room
         self._unsent = deque[bytes]()
         self._status: int | None = None
         self._times: list[Time | None] = [None, None]
@@ -61,10 +60,11 @@ class LoggingBoard(Board):
 
     def change(self, square: str, piece: str) -> None:
         """As of `Board`, and logs it."""
-        before = self.position[square]
+        at, code = square_number(square), piece_code(piece)
+        before = self.position[at]
         super().change(square, piece)
         if before != piece and self.mode == Mode.IDLE:
-            self._add(bytes([0x40 + piece_code(piece), square_number(square)]))
+            self._add(bytes([0x40 + code, at]))
             self._mark_position()
 
     def hand_clock(self, clock: Clock) -> None:
@@ -106,6 +106,7 @@ class LoggingBoard(Board):
 
     def clear_log(self) -> None:
         """Empties the log."""
+        self._check_open()
         self._log.clear()
         self._log_size = 0
 

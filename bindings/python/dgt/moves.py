@@ -120,7 +120,7 @@ def _is_final(moves: _Moves) -> bool:
 
 class MoveRecogniser:
     """Recognises the moves of a game in the positions of a board. Pass each position to `see`, and
-    call `wait` at the time `due`.
+    call `tick` at the time `due`.
 
     >>> recogniser, host, board = MoveRecogniser(), Host(), Board()
     >>> def hear(messages, time):
@@ -135,7 +135,7 @@ class MoveRecogniser:
     >>> hear(board.messages(), 1.0)
     >>> recogniser.due
     1.3
-    >>> [made] = recogniser.wait(1.3)
+    >>> [made] = recogniser.tick(1.3)
     >>> made.move, made.state.white
     ('e2e4', False)
 
@@ -203,7 +203,7 @@ class MoveRecogniser:
 
     @property
     def due(self) -> float | None:
-        """The time at which `wait` reports the present position, if it doesn't change before."""
+        """The time at which `tick` reports the present position, if it doesn't change before."""
         return self._due if self._is_confirmed else None
 
     @property
@@ -221,7 +221,7 @@ class MoveRecogniser:
         """The move that `go_on` has added, until the board has shown it."""
         return self._moves[-1][0] if self._is_ahead else None
 
-    def see(self, position: Position, time: float, confirmed: bool = True) -> list[MoveEvent]:
+    def see(self, position: Position, now: float, confirmed: bool = True) -> list[MoveEvent]:
         """Returns the events of the game, now that the board shows a position. A position that
         isn't `confirmed` is reported once it was answered, or once this is called with it
         confirmed. Times never decrease from one call to the next. `TypeError` if it isn't a
@@ -229,7 +229,7 @@ class MoveRecogniser:
         letters = checked(position, Position).letters
         if self._as_white(letters) == self._shown:
             self._is_confirmed = confirmed
-        events = self.wait(time)
+        events = self.tick(now)
         shown = self._as_white(letters)
         if shown == self._shown:
             return events
@@ -237,16 +237,16 @@ class MoveRecogniser:
         self._changed = set(_differing(self._shown, shown) if self._shown else ())
         self._put.extend((each, shown[each]) for each in self._changed if shown[each] != ".")
         self._shown = shown
-        return events + self._look(time)
+        return events + self._look(now)
 
     def _as_white(self, letters: str) -> str:
         """The letters on the board from White's point of view."""
         return letters[::-1] if self._turned else letters
 
-    def wait(self, time: float) -> list[MoveEvent]:
+    def tick(self, now: float) -> list[MoveEvent]:
         """Returns the events of the game if the board hasn't changed until this time. At the end of
-        a line, `wait(math.inf)` reports a move that hasn't rested."""
-        if self._due is None or time < self._due or not self._is_confirmed:
+        a line, `tick(math.inf)` reports a move that hasn't rested."""
+        if self._due is None or now < self._due or not self._is_confirmed:
             return []
         self._due, due = None, self._next
         if not isinstance(due, _Reading):
@@ -303,7 +303,7 @@ class MoveRecogniser:
         (True, ['e2e4'], 'e2e4')
         >>> recogniser.see(Position.of_letters(state.after("e7e5").letters), 1.0)
         []
-        >>> [made] = recogniser.wait(recogniser.due)
+        >>> [made] = recogniser.tick(recogniser.due)
         >>> made.move, recogniser.moves, recogniser.pending
         ('e7e5', ['e2e4', 'e7e5'], None)
         """
@@ -331,19 +331,19 @@ class MoveRecogniser:
         off again before another position is set up."""
         self._set_up = False
 
-    def _look(self, time: float) -> list[MoveEvent]:
+    def _look(self, now: float) -> list[MoveEvent]:
         """Reads the present position, and decides how long it has to rest."""
         self._due = None
         base, reading = next(iter(self._readings()), (None, None))
         if root := self._new_game(reading):
-            self._next, self._due = (root,), time
-            return self.wait(time)
+            self._next, self._due = (root,), now
+            return self.tick(now)
         if base is None or reading is None:
             wait = self._wait_for_game()
             if wait is not None and (roots := self._roots_shown()):
-                self._next, self._due = roots, time + wait
+                self._next, self._due = roots, now + wait
             elif gone_on := self._gone_on():
-                self._next, self._due = gone_on, time + max(self._rest(gone_on), _LONG_WAIT)
+                self._next, self._due = gone_on, now + max(self._rest(gone_on), _LONG_WAIT)
             return []
         self._set_up = False
         events: list[MoveEvent] = []
@@ -354,7 +354,7 @@ class MoveRecogniser:
         likely = reading in self._seen or self._has_changed_last(reading)
         others = [each for each in self._seen if each != reading]
         self._seen = [*others, reading][-_REMEMBERED:] if likely else [reading, *others]
-        self._next, self._due = reading, time + self._rest(reading)
+        self._next, self._due = reading, now + self._rest(reading)
         return events
 
     def _bases(self, kept: Iterable[int]) -> list[_Reading]:

@@ -56,7 +56,7 @@ def _follow(port: str, recorder: Recorder, stop: int) -> None:
     away: str | None = None
     with _Recorded(port, recorder) as board:
         while not _has_input(stop, 0.0):
-            view = board.wait(None, stop)
+            view = board.wait(wakes=stop)
             if view and view.away != away:
                 away = view.away
                 _warn(f"{port}: {away or 'the board is back'}")

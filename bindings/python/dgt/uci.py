@@ -415,7 +415,7 @@ def _serve(engine: Engine) -> None:
         if engine.line is None:
             left = 3600.0 if due is None else due - time.monotonic()
             following._has_input(0, max(0.0, left))
-        elif view := engine.line.wait(due, 0):
+        elif view := engine.line.wait(until=due, wakes=0):
             engine.see(view, time.monotonic())
         if not following._has_input(0, 0.0):
             continue

@@ -57,7 +57,7 @@ parser = argparse.ArgumentParser(
 parser.add_argument("link", metavar="LINK", nargs="?", help="a name by which a host opens the port")
 words = parser.parse_args()
 
-sys.path.insert(0, str(pathlib.Path(__file__).resolve().parent.parent / "python"))
+sys.path.insert(0, str(pathlib.Path(__file__).resolve().parents[1]))
 try:
     import dgt
 except ImportError as missing:

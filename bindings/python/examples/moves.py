@@ -49,7 +49,7 @@ parser.add_argument("port", help="the board's serial port, such as /dev/ttyUSB0"
 parser.add_argument("--fen", help="the only position with which a game may begin")
 words = parser.parse_args()
 
-sys.path.insert(0, str(pathlib.Path(__file__).resolve().parent.parent / "python"))
+sys.path.insert(0, str(pathlib.Path(__file__).resolve().parents[1]))
 try:
     import dgt
 except ImportError as missing:
@@ -64,9 +64,9 @@ def made(board: dgt.Following, recogniser: dgt.MoveRecogniser) -> Iterator[dgt.M
     """Yields the events of the games on a board."""
     away, is_new = None, True
     while True:
-        view = board.wait(recogniser.due)
+        view = board.wait(until=recogniser.due)
         if view is None:
-            yield from recogniser.wait(time.monotonic())
+            yield from recogniser.tick(time.monotonic())
             continue
         if view.away and view.away != away:
             warn(f"moves.py: {words.port}: {view.away}")

@@ -7,14 +7,13 @@ import pathlib
 import signal
 import sys
 
-sys.path.insert(0, str(pathlib.Path(__file__).resolve().parent.parent / "python"))
+sys.path.insert(0, str(pathlib.Path(__file__).resolve().parents[1]))
 import dgt
 
 
 def train(port: str) -> None:
     last, shown, changes = dgt.BoardView(), dgt.BoardView(), 0
-    # In this mode a board reports its clock, too.
-    with dgt.follow(port, mode=dgt.Mode.UPDATE_NICE, wait_for_port=True) as board:
+    with dgt.follow(port, clock=True, wait_for_port=True) as board:
         for view in board:
             if view.away and view.away != last.away:
                 print(f"{port}: {view.away}", file=sys.stderr)
@@ -23,7 +22,7 @@ def train(port: str) -> None:
             if view.picture and view.picture != shown.picture and not view.in_doubt:
                 print(view.picture, flush=True)
                 shown, changes = view, changes + 1
-                board.text(str(changes))
+                board.send_text(str(changes))
             last = view
 
 

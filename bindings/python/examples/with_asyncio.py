@@ -19,7 +19,7 @@ parser.add_argument("ports", nargs="+", metavar="port", help="a port, such as /d
 parser.add_argument("--idle", type=float, default=60, metavar="SECONDS", help="60 if not given")
 words = parser.parse_args()
 
-sys.path.insert(0, str(pathlib.Path(__file__).resolve().parent.parent / "python"))
+sys.path.insert(0, str(pathlib.Path(__file__).resolve().parents[1]))
 try:
     import dgt
 
@@ -38,7 +38,7 @@ async def follow(port: str, idle: float) -> str:
         return str(fault)
     try:
         async with asyncio.timeout(idle) as limit:
-            async for view in dgt.follow_async(reader, writer):
+            async for view in dgt.follow_async((reader, writer)):
                 text = f"{port} {view.away or view.picture}{' ?' if view.in_doubt else ''}"
                 if view.away and not view.silent:
                     why = view.away

@@ -20,7 +20,7 @@ parser.add_argument("port", help="the board's serial port, such as /dev/ttyUSB0"
 parser.add_argument("--idle", type=float, default=60, metavar="SECONDS", help="60 if not given")
 words = parser.parse_args()
 
-sys.path.insert(0, str(pathlib.Path(__file__).resolve().parent.parent / "python"))
+sys.path.insert(0, str(pathlib.Path(__file__).resolve().parents[1]))
 try:
     import dgt
 

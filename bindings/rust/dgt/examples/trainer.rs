@@ -16,7 +16,8 @@ fn follow(path: &str) -> Result<(), Box<dyn Error>> {
             (picture, changes) = (Some(new), changes + 1);
             println!("{new}");
             let letters = format!("{changes:<8}").as_bytes().try_into()?;
-            board.send(&Command::ClockMessage(ClockCommand::Text { letters, beep: 0 }))?;
+            let text = Command::ClockMessage(ClockCommand::Text { letters, beep: 0 });
+            board.send(&text).ok(); // `next` will find a lost port
         }
         if let Some(new) = view.clock.filter(|it| clock != Some(*it)) {
             clock = Some(new);
@@ -31,7 +32,7 @@ fn follow(path: &str) -> Result<(), Box<dyn Error>> {
 fn main() {
     let path = env::args().nth(1).expect("usage: trainer PORT");
     while let Err(fault) = follow(&path) {
-        eprintln!("{path}: {fault}");
+        eprintln!("{fault}");
         thread::sleep(Duration::from_secs(2));
     }
 }

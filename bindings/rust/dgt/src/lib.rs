@@ -38,8 +38,8 @@
 //! The public modules are generated from crates in Rattle, which is Rust with contracts. The
 //! contracts of those crates are proved for all inputs. The modules contain their code without the
 //! contracts, except for the few places that `bindings/rust/plain.edits` of the repository lists.
-//! Comments name contracts, `laws` and files of `specs/`, which are also in the repository. The
-//! rest of this crate, such as traits, texts and views, is written by hand, and tested.
+//! What comments say of contracts is about those crates. The rest of this crate, such as traits,
+//! texts and views, is written by hand, and tested.
 //!
 //! # Features
 //!
@@ -98,7 +98,7 @@ pub use command::{
     MAX_LED_BYTES, MAX_PAYLOAD, MAX_WORD, Payload, RawClock, display,
 };
 pub use decode::{Decoder, Event, Fed, Listener, MAX_TOTAL, Unfinished};
-pub use follow::{Follower, LEAST_PERIOD, MAX_ASKING, UpdateMode};
+pub use follow::{Followed, Follower, LEAST_PERIOD, MAX_ASKING, UpdateMode};
 pub use host::{Heard, Host, MAX_AWAITED, RESTART_LENGTH, SendFault};
 pub use message::{
     BadDigits, BodyFault, Clock, ClockAck, KnownCode, Message, NoClock, NotThisKind, OtherCode,

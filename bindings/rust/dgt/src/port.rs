@@ -10,8 +10,9 @@ use std::io::{self, ErrorKind, Read, Write};
 use std::os::unix::fs::OpenOptionsExt;
 use std::path::{Path, PathBuf};
 use std::process::{Command, Stdio};
-use std::thread;
+use std::string::ToString;
 use std::vec::Vec;
+use std::{format, thread};
 
 // Numbers of Linux, which the standard library doesn't export.
 #[cfg(any(target_arch = "mips", target_arch = "mips64", target_arch = "sparc64"))]
@@ -21,8 +22,10 @@ const O_NONBLOCK: i32 = 0o4000;
 
 /// The longest time that a write waits for the port, in milliseconds.
 const PATIENCE: u64 = 2000;
-/// Locks the port, which is its standard input, and sets it up. The port marks altered bytes.
-const SET_UP: &str = "flock -n 0 || exit 2
+/// Locks the port, which is its standard input, and sets it up. The port marks altered bytes. Its
+/// status says what has failed.
+const SET_UP: &str = "command -v flock >/dev/null && command -v stty >/dev/null || exit 3
+flock -n 0 || { test $? = 1 && exit 2; exit 4; }
 stty 9600 raw -echo cs8 -parenb -cstopb -crtscts clocal inpck parmrk";
 
 /// The prefixes of the names of USB and Bluetooth serial ports.
@@ -96,6 +99,19 @@ pub struct Port {
     is_disturbed: bool,
 }
 
+/// The error of a port, with its path and what to do about it.
+fn named(path: &Path, fault: &io::Error) -> io::Error {
+    let text = match fault.kind() {
+        ErrorKind::NotFound => {
+            "no such port (plug the board in; /dev/serial/by-id lists the ports)".into()
+        }
+        ErrorKind::PermissionDenied => "permission denied (join the group dialout)".into(),
+        ErrorKind::ResourceBusy => "in use by another program (end that one first)".into(),
+        _ => fault.to_string(),
+    };
+    io::Error::new(fault.kind(), format!("{}: {text}", path.display()))
+}
+
 /// A partial mark of the port. `ff ff` is the byte ff, and `ff 00` precedes a byte with a wrong
 /// stop bit, or the 00 of a break.
 #[derive(Debug, Default, PartialEq)]
@@ -137,23 +153,36 @@ impl Port {
     /// ```
     /// use dgt::Port;
     ///
-    /// assert_eq!(Port::open("/dev/null").unwrap_err().to_string(), "not a serial port");
+    /// let fault = Port::open("/dev/null").unwrap_err();
+    /// assert_eq!(fault.kind(), std::io::ErrorKind::InvalidInput);
+    /// assert_eq!(fault.to_string(), "/dev/null: not a serial port");
     /// ```
     ///
     /// # Errors
     ///
-    /// The error of opening the file or of running `sh`, `in use by another program`, or `not a
-    /// serial port`.
+    /// The error of opening the file, such as `NotFound` or `PermissionDenied`. `ResourceBusy` if
+    /// another program uses the port, `InvalidInput` if it isn't a serial port, and `Unsupported`
+    /// if a command that this call needs is missing. The text names the path, and says what to do.
     pub fn open(path: impl AsRef<Path>) -> io::Result<Self> {
+        Port::open_path(path.as_ref()).map_err(|fault| named(path.as_ref(), &fault))
+    }
+
+    fn open_path(path: &Path) -> io::Result<Self> {
         let (mut options, mut set_up) = (File::options(), Command::new("sh"));
         options.read(true).write(true).custom_flags(O_NOCTTY | O_NONBLOCK);
         let file = options.open(path)?;
         set_up.args(["-c", SET_UP]).stdin(file.try_clone()?).stderr(Stdio::null());
-        match set_up.status()?.code() {
-            Some(0) => Ok(Port { file, marks: Marks::default(), is_disturbed: false }),
-            Some(2) => Err(io::Error::other("in use by another program")),
-            _ => Err(io::Error::other("not a serial port")),
-        }
+        let status = set_up.status().map_err(|_| ErrorKind::Unsupported);
+        let (kind, text) = match status.map(|it| it.code()) {
+            Ok(Some(0)) => return Ok(Port { file, marks: Marks::default(), is_disturbed: false }),
+            Ok(Some(2)) => return Err(ErrorKind::ResourceBusy.into()),
+            Ok(Some(4)) => (ErrorKind::Other, "the port can't be locked"),
+            Ok(Some(3)) | Err(_) => {
+                (ErrorKind::Unsupported, "sh, flock and stty aren't on the PATH (install them)")
+            }
+            Ok(_) => (ErrorKind::InvalidInput, "not a serial port"),
+        };
+        Err(io::Error::new(kind, text))
     }
 }
 
@@ -194,9 +223,26 @@ impl Write for Port {
 
 #[cfg(test)]
 mod tests {
-    use super::{Marks, PathBuf, Vec, fs, ports_in};
+    use super::{ErrorKind, Marks, Path, PathBuf, Port, Vec, fs, named, ports_in};
     use std::os::unix::fs::symlink;
+    use std::string::ToString;
     use std::{env, format, process};
+
+    #[test]
+    fn errors_name_the_port_and_advise() {
+        let fault = Port::open("/dev/no/port").unwrap_err();
+        assert_eq!(fault.kind(), ErrorKind::NotFound);
+        let advice = "(plug the board in; /dev/serial/by-id lists the ports)";
+        assert_eq!(fault.to_string(), format!("/dev/no/port: no such port {advice}"));
+        let rows = [
+            (ErrorKind::PermissionDenied, "p: permission denied (join the group dialout)"),
+            (ErrorKind::ResourceBusy, "p: in use by another program (end that one first)"),
+            (ErrorKind::BrokenPipe, "p: broken pipe"),
+        ];
+        for (kind, text) in rows {
+            assert_eq!(named(Path::new("p"), &kind.into()).to_string(), text);
+        }
+    }
 
     #[test]
     fn marks_are_taken_out() {

@@ -1,7 +1,7 @@
 //! Names for bytes that a message carries unread, as other programs read them.
 
 use dgt::names::{BatteryState, Button, Flags, Signal, is_text};
-use dgt::{Event, KnownId, Message};
+use dgt::{Event, Followed, Follower, KnownId, Listener, Message};
 
 /// The message in these bytes, which are one.
 fn with_message<T>(bytes: &[u8], read: impl FnOnce(&Message<'_>) -> T) -> T {
@@ -58,4 +58,13 @@ fn bytes_that_print_are_a_text() {
     assert!(!is_text(b""));
     assert!(!is_text(b"D\x1f"));
     assert!(!is_text(b"D\x7f"));
+}
+
+#[test]
+fn what_hear_with_returns_has_a_name() {
+    struct Nobody;
+    impl Listener for Nobody {
+        fn hear(&mut self, _: usize, _: &Event<'_>) {}
+    }
+    let _: Followed = Follower::default().hear_with(0, b"\x42", &mut Nobody);
 }

@@ -3,7 +3,7 @@
 
 use dgt::*;
 
-const LINES: &str = include_str!("../../../checks/rows.txt");
+const LINES: &str = include_str!("../../../../tests/testing/rows.txt");
 
 /// The rows of the table after a heading: the contents of the backticks in the first two cells.
 fn rows_after(heading: &str) -> Vec<[Vec<&'static str>; 2]> {

@@ -1,0 +1,97 @@
+//! A stand-in for the crate `arrayvec` with the calls that the crate `dgt` makes. docs/build, tests
+//! and `bindings/c/build --unproved` use it, since they build without a network.
+#![no_std]
+#![forbid(unsafe_code)]
+
+use core::fmt::{self, Debug, Formatter};
+use core::ops::Deref;
+
+#[derive(Clone)]
+pub struct ArrayVec<T, const ROOM: usize> {
+    room: [T; ROOM],
+    len: usize,
+}
+
+#[derive(Debug)]
+pub struct CapacityError;
+
+impl<T: Copy + Default, const ROOM: usize> ArrayVec<T, ROOM> {
+    pub fn new() -> Self {
+        ArrayVec { room: [T::default(); ROOM], len: 0 }
+    }
+
+    pub fn is_full(&self) -> bool {
+        self.len == ROOM
+    }
+
+    pub fn push(&mut self, item: T) {
+        self.room[self.len] = item;
+        self.len += 1;
+    }
+
+    pub fn clear(&mut self) {
+        self.len = 0;
+    }
+
+    pub fn remove(&mut self, at: usize) -> T {
+        let item = self[at];
+        self.room.copy_within(at + 1..self.len, at);
+        self.len -= 1;
+        item
+    }
+
+    pub fn pop_at(&mut self, at: usize) -> Option<T> {
+        (at < self.len).then(|| self.remove(at))
+    }
+
+    pub fn try_extend_from_slice(&mut self, items: &[T]) -> Result<(), CapacityError> {
+        if items.len() > ROOM - self.len {
+            return Err(CapacityError);
+        }
+        items.iter().for_each(|item| self.push(*item));
+        Ok(())
+    }
+
+    pub fn as_slice(&self) -> &[T] {
+        self
+    }
+}
+
+impl<T, const ROOM: usize> Deref for ArrayVec<T, ROOM> {
+    type Target = [T];
+
+    fn deref(&self) -> &[T] {
+        &self.room[..self.len]
+    }
+}
+
+impl<T: Debug, const ROOM: usize> Debug for ArrayVec<T, ROOM> {
+    fn fmt(&self, f: &mut Formatter<'_>) -> fmt::Result {
+        (**self).fmt(f)
+    }
+}
+
+#[derive(Clone, Debug)]
+pub struct ArrayString<const ROOM: usize>(ArrayVec<u8, ROOM>);
+
+impl<const ROOM: usize> ArrayString<ROOM> {
+    pub fn new() -> Self {
+        ArrayString(ArrayVec::new())
+    }
+
+    pub fn push(&mut self, character: char) {
+        character.encode_utf8(&mut [0; 4]).bytes().for_each(|byte| self.0.push(byte));
+    }
+
+    pub fn len(&self) -> usize {
+        self.0.len()
+    }
+
+    pub fn as_bytes(&self) -> &[u8] {
+        &self.0
+    }
+
+    pub fn as_str(&self) -> &str {
+        core::str::from_utf8(&self.0).unwrap()
+    }
+}
