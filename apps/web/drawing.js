@@ -39,21 +39,21 @@ export class Drawing {
     this.letters = ".".repeat(64);
     const dark = SQUARES.filter(n => (n + (n >> 3)) % 2);
     const path = dark.map(n => `M${n % 8}00 ${n >> 3}00h100v100h-100z`).join("");
-    svg.append(element("path", { class: "light", d: "M0 0h800v800H0z" }),
-               element("path", { class: "dark", d: path }));
-    const coordinate = { class: "coordinate", "aria-hidden": "true" }; // the label has a FEN
-    for (let n = 0; n < 8; n++) {
-      const end = { ...coordinate, x: 100 * n + 94, y: 789, "text-anchor": "end" };
-      svg.append(element("text", end, "abcdefgh"[n]),
-                 element("text", { ...coordinate, x: 7, y: 100 * n + 25 }, `${8 - n}`));
-    }
     this.frames = element("path", { class: "frames" });
+    svg.append(element("path", { class: "light", d: "M0 0h800v800H0z" }),
+               element("path", { class: "dark", d: path }), this.frames);
+    const coordinate = { class: "coordinate", "aria-hidden": "true" }; // the label has a FEN
+    for (let n = 0; n < 8; n++) { // in corners that no piece covers
+      const end = { ...coordinate, x: 100 * n + 97, y: 795, "text-anchor": "end" };
+      svg.append(element("text", end, "abcdefgh"[n]),
+                 element("text", { ...coordinate, x: 3, y: 100 * n + 16 }, `${8 - n}`));
+    }
     this.pieces = element("g", { class: "pieces" });
     this.nodes = SQUARES.map(n =>
       element("path", { transform: `translate(${100 * (n % 8)} ${100 * (n >> 3)})` }));
     this.held = element("path", {});
     this.pieces.append(...this.nodes, this.held);
-    svg.append(this.frames, this.pieces);
+    svg.append(this.pieces);
   }
 
   /**

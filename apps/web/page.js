@@ -1,10 +1,18 @@
 // The page: shows a board that is followed, and one that is simulated.
 
-import { DgtError, FLAGS, STATUS, isWide, lighting, load } from "./dgt.js";
+import { DgtError, FLAGS, STATUS, isWide, lighting,
+         load } from "../../bindings/javascript/dgt.js";
+import { Game } from "../../bindings/javascript/moves.js";
 import { Drawing } from "./drawing.js";
+import { Games } from "./games.js";
 import { Session, lettersOf } from "./session.js";
 import { SimulatedPort } from "./simulated.js";
 import { Theorem } from "./theorem.js";
+
+/** @typedef {import("../../bindings/javascript/dgt.js").Library} Library */
+/** @typedef {import("../../bindings/javascript/dgt.js").Follower} Follower */
+/** @typedef {import("../../bindings/javascript/dgt.js").Time} Time */
+/** @typedef {import("../../bindings/javascript/dgt.js").Clock} Clock */
 
 const find = (/** @type {string} */ id) =>
   /** @type {HTMLElement} */ (document.getElementById(id));
@@ -14,14 +22,21 @@ const wait = (/** @type {number} */ ms) => new Promise(done => setTimeout(done, 
 const asked = new URLSearchParams(location.search);
 const PERIODS = { serial: Number(asked.get("period")) || 10000, simulated: 2000 }; // milliseconds
 const START = "rnbqkbnr/pppppppp/8/8/8/8/PPPPPPPP/RNBQKBNR";
-const NO_PIECES = ".".repeat(64);
+const NO_PIECES = ".".repeat(64), NO_GAME = new Game();
 const STATES = {
   none: "no board", gone: "disconnected: waiting for the port", silent: "the board doesn't answer",
-  asking: "asking the board", doubt: "in doubt: asking again", known: "not confirmed yet",
-  confirmed: "confirmed",
+  refused: "the port can't be opened", asking: "asking the board", doubt: "in doubt: asking again",
+  known: "not confirmed yet", confirmed: "confirmed",
 };
-const seen = drawing("seen"), table = drawing("table");
-/** @type {import("./dgt.js").Library} */
+const ADVICE = "The port can't be opened. Close another program or another tab that uses it. On " +
+  "Linux, join the group dialout (sudo adduser $USER dialout), and log in again.";
+const LACKS = {
+  "": "",
+  late: "No moves: this page has not seen the starting position. Set up the pieces for a game.",
+  turned: "No moves: the board is turned round. Turn it, or the pieces.",
+};
+const seen = drawing("seen"), table = drawing("table"), games = new Games();
+/** @type {Library} */
 let library;
 /** @type {Session | null} */
 let session = null;
@@ -29,7 +44,7 @@ let session = null;
 let simulated = null;
 /** @type {Theorem | null} */
 let theorem = null;
-let isDrawing = false;
+let isDrawing = false, isAdvised = false;
 
 /** @param {Element} node @param {string} text */
 function write(node, text) {
@@ -56,8 +71,15 @@ function drawNow() {
   const state = session ? session.state : "none";
   drawState(state);
   drawClock(session?.clock, state);
-  const { moves, ended } = session?.game ?? { moves: [], ended: "" };
+  if (isAdvised !== (state === "refused")) {
+    isAdvised = !isAdvised;
+    say(isAdvised ? ADVICE : "");
+  }
+  const { moves, ended, lacks } = session?.game ?? NO_GAME;
   drawMoves([...moves, ended].filter(Boolean));
+  write(find("lacks"), LACKS[lacks]);
+  if (session) games.keep(session.game);
+  drawGames();
   find("save").hidden = !moves.length;
   find("connect").hidden = find("try").hidden = Boolean(session);
   find("end").hidden = find("sends").hidden = !session;
@@ -79,6 +101,34 @@ function drawMoves(moves) {
   });
 }
 
+// Draws the kept games, without the one that goes on.
+function drawGames() {
+  const shown = games.all.filter(({ at }) => !session || at !== games.at), node = find("games");
+  const key = shown.map(({ at }) => at).join();
+  node.hidden = !key;
+  if (node.dataset.key === key) return;
+  node.dataset.key = key;
+  write(node.children[0], `Kept games (${shown.length})`);
+  node.children[1].replaceChildren(...shown.map(drawnGame));
+}
+
+/** @param {import("./games.js").Kept} kept */
+function drawnGame({ at, moves, result, pgn }) {
+  const row = document.createElement("div"), text = document.createElement("span");
+  const time = new Date(at).toLocaleString([], { dateStyle: "medium", timeStyle: "short" });
+  text.textContent = `${time}: ${moves} ${result}`;
+  row.className = "row";
+  row.append(text);
+  for (const [name, act] of /** @type {[string, () => void][]} */ (
+    [["Save PGN", () => save(pgn)], ["Remove", () => games.remove(at)]])) {
+    const button = row.appendChild(document.createElement("button"));
+    button.textContent = name;
+    button.setAttribute("aria-label", `${name}, game of ${time}`);
+    onClick(button, act);
+  }
+  return row;
+}
+
 /** @param {keyof STATES} state */
 function drawState(state) {
   const picture = session?.picture, fen = picture ? library.placement(picture) : "";
@@ -88,7 +138,7 @@ function drawState(state) {
   write(find("age"), age >= 1000 ? ` ${Math.floor(age / 1000)} s ago` : "");
   seen.draw(picture ? lettersOf(library, picture) : NO_PIECES,
             fen ? `${STATES[state]}. FEN: ${fen}` : STATES[state]);
-  seen.svg.classList.toggle("unsure", ["doubt", "silent", "gone", "asking"].includes(state));
+  seen.svg.classList.toggle("unsure", !["none", "known", "confirmed"].includes(state));
   seen.svg.classList.toggle("nothing", !fen);
   write(find("fen"), fen);
   find("copy").hidden = !fen;
@@ -106,12 +156,12 @@ function drawTable({ pieces, lit, shown, carried, altered, isPlugged, isOn, nois
   press(find("noise"), noise > 0, "Noise", "Stop the noise");
 }
 
-const timeText = (/** @type {import("./dgt.js").Time} */ { hours, minutes, seconds }) =>
+const timeText = (/** @type {Time} */ { hours, minutes, seconds }) =>
   `${hours}:${String(minutes).padStart(2, "0")}:${String(seconds).padStart(2, "0")}`;
 
 /**
  * The clock's left side and its right one: a board doesn't report which player has which.
- * @param {import("./dgt.js").Clock | null | undefined} clock @param {keyof STATES} state
+ * @param {Clock | null | undefined} clock @param {keyof STATES} state
  */
 function drawClock(clock, state) {
   const node = find("clock"), times = clock?.kind === "times" ? clock : null;
@@ -351,7 +401,7 @@ async function play() {
 
 /**
  * Sends a command that a call of the follower returns.
- * @param {string} text @param {(follower: import("./dgt.js").Follower) => Uint8Array} command
+ * @param {string} text @param {(follower: Follower) => Uint8Array} command
  */
 async function send(text, command) {
   if (!session?.isOpen) return;
@@ -365,22 +415,26 @@ async function send(text, command) {
   }
 }
 
-function save() {
+/** @param {string} pgn */
+function save(pgn) {
   const link = document.createElement("a");
   const type = "application/x-chess-pgn";
-  link.href = URL.createObjectURL(new Blob([session?.game.pgn ?? ""], { type }));
+  link.href = URL.createObjectURL(new Blob([pgn], { type }));
   link.download = "game.pgn";
   link.click();
   setTimeout(() => URL.revokeObjectURL(link.href), 1000);
 }
 
-/** @param {string} id @param {() => void} act */
-function on(id, act) {
-  find(id).addEventListener("click", () => {
+/** @param {Element} button @param {() => void} act */
+function onClick(button, act) {
+  button.addEventListener("click", () => {
     act();
     draw();
   });
 }
+
+/** @param {string} id @param {() => void} act */
+const on = (id, act) => onClick(find(id), act);
 
 /**
  * Handles a form with one field: `act` gets its text, and returns false if it is invalid.
@@ -414,7 +468,7 @@ on("pieces", () => {
   setUp();
 });
 on("copy", () => navigator.clipboard?.writeText(find("fen").textContent ?? ""));
-on("save", save);
+on("save", () => save(session?.game.pgn ?? ""));
 onText("move", text => {
   const squares = squaresOf(text);
   if (!squares) return false;
@@ -427,9 +481,13 @@ onText("show", text => {
 onText("light", text => {
   const squares = text ? squaresOf(text) : [];
   if (!squares) return false;
-  send(text ? `LEDs ${text}` : "no LEDs", it => it.sendLeds(lighting(...squares)));
+  const lit = lighting(...squares.map(n => library.squareName(n)));
+  send(text ? `LEDs ${text}` : "no LEDs", it => it.sendLeds(lit));
 });
 dragging(table.svg);
+addEventListener("beforeunload", event => {
+  if (session?.game.moves.length && !games.isStored) event.preventDefault();
+});
 
 /* The beginning. */
 
@@ -478,5 +536,5 @@ draw();
 globalThis.page = { // for tests and the console
   get session() { return session; }, get simulated() { return simulated; },
   get library() { return library; }, get theorem() { return theorem; }, clock, log, seen, squaresOf,
-  move,
+  move, games,
 };

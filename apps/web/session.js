@@ -1,7 +1,7 @@
 // Follows a board on a port, and reopens the port if it disappears.
 
-import { Follower, MODES } from "./dgt.js";
-import { Game } from "./moves.js";
+import { Follower } from "../../bindings/javascript/dgt.js";
+import { Game } from "../../bindings/javascript/moves.js";
 
 const SERIAL = { baudRate: 9600, dataBits: 8, stopBits: 1, parity: "none", flowControl: "none",
                  bufferSize: 4096 };
@@ -11,10 +11,11 @@ const LATE = 100; // milliseconds in which bytes from before a fault of the line
 export class Session {
   isOpen = false;
   wasTried = false; // the port was opened once, or failed to open
+  isRefused = false; // the port is there, and can't be opened
   hasEnded = false;
   /** @type {Uint8Array | null} the last known picture */
   picture = null;
-  /** @type {import("./dgt.js").Clock | null} the last known clock */
+  /** @type {import("../../bindings/javascript/dgt.js").Clock | null} the last known clock */
   clock = null;
   confirmedAt = 0;
   game = new Game();
@@ -33,7 +34,7 @@ export class Session {
   #others = [];
 
   /**
-   * @param {import("./dgt.js").Library} dgt
+   * @param {import("../../bindings/javascript/dgt.js").Library} dgt
    * @param {SerialPort} port  or a simulated port
    * @param {EventTarget & Partial<Serial>} ports  reports that a port was plugged in; a simulated
    *   port reports it itself
@@ -45,8 +46,7 @@ export class Session {
     this.port = port;
     this.ports = ports;
     this.page = page;
-    this.follower = new Follower(dgt, { period, patience: PATIENCE, mode: MODES.updateNice,
-                                        confirm: true });
+    this.follower = new Follower(dgt, { period, patience: PATIENCE, clock: true, confirm: true });
     this.info = JSON.stringify(port.getInfo());
   }
 
@@ -79,10 +79,12 @@ export class Session {
         const why = `the port can't be opened: ${message}`;
         if (this.#why !== why) this.page.note("fault", why);
         this.#why = why;
+        this.isRefused = (await this.#ports()).includes(this.port);
         return false;
       }
     }
     this.#why = "";
+    this.isRefused = false;
     this.page.note("news", "the port is open");
     return true;
   }
@@ -144,7 +146,7 @@ export class Session {
     this.page.changed();
   }
 
-  /** @param {import("./dgt.js").Event} event @param {number} now */
+  /** @param {import("../../bindings/javascript/dgt.js").Event} event @param {number} now */
   #note(event, now) {
     const { follower, dgt } = this, isNonsense = NONSENSE.includes(event.type);
     this.page.note(isNonsense ? "fault" : "",
@@ -188,11 +190,18 @@ export class Session {
     this.#isWriting = false;
   }
 
-  async #seeOthers() {
+  // The ports that are there, or none if they aren't known now.
+  async #ports() {
     try {
-      const all = await this.ports.getPorts?.() ?? [];
-      if (all.includes(this.port)) this.#others = all.filter(port => port !== this.port);
-    } catch { /* the ports aren't known now */ }
+      return await this.ports.getPorts?.() ?? [];
+    } catch {
+      return [];
+    }
+  }
+
+  async #seeOthers() {
+    const all = await this.#ports();
+    if (all.includes(this.port)) this.#others = all.filter(port => port !== this.port);
   }
 
   // Waits until the port may be back, perhaps as another object.
@@ -205,7 +214,7 @@ export class Session {
       setTimeout(done, 1000);
     });
     over.abort();
-    const all = await this.ports.getPorts?.() ?? [];
+    const all = await this.#ports();
     const alike = all.filter(port =>
       JSON.stringify(port.getInfo()) === this.info && !this.#others.includes(port));
     if (alike.length && !alike.includes(this.port)) this.port = alike[0];
@@ -214,6 +223,7 @@ export class Session {
   /** The state of the picture. The board is silent after two requests without a reply. */
   get state() {
     const { follower } = this;
+    if (this.isRefused) return "refused";
     if (!this.isOpen) return this.wasTried ? "gone" : "asking";
     if (this.#askedBefore > (follower.lastHeard ?? -Infinity)) return "silent";
     if (!follower.picture) return "asking";
@@ -230,7 +240,7 @@ function hex(bytes) {
 
 /**
  * The letters of 64 pieces.
- * @param {import("./dgt.js").Library} dgt @param {ArrayLike<number>} pieces
+ * @param {import("../../bindings/javascript/dgt.js").Library} dgt @param {ArrayLike<number>} pieces
  */
 export function lettersOf(dgt, pieces) {
   return Array.from(pieces, one => dgt.pieceLetter(one)).join("");

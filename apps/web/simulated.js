@@ -1,6 +1,6 @@
 // A simulated board on a port, with the part of a SerialPort's interface that Session uses.
 
-import { ASK, Board, IDS } from "./dgt.js";
+import { ASK, Board, IDS } from "../../bindings/javascript/dgt.js";
 
 const BYTES_A_MS = .96; // 9600 baud, with a start bit and a stop bit
 const GARBLED = 8; // bytes
@@ -29,7 +29,7 @@ export class SimulatedPort extends EventTarget {
   #since = 0;
   #timer = 0;
 
-  /** @param {import("./dgt.js").Library} dgt @param {Uint8Array} pieces */
+  /** @param {import("../../bindings/javascript/dgt.js").Library} dgt @param {Uint8Array} pieces */
   constructor(dgt, pieces) {
     super();
     this.board = new Board(dgt);
@@ -62,7 +62,13 @@ export class SimulatedPort extends EventTarget {
   /** @param {number} square @param {number} piece */
   change(square, piece) {
     this.pieces[square] = piece;
-    if (this.isOn) this.board.change(square, piece);
+    if (this.isOn) this.#put(square);
+  }
+
+  /** @param {number} square */
+  #put(square) {
+    const { dgt } = this.board;
+    this.board.change(dgt.squareName(square), dgt.pieceLetter(this.pieces[square]));
   }
 
   garble() {
@@ -105,7 +111,7 @@ export class SimulatedPort extends EventTarget {
   power(isOn) {
     this.isOn = isOn;
     this.#drop();
-    if (isOn) this.pieces.forEach((piece, square) => this.board.change(square, piece));
+    if (isOn) this.pieces.forEach((_, square) => this.#put(square));
   }
 
   #drop() {
@@ -143,7 +149,7 @@ export class SimulatedPort extends EventTarget {
     }
   }
 
-  /** @param {import("./dgt.js").Command} command */
+  /** @param {import("../../bindings/javascript/dgt.js").Command} command */
   #obey(command) {
     if (command.type !== "command") return;
     const { code, id, word } = command;

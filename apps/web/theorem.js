@@ -2,7 +2,7 @@
 
 import { Drawing } from "./drawing.js";
 import { lettersOf } from "./session.js";
-import { World } from "./world.js";
+import { World } from "../../bindings/javascript/world.js";
 
 const KEPT_LINES = 200;
 const hexText = (/** @type {number[]} */ bytes) =>
@@ -19,7 +19,7 @@ export class Theorem {
   /** @type {string[]} all acts, as a script of `dgt simulate` */
   script = [];
 
-  /** @param {import("./dgt.js").Library} dgt @param {HTMLElement} node */
+  /** @param {import("../../bindings/javascript/dgt.js").Library} dgt @param {HTMLElement} node */
   constructor(dgt, node) {
     this.#dgt = dgt;
     this.#node = node;

@@ -626,7 +626,7 @@ class Collector:
     def wait(self, now: float, table: Table) -> None:
         """Notes that everything up to this time was heard."""
         table.at = max(table.at, table.now(now))
-        table.games.wait(table.at)
+        table.games.tick(table.at)
         table.note_beginning()
 
     def see(self, journal: str, said: Said, table: Table) -> None:
@@ -638,7 +638,7 @@ class Collector:
             table.journal, table.shift = journal, max(0.0, table.at + 1 - said.at)
         table.at = max(table.at, said.at + table.shift)
         while (due := table.games.due) is not None and due <= table.at:
-            table.games.wait(due)
+            table.games.tick(due)
         table.games.set_tags({"Date": time.strftime("%Y.%m.%d", time.localtime(said.at)),
                               **self.tags}, False)
         table.name_players(said.players)

@@ -60,7 +60,7 @@ class Corrected(collector.Collector):
         try:
             fault = wanted.reply.get(timeout=20)
         except queue.Empty:
-            fault = "the games don't answer"
+            fault = "the games were busy for 20 seconds: look whether it was kept"
         if fault:
             raise Refused(fault)
 
@@ -77,8 +77,10 @@ class Corrected(collector.Collector):
             else:
                 keep = wanted.keep or functools.partial(self.state.add, DESK, "", 0)
                 keep({**wanted.entry, "at": at})
-        except (Refused, sqlite3.Error) as fault:
+        except Refused as fault:
             wanted.reply.put(str(fault))
+        except sqlite3.Error as fault:
+            wanted.reply.put(f"the file of --state can't be written: {fault}")
         else:
             self.take_news()
             wanted.reply.put("")
@@ -98,6 +100,8 @@ class Corrected(collector.Collector):
             corrections.correct(self.game(board, entry["game"]), entry)
         if "swap" in entry:
             self.check_swap(*entry["swap"])
+        for name in entry.get("clock", {}).keys() - self.shown.keys():
+            raise Refused(f"unknown board: {name}")
 
     def check_swap(self, one: str, other: str) -> None:
         """Refused if another board doesn't show the position of the game on a board."""
@@ -137,7 +141,7 @@ class Corrected(collector.Collector):
         """Does everything due up to a time of the board. Unconfirmed entries wait."""
         table.at = max(table.at, at + table.shift)
         while not table.pending and (due := table.games.due) is not None and due <= table.at:
-            table.games.wait(due)
+            table.games.tick(due)
         table.note_beginning()
 
     def correct(self, row: int, name: str, entry: Entry) -> None:

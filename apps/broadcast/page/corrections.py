@@ -2,6 +2,7 @@
 
 from __future__ import annotations
 
+import itertools
 import os
 import pathlib
 import re
@@ -21,6 +22,7 @@ RESULTS = ("1-0", "0-1", "1/2-1/2", "*")
 REASONS = ("normal", "time forfeit", "rules infraction", "adjudication", "abandoned")
 SIDES = ("left", "right", "learn")
 FILE_TAGS = ("Event", "Site", "Date", "Round")
+MOST_MOVES = 1000  # half-moves of a corrected game
 LOOK = 1.0  # seconds between two looks at the time of a file
 MOST_FILE = 1 << 20  # bytes
 LOCAL = ("localhost", "127.0.0.1", "::1")
@@ -104,9 +106,14 @@ def copied(game: dgt.PgnGame) -> dgt.PgnGame:
 
 
 def spliced(game: dgt.PgnGame, text: str) -> Entry:
-    """The correction that gives a game the moves of a text. Refused if they aren't legal."""
+    """The correction that gives a game the moves of a text. Refused if they aren't legal, or too
+    many."""
     old = [each.move for each in game.moves]
-    new = [move for move, _ in read_moves(game.start, re.sub(r"\{[^}]*\}", " ", text))]
+    read = read_moves(game.start, re.sub(r"\{[^}]*\}", " ", text))
+    new = [move for move, _ in itertools.islice(read, MOST_MOVES + 1)]
+    if len(new) > MOST_MOVES:
+        raise Refused(f"more than {MOST_MOVES:,} half-moves, and other games would have to wait: "
+                      "the longest known game has 538")
     ply = next((at for at, pair in enumerate(zip(old, new)) if pair[0] != pair[1]),
                min(len(old), len(new)))
     same = 0
@@ -181,27 +188,32 @@ class Names:
     push: str = ""
 
 
+def read_line(names: Names, line: str) -> None:
+    """Refused with the reason if a line is wrong."""
+    name, equals, value = (each.strip() for each in line.partition(" = "))
+    if not equals or not name:
+        raise Refused("not `BOARD = WHITE - BLACK`, with spaces around the =")
+    if name in FILE_TAGS and value.isprintable():
+        names.tags[name] = value
+    elif name == "Push":
+        names.push = check_address(value)
+    elif set("/+#") & set(name):
+        raise Refused("no board's name contains /, + or #")
+    elif name in names.players:
+        raise Refused(f"board {name} has players already")
+    else:
+        names.players[name] = list(topics.read_players(value))
+
+
 def read_names(text: str) -> Names:
     """Refused with the lines that are wrong."""
     names, wrong = Names(), []
     for number, line in enumerate(text.splitlines(), 1):
-        name, equals, value = (each.strip() for each in line.partition(" = "))
-        if not line.strip() or line.lstrip().startswith("#"):
-            continue
-        if name in FILE_TAGS and equals and value.isprintable():
-            names.tags[name] = value
-        else:
-            try:
-                if name == "Push":
-                    names.push = check_address(value)
-                    continue
-                if not equals or not name or name in names.players or set("/+#") & set(name):
-                    raise topics.Refused
-                names.players[name] = list(topics.read_players(value))
-            except topics.Refused:
-                wrong.append(f"line {number}: not `BOARD = WHITE - BLACK`: {line.strip()[:80]!r}")
-            except Refused as fault:
-                wrong.append(f"line {number}: {fault}")
+        try:
+            if line.strip() and not line.lstrip().startswith("#"):
+                read_line(names, line)
+        except (topics.Refused, Refused) as fault:
+            wrong.append(f"line {number}: {fault}: {line.strip()[:80]!r}")
     if wrong:
         raise Refused("; ".join(wrong[:5]))
     return names

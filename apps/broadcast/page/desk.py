@@ -29,6 +29,9 @@ from corrected import Wanted
 TEMPLATE = pathlib.Path(__file__).resolve().parent / "desk.html"
 WAIT = 1.0  # seconds before a wrong password is refused
 SHOWN = 20  # corrections
+FIELDS = {  # of each form, besides `board` and `game`
+    "result": ("result", "why"), "moves": ("before", "moves"), "tags": ("White", "Black", "Round"),
+    "clock": ("side",), "swap": ("other",)}
 LOCAL = ("localhost", "127.0.0.1", "[::1]")
 Form = dict[str, str]
 quoted = html.escape
@@ -75,17 +78,21 @@ class Desk(web.Visit):
         length = self.headers.get("Content-Length", "")
         self.close_connection = True
         if not length.isdecimal() or int(length) > web.MOST_BODY:
-            return self.answer(413, "text/plain", "this is not a form of the desk\n")
+            return self.answer(413, "text/plain",
+                               f"not kept: a form has at most {web.MOST_BODY:,} bytes\n")
         body = self.rfile.read(int(length))
         if not self.is_let_in():
             return
         form = dict(urllib.parse.parse_qsl(body.decode(errors="replace"), keep_blank_values=True))
         if not self.is_of_desk(form):
             return self.answer(403, "text/plain", "this form isn't the desk's: open it again\n")
-        place = {name: form[name] for name in ("board", "game") if form.get(name)}
+        fields = ("board", "game", *FIELDS.get(form.get("kind", ""), ("kind",)))
+        if lacks := [each for each in fields if each not in form]:
+            return self.answer(400, "text/plain", f"not kept: the form lacks {', '.join(lacks)}\n")
+        place = {name: form[name] for name in ("board", "game") if form[name]}
         try:
             self.correct(form)
-        except (Refused, dgt.DgtError, ValueError) as fault:
+        except (Refused, dgt.DgtError) as fault:
             return self.show(place, str(fault), form)
         self.answer(303, "text/plain", "", Location=f"/desk?{urllib.parse.urlencode(place)}"
                     f"&kept={urllib.parse.quote(form['kind'])}")
@@ -146,7 +153,7 @@ class Desk(web.Visit):
         try:
             title, live, forms = (self.board(name, query.get("game", ""), form or {}) if name
                                   else ("Desk", self.overview(), ""))
-        except (Refused, ValueError) as missing:
+        except Refused as missing:
             fault, title, forms = str(missing), "Desk", ""
             live = f'<p class="bad">{quoted(fault)}</p>{self.overview()}'
         page = string.Template(TEMPLATE.read_text()).substitute(
@@ -192,7 +199,7 @@ class Desk(web.Visit):
         games = self.source.games
         table = games.tables.get(name)
         last = table.place.count if table else games.counts.get(name, 0)
-        chosen = int(number) if number else last
+        chosen = number_of(number) if number else last
         game = games.game(name, chosen) if chosen else None
         event = next((each for each in self.source.boards.now()["boards"]
                       if each["board"] == name), None)
@@ -227,7 +234,7 @@ class Desk(web.Visit):
             self.form(place, "moves", "moves", '<label class="wide">Moves, corrected as they were '
                       f'played<textarea name="moves" rows="6" spellcheck="false">{quoted(moves)}'
                       '</textarea></label>'
-                      f'<input type="hidden" name="before" value="{quoted(moves_of(game))}">'),
+                      f'<input type="hidden" name="before" value="{mark_of(game)}">'),
             self.form(place, "tags", "players", "".join(
                 f'<label>{each} <input name="{each}" value="{quoted(tags.get(each, "?"))}"></label>'
                 for each in ("White", "Black", "Round"))),
@@ -247,28 +254,28 @@ class Desk(web.Visit):
     # ---- Corrections
 
     def correct(self, form: Form) -> None:
-        """Stores the correction of a form. Refused, or a ValueError, if it isn't valid."""
-        games, kind, board = self.source.games, form.get("kind"), form.get("board", "")
-        number = int(form.get("game", ""))
+        """Stores the correction of a form. Refused if it isn't valid."""
+        games, kind, board = self.source.games, form["kind"], form["board"]
+        number = number_of(form["game"])
         entry: dict[str, Any] = {"game": number}
         if kind == "result":
-            if form.get("result") not in RESULTS or form.get("why") not in corrections.REASONS:
+            if form["result"] not in RESULTS or form["why"] not in corrections.REASONS:
                 raise Refused("not a result")
             entry |= {"result": form["result"], "why": form["why"]}
         elif kind == "moves":
             game = games.game(board, number)
-            if form.get("before") != moves_of(game):
+            if form["before"] != mark_of(game):
                 raise Refused("the game went on meanwhile: look at it, and correct it again")
-            entry |= corrections.spliced(game, form.get("moves", ""))
+            entry |= corrections.spliced(game, form["moves"])
         elif kind == "tags":
             tags = {each: form[each].strip() for each in ("White", "Black", "Round")}
             if not all(0 < len(each) <= 200 and each.isprintable() for each in tags.values()):
                 raise Refused("both players need a name")
             entry |= {"tags": tags}
-        elif kind == "clock" and form.get("side") in corrections.SIDES:
+        elif kind == "clock" and form["side"] in corrections.SIDES:
             board, entry = "", {"clock": {board: form["side"]}}
         elif kind == "swap":
-            swap = board, form.get("other", "")
+            swap = board, form["other"]
             keep = self.source.boards.swap
             return games.ask(Wanted("", {"swap": swap}, keep))
         else:
@@ -329,6 +336,18 @@ def moves_of(game: dgt.PgnGame) -> str:
         words += [f"{made.before.number}."] if made.before.white else []
         words.append(made.san)
     return " ".join(words)
+
+
+def mark_of(game: dgt.PgnGame) -> str:
+    """A short text that is another one once a game has other moves."""
+    return hashlib.sha256(moves_of(game).encode()).hexdigest()[:20]
+
+
+def number_of(text: str) -> int:
+    """The number of a game. Refused if it isn't one."""
+    if text.isascii() and text.isdecimal() and len(text) < 10:
+        return int(text)
+    raise Refused(f"not the number of a game: {text[:20]!r}")
 
 
 def shown(game: dgt.PgnGame) -> str:

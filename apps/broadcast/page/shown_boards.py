@@ -192,6 +192,7 @@ class Boards:
     def keep(self, name: str, log: topics.Log, mark: int) -> int:
         """Stores the entries that follow the last stored one, and returns the number of the last
         one. Entries that the journal has dropped are lost."""
+        before = mark
         try:
             if 0 < mark < log.first:
                 self.state.add(log.journal, name, log.first - 1, None)
@@ -203,7 +204,8 @@ class Boards:
         except sqlite3.Error as fault:
             self.fault.say(f"the state can't be written: {fault} (requesting the rest again)")
         else:
-            self.fault.last = ""
+            if mark > before:
+                self.fault.last = ""  # it was written
         return mark
 
     def pass_over(self, board: topics.Board) -> None:

@@ -84,12 +84,12 @@ def read_state(text: str) -> str:
 
 
 def read_players(text: str) -> tuple[str, str]:
-    white, dash, black = text.partition(" - ")
-    if not white.strip() or not black.strip() or " - " in black or not text.isprintable():
-        raise Refused
-    if len(text.encode()) > MOST_PLAYERS:
-        raise Refused
-    return white.strip(), black.strip()
+    names = [each.strip() for each in re.split(" [-\N{EN DASH}] ", text)]
+    if len(names) != 2 or not all(names):
+        raise Refused("players are `WHITE - BLACK`, with a single hyphen or dash between spaces")
+    if not text.isprintable() or len(text.encode()) > MOST_PLAYERS:
+        raise Refused(f"names have at most {MOST_PLAYERS} bytes, on one line")
+    return names[0], names[1]
 
 
 def read_counters(text: str) -> dict[str, int]:
@@ -318,7 +318,8 @@ def is_foreseen(told: dict[str, Any] | None, event: dict[str, Any]) -> bool:
         return False
     if not old or not new or "none" in old or "none" in new:
         return bool(old == new)
-    if any(old[key] != new[key] for key in ("running", "turn", "low", "fallen", "runs")):
+    timeless = [{key: clock[key] for key in clock.keys() - {"at", *SIDES}} for clock in (old, new)]
+    if timeless[0] != timeless[1]:
         return False
     passed = (new["at"] - old["at"]) / 1000 if event["state"] == "following" else 0
     return all(

@@ -102,6 +102,7 @@ class Connection(asyncio.Protocol):
 
     def __init__(self, server: Server) -> None:
         self.server, self.unread, self.due = server, b"", math.inf
+        self.working: asyncio.Task[None] | None = None
         self.place: int | None = None  # of a page, among the events
         self.is_full = False
         self.written = 0.0
@@ -151,15 +152,30 @@ class Connection(asyncio.Protocol):
 
     def answer(self, request: bytes) -> None:
         self.server.waiting.pop(self, None)
+        if request.startswith(b"POST "):
+            self.is_full, self.due = True, math.inf  # stop reading
+            self.working = self.server.loop.create_task(self.work(request))
+        else:
+            self.finish(self.visit(request))
+
+    async def work(self, request: bytes) -> None:
+        """Answers a request that changes something, in a thread: others are answered meanwhile."""
+        self.finish(await asyncio.to_thread(self.visit, request))
+
+    def visit(self, request: bytes) -> Visit | None:
+        """The answer, or nothing if that fails."""
         try:
-            visit = self.server.visit(request, (self.address, 0), self.server)
+            return self.server.visit(request, (self.address, 0), self.server)
         except Exception:
             self.server.report(f"a request failed\n{traceback.format_exc()}")
+            return None
+
+    def finish(self, visit: Visit | None) -> None:
+        """Sends an answer, after its pause."""
+        if visit is None:
             self.drop()
-            return
-        if visit.pause:
-            self.is_full = True  # stop reading
-            self.due = math.inf
+        elif visit.pause:
+            self.is_full, self.due = True, math.inf  # stop reading
             self.server.loop.call_later(visit.pause, self.send_answer, visit)
         else:
             self.send_answer(visit)

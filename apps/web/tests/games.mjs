@@ -6,11 +6,11 @@
 import { pass } from "./clock.mjs";
 import assert from "node:assert/strict";
 import { readFileSync } from "node:fs";
-import { Board, load } from "../dgt.js";
-import { BEGIN, legalMoves, san } from "../moves.js";
+import { Board, load } from "../../../bindings/javascript/dgt.js";
+import { BEGIN, legalMoves, san } from "../../../bindings/javascript/moves.js";
 import { Session, lettersOf } from "../session.js";
 import { SimulatedPort } from "../simulated.js";
-import { chance } from "./random.mjs";
+import { chance } from "../../../bindings/javascript/tests/random.mjs";
 
 const [module, count, seed = "1"] = process.argv.slice(2);
 const dgt = await load(readFileSync(module));

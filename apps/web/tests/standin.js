@@ -65,6 +65,7 @@
 
   class Port extends EventTarget {
     isThere = true;
+    isBusy = false; // another program uses it
     readable = null;
     writable = null;
     opened = 0;
@@ -76,7 +77,9 @@
       return { usbVendorId: 0x0403, usbProductId: 0x6001 };
     }
     async open(options) {
-      if (!this.isThere) throw new DOMException("Failed to open serial port.", "NetworkError");
+      if (!this.isThere || this.isBusy) {
+        throw new DOMException("Failed to open serial port.", "NetworkError");
+      }
       if (this.readable) throw new DOMException("The port is already open.", "InvalidStateError");
       if (options.baudRate !== 9600) throw new TypeError("another baud rate");
       serial.opens++;
