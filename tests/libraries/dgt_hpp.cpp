@@ -81,7 +81,9 @@ std::string text(const dgt::Word &word) {
     return std::visit(
         Overloaded{
             [](const dgt::Asked &it) { return name(it.ask); },
-            [](const dgt::ClockMessage &it) { return "clock " + hex(it.id) + hex(it.payload); },
+            [](const dgt::ClockMessage &it) {
+                return "clock " + hex(static_cast<std::uint8_t>(it.id)) + hex(it.payload);
+            },
             [](const dgt::Leds &it) { return "leds " + hex(it.leds); },
             [](const dgt::BadSize &) { return std::string("badsize"); },
             [](const dgt::BadStart &) { return std::string("badstart"); },
@@ -237,6 +239,15 @@ void values() {
     CHECK(start[dgt::Square("e1")] == Piece::white_king && start.codes()[60] == 5);
     CHECK(start.differ(none) == UINT64_C(0xffff00000000ffff) && none.differ(none) == 0);
     CHECK(refuses([] { dgt::Position("8/8"); }) && refuses([] { dgt::Position(""); }));
+    for (const auto &[wrong, at] : {std::pair("8/8", 3u), std::pair("8/8/q9/8", 5u)}) {
+        try {
+            dgt::Position position{std::string_view(wrong)};
+            CHECK(false);
+        } catch (const dgt::BadPlacement &error) {
+            CHECK(error.at() == at && error.what() == "not a placement: '" + std::string(wrong) +
+                                                          "'");
+        }
+    }
     std::array<std::uint8_t, 64> codes{};
     codes[63] = 16;
     CHECK(refuses([&] { dgt::Position{codes}; }));
@@ -263,7 +274,8 @@ void encodings() {
     CHECK(refuses([] { dgt::view_message(128, {}); }));
     CHECK(refuses([] { dgt::view_message(5, Bytes{128}); }));
     CHECK(hex(dgt::encode_command(dgt::Asked{dgt::Ask::dump})) == "42");
-    CHECK(hex(dgt::encode_command(dgt::ClockMessage{DGT_ID_BEEP, Bytes{3}})) == "2b04030b0300");
+    const dgt::Word beep = dgt::ClockMessage{dgt::ClockId::beep, Bytes{3}};
+    CHECK(hex(dgt::encode_command(beep)) == "2b04030b0300");
     CHECK(hex(dgt::encode_command(dgt::Leds{Bytes{1, 2}})) == "60020102");
     CHECK(refuses([] { dgt::encode_command(dgt::BadEnd{}); }));
     CHECK(refuses([] { dgt::encode_command(dgt::Leds{Bytes(256)}); }));
@@ -293,7 +305,7 @@ std::string signal_text(const std::array<std::uint8_t, 4> &ack) {
     if (!signal) return "unknown";
     return std::visit(
         Overloaded{
-            [](const dgt::Done &it) { return "done " + hex(it.id); },
+            [](const dgt::Done &it) { return "done " + hex(static_cast<std::uint8_t>(it.id)); },
             [](const dgt::ClockVersion &it) {
                 return std::to_string(it.main_number) + "." + std::to_string(it.sub_number);
             },
@@ -317,11 +329,11 @@ void names() {
     CHECK(signal_text({0x10, 8, 0, 0}) == "done 08" && signal_text({0x10, 9, 0x21, 0}) == "2.1");
     CHECK(signal_text({0x10, 0x81, 0, 0}) == "ready");
     CHECK(signal_text({0x11, 9, 0x21, 0}) == "unknown");
-    auto state = dgt::state_of({Bytes{64, 127, 59, 1, 2, 3, 4, 5, 2}, false}).value();
+    auto state = dgt::battery_of({Bytes{64, 127, 59, 1, 2, 3, 4, 5, 2}, false}).value();
     CHECK(state.percent == 64 && !state.hours_left && state.minutes_left == 59);
     CHECK(state.hours_on == 1 && state.minutes_on == 2 && state.days_resting == 3);
     CHECK(state.hours_resting == 4 && state.minutes_resting == 5);
-    CHECK(!state.charging && state.discharging && !dgt::state_of({Bytes{64}, false}));
+    CHECK(!state.charging && state.discharging && !dgt::battery_of({Bytes{64}, false}));
     CHECK(dgt::text_of(Bytes{'D', ' ', '~'}) == "D ~" && !dgt::text_of({}) &&
           !dgt::text_of(Bytes{'D', 127}));
     dgt::Time time{0, 0, 0, 5};
@@ -365,8 +377,8 @@ void hosts() {
     CHECK(hex(host.send(dgt::Ask::reset)) == "40" && hex(host.send_leds({})) == "6000");
     CHECK(host.send_leds(dgt::Bytes(255)).size() == DGT_MAX_WORD);
     CHECK(refuses([&] { host.send_leds(dgt::Bytes(256)); }));
-    CHECK(host.send_clock(0x55, dgt::Bytes(252)).size() == DGT_MAX_WORD);
-    CHECK(refuses([&] { host.send_clock(DGT_ID_ICONS, dgt::Bytes(253)); }));
+    CHECK(host.send_clock(dgt::ClockId{0x55}, dgt::Bytes(252)).size() == DGT_MAX_WORD);
+    CHECK(refuses([&] { host.send_clock(dgt::ClockId::icons, dgt::Bytes(253)); }));
     dgt::Heard heard = host.hear_one(dgt::Bytes{0x93, 0});
     CHECK(heard.used == 2 && !heard.event && host.unread() == 2 && host.hear_one({}).used == 0);
     host.line_lost();
@@ -375,27 +387,29 @@ void hosts() {
 
 template <class Sender> void clock_commands(Sender &&sender) {
     using dgt::Time;
-    CHECK(hex(sender.display("123456"), " ") == "2b 0b 03 01 4f 5b 06 7d 6d 66 00 00 00");
-    CHECK(hex(sender.display("-12345", 1), " ") == "2b 0b 03 01 5b 06 40 6d 66 4f 01 00 00");
-    CHECK(hex(sender.display("7890"), " ") == "2b 0b 03 01 6f 7f 07 00 00 3f 00 00 00");
-    CHECK(hex(sender.display("", 255, 254), " ") == "2b 0b 03 01 00 00 00 00 00 00 ff fe 00");
-    CHECK(hex(sender.text("hello"), " ") == "2b 0c 03 0c 68 65 6c 6c 6f 20 20 20 00 00");
-    CHECK(hex(sender.text("ABCDEFGH", 255), " ") == "2b 0c 03 0c 41 42 43 44 45 46 47 48 ff 00");
-    CHECK(hex(sender.beep(3), " ") == "2b 04 03 0b 03 00");
-    CHECK(hex(sender.set_and_run(Time{9, 8, 7}, Time{6, 5, 4}, 255), " ") ==
+    CHECK(hex(sender.send_display("123456"), " ") == "2b 0b 03 01 4f 5b 06 7d 6d 66 00 00 00");
+    CHECK(hex(sender.send_display("-12345", 1), " ") == "2b 0b 03 01 5b 06 40 6d 66 4f 01 00 00");
+    CHECK(hex(sender.send_display("7890"), " ") == "2b 0b 03 01 6f 7f 07 00 00 3f 00 00 00");
+    CHECK(hex(sender.send_display("", 255, 254), " ") == "2b 0b 03 01 00 00 00 00 00 00 ff fe 00");
+    CHECK(hex(sender.send_text("hello"), " ") == "2b 0c 03 0c 68 65 6c 6c 6f 20 20 20 00 00");
+    CHECK(hex(sender.send_text("ABCDEFGH", 255), " ") ==
+          "2b 0c 03 0c 41 42 43 44 45 46 47 48 ff 00");
+    CHECK(hex(sender.send_beep(3), " ") == "2b 04 03 0b 03 00");
+    CHECK(hex(sender.send_set_and_run(Time{9, 8, 7}, Time{6, 5, 4}, 255), " ") ==
           "2b 0a 03 0a 09 08 07 06 05 04 ff 00");
-    CHECK(hex(sender.icons(dgt::Bytes{1, 255}), " ") == "2b 05 03 02 01 ff 00");
-    CHECK(hex(sender.end(), " ") == "2b 03 03 03 00");
-    CHECK(hex(sender.button(), " ") == "2b 03 03 08 00");
-    CHECK(hex(sender.clock_version(), " ") == "2b 03 03 09 00");
+    CHECK(hex(sender.send_icons(dgt::Bytes{1, 255}), " ") == "2b 05 03 02 01 ff 00");
+    CHECK(hex(sender.send_end(), " ") == "2b 03 03 03 00");
+    CHECK(hex(sender.send_button(), " ") == "2b 03 03 08 00");
+    CHECK(hex(sender.send_clock_version(), " ") == "2b 03 03 09 00");
     for (const char *wrong : {"1234567", "12:34", "hello", "\xb2"})
-        CHECK(refuses([&] { sender.display(wrong); }));
-    for (const char *wrong : {"too long.", "Z\xfcg"}) CHECK(refuses([&] { sender.text(wrong); }));
+        CHECK(refuses([&] { sender.send_display(wrong); }));
+    for (const char *wrong : {"too long.", "Z\xfcg"})
+        CHECK(refuses([&] { sender.send_text(wrong); }));
     for (Time wrong : {Time{10}, Time{0, 60}, Time{0, 0, 60}, Time{0, 0, 0, 1}}) {
-        CHECK(refuses([&] { sender.set_and_run(wrong, Time{}, 0); }));
-        CHECK(refuses([&] { sender.set_and_run(Time{}, wrong, 0); }));
+        CHECK(refuses([&] { sender.send_set_and_run(wrong, Time{}, 0); }));
+        CHECK(refuses([&] { sender.send_set_and_run(Time{}, wrong, 0); }));
     }
-    CHECK(refuses([&] { sender.icons(dgt::Bytes(253)); }));
+    CHECK(refuses([&] { sender.send_icons(dgt::Bytes(253)); }));
 }
 
 /// Exceptions of a callback pass through, and no event is heard twice or lost.
@@ -445,8 +459,8 @@ void followers() {
     using std::chrono::seconds;
     dgt::Follower follower(seconds(1), 1);
     const dgt::Milliseconds zero(0);
-    CHECK(follower.due() == zero && !follower.last_heard() && !follower.picture());
-    CHECK(follower.ask(zero).size() == 258 && follower.due() == dgt::Milliseconds(1000));
+    CHECK(follower.due_at() == zero && !follower.last_heard() && !follower.picture());
+    CHECK(follower.ask(zero).size() == 258 && follower.due_at() == dgt::Milliseconds(1000));
     CHECK(follower.ask(zero).empty() && !follower.placement() && !follower.clock());
     dgt::Board board;
     std::vector<std::string> lines;
@@ -461,7 +475,7 @@ void followers() {
     CHECK(lines == (std::vector{"67 dump " + std::string(START), std::string("5 version 1.3")}));
     CHECK(follower.last_heard() == dgt::Milliseconds(5) && follower.in_doubt());
     CHECK(follower.placement() == START && follower.picture() == dgt::Position::start());
-    CHECK(follower.due() == dgt::Milliseconds(250) && follower.heartbeats_left() == 1);
+    CHECK(follower.due_at() == dgt::Milliseconds(250) && follower.heartbeats_left() == 1);
     CHECK(follower.mode() == dgt::Mode::update_board && refuses([&] {
         follower.set_mode(dgt::Mode::idle);
     }));
@@ -477,13 +491,14 @@ void followers() {
     CHECK(refuses([&] { follower.ask(dgt::Milliseconds(-1)); }));
     CHECK(refuses([&] { follower.hear(dgt::Milliseconds(-1), {}); }));
     CHECK(refuses([] { dgt::Follower wrong(seconds(-1)); }));
+    CHECK(refuses([] { dgt::Follower wrong(dgt::Milliseconds(999)); }));
     CHECK(refuses([] { dgt::Follower wrong(seconds(1), 6, dgt::Mode::idle); }));
     follower.line_lost();
-    CHECK(!follower.picture() && follower.due() == zero);
+    CHECK(!follower.picture() && follower.due_at() == zero);
     dgt::Follower never(dgt::Milliseconds::max());
-    CHECK(!never.ask(dgt::Milliseconds(1)).empty() && never.due() == dgt::Milliseconds(1001));
+    CHECK(!never.ask(dgt::Milliseconds(1)).empty() && never.due_at() == dgt::Milliseconds(1001));
     board.answer(dgt::Bytes{0x42}, [&](const dgt::Message &dump) { never.hear(zero, dump); });
-    CHECK(!never.due() && dgt::now() <= dgt::now() && dgt::now() > zero);
+    CHECK(!never.due_at() && dgt::now() <= dgt::now() && dgt::now() > zero);
 }
 
 /// How many bytes a follower asks at this time, which a board answers.
@@ -495,33 +510,37 @@ std::size_t ask(dgt::Follower &follower, dgt::Board &board, dgt::Milliseconds no
 
 void confirmations() {
     using std::chrono::seconds;
-    dgt::Follower follower;
+    dgt::Follower follower(seconds(10), 6, dgt::Mode::update_board, true, true);
     dgt::Board board;
-    follower.set_confirm(true);
-    follower.set_identify(true);
     CHECK(ask(follower, board, seconds(0)) == 258 && !follower.confirmed() && !follower.serial());
     CHECK(ask(follower, board, seconds(0)) == 1); // the command 45
     CHECK(follower.serial() == (std::array<std::uint8_t, 5>{'0', '0', '0', '0', '1'}));
-    CHECK(follower.due() == seconds(1) && ask(follower, board, seconds(1)) == 2);
-    CHECK(follower.confirmed() && follower.due() == seconds(11));
+    CHECK(follower.due_at() == seconds(1) && ask(follower, board, seconds(1)) == 2);
+    CHECK(follower.confirmed() && follower.due_at() == seconds(11));
     follower.ask_now();
-    CHECK(follower.due() == seconds(0) && ask(follower, board, seconds(2)) == 2);
-    CHECK(follower.confirmed() && follower.due() == seconds(12));
+    CHECK(follower.due_at() == seconds(0) && ask(follower, board, seconds(2)) == 2);
+    CHECK(follower.confirmed() && follower.due_at() == seconds(12));
     board.change(dgt::Square("e2"), dgt::Piece::none);
     board.answer({}, [&](const dgt::Message &message) { follower.hear(seconds(3), message); });
-    CHECK(!follower.confirmed() && !follower.in_doubt() && follower.due() == seconds(4));
+    CHECK(!follower.confirmed() && !follower.in_doubt() && follower.due_at() == seconds(4));
     follower.set_confirm(false);
-    CHECK(follower.due() == seconds(12));
+    CHECK(follower.due_at() == seconds(12));
+    follower.set_confirm(true);
+    CHECK(follower.due_at() == seconds(4));
+    follower.set_confirm(false);
     follower.line_disturbed();
-    CHECK(follower.in_doubt() && follower.due() == dgt::Milliseconds(4500));
+    CHECK(follower.in_doubt() && follower.due_at() == dgt::Milliseconds(4500));
     follower.line_lost();
     follower.set_identify(false);
     CHECK(ask(follower, board, seconds(5)) == 258 && ask(follower, board, seconds(5)) == 0);
     CHECK(!follower.serial());
     follower.hear(seconds(5), dgt::Bytes{0x8e, 0}); // a message that stays unfinished
-    CHECK(!follower.in_doubt() && follower.due() == seconds(6));
+    CHECK(!follower.in_doubt() && follower.due_at() == seconds(6));
     CHECK(ask(follower, board, seconds(6)) == 0 && follower.in_doubt());
-    CHECK(follower.due() == dgt::Milliseconds(7500) && ask(follower, board, seconds(8)) == 258);
+    CHECK(follower.due_at() == dgt::Milliseconds(7500) && ask(follower, board, seconds(8)) == 258);
+    dgt::Follower confirming(seconds(10), 6, dgt::Mode::update_board, true);
+    CHECK(ask(confirming, board, seconds(0)) == 258 && ask(confirming, board, seconds(0)) == 0);
+    CHECK(confirming.due_at() == seconds(1));
 }
 
 void boards() {

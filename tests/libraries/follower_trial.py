@@ -168,7 +168,7 @@ class World:
         self.has_leds = self.is_measured = self.is_wrong = False
         self.has_stopped = self.is_unhealed = False
         self.began = self.askings = self.needed = self.healed = 0
-        self.follower = dgt.Follower(PERIOD, PATIENCE, confirm=play.host == "confirming")
+        self.follower = dgt.Follower(PERIOD, patience=PATIENCE, confirm=play.host == "confirming")
         self.look()
 
     # The follower
@@ -182,7 +182,7 @@ class World:
         self.ask_due = NEVER if due is None else round(due * 1000) * MILLISECOND
 
     def hear(self, data: bytes) -> None:
-        self.follower.hear(data, self.now // MILLISECOND / 1000)
+        self.follower.hear(self.now // MILLISECOND / 1000, data)
         self.look()
 
     def ask(self) -> None:

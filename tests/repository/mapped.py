@@ -20,12 +20,13 @@ PAGE = "crates/ONE_MORE.md"
 NAME, CODE = "long_?serial", "0x22"
 # Laws, tests and altered lines that are about it, and documents.
 STAYS = re.compile(
-    r"docs/.*|crates/\w+\.md|lib/test\.c|tests/(c_library|divisions|altered_models\.txt)"
+    r"docs/.*|crates/\w+\.md|bindings/c/tests/test\.c"
+    r"|tests/libraries/(c_library|divisions|altered_models\.txt)"
     r"|.*(\.edits?|/laws.*|/fixtures\.rt)"
 )
 # A crate and a colon, a crate after `of`, words in backticks; a sentence or a list that begins.
 TOKEN = re.compile(r"\b(dgt(?:_\w+)?):|\bof\s+(dgt(?:_\w+)?)\b|`([^`]*)`|[.;:]\s|\(")
-IS_PATH = re.compile(r"[\w./-]+\.\w+|\w+/[\w./-]+")
+IS_PATH = re.compile(r"[\w./-]+\.\w+|\w+/[\w./-]*\w")
 
 
 def expand(text: str) -> list[str]:

@@ -7,8 +7,8 @@ import pathlib
 from wrong import Wrong, wanted
 
 LINES = pathlib.Path(__file__).resolve().parent / "rows.txt"
-# The call, its arguments, and the bytes: the tables of clock messages, segments and commands by
-# name.
+# The call without `send_`, its arguments, and the bytes: the tables of clock messages, segments and
+# commands by name.
 ROWS = [
     ("display", ["123456"], "2b 0b 03 01 4f 5b 06 7d 6d 66 00 00 00"),
     ("display", ["-12345"], "2b 0b 03 01 5b 06 40 6d 66 4f 00 00 00"),
@@ -75,8 +75,9 @@ def made(dgt, call, arguments):
     """The bytes of a call of a host, a follower, and a board that is followed."""
     arguments, line = with_times(dgt, arguments), Line()
     with dgt.follow(line) as board:
-        wanted(f"what {call} of a board returns", getattr(board, call)(*arguments), None)
-    host, follower = (getattr(each, call)(*arguments) for each in (dgt.Host(), dgt.Follower()))
+        wanted(f"what {call} of a board returns", getattr(board, f"send_{call}")(*arguments), None)
+    host, follower = (getattr(each, f"send_{call}")(*arguments)
+                      for each in (dgt.Host(), dgt.Follower()))
     wanted(f"{call} of a follower, and of a board", (follower, line.written), (host, [host]))
     return host
 
@@ -106,7 +107,7 @@ def check_refusals(dgt):
         wanted(f"{call} of {arguments}, sent", line.written, [])
     for wrong in ("text", 5, None, [1]):
         try:
-            dgt.Host().icons(wrong)
+            dgt.Host().send_icons(wrong)
         except TypeError:
             continue
         raise Wrong(f"icons of {wrong!r}")
@@ -114,9 +115,10 @@ def check_refusals(dgt):
 
 def refusal(dgt, caller, call, arguments):
     try:
-        return f"taken: {getattr(caller, call)(*arguments)!r}"
+        sent = getattr(caller, f"send_{call}")(*arguments)
     except dgt.BadValue as fault:
         return str(fault)
+    return f"taken: {sent!r}"
 
 
 def check_closed(dgt):
@@ -124,7 +126,7 @@ def check_closed(dgt):
         caller.close()
         for call, arguments, _ in ROWS:
             try:
-                getattr(caller, call)(*with_times(dgt, arguments))
+                getattr(caller, f"send_{call}")(*with_times(dgt, arguments))
             except dgt.Closed:
                 continue
             raise Wrong(f"{call} of a {type(caller).__name__} that is closed")

@@ -238,7 +238,8 @@ class FaultyTalk(Ends):
     def start(self, patience: int, mode: dgt.Mode, delivers: bool, confirm: bool, identify: bool
               ) -> None:
         """`delivers` is whether all is delivered between the askings at the end."""
-        self.follower = dgt.Follower(PERIOD, patience, mode, confirm=confirm, identify=identify)
+        self.follower = dgt.Follower(PERIOD, patience=patience, mode=mode, confirm=confirm,
+                                     identify=identify)
         self.plain_host, self.is_clock_readable = model.Host(), True
         self.patience, self.delivers, self.now = patience, delivers, 0.0
         self.fail()
@@ -248,7 +249,7 @@ class FaultyTalk(Ends):
         self.askings, self.asks_for_clock = 0, True
 
     def hear(self, data: bytes) -> None:
-        for event in self.follower.hear_each(data, self.now):
+        for event in self.follower.hear_each(self.now, data):
             if isinstance(event, dgt.Refused) and event.fault == dgt.Fault.BAD_READING:
                 self.is_clock_readable = False
             self.is_clock_readable |= isinstance(event, (dgt.Times, dgt.NoClock))

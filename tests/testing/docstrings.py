@@ -53,7 +53,16 @@ class Port:
 
 
 class OwnPort(Port):
-    """A port that the package opens itself. Its `exchange` waits as `read` does."""
+    """A port that the package opens itself. Its `exchange` waits as `read` does. Its descriptor can
+    always be read."""
+
+    is_unsent = False
+
+    def __init__(self, board):
+        super().__init__(board, None)
+        self._ends = socket.socketpair()
+        self._ends[1].send(b"1")
+        self.descriptor = self._ends[0].fileno()
 
     def ask(self, chunk):
         self.write(chunk)
@@ -67,6 +76,8 @@ class OwnPort(Port):
 
     def close(self):
         self.is_open = False
+        for end in self._ends:
+            end.close()
 
 
 async def serve(board, reader, writer):
@@ -109,10 +120,14 @@ def tests(dgt, readme):
 
 def check(dgt, folder):
     """Runs all examples, and returns how many there are. None that a file shows is left out."""
+    class Named(OwnPort):
+        def __init__(self, *_):
+            super().__init__(dgt.Board())
+
     readme = folder / "README.md"
     runner, told = doctest.DocTestRunner(), []
     with (unittest.mock.patch.dict(sys.modules, stand_ins(dgt)),
-          unittest.mock.patch("dgt.following.Port", lambda *_: OwnPort(dgt.Board(), None))):
+          unittest.mock.patch("dgt.following.Port", Named)):
         for test in tests(dgt, readme):
             runner.run(test, out=told.append)
     if runner.failures:

@@ -17,7 +17,7 @@ import time
 from typing import Any
 
 NAMES = ["firefox-esr", "firefox"]
-ISOLATED = pathlib.Path(__file__).parents[2] / "examples" / "trial" / "isolated"
+ISOLATED = pathlib.Path(__file__).parents[2] / "tests/trials/isolated"
 GREETING = ("GET /session HTTP/1.1\r\nHost: 127.0.0.1:{}\r\nUpgrade: websocket\r\n"
             "Connection: Upgrade\r\nSec-WebSocket-Key: AAAAAAAAAAAAAAAAAAAAAA==\r\n"
             "Sec-WebSocket-Version: 13\r\n\r\n")

@@ -100,7 +100,7 @@ class Hand:
 
     def rest(self, seconds):
         self.time += seconds
-        self.note(self.recogniser.wait(self.time))
+        self.note(self.recogniser.tick(self.time))
 
     def put(self, square, letter):
         self.squares[square] = letter
@@ -110,7 +110,7 @@ class Hand:
 
 # ---- The table of the adapter for eboard
 
-TABLE = pathlib.Path(__file__).resolve().parents[2] / "adapters" / "dgtnix" / "test_moves.c"
+TABLE = pathlib.Path(__file__).resolve().parents[2] / "apps/eboard/test_moves.c"
 # What the recogniser reports instead of what the adapter reports, by the name of the case. It
 # also reports what is taken back and made again, and replaces moves of either side. It waits for
 # the rook of a castling and for the piece that a pawn becomes, and reports that a game begins.

@@ -270,9 +270,32 @@ def logging_board(dgt):
     board.line_lost()
     wanted("and after a loss of power", (board.owes, body_of(board)[-3:]),
            (False, logged(dgt, "on begin end")))
+    refusals(dgt)
     marks(dgt)
     clock_log(dgt)
     room(dgt)
+
+
+def refusals(dgt):
+    """It refuses what a `Board` refuses, with the same errors, open and closed."""
+    def error(call):
+        try:
+            return call()
+        except Exception as fault:
+            return type(fault)
+
+    found = {dgt.Board: [], dgt.LoggingBoard: []}
+    for make, errors in found.items():
+        for is_open in (True, False):
+            board = make()
+            _ = is_open or board.close()
+            for square, piece in ((64, "Q"), (-1, "Q"), (None, "Q"), ("e2", "x"), ("e2", None)):
+                errors.append(error(lambda: board.change(square, piece)))
+            errors += [error(lambda: board.hand_clock(5)), error(lambda: board.take("text"))]
+    wanted("errors", found[dgt.LoggingBoard], found[dgt.Board])
+    wanted("a bad square", found[dgt.Board][0], dgt.BadValue)
+    wanted("no log", error(board.clear_log), dgt.Closed)
+    wanted("again", (error(lambda: board.__init__(room=3)), board._log_room), (RuntimeError, 8192))
 
 
 def marks(dgt):

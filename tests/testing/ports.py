@@ -25,7 +25,7 @@ import time
 import late
 from wrong import Wrong, wanted
 
-sys.path.append(str(pathlib.Path(__file__).resolve().parents[2] / "examples" / "trial"))
+sys.path.append(str(pathlib.Path(__file__).resolve().parents[2] / "apps/broadcast/page"))
 import boards
 
 START = "rnbqkbnr/pppppppp/8/8/8/8/PPPPPPPP/RNBQKBNR"
@@ -116,7 +116,7 @@ def see(view):
 def expect(what, board, *right):
     """The next views say this."""
     for number, each in enumerate(right):
-        view = board.wait(time.monotonic() + SECONDS)
+        view = board.wait(SECONDS)
         wanted(f"{what}, {number}", view and see(view), each)
     return view
 
@@ -125,7 +125,7 @@ def expect_at_last(what, board, right):
     """One of the next views says this. Returns all of them."""
     views, end = [], time.monotonic() + SECONDS
     while not views or views[-1] != right:
-        view = board.wait(end)
+        view = board.wait(until=end)
         if view is None:
             raise Wrong(f"{what}: {views} without {right} at last")
         views.append(see(view))
@@ -133,7 +133,7 @@ def expect_at_last(what, board, right):
 
 
 def no_more(what, board, seconds=0.3):
-    wanted(f"{what}, what comes next", board.wait(time.monotonic() + seconds), None)
+    wanted(f"{what}, what comes next", board.wait(seconds), None)
 
 
 # ---- A port by its name
@@ -154,7 +154,7 @@ def changes(dgt, line):
         no_more("its report", board)
         line.board.hand_clock(dgt.Times(dgt.Time(1)))
         board.write(board.follower.send(dgt.Ask.CLOCK))
-        view = board.wait(time.monotonic() + SECONDS)
+        view = board.wait(SECONDS)
         wanted("the clock", view and view.clock, line.board.clock)
         line.put(("e4", "."))
         wanted("as an iterator", next(board).picture, line.board.position)
@@ -164,8 +164,8 @@ def lights(dgt, line):
     with dgt.follow(line.path, 60) as board:
         expect("at first", board, (START, False, None))
         line.asked.clear()
-        board.leds("e2", "e4")
-        board.leds()
+        board.light("e2", "e4")
+        board.light()
         end = time.monotonic() + SECONDS
         while sum(len(asked) for _, asked in line.asked) < 12 and time.monotonic() < end:
             time.sleep(0.01)
@@ -220,7 +220,7 @@ def confirms(dgt, line):
             begun = time.monotonic()
             if right == LIFTED:
                 line.put(("e2", "."))
-            views = [board.wait(begun + SECONDS) for _ in range(2)]
+            views = [board.wait(until=begun + SECONDS) for _ in range(2)]
             wanted(what, [view and (*see(view), view.confirmed) for view in views],
                    [(right, False, None, False), (right, False, None, True)])
             passed = time.monotonic() - begun
@@ -318,7 +318,7 @@ def silence(dgt, line):
         expect("a board that is off", board, (None, True, SILENT))
         line.is_on = True
         expect_at_last("a board that is on", board, (START, False, None))
-        while board.wait(time.monotonic() + 1.6):
+        while board.wait(1.6):
             pass  # it answers each of the earlier askings
         wanted("a board that is on", see(board.view), (START, False, None))
         line.is_on = False
@@ -510,15 +510,40 @@ def settings(dgt, line):
            ([0, 0], control, [0, termios.B9600, termios.B9600]))
 
 
+def asks_for_the_clock(dgt, line):
+    """With `clock` the clock is known soon, and otherwise not."""
+    times = dgt.Times(dgt.Time(1, 30), dgt.Time(1, 29, 55), 0x11)
+    line.board.hand_clock(times)
+    for how, right in (({}, None), ({"clock": True}, times)):
+        with dgt.follow(line.path, 60, **how) as board:
+            while board.wait(0.5):
+                pass
+            wanted(f"the clock, {how}", board.view.clock, right)
+    for wrong in ({"clock": True, "mode": dgt.Mode.UPDATE}, {"mode": dgt.Mode.IDLE}):
+        try:
+            dgt.follow(line.path, 60, **wrong)
+            raise Wrong(f"{wrong} is taken")
+        except dgt.BadValue:
+            pass
+
+
 def waits(dgt, line):
     """It waits until a time, and no longer, and takes no time of the processor meanwhile."""
     with dgt.follow(line.path, 60) as board:
         expect("at first", board, (START, False, None))
         used = {"a port that is there": how_it_waits(board)}
-        wanted("a time that is over", board.wait(0.0), None)
+        wanted("a time that is over", [board.wait(0), board.wait(until=0.0)], [None, None])
         line.put(("e2", "."))
         time.sleep(0.2)
-        wanted("a time that is over, and a change", see(board.wait(0.0)), (LIFTED, False, None))
+        wanted("a time that is over, and a change", see(board.wait(0)), (LIFTED, False, None))
+        begun = time.monotonic()
+        wanted("a timeout", (board.wait(0.5), board.wait(timeout=0.5)), (None, None))
+        wanted("how long", 1 <= time.monotonic() - begun < 1 + LATE, True)
+        for wrong in ({"timeout": 1, "until": begun}, {"timeout": "1"}, {"until": float("nan")}):
+            try:
+                wanted(f"what is refused, {wrong}", board.wait(**wrong), "a BadValue")
+            except dgt.BadValue:
+                pass
         line.unplug()
         expect("gone", board, (LIFTED, True, GONE))
         used["a port that has gone"] = how_it_waits(board)
@@ -531,7 +556,7 @@ def waits(dgt, line):
 def how_it_waits(board):
     """How long it waits for 3 seconds, and for how long it uses the processor."""
     begun, used = time.monotonic(), time.thread_time()
-    wanted("waiting", board.wait(begun + 3), None)
+    wanted("waiting", board.wait(until=begun + 3), None)
     return time.monotonic() - begun, time.thread_time() - used
 
 
@@ -544,19 +569,19 @@ def wakes(dgt, line):
             wake = threading.Timer(0.3, os.write, (writable, b"w"))
             wake.start()
             begun = time.monotonic()
-            wanted(what, board.wait(begun + 10, readable), None)
+            wanted(what, board.wait(until=begun + 10, wakes=readable), None)
             wanted(f"how long, {what}", 0.25 < time.monotonic() - begun < 0.3 + LATE, True)
-            wanted(f"it, again, {what}", board.wait(None, readable), None)
+            wanted(f"it, again, {what}", board.wait(wakes=readable), None)
             os.read(readable, 1)
             if what == "a port that is there":
                 line.put(("e2", "."))
-                wanted("a change first", see(board.wait(None, readable)), (LIFTED, False, None))
+                wanted("a change first", see(board.wait(wakes=readable)), (LIFTED, False, None))
                 line.unplug()
                 expect("gone", board, (LIFTED, True, GONE))
         line.plug()
     with dgt.follow(Handed(line.board)) as board:
         try:
-            board.wait(None, readable)
+            board.wait(wakes=readable)
             raise Wrong("a line that was handed over waits for another descriptor")
         except dgt.BadValue:
             pass
@@ -698,7 +723,7 @@ def handed_fails(dgt, line):
 async def hear_streams(dgt, board):
     ours, theirs = socket.socketpair()
     reader, writer = await asyncio.open_connection(sock=theirs)
-    views = dgt.follow_async(*await asyncio.open_connection(sock=ours), 2.0)
+    views = dgt.follow_async(await asyncio.open_connection(sock=ours), 2.0)
     first = asyncio.create_task(anext(views))
     for message in board.answers(await reader.read(1000)):
         for byte in message:
@@ -722,7 +747,7 @@ async def joined(dgt, *words):
     """The streams of a board, and the views of a host that follows it on others, which are given,
     too."""
     theirs, ours = [await asyncio.open_connection(sock=end) for end in socket.socketpair()]
-    return *theirs, dgt.follow_async(*ours, *words), ours
+    return *theirs, dgt.follow_async(tuple(ours), *words), ours
 
 
 async def hear_full_stream(dgt, board):
@@ -790,10 +815,68 @@ def streams(dgt, line):
                              (LIFTED, False, None), (LIFTED, True, CLOSED)])
 
 
+async def follow_port(dgt, line):
+    """A port with asyncio: it disappears and comes back; the clock and the lights obey."""
+    with contextlib.suppress(OSError):
+        dgt.follow_async(f"{line.path}x")
+        raise Wrong("a port that isn't there is followed")
+    seen = []
+    async with dgt.follow_async(line.path, 2.0, confirm=True) as board:
+        seen.append(see(await board.wait(SECONDS)))
+        other = asyncio.create_task(anext(board))
+        line.put(("e2", "."), ("e4", "P"))
+        seen.append(see(await other))
+        while not board.view.confirmed:
+            await board.wait(SECONDS)
+        wanted("nothing", (await board.wait(0.2), await board.wait(0)), (None, None))
+        board.send_text("hello")
+        board.light("e2", "e4")
+        await asyncio.sleep(0.3)
+        sent = b"".join(asked for _, asked in line.asked)
+        wanted("the text", b"\x0chello   " in sent, True)
+        wanted("the lights", bytes([0x60, 4, 1, 52, 36, 0]) in sent, True)
+        line.is_on = False  # it takes nothing more
+        board.write(bytes(200_000))
+        await asyncio.sleep(0.2)
+        line.unplug()
+        line.is_on = True
+        seen.append(see(await board.wait(SECONDS)))
+        line.plug()
+        while (view := await board.wait(SECONDS)).in_doubt:
+            pass
+        seen.append(see(view))
+        board.write(bytes(200_000))  # more than the port takes at once
+        line.put(("d2", "."))
+        while (await board.wait(SECONDS)).picture["d2"] != ".":
+            pass
+        last = asyncio.create_task(board.wait())
+        await asyncio.sleep(0.05)
+        await board.aclose()
+        try:
+            await last
+            raise Wrong("a wait of a closed board returns")
+        except dgt.Closed:
+            pass
+    wanted("views after the end", [view async for view in board], [])
+    async for view in dgt.follow_async(line.path):  # it ends with the loop
+        break
+    for _ in range(100):
+        await asyncio.sleep(0.05)
+        with contextlib.suppress(OSError), dgt.follow(line.path):
+            return seen
+    raise Wrong("the port isn't free after a break")
+
+
+def with_asyncio(dgt, line):
+    seen = asyncio.run(asyncio.wait_for(follow_port(dgt, line), 2 * SECONDS))
+    wanted("the first and the last two", (seen[0], seen[-2:]),
+           ((START, False, None), [(PUT, True, GONE), (PUT, False, None)]))
+
+
 CASES = [changes, lights, identifies, asks_when_due, heals, confirms, clock_heals, noise,
          loses_an_end, counts_faults, silence, of_draughts, goes_and_comes, comes_late, faults,
-         closing, leaving, closing_elsewhere, settings, waits, wakes, takes_nothing, handed,
-         handed_fails, streams, slow_streams]
+         closing, leaving, closing_elsewhere, settings, asks_for_the_clock, waits, wakes,
+         takes_nothing, handed, handed_fails, streams, slow_streams, with_asyncio]
 
 
 def try_case(dgt, case):

@@ -198,21 +198,21 @@ class Commands(unittest.TestCase):
                                                         max_size=8))
     def test_shown(self, digits: str, letters: str) -> None:
         host = dgt.Host()
-        self.assertEqual(host.display(digits), model.ask([f"display {digits}"]))
-        self.assertEqual(host.text(letters), model.ask(["text", letters]))
+        self.assertEqual(host.send_display(digits), model.ask([f"display {digits}"]))
+        self.assertEqual(host.send_text(letters), model.ask(["text", letters]))
 
     @given(some.SIDES, some.SIDES, some.BYTES)
     def test_set_and_run(self, left: Side, right: Side, number: int) -> None:
-        sent = dgt.Host().set_and_run(dgt.Time(*left), dgt.Time(*right), number)
+        sent = dgt.Host().send_set_and_run(dgt.Time(*left), dgt.Time(*right), number)
         payload = bytes([*left, *right, number])
         self.assertEqual(sent, model.ask([f"setandrun {payload.hex()}"]))
 
     @given(some.BYTES, st.binary(max_size=252))
     def test_other_messages(self, number: int, icons: bytes) -> None:
         host = dgt.Host()
-        self.assertEqual(host.beep(number), model.ask([f"beep {number}"]))
-        self.assertEqual(host.icons(icons), model.ask(["icons", icons.hex() or "-"]))
-        sent = host.end() + host.button() + host.clock_version()
+        self.assertEqual(host.send_beep(number), model.ask([f"beep {number}"]))
+        self.assertEqual(host.send_icons(icons), model.ask(["icons", icons.hex() or "-"]))
+        sent = host.send_end() + host.send_button() + host.send_clock_version()
         self.assertEqual(sent, model.ask(["end", "button", "clockversion"]))
 
 

@@ -9,7 +9,7 @@ import time
 import late
 from wrong import Wrong
 
-BOARD = pathlib.Path(__file__).resolve().parents[2] / "examples" / "board.py"
+BOARD = pathlib.Path(__file__).resolve().parents[2] / "bindings/python/examples/board.py"
 SECONDS = 20
 # Lines of its input, and the texts of the clock that follow them, in order.
 ROWS = [
@@ -44,7 +44,7 @@ def started():
 def clocks(following, count, end):
     """The texts of the next changes of the clock, at most `count` of them, up to a time."""
     texts, shown = [], following.view.clock
-    while len(texts) < count and (view := following.wait(end)):
+    while len(texts) < count and (view := following.wait(until=end)):
         if view.clock != shown:
             shown = view.clock
             texts.append(str(shown))
@@ -72,7 +72,7 @@ def check_rows(dgt):
         try:
             port = board.stdout.readline().strip()
             with dgt.follow(port, 60, mode=dgt.Mode.UPDATE_NICE) as following:
-                first = following.wait(time.monotonic() + SECONDS)
+                first = following.wait(SECONDS)
                 if first is None or first.clock is not None:  # it sends zeros alone
                     return f"the board at first: {first}"
                 wrongs = (check_row(following, board, *row) for row in ROWS)

@@ -132,7 +132,7 @@ class Table(games.Hand):
         if self.is_plugged and (asked := self.steps.ask(self.time)):
             self.hear(self.board.answers(asked))
         if self.keeper.due is not None and self.keeper.due <= self.time:
-            self.keeper.wait(self.time)
+            self.keeper.tick(self.time)
         while self.timer and self.timer.due is not None and self.timer.due <= self.time:
             self.timer.tick()
             self.show_clock()

@@ -118,11 +118,13 @@ def calls(dgt):
                (dgt.encode_command, dgt.ClockMessage, 3, b""), (dgt.encode_command, dgt.Leds, b"")]
     return [
         *((lambda *of, how=how, kind=kind: how(kind(*of)), *of) for how, kind, *of in encoded),
-        (dgt.Follower, 10.0, 6, dgt.Mode.UPDATE), (follower.ask, 0.0), (follower.hear, b"", 0.0),
-        (follower.hear_each, b"", 0.0), (host.hear, b""), (host.hear_each, b""), (host.send, 0x42),
-        (host.send_clock, 3, b""), (host.send_leds, b""), (host.display, "1", 0, 0),
-        (host.text, "1", 0), (host.beep, 1), (host.set_and_run, dgt.Time(), dgt.Time(), 0),
-        (host.icons, b""), (dgt.Decoder().feed_placed, b""), (dgt.CommandDecoder().feed, b""),
+        (lambda *of: dgt.Follower(of[0], patience=of[1], mode=of[2]), 10.0, 6, dgt.Mode.UPDATE),
+        (follower.ask, 0.0), (follower.hear, 0.0, b""), (follower.hear_each, 0.0, b""),
+        (host.hear, b""), (host.hear_each, b""), (host.send, 0x42),
+        (host.send_clock, 3, b""), (host.send_leds, b""), (host.send_display, "1", 0, 0),
+        (host.send_text, "1", 0), (host.send_beep, 1),
+        (host.send_set_and_run, dgt.Time(), dgt.Time(), 0),
+        (host.send_icons, b""), (dgt.Decoder().feed_placed, b""), (dgt.CommandDecoder().feed, b""),
         (dgt.Board, position, times, dgt.Identity()), (board.change, "e2", "."),
         (board.hand_clock, times), (board.take, b""), (board.answers, b""),
         (dgt.World, position, times, dgt.Identity()), (world.change, "e2", "."),
@@ -138,8 +140,8 @@ def calls(dgt):
         (dgt.GameState.parse, dgt.START_FEN), (dgt.GameState.place, LETTERS, True),
         (state.after, "e2e4"), (dgt.san, state, "e2e4"), (dgt.PgnGame().add, "e2e4", None),
         (dgt.MoveRecogniser, dgt.START_FEN, 0.3, 1.0), (recogniser.see, position, 0.0),
-        (recogniser.wait, 0.0), (dgt.Games, len, len, None, {}, "left", dgt.START_FEN, ""),
-        (games.see, dgt.BoardView(position), 0.0), (games.set_tags, {}, True), (games.wait, 0.0),
+        (recogniser.tick, 0.0), (dgt.Games, len, len, None, {}, "left", dgt.START_FEN, ""),
+        (games.see, dgt.BoardView(position), 0.0), (games.set_tags, {}, True), (games.tick, 0.0),
         (dgt.follow, "/", 10.0),
         (lambda tags: dgt.PgnGame(tags).text(), {"White": "Ann"}),
         (lambda name: dgt.PgnGame({name: ""}).text(), "White"),
@@ -184,6 +186,8 @@ def check_refusals(dgt):
          "port must be a port's name, or an open port of pyserial: 5"),
         (lambda: dgt.follow("/", None), dgt.BadValue,
          "period must be a number of seconds, 1.0 or more: None"),
+        (lambda: dgt.Follower(10.0, 6), TypeError,
+         "Follower.__init__() takes from 1 to 2 positional arguments but 3 were given"),
         (lambda: dgt.MoveRecogniser(5), dgt.BadFen, "not a text: 5"),
         (lambda: dgt.GameState.parse(f"{KINGS} w - - 0 {LONG}"), dgt.BadFen,
          f"not two numbers at the end: '{KINGS} w - - 0 {LONG}'"),
@@ -209,11 +213,11 @@ def check_copies(dgt):
             said = f"a {kind.__name__} can't be copied"
             wanted(f"{how}", refusal(said, TypeError, lambda: how(kind.__new__(kind))), said)
     first = dgt.MoveRecogniser()
-    first.see(dgt.Position.start(), 0.0)
+    first.see(dgt.Position.start(), now=0.0)
     for how in (copy.copy, copy.deepcopy, lambda it: pickle.loads(pickle.dumps(it))):
         other = how(first)
         after = dgt.Position.of_letters(dgt.GameState.start().after("e2e4").letters)
-        wanted("a copy's events", (other.see(after, 1.0), len(other.wait(2.0))), ([], 1))
+        wanted("a copy's events", (other.see(after, 1.0), len(other.tick(now=2.0))), ([], 1))
         wanted("the moves", (other.moves, first.moves, first.due), (["e2e4"], [], None))
 
 

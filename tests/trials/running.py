@@ -6,13 +6,15 @@ import shutil
 import signal
 import socket
 import subprocess
+import sys
 import tempfile
 import time
 
+sys.path.append(str(pathlib.Path(__file__).resolve().parents[2] / "apps/broadcast/page"))
 import boards
 import chromium
 
-EXAMPLES = pathlib.Path(__file__).resolve().parent.parent
+EXAMPLES = pathlib.Path(__file__).resolve().parents[2] / "apps/broadcast"
 PYTHON = "/usr/bin/python3"  # Debian's, which has Debian's modules
 # Debian has the broker in /usr/sbin, and eboard in /usr/games.
 ALIVE = "/usr/sbin:/usr/games:" + os.environ["PATH"]

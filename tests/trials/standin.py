@@ -7,14 +7,16 @@ import http.server
 import json
 import pathlib
 import queue
+import sys
 import threading
 import time
 import urllib.parse
 from typing import Any
 
+sys.path.append(str(pathlib.Path(__file__).resolve().parents[2] / "apps/broadcast/page"))
 import boards
 
-PAGE = pathlib.Path(__file__).resolve().parent.parent / "page" / "index.html"
+PAGE = pathlib.Path(__file__).resolve().parents[2] / "apps/broadcast/page/index.html"
 Said = dict[str, Any]
 # Three games: of each, its players, its moves in short notation, and their squares.
 OPERA = ("Paul Morphy", "Karl II. and Count Isouard", """

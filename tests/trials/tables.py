@@ -13,6 +13,7 @@ import sys
 import threading
 import time
 
+sys.path.append(str(pathlib.Path(__file__).resolve().parents[2] / "apps/broadcast/page"))
 import boards
 import running
 
@@ -22,7 +23,7 @@ sys.path.insert(0, str(ROOT / "bindings/python"))
 SCREEN = "1240x760x24"
 # The engine as the chess program starts it. What both say is kept in two files.
 ENGINE = """#!/bin/sh
-export PYTHONPATH={root}/python PYTHONDONTWRITEBYTECODE=1
+export PYTHONPATH={root}/bindings/python PYTHONDONTWRITEBYTECODE=1
 tee -a {room}/asked | {python} -m dgt uci "$@" | tee -a {room}/told
 """
 
