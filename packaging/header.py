@@ -7,7 +7,7 @@ import dataclasses
 import pathlib
 import re
 
-HEADER = pathlib.Path(__file__).resolve().parent.parent / "include" / "dgt.h"
+HEADER = pathlib.Path(__file__).resolve().parents[1] / "bindings/c/include/dgt.h"
 SECTION = re.compile(r"-{4} (.*)", re.S)
 # Attributes, after a declaration or before it, which only compilers read.
 ATTRIBUTE = re.compile(r"\s*\bDGT_(?:NONNULL|READS|WRITES)_\([\d, ]*\)|\s*\bDGT_MUST_USE_\b")

@@ -37,12 +37,10 @@ breathe_doxygen_config_options = {
 
 # The order of the pages. Each stands in the first of these groups that has it.
 GROUPS = {
-    "Use": ["docs/GUIDE", "docs/PROGRAM", "docs/USING", "bindings/python/*", "bindings/rust/*",
-            "apps/web/*", "apps/broadcast/*",
-            "apps/*", "packaging/*"],
+    "Use": ["docs/GUIDE", "docs/PROGRAM", "docs/USING", "bindings/*", "apps/*", "packaging/*"],
     "Look up": ["docs/site/*", "docs/PROTOCOL", "docs/SESSIONS"],
-    "Trust": ["docs/PROMISES", "crates/PROMISES", "docs/ARCHITECTURE", "docs/TESTING",
-              "docs/DECISIONS", "tests/bench/*", "bindings/c/fuzz/*"],
+    "Trust": ["docs/PROMISES", "crates/*", "docs/ARCHITECTURE", "docs/TESTING",
+              "docs/DECISIONS", "tests/*"],
     "Take part": ["CONTRIBUTING", "*"],
 }
 # What Sphinx doesn't make.
