@@ -38,7 +38,7 @@ breathe_doxygen_config_options = {
 # The order of the pages. Each stands in the first of these groups that has it.
 GROUPS = {
     "Use": ["docs/GUIDE", "docs/PROGRAM", "docs/USING", "bindings/*", "apps/*", "packaging/*"],
-    "Look up": ["docs/site/*", "docs/PROTOCOL", "docs/SESSIONS"],
+    "Look up": ["docs/site/*", "docs/PROTOCOL", "tests/sessions/*"],
     "Trust": ["docs/PROMISES", "crates/*", "docs/ARCHITECTURE", "docs/TESTING",
               "docs/DECISIONS", "tests/*"],
     "Take part": ["CONTRIBUTING", "*"],

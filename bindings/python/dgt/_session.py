@@ -1,5 +1,5 @@
-"""Sessions: the bytes between a host and a board with their times, as text. docs/SESSIONS.md
-describes the format."""
+"""Sessions: the bytes between a host and a board with their times, as text.
+tests/sessions/README.md describes the format."""
 
 from __future__ import annotations
 

@@ -3,7 +3,7 @@
 The file is a session: each chunk of bytes is a line, with its time and its
 direction. Each line that you type is added as a note: type what you do on the
 board. Each new position and each fault of the line is noted, too. Press Ctrl-C
-to stop. docs/SESSIONS.md describes the file, and dgt-replay plays it.
+to stop. tests/sessions/README.md describes the file; dgt-replay plays it.
 
 It follows the board by itself. With --pass it prints the name of a
 pseudo-terminal instead. Let a program open that instead of the board's port:
