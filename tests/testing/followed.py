@@ -142,11 +142,11 @@ def a_trainer_waits(dgt, line, words):
 
 
 def first_program(language, port):
-    """The one program of README.md and docs/USING.md in a language that names a port, for this
+    """The first program of README.md and docs/USING.md in a language that names a port, for this
     port."""
     text = "\n".join((ROOT / page).read_text() for page in ("README.md", "docs/USING.md"))
     blocks = re.findall(rf"^```{language}\n(.*?)^```", text, re.M | re.S)
-    [program] = [block for block in blocks if PORT in block] or [""]
+    program = next((block for block in blocks if PORT in block), "")
     wanted(f"ports in the program in {language}", program.count(PORT), 1)
     return program.replace(PORT, str(port))
 
