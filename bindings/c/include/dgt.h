@@ -10,11 +10,11 @@
  *     static dgt_follower follower;                 // 23 KiB
  *     uint8_t out[DGT_MAX_ASKING], chunk[256];
  *     uint64_t due;
- *     if (!dgt_follower_new(&follower, 10000, 6)) return 1; // the linked library's size differs
+ *     if (!dgt_follower_new(&follower, 10000, 6)) return 1; // header and library don't match
  *     for (;;) {
  *         dgt_sent asked = dgt_follower_ask(&follower, now(), out, sizeof out);
  *         write(line, out, asked.bytes);            // 0 bytes if none is due
- *         if (!dgt_follower_due_at(&follower, &due)) return 1; // with such a period none is due
+ *         if (!dgt_follower_due_at(&follower, &due)) return 1; // so long a period never ends
  *         ...                                       // wait for bytes until `due`, and read n
  *         dgt_follower_hear_all(&follower, now(), chunk, n);
  *     }
@@ -346,7 +346,7 @@ typedef struct dgt_command {
  *     static dgt_host host;                         // 22 KiB
  *     uint8_t out[DGT_RESTART_LENGTH], body[DGT_MAX_BODY];
  *     dgt_event event;
- *     if (!dgt_host_new(&host)) return 1;           // the linked library's size differs
+ *     if (!dgt_host_new(&host)) return 1;           // header and library don't match
  *     dgt_sent sent = dgt_host_restart(&host, out, sizeof out);
  *     write(line, out, sent.bytes);
  *     while ((n = read(line, chunk, sizeof chunk)) > 0)
@@ -427,8 +427,8 @@ dgt_sent dgt_host_restart(dgt_host *host, uint8_t *out, size_t n)
 dgt_sent dgt_host_send(dgt_host *host, uint8_t code, uint8_t *out, size_t n)
     DGT_MUST_USE_ DGT_NONNULL_(1) DGT_WRITES_(3, 4);
 
-/* Sends the clock message with this id and this payload. Returns DGT_NO_COMMAND if the payload is
- * longer than DGT_MAX_PAYLOAD bytes. */
+/* Sends the clock message with this id and this payload; dgt_host_send with DGT_SEND_CLOCK requests
+ * the times. Returns DGT_NO_COMMAND if the payload is longer than DGT_MAX_PAYLOAD bytes. */
 dgt_sent dgt_host_send_clock(dgt_host *host, uint8_t id, const uint8_t *payload, size_t payload_len,
                              uint8_t *out, size_t n)
     DGT_MUST_USE_ DGT_NONNULL_(1) DGT_READS_(3, 4) DGT_WRITES_(5, 6);
@@ -1023,9 +1023,9 @@ dgt_encoded dgt_encode_command(uint8_t code, uint8_t id, const uint8_t *carried,
 bool dgt_view_command(const uint8_t *word, size_t word_len, dgt_command *command)
     DGT_MUST_USE_ DGT_NONNULL_(3) DGT_READS_(1, 2) DGT_WRITES_(3);
 
-/* ---- What a board has stored, and the meaning of bytes that messages carry unread. The published
- * protocol leaves these bytes open: these calls read them as other programs do. They were not
- * tested with a clock or a board. */
+/* ---- What a board has stored, and the meaning of bytes that messages carry unread.
+ * The published protocol leaves these bytes open: these calls read them as other programs do. They
+ * were not tested with a clock or a board. */
 
 /* A board stores its pieces and its clock while no host is connected. It sends all that after the
  * byte 49, for which there is no call: write the byte to the line. The reply is a DGT_EVENT_OTHER

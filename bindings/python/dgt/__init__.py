@@ -33,7 +33,7 @@ reads the bytes that have arrived (`in_waiting`), or else one. `hear_each` hears
 have taken the event before it, so the picture is the picture after that event. `hear` hears the
 whole chunk first.
 
-The package contains:
+The package contains::
 
     follow, ports   follow the board on a port, and list the ports; follow_async uses asyncio
     Host            makes commands, takes in a board's bytes, keeps the picture and the clock
