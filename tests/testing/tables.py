@@ -165,14 +165,17 @@ class Table(games.Hand):
         for step in text.split():
             self.put(self.dgt.square_number(step[:2]), step[2])
 
-    def moves(self, text):
-        """Makes moves by their long names, a second after each other."""
+    def moves(self, text, state=None):
+        """Makes moves by their long names, a second after each other, from the state of the game or
+        another one. Returns that after them."""
         for move in text.split():
-            after = self.recogniser.state.after(move).letters
+            made = (state or self.recogniser.state).after(move)
+            state, after = state and made, made.letters
             changed = [square for square in range(64) if self.squares[square] != after[square]]
             for square in sorted(changed, key=lambda each: after[each] != "."):
                 self.put(square, after[square])
             self.rest(1)
+        return state
 
     def set_up(self, letters, last="Kk"):
         """Takes all pieces off and puts others, these kinds last."""

@@ -11,7 +11,7 @@ from collections.abc import Iterable
 from typing import Any, Protocol
 
 from .following import BoardView
-from .games import _HINT_WAIT, _LONG_DOUBT, _misplaced, _root
+from .games import _LOST_WAIT, _LONG_DOUBT, _misplaced, _root
 from .moves import GameBegun, MoveEvent, MoveMade, MoveRecogniser
 from .pgn import san
 from .rules import GameState
@@ -63,7 +63,7 @@ class Game:
     def see(self, view: BoardView, now: float) -> None:
         """Notes a view of the board."""
         if view.in_doubt or view.picture is None:
-            self.recogniser.hold()
+            self.recogniser.hold(view.picture)
         else:
             self._take(self.recogniser.see(view.picture, now, view.confirmed))
 
@@ -143,7 +143,7 @@ class Board:
     def set_up(self, game: Game, state: GameState) -> None:
         """Continues a game from this state."""
         now = time.monotonic()
-        self._hint_at = now + _HINT_WAIT
+        self._hint_at = now + _LOST_WAIT
         game.set_up(state)
         if game in self.games:  # else another board is on the port now
             game.see(self.view, now)
@@ -156,7 +156,7 @@ class Board:
         if view.clock != self.view.clock:
             self._clock_at = time.time()
         if view.picture != self.view.picture or view.away:
-            self._hint_at = now + _HINT_WAIT
+            self._hint_at = now + _LOST_WAIT
         self.view = view
         if view.in_doubt or view.picture is None:
             self._doubted_at = float("-inf") if view.away else min(self._doubted_at, now)

@@ -166,10 +166,16 @@ class LoggedGames:
     def _begin(self, letters: str) -> None:
         """The board shows this position, whatever it showed before."""
         # Only the usual starting position may begin a game.
-        self._keeper = Games(self._tell, lambda _: None, None, self._tags, self._side, START_FEN)
+        self._keeper = Games(self._tell_made, lambda _: None, None, self._tags, self._side,
+                             START_FEN)
         self._letters, self._put = letters, -1
         self._now += _REST
         self._show()
+
+    def _tell_made(self, line: str) -> None:
+        """Prints a line of the keeper. No position is `lost` for its rest, which is assumed."""
+        if line.split()[0] not in ("lost", "found"):
+            self._tell(line)
 
     def _show(self) -> None:
         """Passes the position and the clock to the keeper."""

@@ -9,8 +9,12 @@ Standard output gets a line for each event:
     undo 1. e4 e2e4             a move was taken back, or is replaced by the one
                                 in the next line
     result 1-0 kings            the result, by the kings, mate or stalemate
-    broken off                  the board was away, and came back with another
-                                position
+    lost g3. g1N                the board rests in a position that no move leads
+                                to, until these squares are put right: g3 empty,
+                                a white knight on g1
+    found                       a move leads on, or the squares are put right
+    broken off                  another game begins, and moves of this one are
+                                missing: the PGN has a comment
 
 A game begins when all pieces are on their starting squares, on either side of
 the board. Any other position begins one if it rests for a second at the start,
@@ -26,18 +30,19 @@ second on
     e5 and d4             Black wins
     e4 and e5, or d4, d5  a draw
 
-Either king may be on either square, and the other pieces don't matter. Mate and
-stalemate end a game by themselves. After the end no moves are recorded until a
-new game begins.
+Either king may be on either square. The other pieces stand as in the game, but
+for one, and may be lifted. Mate and stalemate end a game by themselves. After
+the end no moves are recorded until a new game begins.
 
 The PGN file is written after each move. Its other contents stay, and games are
 appended. If it can't be written, standard error says so, the game goes on, and
 each move tries again.
 
-If the port disappears, dgt-game looks for it every two seconds. The game then
-goes on with up to two moves that were made meanwhile. If the board shows
-another position for five seconds, the game is broken off, and another begins
-with that position.
+While the line loses bytes, no move is recorded. The pictures in doubt show in
+which order moves were made. If the port disappears, dgt-game looks for it every
+two seconds. The game then goes on with up to two moves that were made
+meanwhile. If the board shows another position for five seconds, the game is
+broken off, and another begins with that position.
 
 When a flag of the clock falls, standard error says so once. The flag alone is
 not a result.

@@ -28,15 +28,17 @@ _LONG_DOUBT = 5.0
 """After this many seconds in doubt, more moves may have been made than can be recognised."""
 _CLOCK_WAIT = 2.0
 """The seconds after which the last move's time is written to the file."""
-_HINT_WAIT = 3.0
-"""The seconds before a hint about a position that no move leads to."""
+_LOST_WAIT = 3.0
+"""The seconds after which a game is lost in a position that no move leads to."""
+_SETTING_UP_WAIT = 10.0
+"""The same if more than `_MOST_WRONG` squares are wrong: somebody may be setting up pieces."""
 _MOST_WRONG = 4
-"""The most wrong squares in a hint: with more, somebody is setting up pieces."""
 _MOST_SEEN = 256
 _CENTRE = {frozenset(("e4", "d5")): "1-0", frozenset(("e5", "d4")): "0-1",
            frozenset(("e4", "e5")): "1/2-1/2", frozenset(("d4", "d5")): "1/2-1/2"}
 """The result by the squares of both kings, which are adjacent: no legal position."""
 _BROKEN_OFF = "broken off: the board was away, and came back with another position"
+_LOST = "broken off: no move leads to the position after this"
 
 
 class GameStore(Protocol):
@@ -103,16 +105,17 @@ class Games(Uncopied):
         self._is_over, self._is_end_told, self._final_at = False, False, 0.0
         self._result, self._result_at = "", 0.0
         self._is_confirmed = False
-        self._hint_at: float | None = None
-        self._hinted = ""
+        self._lost, self._advice = dict[str, str](), ""
+        self._lost_at: float | None = None
         self._save_at: float | None = None
         self._is_in_file, self._fault = False, ""
 
     @property
     def due(self) -> float | None:
         """The time at which to call `tick`."""
-        times = (self.recogniser.due, self._hint_at, self._save_at,
-                 self._result_at if self._result and self._is_confirmed else None)
+        times = [self.recogniser.due, self._save_at]
+        if self._is_confirmed:
+            times += [self._lost_at, self._result_at if self._result else None]
         return min((each for each in times if each is not None), default=None)
 
     @property
@@ -120,6 +123,19 @@ class Games(Uncopied):
         """Whether something waits for a confirmation of the picture. `Follower.ask_now` requests
         one at once. A source without confirmations has to mark each sure view as confirmed."""
         return self.recogniser.unconfirmed or bool(self._result) and not self._is_confirmed
+
+    @property
+    def lost(self) -> dict[str, str]:
+        """The squares to put right, each with the letter of the piece that belongs there, or `.`,
+        since the board has rested in a position that no move leads to. Empty if the game is over,
+        or has gone on, or the board has shown its position again."""
+        return {} if self._is_over else dict(self._lost)
+
+    @property
+    def advice(self) -> str:
+        """What to put where while the game is `lost`, such as `put the white knight from g3 on f3`.
+        Otherwise empty."""
+        return self._advice if self.lost else ""
 
     def see(self, view: BoardView, now: float) -> None:
         """Notes the view from this time on. `TypeError` if it isn't a `BoardView`."""
@@ -131,28 +147,31 @@ class Games(Uncopied):
             return
         self._trust(now)
         letters = view.picture.letters
-        if letters != self._letters:
-            self._letters, self._hint_at = letters, now + _HINT_WAIT
+        if is_other := letters != self._letters:
+            self._letters = letters
             self._seen.append((letters, self._clock))
         if self._is_new:
             self._warn(f"the board shows {view.picture}")
             self._is_new = False
-        is_lost = self.recogniser.lost
+        is_lost = self.recogniser.lost_track
         self._take(self.recogniser.see(view.picture, now, view.confirmed), is_lost, now)
+        if is_other:
+            is_set_up = len(self._wrong) > _MOST_WRONG
+            self._lost_at = now + (_SETTING_UP_WAIT if is_set_up else _LOST_WAIT)
         self._look_at_kings(now)
         self._learner.see(self._shown, self._clock)
         self._learn()
 
     def tick(self, now: float) -> None:
         """Notes that the board hasn't changed until this time."""
-        is_lost = self.recogniser.lost
+        is_lost = self.recogniser.lost_track
         self._take(self.recogniser.tick(now), is_lost, now)
         self._learn()
         if self._result and now >= self._result_at and self._is_confirmed:
-            self._end(self._result, "kings", now)
-        if self._hint_at is not None and now >= self._hint_at:
-            self._hint_at = None
-            self._hint()
+            self._end_by_kings(now)
+        if self._lost_at is not None and now >= self._lost_at and self._is_confirmed:
+            self._lost_at = None
+            self._look_whether_lost()
         if self._save_at is not None and now >= self._save_at:
             self._save()
 
@@ -233,6 +252,14 @@ class Games(Uncopied):
         state = self.recogniser.state
         return state is not None and self._shown == state.letters
 
+    @property
+    def _wrong(self) -> dict[str, str]:
+        """The squares that differ from the game's position, each with the letter there."""
+        state = self.recogniser.state
+        return {} if state is None else {
+            square: right for square, shown, right in zip(SQUARES, self._shown, state.letters)
+            if shown != right}
+
     def _note_away(self, view: BoardView) -> None:
         away = view.away or ""
         if away != self._away and away:
@@ -241,13 +268,13 @@ class Games(Uncopied):
 
     def _doubt(self, view: BoardView, now: float) -> None:
         """Notes that the picture isn't sure."""
-        self.recogniser.hold()
+        self.recogniser.hold(view.picture)
         if self._doubted_at is None:
             self._doubted_at = now
         if view.away:
             self._doubted_at = float("-inf")
         self._letters = self._result = ""
-        self._hint_at = None
+        self._lost_at = None
 
     def _trust(self, now: float) -> None:
         """Notes that the picture is sure."""
@@ -329,6 +356,9 @@ class Games(Uncopied):
 
     def _take(self, events: list[MoveEvent], is_lost: bool, now: float) -> None:
         is_replaced = [type(event) for event in events] == [MoveTakenBack, MoveMade]
+        is_next = any(isinstance(event, GameBegun) for event in events)
+        if self.lost and (events or self._is_as_told) and not is_next:
+            self._find()
         for event in events:
             self._lifted.clear()
             if isinstance(event, GameBegun):
@@ -355,8 +385,8 @@ class Games(Uncopied):
         return not self._is_over
 
     def _begin(self, event: GameBegun, is_lost: bool) -> None:
-        if self.game is not None and is_lost and not self._is_over:
-            self.game.comment = _BROKEN_OFF
+        if self.game is not None and (is_lost or self._lost) and not self._is_over:
+            self.game.comment = _BROKEN_OFF if is_lost else _LOST
             self._report("broken off")
         self._save()
         tags = {"Date": time.strftime("%Y.%m.%d"), **self._tags}
@@ -364,7 +394,8 @@ class Games(Uncopied):
         self._text = _GameText(self.game)
         self._is_over = self._is_end_told = self._is_in_file = False
         self._settled = self._fixed = 0
-        self._result = ""
+        self._result = self._advice = ""
+        self._lost = {}
         self._seen.clear()
         self._learner = Learner(before=self._learner.before)  # clocks are turned between games
         self._is_white_left |= self._learns
@@ -409,8 +440,6 @@ class Games(Uncopied):
         assert self.game is not None
         self.game.result, self._result, self._is_over = result, "", True
         self._final_at = now + _FINAL_WAIT if why in ("mate", "stalemate") else now
-        if why == "kings":
-            self.recogniser.end_game()
         self._report(f"result {result} {why}")
 
     # ---- Corrections
@@ -442,7 +471,7 @@ class Games(Uncopied):
             self._lifted.clear()
         self._lifted |= {king for king in "Kk" if shown[state.letters.index(king)] != king}
         result = self._in_centre()
-        if len(self._lifted) < 2 or not result:
+        if len(self._lifted) < 2 or not result or self.recogniser._final is None:
             self._result = ""
         elif result != self._result:
             self._result, self._result_at = result, now + _KINGS_WAIT
@@ -454,18 +483,34 @@ class Games(Uncopied):
             return ""
         return _CENTRE.get(frozenset(SQUARES[shown.index(king)] for king in "Kk"), "")
 
-    def _hint(self) -> None:
-        """Prints a hint if a few pieces are on squares that no move leads to."""
-        state, shown = self.recogniser.state, self._shown
-        if state is None or self._is_over or self.recogniser.due is not None or not shown:
+    def _end_by_kings(self, now: float) -> None:
+        """Ends the game with the result of the kings, after moves that hadn't rested."""
+        result = self._result
+        self._take(self.recogniser.end_game(), False, now)
+        if not self._is_over:
+            self._end(result, "kings", now)
+
+    # ---- Positions that no move leads to
+
+    def _look_whether_lost(self) -> None:
+        """Reports that the game is lost, unless pieces are only lifted."""
+        state, shown, wrong = self.recogniser.state, self._shown, self._wrong
+        if state is None or self._is_over or self.recogniser.due is not None:
             return
-        if shown == self._hinted:
-            return
-        self._hinted = shown
-        if self._in_centre():
+        if self._in_centre() and len(self._lifted) < 2:
             self._warn("lift both kings to give the result")
-        elif misplaced := _misplaced(shown, state, _MOST_WRONG):
+        elif wrong != self._lost and (misplaced := _misplaced(shown, state, len(SQUARES))):
+            assert self.game is not None
+            self._lost, self._advice = wrong, to_put(shown, state.letters)
+            self.game.comment = _LOST
             self._warn(misplaced)
+            self._report(f"lost {' '.join(map(''.join, wrong.items()))}")
+
+    def _find(self) -> None:
+        """Reports that the game is found again."""
+        assert self.game is not None
+        self._lost, self._advice, self.game.comment = {}, "", ""
+        self._report("found")
 
     # ---- The file
 

@@ -6,7 +6,7 @@ import contextlib
 import copy
 from collections import deque
 from collections.abc import Callable, Collection, Iterable, Iterator
-from dataclasses import dataclass, replace
+from dataclasses import dataclass, field, replace
 from functools import lru_cache, partial
 from typing import Self
 
@@ -28,6 +28,8 @@ _REMEMBERED = 16
 """The number of remembered readings since the last report."""
 _PUT = 16
 """The number of remembered pieces that were put on squares."""
+_CENTRE = frozenset((27, 28, 35, 36))
+"""The squares d5, e5, d4 and e4, on which kings give the result."""
 _HALVES = {"h1f1": "e1g1", "a1d1": "e1c1", "h8f8": "e8g8", "a8d8": "e8c8"}
 """Each castling by the rook's move that may begin it."""
 
@@ -66,11 +68,12 @@ _Moves = tuple[tuple[str, GameState], ...]
 @dataclass(frozen=True, slots=True)
 class _Reading:
     """The meaning of a position: the number of the game's moves that stay, and the moves after
-    them."""
+    them. It isn't sure if the position was shown in doubt only."""
 
     kept: int
     root: GameState
     moves: _Moves = ()
+    is_sure: bool = field(default=True, compare=False)
 
     @property
     def state(self) -> GameState:
@@ -152,7 +155,7 @@ class MoveRecogniser:
     - A move from there to the present position replaces these moves. It has to rest for three
       seconds if it replaces more than the last move.
     - The starting position, also on a turned board, begins a new game, unless one of the first two
-      moves is taken back.
+      moves is taken back. It needs no confirmation if a first move follows.
     - Any other position begins a game if it rests for a second when the board is first seen. It
       also does if both kings were taken off and are back, and it rests for `set_up`. The first move
       decides which side was to move.
@@ -181,7 +184,8 @@ class MoveRecogniser:
         self._seen: list[_Reading] = []
         self._next: _Reading | tuple[GameState, ...] = ()
         self._due: float | None = None
-        self._is_confirmed = True
+        self._is_confirmed, self._is_held = True, False
+        self._start_shown: tuple[GameState, bool] | None = None  # unconfirmed, and whether turned
 
     def __copy__(self) -> Self:
         return copy.deepcopy(self)
@@ -230,14 +234,20 @@ class MoveRecogniser:
         if self._as_white(letters) == self._shown:
             self._is_confirmed = confirmed
         events = self.tick(now)
+        if not self._has_changed(letters) and not self._is_held:
+            return events
+        self._is_confirmed, self._is_held = confirmed, False
+        return events + self._look(now)
+
+    def _has_changed(self, letters: str) -> bool:
+        """Notes the letters on the board. Returns whether they are others than before."""
         shown = self._as_white(letters)
         if shown == self._shown:
-            return events
-        self._is_confirmed = confirmed
+            return False
         self._changed = set(_differing(self._shown, shown) if self._shown else ())
         self._put.extend((each, shown[each]) for each in self._changed if shown[each] != ".")
         self._shown = shown
-        return events + self._look(now)
+        return True
 
     def _as_white(self, letters: str) -> str:
         """The letters on the board from White's point of view."""
@@ -254,20 +264,27 @@ class MoveRecogniser:
         begun = [] if self._roots else self._begin((due.root,))
         return begun + self._take(due)
 
-    def hold(self) -> None:
-        """Drops a due move. Call it when the picture is in doubt; the next `see` looks again."""
-        self._shown, self._due = "", None
+    def hold(self, doubted: Position | None = None) -> None:
+        """Drops a due move. Call it with each picture in doubt: no move is made from it, but it
+        shows in which order moves were made. The next `see` looks again."""
+        self._due, self._is_held = None, True
+        if doubted is None:
+            self._shown = ""
+        elif self._has_changed(checked(doubted, Position).letters):
+            for _, reading in self._readings()[:1]:
+                self._remember(replace(reading, is_sure=False))
 
     @property
-    def lost(self) -> bool:
+    def lost_track(self) -> bool:
         """Whether moves may have been missed: `lose_track` was called, and since then nothing was
         reported, and the board hasn't shown the position of the game."""
         return self._is_lost
 
     def lose_track(self) -> None:
-        """Like `hold`, if moves may have been missed because the board was away. A position that no
-        move of the game leads to, with more than lifted pieces, then begins a game."""
-        self.hold()
+        """Drops a due move like `hold`, if moves may have been missed because the board was away. A
+        position that no move of the game leads to, with more than lifted pieces, then begins a
+        game."""
+        self._due, self._is_held = None, True
         self._is_lost = bool(self._roots)
 
     def replace(self, start: GameState, moves: Iterable[str]) -> None:
@@ -326,18 +343,43 @@ class MoveRecogniser:
         self._roots, self._moves, self._numbers = (), [], {}
         return False
 
-    def end_game(self) -> None:
-        """Notes that the players have ended the game with their kings. Both kings have to be taken
-        off again before another position is set up."""
-        self._set_up = False
+    def end_game(self) -> list[MoveEvent]:
+        """Notes that the players have ended the game with their kings in the centre. Returns the
+        events of the last moves, if the board has shown them and they hadn't rested. Both kings
+        have to be taken off again before another position is set up."""
+        self._set_up, final = False, self._final
+        return self._take(final) if final is not None else []
+
+    @property
+    def _final(self) -> _Reading | None:
+        """The reading before the kings were put in the centre: all other pieces, but one at most,
+        stand as in it or are lifted."""
+        readings = [*self._bases([len(self._moves)]), *reversed(self._seen)]
+        others = [(square, letter) for square, letter in enumerate(self._shown)
+                  if letter not in ".Kk" and square not in _CENTRE]
+        for most in (0, 1):
+            for reading in readings:
+                letters = reading.state.letters
+                if sum(letters[square] != letter for square, letter in others) <= most:
+                    return reading
+        return None
 
     def _look(self, now: float) -> list[MoveEvent]:
         """Reads the present position, and decides how long it has to rest."""
         self._due = None
+        if begun := self._begin_answered():
+            return begun + self._look(now)
+        if self._is_as_told:
+            self._forget()
+        elif "K" not in self._shown and "k" not in self._shown:
+            self._set_up = self._first is None or bool(self._roots)
         base, reading = next(iter(self._readings()), (None, None))
         if root := self._new_game(reading):
+            is_turned = self._shown != root.letters
             self._next, self._due = (root,), now
-            return self.tick(now)
+            events = self.tick(now)
+            self._start_shown = None if events else (root, is_turned)
+            return events
         if base is None or reading is None:
             wait = self._wait_for_game()
             if wait is not None and (roots := self._roots_shown()):
@@ -347,15 +389,37 @@ class MoveRecogniser:
             return []
         self._set_up = False
         events: list[MoveEvent] = []
-        if base in self._seen and len(reading.moves) == len(base.moves) + 1:  # it was answered
+        if (base in self._seen and base.is_sure
+                and len(reading.moves) == len(base.moves) + 1):  # it was answered
             events = self._take(base)
             reading = _Reading(len(self._moves), base.state, reading.moves[len(base.moves):])
-        # The latest is last; readings without a relation to the last change are first.
+        self._remember(reading)
+        self._next, self._due = reading, now + self._rest(reading)
+        return events
+
+    def _begin_answered(self) -> list[MoveEvent]:
+        """Begins a game whose starting position was shown, and left by its first move before it was
+        confirmed."""
+        if self._start_shown is None:
+            return []
+        root, is_turned = self._start_shown
+        shown = self._shown[::-1] if is_turned else self._shown
+        if not _one_move(root, shown):
+            return []
+        self._turned, self._shown = self._turned != is_turned, shown
+        return self._begin((root,))
+
+    def _remember(self, reading: _Reading) -> None:
+        """Notes a reading. The latest is last; those without a relation to the last change are
+        first."""
         likely = reading in self._seen or self._has_changed_last(reading)
         others = [each for each in self._seen if each != reading]
         self._seen = [*others, reading][-_REMEMBERED:] if likely else [reading, *others]
-        self._next, self._due = reading, now + self._rest(reading)
-        return events
+
+    @property
+    def _is_as_told(self) -> bool:
+        """Whether the board shows the last reported position."""
+        return any(base.state.letters == self._shown for base in self._bases([len(self._moves)]))
 
     def _bases(self, kept: Iterable[int]) -> list[_Reading]:
         """Returns the states after each number of moves: two before the first move, if the side to
@@ -368,12 +432,7 @@ class MoveRecogniser:
         it continues. Nothing if it is the last reported position, or lacks a king."""
         count, shown = len(self._moves), self._shown
         told, seen = self._bases([count]), list(reversed(self._seen))
-        if any(base.state.letters == shown for base in told):
-            self._forget()
-            return []
-        if "K" not in shown or "k" not in shown:
-            if "K" not in shown and "k" not in shown:
-                self._set_up = self._first is None or bool(self._roots)
+        if self._is_as_told or "K" not in shown or "k" not in shown:
             return []
         earlier = self._bases(range(count - 1, max(count - 1 - _REPLACED, -1), -1))
         near = earlier[:0 if self._set_up else 1 if self._is_early() else _REPLACED]
@@ -497,6 +556,7 @@ class MoveRecogniser:
 
     def _forget(self) -> None:
         """Notes that the present position is the reported one."""
+        self._start_shown = None
         self._seen.clear()
         self._set_up = self._is_ahead = self._is_lost = False
         self._due = None
