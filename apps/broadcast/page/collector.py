@@ -72,8 +72,8 @@ class Said:
     row: int = 0  # of the state
 
     def view(self) -> dgt.BoardView:
-        """The same as a view of `dgt.follow`. A board in doubt counts as away, too: more moves may
-        be made meanwhile than can be recognised."""
+        """The same as a view of `dgt.follow`. A board in doubt counts as away, too: moves may be
+        missed meanwhile."""
         return dgt.BoardView(dgt.Position.of_letters(self.letters), clock_of(self.clock),
                              not self.is_sure, None if self.is_sure else self.state,
                              self.is_sure and self.is_confirmed)
@@ -205,20 +205,39 @@ def said_of(board: topics.Board, at: float, row: int) -> Said:
                 board.players, board.is_confirmed, row)
 
 
+def contradiction(said: list[Said], doubt: int) -> tuple[int, list[int]]:
+    """Which report since a doubt contradicts the one before it, and on which squares, if one does.
+    A report of all squares changes several at once, and hands change one after the other."""
+    end = next(at for at in range(doubt, len(said)) if said[at].is_sure)
+    changed = [(at, [square for square in range(64)
+                     if said[at - 1].letters[square] != said[at].letters[square]])
+               for at in range(doubt, end + 1)]
+    some = [each for each in changed if each[1]]
+    several = [each for each in some if len(each[1]) > 1]
+    return (several or some)[0] if several or len(some) == 1 else (doubt, [])
+
+
+def is_capture(wrong: str, right: str, start: int, end: int) -> bool:
+    """Whether a piece of one side has taken one of the other between two positions."""
+    return (right[start] == "." and wrong[start] == right[end]
+            and wrong[end] != "." and wrong[end].isupper() != right[end].isupper())
+
+
 def correct(said: list[Said], before: str) -> None:
     """Corrects a board's reports from one confirmed position to the next. If a report of all
     squares, after a doubt, contradicts the change of a square, the square didn't change."""
     doubt = next((at for at, each in enumerate(said) if each.state == "doubt"), 0)
     if not doubt or any(each.state in AWAY for each in said):
         return
-    wrong = said[doubt - 1].letters
-    right = next(each.letters for each in said[doubt:] if each.is_sure)
-    squares = [square for square in range(64) if wrong[square] != right[square]]
+    end, squares = contradiction(said, doubt)
+    wrong, right = said[end - 1].letters, said[end].letters
+    if any(is_capture(wrong, right, *pair) for pair in (squares, squares[::-1]) if len(pair) == 2):
+        return  # it was made during the doubt
     for square in squares if len(squares) <= MOST_WRONG else ():
-        since = next((at for at in range(doubt - 1, -1, -1)
+        since = next((at for at in range(end - 1, -1, -1)
                       if said[at].letters[square] != wrong[square]), -1) + 1
         if since or before[square:square + 1] != wrong[square]:
-            for each in said[since:doubt]:
+            for each in said[since:end]:
                 each.letters = each.letters[:square] + right[square] + each.letters[square + 1:]
 
 
@@ -430,6 +449,7 @@ class Table:
     begun: int = 0  # the game that began last, and the first row with its beginning
     since: int = 0
     record: tuple[Any, bytes, str] = None, b"", ""  # the game as JSON, and of when
+    advice: str = ""  # the reported one
     journal: str = ""
     shift: float = 0.0  # of the journal's times
     at: float = 0.0  # the board's time, of its last entry
@@ -660,9 +680,16 @@ class Collector:
         table.set_due()
         if table.place.done:
             self.finish(name, table, table.place.count - 1)
+        if (advice := table.games.advice) != table.advice:
+            table.advice = advice
+            self.report_lost(name, advice)
         if (state := table.state()) != table.told:
             table.told = state
             self.tell(name, summary(table.games), table.games.recogniser.turned)
+
+    def report_lost(self, name: str, advice: str) -> None:
+        """Reports what to put right on a board, or that its game isn't lost any more."""
+        report(f"{name!r}: no move leads to this: {advice}" if advice else f"{name!r}: found again")
 
     def add(self, name: str) -> Table:
         place = Place(self.shelf, name, self.counts.get(name, 0))

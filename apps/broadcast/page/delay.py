@@ -78,6 +78,9 @@ class Late(corrected.Corrected):
             self.boards.show_time(said)
         return said
 
+    def report_lost(self, name: str, advice: str) -> None:
+        """It was reported already."""
+
     def take(self, row: int, journal: str, name: str, at: float, entry: Any) -> None:
         if isinstance(entry, list):
             self.boards.show(journal, name, round(1000 * at), entry)

@@ -179,7 +179,8 @@ class Desk(web.Visit):
         link = (f'<a href="/desk?{urllib.parse.urlencode({"board": name})}" '
                 f'aria-label="Board {quoted(name)}">{quoted(name)}</a>')
         white, black = (players["white"], players["black"]) if players else ("?", "?")
-        state = event["state"]
+        advice = advice_of(game)
+        state = f"lost: {advice}" if advice and event["state"] == "following" else event["state"]
         mark = "" if state == "following" else ' class="bad"'
         return (f'<tr><th scope="row">{link}</th><td>{quoted(white)}</td><td>{quoted(black)}</td>'
                 f'<td>{clocks(event)}</td>'
@@ -209,6 +210,8 @@ class Desk(web.Visit):
         now = "" if event is None or chosen != last else (
             f'<p>{quoted(event["state"])}. Clock (left, right): {clocks(event)}. '
             f"On the board: {quoted(event['placement'])}</p>")
+        if now and event and (advice := advice_of(event["game"])):
+            now += f'<p class="bad">No move leads to this: {quoted(advice)}</p>'
         told = shown(game) if game else "No game has begun on this board."
         live = f'<p><a href="/desk">All boards</a> {links}</p>{now}<p>{quoted(told)}</p>'
         title = f"Board {name}, game {chosen}" if game else f"Board {name}"
@@ -312,6 +315,11 @@ def clocks(event: dict[str, Any]) -> str:
     times = [f"{each // 3600}:{each // 60 % 60:02}:{each % 60:02}"
              for each in (clock["left"], clock["right"])]
     return f"{' '.join(times)}{' runs' if clock['running'] else ''}"
+
+
+def advice_of(game: dict[str, Any] | None) -> str:
+    """What to put where, if no move leads to the position on the board."""
+    return str(game["lost"]["advice"]) if game and game["lost"] else ""
 
 
 def last_moves(game: dict[str, Any] | None) -> str:

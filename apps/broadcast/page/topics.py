@@ -171,6 +171,7 @@ class Board:
 
     name: str
     said: dict[str, Any] = field(default_factory=dict)  # the last content of each topic
+    sure: tuple[int, dgt.Position] | None = None  # the last position, but for those in doubt
     game: dict[str, Any] | None = None
     is_turned: bool = False  # White's pieces began on the ranks 8 and 7
     texts: dict[str, str] = field(default_factory=dict)  # the same as text
@@ -239,6 +240,7 @@ class Board:
         else:
             self.said[topic] = said
         self.texts[topic] = text
+        self.note_sure()
         if topic == POSITION:
             self.is_fresh = said is not None
             if said is None:
@@ -253,6 +255,12 @@ class Board:
             self.compare_clock(entry.get(CLOCK))
         self.said = {**entry, COUNTERS: self.said.get(COUNTERS, {})}
         self.is_fresh = True
+        self.note_sure()
+
+    def note_sure(self) -> None:
+        """Notes the position that pages show: in doubt it is the one before."""
+        if self.state != "doubt" or not self.is_shown:
+            self.sure = self.said.get(POSITION)
 
     def compare_clock(self, new: Clock | None) -> None:
         """Notes which side of a new reading has less time."""
@@ -288,7 +296,7 @@ class Board:
 
     def event(self) -> dict[str, Any]:
         """The event for a page. `at` of the clock is the `moment` at which it was read."""
-        count, position = self.said[POSITION]
+        count, position = self.sure or self.said[POSITION]
         placement, clock, game = str(position), self.clock, dict(self.game or {})
         players = game.pop("players", None) or self.players
         return {

@@ -25,6 +25,7 @@ def summary(games: dgt.Games) -> Summary | None:
         "last": [last[:2], last[2:4]] if last else None,
         "result": game.result,
         "white_side": games.white_clock,
+        "lost": {"squares": games.lost, "advice": games.advice} if games.lost else None,
         "players": players(game),
     }
 
