@@ -22,6 +22,7 @@ export class Games {
   #count = 0;
   /** @type {{} | undefined} */
   #last;
+  #wasLost = false;
 
   constructor() {
     this.#change(all => all);
@@ -33,8 +34,9 @@ export class Games {
    * @param {import("../../bindings/javascript/moves.js").Game} game
    */
   keep(game) {
-    const { line } = game, last = line.at(-1);
-    if (last === this.#last) return;
+    const { line, lost } = game, last = line.at(-1), isLost = lost.length > 0;
+    if (last === this.#last && isLost === this.#wasLost) return;
+    this.#wasLost = isLost;
     const isTakenBack = line === this.#of && line.length < this.#count;
     if (line !== this.#of || line.length < 2) this.at = Date.now();
     [this.#of, this.#last, this.#count] = [line, last, line.length];

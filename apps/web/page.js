@@ -34,6 +34,7 @@ const LACKS = {
   "": "",
   late: "No moves: this page has not seen the starting position. Set up the pieces for a game.",
   turned: "No moves: the board is turned round. Turn it, or the pieces.",
+  lost: "No move leads to this",
 };
 const seen = drawing("seen"), table = drawing("table"), games = new Games();
 /** @type {Library} */
@@ -75,9 +76,10 @@ function drawNow() {
     isAdvised = !isAdvised;
     say(isAdvised ? ADVICE : "");
   }
-  const { moves, ended, lacks } = session?.game ?? NO_GAME;
+  const { moves, ended, lacks, lost, advice } = session?.game ?? NO_GAME;
   drawMoves([...moves, ended].filter(Boolean));
-  write(find("lacks"), LACKS[lacks]);
+  write(find("lacks"), LACKS[lacks] + (lacks === "lost" ? `: ${advice}.` : ""));
+  seen.frame(lost);
   if (session) games.keep(session.game);
   drawGames();
   find("save").hidden = !moves.length;
@@ -148,7 +150,8 @@ function drawState(state) {
 function drawTable({ pieces, lit, shown, carried, altered, isPlugged, isOn, noise }) {
   table.draw(lettersOf(library, pieces), `The board on the table: ${library.placement(pieces)}`);
   table.frame(lit);
-  seen.frame(session?.picture ? library.differ(pieces, session.picture) : []);
+  const wrong = session?.picture ? library.differ(pieces, session.picture) : [];
+  if (wrong.length) seen.frame(wrong);
   write(find("wire"), shown ? `the clock shows “${shown}”` :
     `${carried} bytes, ${altered} altered`);
   press(find("cable"), !isPlugged, "Pull the cable", "Plug it in");

@@ -98,6 +98,7 @@ export class Session {
     this.isOpen = false;
     clearTimeout(this.#timer);
     this.follower.lineLost();
+    this.game.doubt();
     this.#askedAt = this.#askedBefore = -Infinity;
     try {
       this.#reader?.releaseLock();
@@ -133,6 +134,7 @@ export class Session {
     this.page.note("fault", `line: ${fault}`);
     this.#disturbedUntil = performance.now() + LATE;
     this.follower.lineDisturbed();
+    this.game.doubt();
     this.#drive();
     this.page.changed();
   }
@@ -159,7 +161,8 @@ export class Session {
     const { picture } = follower;
     if (!picture) return;
     this.picture = picture;
-    if (!follower.inDoubt) this.game.see(lettersOf(dgt, picture));
+    if (follower.inDoubt) this.game.doubt();
+    else this.game.see(lettersOf(dgt, picture), now);
   }
 
   // Sends a request if one is due and the line has taken the one before.
@@ -176,6 +179,7 @@ export class Session {
       this.#seeOthers();
     }
     this.#timer = setTimeout(() => {
+      if (this.state === "confirmed") this.game.rest(performance.now());
       this.#drive();
       this.page.changed();
     }, Math.min(500, Math.max(10, Math.ceil(this.follower.dueAt - now))));

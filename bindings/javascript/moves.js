@@ -198,11 +198,55 @@ function resultAt(position) {
   return !isInCheck(position) ? "1/2-1/2" : position.isWhite ? "0-1" : "1-0";
 }
 
+const HOMES = /** @type {[string, number, number][]} */ (
+  [["K", 60, 63], ["Q", 60, 56], ["k", 4, 7], ["q", 4, 0]]);
+
+/**
+ * A position, with each castling whose pieces stand at home, or null if it isn't legal.
+ * @param {string} letters @param {boolean} isWhite  the side to move
+ * @returns {Position | null}
+ */
+function placed(letters, isWhite) {
+  const hasKings = /^[^K]*K[^K]*$/.test(letters) && /^[^k]*k[^k]*$/.test(letters);
+  if (!hasKings || /[Pp]/.test(letters.slice(0, 8) + letters.slice(56))) return null;
+  const castles = HOMES.filter(([side, king, corner]) =>
+    letters[king] === coloured("k", side <= "Z") &&
+    letters[corner] === coloured("r", side <= "Z")).map(([side]) => side).join("");
+  const isLegal = !isInCheck({ letters, isWhite: !isWhite, castles, passant: -1 });
+  return isLegal ? { letters, isWhite, castles, passant: -1 } : null;
+}
+
+/** @param {Position} position */
+function fenOf({ letters, isWhite, castles }) {
+  const rows = (letters.match(/.{8}/g) ?? []).map(row =>
+    row.replace(/\.+/g, empty => String(empty.length)));
+  return `${rows.join("/")} ${isWhite ? "w" : "b"} ${castles || "-"} - 0 1`;
+}
+
+const NAMES = /** @type {Record<string, string>} */ (
+  { p: "pawn", r: "rook", n: "knight", b: "bishop", q: "queen", k: "king" });
+
+/** @param {string} letter */
+const pieceName = letter =>
+  `${letter <= "Z" ? "white" : "black"} ${NAMES[letter.toLowerCase()] ?? "piece"}`;
+
+// The rest of a position in milliseconds until a game is lost, also if pieces may be set up, and
+// until another one begins; and the time that is left to put pieces right.
+const LOST = 3000, LOST_SETTING_UP = 10_000, NEW = 5000, PATIENCE = 60_000;
+const MOST_WRONG = 4, MOST_STEPS = 6;
+
 /** Recognises the moves of a game in the pictures of a board. */
 export class Game {
   /** @type {{position: Position, text: string}[]} the first one has no text */
   line = [];
+  /** @type {number[]} the squares to put right if no move leads to the position */
+  lost = [];
+  /** @type {Position[]} the first position, with each side to move if that isn't known */
+  #roots = [BEGIN];
   #seen = "";
+  #since = 0;
+  #isBehind = false; // a position may have been missed
+  #strayedAt = NaN; // when no move led to the picture
   /** @type {{of: Position | undefined, is: string}} the result found last */
   #found = { of: undefined, is: "*" };
 
@@ -210,11 +254,65 @@ export class Game {
    * Takes the next picture. It ignores a picture that isn't a position of the game, for instance
    * while a hand holds a piece. Returns whether the moves have changed.
    * @param {string} picture  64 letters, or the placement of a FEN
+   * @param {number} now  milliseconds
    */
-  see(picture) {
+  see(picture, now = 0) {
     const letters = picture.replaceAll("/", "").replace(/\d/g, n => ".".repeat(Number(n)));
+    if (letters !== this.#seen) [this.#seen, this.#since] = [letters, now];
+    const isChanged = this.#read(letters);
+    if (this.line.at(-1)?.position.letters === letters) {
+      this.#isBehind = false;
+      this.#strayedAt = NaN;
+      this.lost = [];
+    }
+    return isChanged;
+  }
+
+  /** Notes that the picture is in doubt, so that positions may be missed. */
+  doubt() {
+    this.#isBehind = true;
+  }
+
+  /**
+   * Notes that a confirmed picture hasn't changed until now. If no move leads to it, the game is
+   * lost after three seconds. Another one begins with it after five if positions may have been
+   * missed, or a minute has passed since no move led to a picture.
+   * @param {number} now  milliseconds
+   */
+  rest(now) {
+    const last = this.line.at(-1)?.position.letters, letters = this.#seen;
+    if (!last || last === letters || this.ended) return;
+    const wrong = [...last].map((_, n) => n).filter(n => last[n] !== letters[n]);
+    if (wrong.every(n => letters[n] === ".")) return; // lifted
+    const rest = now - this.#since;
+    if (isNaN(this.#strayedAt)) this.#strayedAt = now;
+    if (rest >= (wrong.length > MOST_WRONG ? LOST_SETTING_UP : LOST)) this.lost = wrong;
+    const roots = [true, false].flatMap(isWhite => placed(letters, isWhite) ?? []);
+    const isLong = this.#isBehind || now >= this.#strayedAt + PATIENCE;
+    if (!roots.length || rest < NEW || !isLong) return;
+    this.#roots = roots;
+    this.line = [{ position: roots[0], text: "" }];
+    this.lost = [];
+  }
+
+  /** What to put where if the game is lost. */
+  get advice() {
+    const right = this.line.at(-1)?.position.letters ?? "", seen = this.#seen;
+    const wrong = this.lost.filter(n => seen[n] !== right[n]);
+    const extra = wrong.filter(n => seen[n] !== ".");
+    const puts = wrong.filter(n => right[n] !== ".").map(n => {
+      const at = extra.findIndex(from => seen[from] === right[n]);
+      const from = at < 0 ? "" : ` from ${nameOf(extra.splice(at, 1)[0])}`;
+      return `put the ${pieceName(right[n])}${from} on ${nameOf(n)}`;
+    });
+    const all = [...extra.map(n => `take the ${pieceName(seen[n])} off ${nameOf(n)}`), ...puts];
+    const more = all.length > MOST_STEPS ? [`and ${all.length - MOST_STEPS} more`] : [];
+    return [...all.slice(0, MOST_STEPS), ...more].join("; ");
+  }
+
+  /** @param {string} letters */
+  #read(letters) {
     const last = this.line.at(-1);
-    this.#seen = letters;
     if (last?.position.letters === letters) return false;
     const before = this.line.at(-2);
     if (before?.position.letters === letters) { // taken back
@@ -224,6 +322,7 @@ export class Game {
     if (letters === BEGIN.letters) { // a new game
       const isNew = this.line.length > 1;
       this.line = [{ position: BEGIN, text: "" }];
+      this.#roots = [BEGIN];
       return isNew;
     }
     if (last && this.#moved(last.position, letters)) return true;
@@ -236,6 +335,7 @@ export class Game {
     // Two moves between two pictures, if no other pair leads there. They change at least three
     // squares.
     if (!last || differ(last.position.letters, letters) < 3) return false;
+    if (!before && this.#roots.length > 1) return false;
     const ways = legalMoves(last.position)
       .filter(({ from }) => last.position.letters[from] !== letters[from])
       .flatMap(one => legalMoves(one.after).filter(({ after }) => after.letters === letters)
@@ -247,9 +347,14 @@ export class Game {
 
   /** @param {Position} position @param {string} letters */
   #moved(position, letters) {
-    const move = legalMoves(position).find(({ after }) => after.letters === letters);
-    if (move) this.#push(position, move);
-    return Boolean(move);
+    for (const root of this.line.length > 1 ? [position] : this.#roots) {
+      const move = legalMoves(root).find(({ after }) => after.letters === letters);
+      if (!move) continue;
+      if (this.line.length === 1) this.line[0].position = root;
+      this.#push(root, move);
+      return true;
+    }
+    return false;
   }
 
   /** @param {Position} position @param {Move} move */
@@ -259,15 +364,20 @@ export class Game {
 
   /**
    * Why no moves are recognised: "turned" if the board shows the starting position turned round,
-   * "late" if it has never shown the starting position, otherwise "".
+   * "late" if it has never shown the starting position, "lost" if no move leads to its position,
+   * otherwise "".
    */
   get lacks() {
     if ([...this.#seen].reverse().join("") === BEGIN.letters) return "turned";
-    return this.#seen && !this.line.length ? "late" : "";
+    return this.#seen && !this.line.length ? "late" : this.lost.length ? "lost" : "";
   }
 
   get moves() { // with their numbers
-    return this.line.slice(1).map(({ text }, n) => n % 2 ? text : `${n / 2 + 1}. ${text}`);
+    const first = this.line[0]?.position.isWhite === false ? 1 : 0;
+    return this.line.slice(1).map(({ text }, n) => {
+      const number = (n + first >> 1) + 1;
+      return (n + first) % 2 === 0 ? `${number}. ${text}` : n ? text : `${number}... ${text}`;
+    });
   }
 
   get result() {
@@ -287,9 +397,15 @@ export class Game {
       .map(part => String(part).padStart(2, "0")).join(".");
     const tags = { Event: "?", Site: "?", Date: day, Round: "?", White: "?", Black: "?",
                    Result: this.result };
+    const begin = this.line[0]?.position;
+    if (begin && begin.letters !== BEGIN.letters) {
+      Object.assign(tags, { SetUp: "1", FEN: fenOf(begin) });
+    }
+    const cut = this.lost.length ? "{broken off: no move leads to the position after this}" : "";
     const head = Object.entries(tags).map(([name, text]) => `[${name} "${text}"]\n`).join("");
     const lines = [""];
-    for (const word of [...this.moves.flatMap(text => text.split(" ")), this.result]) {
+    const words = [...this.moves, cut, this.result].flatMap(text => text.split(" "));
+    for (const word of words.filter(Boolean)) {
       const line = lines[lines.length - 1];
       if (line.length + word.length < 79) lines[lines.length - 1] = line ? `${line} ${word}` : word;
       else lines.push(word);

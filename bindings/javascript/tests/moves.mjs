@@ -51,6 +51,49 @@ for (let round = 0; round < GAMES; round++) {
   assert.deepEqual(seen, texts, `game ${round}`);
 }
 
+// A position that no move leads to is said to be lost, with what to put right, and found again.
+const BLACK = "rnbqkbnr/pppp1ppp/8/4p3", E4 = "4P3", WHITE = "4P3/8/PPPP1PPP/RNBQKBNR";
+const OPEN = [BEGIN.letters, `rnbqkbnr/pppppppp/8/8/${WHITE}`, `${BLACK}/${WHITE}`];
+const CUT = "{broken off: no move leads to the position after this}";
+const opened = () => {
+  const made = new Game();
+  for (const picture of OPEN) made.see(picture);
+  return made;
+};
+const words = ({ pgn }) => pgn.split("\n\n")[1].replace(/\s+/g, " ");
+const erring = opened();
+erring.see(`${BLACK}/${E4}/6N1/PPPP1PPP/RNBQKB1R`, 1000);
+erring.rest(3999);
+assert.deepEqual([erring.lost, erring.lacks, erring.advice], [[], "", ""]);
+erring.rest(4000);
+assert.deepEqual([erring.lost, erring.lacks, erring.advice],
+                 [[46, 62], "lost", "put the white knight from g3 on g1"]);
+assert.equal(words(erring), `1. e4 e5 ${CUT} *`);
+erring.see(`${BLACK}/${E4}/5N2/PPPP1PPP/RNBQKB1R`, 5000);
+assert.deepEqual([erring.lost, erring.lacks, words(erring)], [[], "", "1. e4 e5 2. Nf3 *"]);
+erring.see(`${BLACK}/${E4}/5N2/PPPP1PPP/RNBQKB2`, 6000);
+erring.rest(99999);
+assert.deepEqual(erring.lost, [], "a lifted piece");
+
+// It begins another game: at once if the board was in doubt or away, otherwise after a minute.
+for (const [isInDoubt, time] of [[true, 6000], [false, 61000]]) {
+  const made = opened(), { line } = made;
+  if (isInDoubt) made.doubt();
+  made.see(`r1bqkbnr/1ppp1ppp/p1n5/4p3/${E4}/5N2/PPPP1PPP/RNBQKB1R`, 1000);
+  for (const [at, isNew] of [[1000, false], [time - 1, false], [time, true]]) {
+    made.rest(at);
+    assert.equal(made.line !== line, isNew, `${isInDoubt} ${at}`);
+  }
+  made.see(`r1bqkbnr/1ppp1ppp/p1n5/4p3/3PP3/5N2/PPP2PPP/RNBQKB1R`, time + 1);
+  assert.deepEqual([made.moves, made.lost], [["1. d4"], []]);
+  made.see(`r1bqkbnr/1ppp1ppp/p1n5/4p3/${E4}/5N2/PPPP1PPP/RNBQKB1R`, time + 2);
+  made.see(`r1bqkbnr/2pp1ppp/p1n5/1p2p3/${E4}/5N2/PPPP1PPP/RNBQKB1R`, time + 3);
+  made.see(`r1bqkbnr/2pp1ppp/p1n5/1p2p3/3PP3/5N2/PPP2PPP/RNBQKB1R`, time + 4);
+  assert.equal(words(made), "1... b5 2. d4 *");
+  assert.ok(made.pgn.includes(`[SetUp "1"]\n[FEN "r1bqkbnr/1ppp1ppp/p1n5/4p3/${E4}/5N2/PPPP1PPP/` +
+                              `RNBQKB1R b KQkq - 0 1"]`), made.pgn);
+}
+
 // The package gives placements. The day of a PGN is the local one.
 const game = new Game();
 assert.equal(game.lacks, "");
