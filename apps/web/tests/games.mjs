@@ -133,6 +133,38 @@ async function checkFault(name) {
   await ran;
 }
 
+// A position that no move leads to makes the game lost, and after a pulled cable begins another.
+async function checkLost() {
+  const port = new SimulatedPort(dgt, dgt.parsePlacement(START));
+  const session = new Session(dgt, port, port, PERIOD, page), ran = session.run();
+  const { game } = session;
+  const put = steps => {
+    for (const [file, rank, letter] of steps.split(" ")) {
+      port.change(dgt.squareNumber(file + rank), letter === "." ? 0 : dgt.pieceCode(letter));
+    }
+  };
+  await pass(MOST, () => session.state === "confirmed");
+  put("g1. g3N");
+  await pass(MOST, () => game.lost.length > 0);
+  assert.equal(game.advice, "put the white knight from g3 on g1");
+  put("g3. f3N");
+  await pass(PERIOD);
+  assert.deepEqual([game.moves, game.lost], [["1. Nf3"], []]);
+  port.plug(false);
+  put("g8. f6n d2. d4P d7. d5p");
+  port.plug(true);
+  await pass(MOST, () => game.line.length === 1);
+  put("c2. c4P");
+  await pass(PERIOD);
+  assert.deepEqual(game.moves, ["1. c4"]);
+  await session.end();
+  port.close();
+  port.board.close();
+  await pass(PERIOD);
+  await ran;
+}
+
+await checkLost();
 for (const name of ["FramingError", "BufferOverrunError", "ParityError", "BreakError"]) {
   await checkFault(name);
 }
