@@ -13,7 +13,7 @@ use Rattle.dgt_text.specs.Simulating.{IsSimulated, Rules, ShowsHealed, ShowsPict
 use Rattle.dgt_ask.specs.declared.tasks.Task.TheVariants.{Show, Monitor, Picture, Board, Simulate}
 use Rattle.dgt_program.specs.declared.fault.Fault.{Fault}
 use Rattle.dgt_program.specs.declared.fault.Fault.TheVariants.{Run}
-use Rattle.dgt_program.specs.Ends.{AllIsMonitored, AllIsShown, FaultsComeFirst, IsBeforeRuns, PlacementsAreRefused, PlaysAll, PositionsArePlaced, ShowsAll, ShowsNothing, SmallLinesAreRefused, TextsAreFlushed, WordsAreDecoded, WorldsAreLarge}
+use Rattle.dgt_program.specs.Ends.{AllIsMonitored, AllIsShown, FaultsComeFirst, IsBeforeRuns, OddWordsAreRefused, PlacementsAreRefused, PlaysAll, PositionsArePlaced, ShowsAll, ShowsNothing, SmallLinesAreRefused, TextsAreFlushed, WordsAreDecoded, WorldsAreLarge}
 use Rattle.dgt_program.specs.Tasks.{IsPrintedWith, IsShown, PlaysScript, PlaysWith, task_answer}
 use Rattle.std.proofs.lemmas.Grind.{common_steps}
 
@@ -82,6 +82,9 @@ module _ {T : Type 0} (W : Sink T) where
 
   pub words_are_decoded : WordsAreDecoded W
   words_are_decoded = search rules
+
+  pub odd_words_are_refused : OddWordsAreRefused W
+  odd_words_are_refused sink r names word odd shows = search rules
 
 -- ---- what is shown
 

@@ -1,5 +1,5 @@
 -- How tasks end: what the contracts of tasks state about faults and about runs that succeed.
-use Rattle.std.specs.Prelude.{◌≡◌, ◌≢◌, ◌<◌, ◌≤◌, ◌⊎◌, ℕ, Bool, List, [], length, Result, Ok, Err, IsErr, IsTrue}
+use Rattle.std.specs.Prelude.{◌≡◌, ◌≢◌, ◌<◌, ◌≤◌, ◌%◌, ◌⊎◌, ℕ, Bool, List, [], length, Result, Ok, Err, IsErr, IsTrue}
 use Rattle.std.specs.Io.KnownBytes.{Appends}
 use Rattle.hex.specs.Hex.{decode_of}
 use Rattle.dgt_values.specs.declared.pieces.Piece.{Piece}
@@ -91,6 +91,13 @@ WordsAreDecoded {T} W =
     → ((bytes : List ℕ) × (decode_of word ≡ Ok bytes)
     × Shows W sink r (IsPrintedWith names) bytes)
     ⊎ (IsErr (decode_of word) × (r ≡ Err BadHex))
+
+-- an odd number of digits is refused as such, whether or not there is memory
+abbrev pub OddWordsAreRefused : {T : Type 0} → Sink T → Type 0
+OddWordsAreRefused {T} W =
+    (sink : Change T) (r : Result (Unit {0}) Fault) (names : Bool) (word : List ℕ)
+    → length word % 2 ≡ 1 → ShowsWord W sink r (IsPrintedWith names) word
+    → (r ≡ Err BadHex) × (sink.new ≡ sink.old)
 
 -- ---- boards and worlds
 

@@ -1,5 +1,5 @@
 -- What the program does for a task: what it reads and writes, and how it ends.
-use Rattle.std.specs.Prelude.{◌≡◌, ◌≢◌, ◌<◌, ◌≤◌, ◌⊎◌, ℕ, Bool, true, false, List, length, Result, Ok, Err, IsErr, OnOk, IsTrue, string_bytes}
+use Rattle.std.specs.Prelude.{◌≡◌, ◌≢◌, ◌<◌, ◌≤◌, ◌%◌, ◌⊎◌, ℕ, Bool, true, false, List, length, Result, Ok, Err, IsErr, OnOk, IsTrue, string_bytes}
 use Rattle.std.specs.Io.KnownBytes.{Appends}
 use Rattle.hex.specs.Hex.{decode_of}
 use Rattle.dgt_values.specs.declared.pieces.Piece.{Piece}
@@ -95,13 +95,13 @@ pub record Shows {T : Type 0} (W : Sink T) (sink : Change T) (r : Result (Unit {
     pub in_time : W.failed sink.old ≡ false → W.late sink.new ≡ W.late sink.old
     pub flushed : IsTrue (W.flushed sink.old) → run ≢ Err WriteFailed → IsTrue (W.flushed sink.new)
 
--- what `show` does with a word
+-- what `show` does with a word; memory is asked for only if its digits are not odd in number
 abbrev pub ShowsWord : {T : Type 0} → Sink T → Change T → Result (Unit {0}) Fault
     → (Result (Unit {0}) RunFault → List ℕ → List ℕ → Type 0) → List ℕ → Type 0
 ShowsWord W sink r leaves word =
     ((bytes : List ℕ) × (decode_of word ≡ Ok bytes) × Shows W sink r leaves bytes)
     ⊎ (IsErr (decode_of word) × (r ≡ Err BadHex) × Untouched sink)
-    ⊎ ((r ≡ Err OutOfMemory) × Untouched sink)
+    ⊎ ((length word % 2 ≢ 1) × (r ≡ Err OutOfMemory) × Untouched sink)
 
 -- ---- tasks with a board
 

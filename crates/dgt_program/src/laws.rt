@@ -14,7 +14,7 @@ ghost use Rattle.dgt_ask.specs.declared.tasks.BadArguments.{BadArguments as Bad}
 ghost use Rattle.dgt_link.specs.declared.world.WorldFault.{WorldFault};
 ghost use Rattle.dgt_lines.specs.declared.faults.RunFault.{RunFault};
 ghost use Rattle.dgt_text.specs.Simulating.{ShowsHealed, ShowsPicture, faulty_rules, plain_rules};
-ghost use Rattle.dgt_program.specs.Ends.{AllIsMonitored, AllIsShown, FaultsComeFirst, PlacementsAreRefused, PlaysAll, PositionsArePlaced, ShowsAll, ShowsNothing, SmallLinesAreRefused, TextsAreFlushed, WordsAreDecoded, WorldsAreLarge};
+ghost use Rattle.dgt_program.specs.Ends.{AllIsMonitored, AllIsShown, FaultsComeFirst, OddWordsAreRefused, PlacementsAreRefused, PlaysAll, PositionsArePlaced, ShowsAll, ShowsNothing, SmallLinesAreRefused, TextsAreFlushed, WordsAreDecoded, WorldsAreLarge};
 ghost use Rattle.dgt_program.specs.Faults.{IsOfWords, IsOfWorld, fault_status};
 ghost use Rattle.dgt_program.specs.declared.fault.Fault.{Fault as AnyFault};
 
@@ -72,6 +72,7 @@ pub fn tasks_end_well<R: Source, W: Sink>()
 /// All bytes of a hexadecimal word are printed, unless a write is refused.
 pub fn words_are_shown<W: Sink>()
     ensures decoded { WordsAreDecoded W.Sink }
+    ensures odd { OddWordsAreRefused W.Sink }
     ensures all { ShowsAll }
     ensures nothing { ShowsNothing }
 {}

@@ -1,6 +1,6 @@
 //! Runs the program with any task and streams.
 
-ghost use Rattle.std.specs.Prelude.{◌≡◌, ◌<◌, ◌≤◌, ◌⊎◌, IsErr, MatchResult, Ok, Result};
+ghost use Rattle.std.specs.Prelude.{◌≡◌, ◌≢◌, ◌<◌, ◌≤◌, ◌%◌, ◌⊎◌, IsErr, MatchResult, Ok, Result, length};
 ghost use Rattle.hex.specs.Hex.{decode_of};
 ghost use Rattle.dgt_values.specs.Board.{pieces_of};
 ghost use Rattle.dgt_board.specs.Simulated.{simulated_identity, simulated_times};
@@ -253,7 +253,7 @@ fn play_unharmed<R: Source, W: Sink>(
 fn decode(alloc: Global, word: &str) -> Result<Vec<u8>, Fault>
     ensures { MatchResult result (λ bytes. decode_of word.now ≡ Ok bytes.items)
         (λ fault. ((fault ≡ Fault.BadHex) × IsErr (decode_of word.now))
-        ⊎ (fault ≡ Fault.OutOfMemory)) }
+        ⊎ ((fault ≡ Fault.OutOfMemory) × (length word.now % 2 ≢ 1))) }
 {
     match hex::decode(alloc, word) {
         Ok(bytes) => Ok(bytes),
