@@ -1,7 +1,8 @@
 //! The faults that end the program, and their texts.
 
-ghost use Rattle.std.specs.Prelude.{◌≡◌};
-ghost use Rattle.dgt_program.specs.Faults.{IsOfWords, IsOfWorld, fault_status};
+ghost use Rattle.std.specs.Prelude.{◌≡◌, OnOk, Some};
+ghost use Rattle.std.specs.Io.KnownBytes.{Appends};
+ghost use Rattle.dgt_program.specs.Faults.{IsOfWords, IsOfWorld, fault_lines, fault_status, fault_text};
 ghost use Rattle.dgt_program.specs.declared.fault.Fault.{Fault as AnyFault};
 
 use dgt_ask::BadArguments;
@@ -9,31 +10,44 @@ use dgt_link::WorldFault;
 use dgt_text::RunFault;
 use dgt_values::BadPlacement;
 use std::alloc::{AllocError, AllocFailed};
-use std::io::Write;
-use thiserror::Error;
+use std::error::Error;
+use std::fmt;
+use std::io::{self, Write};
 
 /// Why the program stopped before its work was done.
-#[derive(Debug, Drop, Error)]
+#[derive(Debug, Drop)]
 pub enum Fault {
     /// The words are not a valid command line. The text consists of whole lines.
-    #[error("{text}")]
     CommandLine { text: String },
     /// The word of `dgt show` is not hexadecimal digits of whole bytes.
-    #[error("bad hex")]
     BadHex,
     /// The position is not a placement from this offset on.
-    #[error("bad placement at {at}")]
     BadPlacement { at: usize },
     /// A line of the simulated world would hold too few bytes.
-    #[error("a line is too small")]
     LineTooSmall,
     /// The run stopped.
-    #[error("{0}")]
     Run(RunFault),
     /// An allocation was refused.
-    #[error("out of memory")]
     OutOfMemory,
 }
+
+// Written by hand: the code that `thiserror` derives has no contract.
+impl fmt::Display for Fault {
+    ghost output = { λ fault. Some (fault_text fault) };
+
+    fn fmt<W: fmt::Write>(&self, f: &mut fmt::Formatter<W>) -> fmt::Result {
+        match self {
+            Fault::CommandLine { text } => write!(f, "{text}"),
+            Fault::BadHex => write!(f, "bad hex"),
+            Fault::BadPlacement { at } => write!(f, "bad placement at {at}"),
+            Fault::LineTooSmall => write!(f, "a line is too small"),
+            Fault::Run(fault) => write!(f, "{fault}"),
+            Fault::OutOfMemory => write!(f, "out of memory"),
+        }
+    }
+}
+
+impl Error for Fault {}
 
 impl From<RunFault> for Fault {
     ghost from_gives = { λ error fault. fault ≡ AnyFault.Run error };
@@ -96,10 +110,7 @@ impl Fault {
         ensures { result ≡ fault_status self }
     {
         // If standard error refuses the text, only the status reports the fault.
-        let _ = match &self {
-            Fault::CommandLine { text } => write!(errors, "{text}"),
-            fault => writeln!(errors, "dgt: {fault}"),
-        };
+        let _ = self.write_lines(errors);
         let _ = errors.flush();
         match self {
             Fault::Run(_) => 1,
@@ -108,6 +119,16 @@ impl Fault {
             | Fault::BadPlacement { .. }
             | Fault::LineTooSmall => 2,
             Fault::OutOfMemory => 3,
+        }
+    }
+
+    fn write_lines<E: Write>(&self, errors: &mut E) -> io::Result<()>
+        ensures { OnOk result (Appends (E.contents errors.old) (E.contents errors.new)
+            (fault_lines self.now)) }
+    {
+        match self {
+            Fault::CommandLine { text } => write!(errors, "{text}"),
+            fault => writeln!(errors, "dgt: {fault}"),
         }
     }
 }

@@ -1,7 +1,7 @@
 //! Facts about the program's limits, its faults and the ends of its tasks. Nothing here runs: the
 //! contract of each function states a fact.
 
-ghost use Rattle.std.specs.Prelude.{◌≡◌, ◌↔◌, ℕ, List, String, map, All, Ok, true, false};
+ghost use Rattle.std.specs.Prelude.{◌≡◌, ◌↔◌, ℕ, List, String, codes, map, string_bytes, All, Ok, true, false};
 ghost use Rattle.std.specs.declared.alloc.Global.{Global};
 ghost use Rattle.dgt_command.specs.Content.{CommandContent};
 ghost use Rattle.dgt_command.specs.Encoding.{AreBytes, EncodesCommand, command_encoding};
@@ -15,7 +15,7 @@ ghost use Rattle.dgt_link.specs.declared.world.WorldFault.{WorldFault};
 ghost use Rattle.dgt_lines.specs.declared.faults.RunFault.{RunFault};
 ghost use Rattle.dgt_text.specs.Simulating.{ShowsHealed, ShowsPicture, faulty_rules, plain_rules};
 ghost use Rattle.dgt_program.specs.Ends.{AllIsMonitored, AllIsShown, FaultsComeFirst, OddWordsAreRefused, PlacementsAreRefused, PlaysAll, PositionsArePlaced, ShowsAll, ShowsNothing, SmallLinesAreRefused, TextsAreFlushed, WordsAreDecoded, WorldsAreLarge};
-ghost use Rattle.dgt_program.specs.Faults.{IsOfWords, IsOfWorld, fault_status};
+ghost use Rattle.dgt_program.specs.Faults.{IsOfWords, IsOfWorld, fault_lines, fault_status};
 ghost use Rattle.dgt_program.specs.declared.fault.Fault.{Fault as AnyFault};
 
 use crate::MOST_TURNS;
@@ -38,10 +38,14 @@ pub fn commands_are_asked_back()
 {}
 
 /// Wrong words end the program with status 2, and refused memory with 3. They have no other fault.
-/// A world that is not made ends the program with the same statuses.
+/// A world that is not made ends the program with the same statuses. A fault is reported by a line,
+/// and wrong words by whole lines of their own.
 pub fn faults()
     ensures words { (text : String Global) (fault : AnyFault) →
         IsOfWords (Bad.Refused text) fault ↔ (fault ≡ AnyFault.CommandLine text) }
+    ensures lines { (text : String Global) →
+        fault_lines (AnyFault.CommandLine text) ≡ string_bytes text }
+    ensures line { fault_lines AnyFault.BadHex ≡ codes "dgt: bad hex\n" }
     ensures status { (text : String Global) → fault_status (AnyFault.CommandLine text) ≡ 2 }
     ensures refused { (fault : AnyFault) → IsOfWords Bad.OutOfMemory fault ↔
         (fault_status fault ≡ 3) }
