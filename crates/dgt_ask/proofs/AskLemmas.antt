@@ -1,7 +1,7 @@
 -- The words of commands.
-use Rattle.std.proofs.Common.{◌≡◌, ◌≢◌, ◌+◌, ◌/◌, ◌<◌, ◌≤◌, ℕ, zero, suc, false, List, [], ◌∷◌, ◌++◌, length, get_or, take, map, Bor, add-one, Result, Ok, Err, Some, ap, arith, refl, sym, ◌∙◌, slice_index as nth}
+use Rattle.std.proofs.Common.{◌≡◌, ◌≢◌, ◌+◌, ◌/◌, ◌<◌, ◌≤◌, ℕ, false, List, [], ◌∷◌, ◌++◌, length, get_or, take, map, Bor, add-one, Option, Result, Ok, Err, None, Some, ap, arith, refl, sym, ◌∙◌, slice_index as nth}
 use Rattle.std.proofs.Common.{rules}
-use Rattle.std.specs.Prelude.{OnErr, IfOk, IsErrAnd, MatchResult, Bool, true, not, codes, decimal, ◌==◌}
+use Rattle.std.specs.Prelude.{OnErr, IfNone, IfOk, IsErrAnd, IsOkAnd, MatchResult, Bool, true, not, codes, decimal, ◌==◌}
 use Rattle.std.specs.List.{list_all}
 use Rattle.std.specs.Result.{is_ok, result_ok}
 use Rattle.std.specs.Str.Parse.{ParsesUnsigned}
@@ -11,8 +11,9 @@ use Rattle.hex.proofs.HexLemmas.{IsOk-decode_sized, decode_of-ok}
 use Rattle.dgt_values.specs.Segment.{IsShownBy}
 use Rattle.dgt_command.specs.declared.clock.ClockCommand.{ClockCommand}
 use Rattle.dgt_command.specs.declared.ids.KnownId.{KnownId}
-use Rattle.dgt_command.specs.Content.{ClockContent, CommandContent, Clock, ClockMessage, clock_content, known_clock}
+use Rattle.dgt_command.specs.Content.{ClockContent, CommandContent, ClockMessage, EventContent, Stray, clock_content, known_clock}
 use Rattle.dgt_command.specs.Display.{HasNoSegments, Shows}
+use Rattle.dgt_command.specs.Words.{BeginsNoCommand, HasForm, IsPartial, IsWord}
 use Rattle.dgt_ask.specs.declared.details.Detail.TheVariants as detail
 use Rattle.dgt_ask.specs.declared.details.Detail.{Detail}
 use Rattle.dgt_ask.specs.declared.asking.BadAsk.{BadAsk}
@@ -157,3 +158,47 @@ asks_at words asked i order small = search (rules, get_or-map, length-map)
 pub next_bytes : (asked : List (List ℕ)) (i : ℕ) → i < length asked
     → concat (take (i + 1) asked) ≡ concat (take i asked) ++ get_or asked i []
 next_bytes asked i small = rw (add-one, take-suc asked i [] small, concat-append, append-nil) refl
+
+-- ---- bytes that begin no command
+
+no_clock : (byte : ℕ) → BeginsNoCommand byte → byte ≢ 0x2b
+no_clock byte none e = none (ClockMessage (record { id = 0; payload = [] })) (3 ∷ 3 ∷ 0 ∷ 0 ∷ []) (rw e refl)
+
+-- a frame that begins with such a byte is that byte
+pub stray_alone : (byte : ℕ) (more : List ℕ) (event : EventContent) → BeginsNoCommand byte
+    → HasForm event (byte ∷ more) → (event ≡ Stray byte) × (more ≡ [])
+stray_alone byte more event none form = search (rules, no_clock)
+
+pub no_partial : (byte : ℕ) → BeginsNoCommand byte → IsPartial (byte ∷ []) → ⊥
+no_partial byte none partial =
+    let alone = stray_alone byte (partial.next ∷ partial.more) partial.event none partial.word.form in cc
+
+pub if_none : {A P : Type 0} (found : Option A) → IfNone found P → ((each : A) → found ≢ Some each) → P
+if_none None holds other = holds
+if_none (Some each) holds other = absurd (other each refl)
+
+-- the frame of one byte is stray exactly if the byte begins no command
+pub only_stray : (byte used : ℕ) (event : EventContent) → used ≤ 1 → 0 < used → IsWord event (take used (byte ∷ []))
+    → (BeginsNoCommand byte → event ≡ Stray byte) × ((other : ℕ) → event ≡ Stray other → BeginsNoCommand byte)
+only_stray byte used event most some word =
+    let one : used ≡ 1 = omega arith in
+    let form = rw one at word.form in (
+      (λ none. (stray_alone byte [] event none form).0),
+      (λ other is. let stray = rw is at form in let same : byte ≡ other = cc in rw same stray.0),
+    )
+
+-- the digits that a reader of one byte finds
+pub read_byte : {E : Type 0} (read : Result (List ℕ) E) (byte : ℕ)
+    → MatchResult read (λ bytes. Some byte ≡ Some (nth bytes 0)) (λ _. Some byte ≡ None)
+    → IsOkAnd read (λ bytes. byte ≡ nth bytes 0)
+read_byte (Ok bytes) byte found = inside _ _ found
+read_byte (Err fault) byte found = cc
+
+pub same_byte : {E : Type 0} (read : Result (List ℕ) E) (byte other : ℕ)
+    → MatchResult read (λ bytes. Some byte ≡ Some (nth bytes 0)) (λ _. Some byte ≡ None)
+    → IsOkAnd read (λ bytes. other ≡ nth bytes 0) → other ≡ byte
+same_byte (Ok bytes) byte other found is = is ∙ sym (inside _ _ found)
+same_byte (Err fault) byte other found is = absurd is
+
+pub stray_name : (each : Detail) → detail_text each ≡ codes "stray" → each ≡ detail.Stray
+stray_name each name = search rules

@@ -7,7 +7,8 @@ use Rattle.dgt_ask.specs.declared.asking.Asked.TheVariants as asked
 use Rattle.dgt_ask.specs.declared.asking.Awaited.{Awaited}
 use Rattle.dgt_ask.specs.declared.asking.Awaited.TheVariants.{Name}
 use Rattle.dgt_ask.specs.declared.asking.BadAsk.{BadAsk}
-use Rattle.dgt_ask.specs.declared.asking.BadAsk.TheVariants.{OutOfMemory}
+use Rattle.dgt_ask.specs.declared.asking.BadAsk.TheVariants.{OutOfMemory, Unfit}
+use Rattle.dgt_ask.specs.declared.details.Detail.{Detail}
 use Rattle.dgt_ask.specs.Asks.{IsNamed, detail_text}
 
 -- the request of this word, which is a command without operands
@@ -23,7 +24,17 @@ abbrev pub Adds : {A : Type 0} → Result A BadAsk → List ℕ → List ℕ →
 Adds r old new command =
     MatchResult r (λ _. new ≡ old ++ command_encoding command) (λ fault. fault ≡ OutOfMemory)
 
+-- a call appends these bytes, unless an allocation is refused
+abbrev pub AddsBytes : {A : Type 0} → Result A BadAsk → List ℕ → List ℕ → List ℕ → Type 0
+AddsBytes r old new bytes =
+    MatchResult r (λ _. new ≡ old ++ bytes) (λ fault. fault ≡ OutOfMemory)
+
 -- a call appends these bytes, and expects a name next
 abbrev pub Takes : Result Awaited BadAsk → List ℕ → List ℕ → List ℕ → Type 0
 Takes r old new bytes =
     MatchResult r (λ next. (next ≡ Name) × (new ≡ old ++ bytes)) (λ fault. fault ≡ OutOfMemory)
+
+-- the fault is that this text is no operand of this word
+abbrev pub IsUnfit : Detail → List ℕ → BadAsk → Type 0
+IsUnfit word text (Unfit detail given) = (detail ≡ word) × (given.now ≡ text)
+IsUnfit word text _ = ⊥

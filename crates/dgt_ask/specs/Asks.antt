@@ -1,5 +1,5 @@
 -- The commands and bytes that the words of `dgt ask` request.
-use Rattle.std.specs.Prelude.{◌≡◌, ◌≢◌, ◌<◌, ◌≤◌, ◌⊎◌, ℕ, false, List, [], ◌∷◌, ◌++◌, length, codes, decimal, Ok, get_or}
+use Rattle.std.specs.Prelude.{◌≡◌, ◌≢◌, ◌<◌, ◌≤◌, ◌⊎◌, ℕ, false, List, [], ◌∷◌, ◌++◌, length, codes, decimal, Ok, IsOkAnd, get_or, slice_index as nth}
 use Rattle.std.specs.Str.{IsAscii}
 use Rattle.hex.specs.Hex.{decode_of, decode_sized}
 use Rattle.dgt_command.specs.declared.ids.KnownId.{KnownId}
@@ -7,6 +7,7 @@ use Rattle.dgt_command.specs.Content.{ClockContent, CommandContent, Reset, Clock
 use Rattle.dgt_command.specs.Display.{Shows}
 use Rattle.dgt_command.specs.Encoding.{command_encoding}
 use Rattle.dgt_command.specs.Ids.{has_own_case}
+use Rattle.dgt_command.specs.Words.{BeginsNoCommand}
 use Rattle.dgt_host.specs.Host.{follow_bytes, restart_bytes}
 use Rattle.dgt_ask.specs.declared.details.Detail.{Detail}
 use Rattle.dgt_ask.specs.declared.details.Detail.TheVariants as detail
@@ -109,11 +110,25 @@ IsAlone word bytes =
     ⊎ ((word ≡ codes "restart") × (bytes ≡ restart_bytes))
     ⊎ ((word ≡ codes "log") × (bytes ≡ 0x49 ∷ []))
 
+-- two hexadecimal digits of a byte that begins no command
+abbrev pub IsStray : List ℕ → ℕ → Type 0
+IsStray text byte =
+    IsOkAnd (decode_sized text 1) (λ bytes. byte ≡ nth bytes 0) × BeginsNoCommand byte
+
+abbrev pub IsNoStray : List ℕ → Type 0
+IsNoStray text = (byte : ℕ) → ¬ (IsStray text byte)
+
+-- this word requests a byte that begins no command
+abbrev pub AsksStray : List ℕ → List ℕ → Type 0
+AsksStray word bytes =
+    (text : List ℕ) × (byte : ℕ) × (word ≡ detail_text detail.Stray ++ 32 ∷ text)
+    × IsStray text byte × (bytes ≡ byte ∷ [])
+
 -- a word requests these bytes, of a command or not
 abbrev pub AsksBytes : List ℕ → List ℕ → Type 0
 AsksBytes word bytes =
     ((command : CommandContent) × Asks word command × (bytes ≡ command_encoding command))
-    ⊎ IsAlone word bytes
+    ⊎ IsAlone word bytes ⊎ AsksStray word bytes
 
 -- each word requests the bytes at the same place of the list
 pub record AskInOrder (words asked : List (List ℕ)) : Type 0 where

@@ -1,22 +1,22 @@
 //! The words of `dgt ask`, and the bytes of their commands.
 
-ghost use Rattle.std.specs.Prelude.{◌≡◌, ◌≢◌, ◌≤◌, ◌++◌, false, ℕ, List, [], ◌∷◌, codes, length, map, slice_index as nth};
-ghost use Rattle.std.specs.Prelude.{OnOk, IfOk, IfSome, IsOkAnd, IsSomeAnd, MatchOption, MatchResult};
+ghost use Rattle.std.specs.Prelude.{◌≡◌, ◌≢◌, ◌≤◌, ◌↔◌, ◌++◌, false, ℕ, List, [], ◌∷◌, codes, length, map, slice_index as nth};
+ghost use Rattle.std.specs.Prelude.{OnOk, IfNone, IfOk, IfSome, IsErrAnd, IsOkAnd, IsSomeAnd, IsTrue, MatchOption, MatchResult};
 ghost use Rattle.std.specs.List.{concat};
 ghost use Rattle.dgt_command.specs.Content.{command_content, ClockContent, ClockMessage, CommandContent};
 ghost use Rattle.dgt_command.specs.Ids.{has_own_case};
 ghost use Rattle.dgt_command.specs.Encoding.{command_encoding};
+ghost use Rattle.dgt_command.specs.Words.{BeginsNoCommand};
 ghost use Rattle.dgt_host.specs.Host.{follow_bytes, restart_bytes};
 ghost use Rattle.hex.specs.Hex.{decode_of, decode_sized};
-ghost use Rattle.dgt_ask.specs.Asking.{Adds, IsAskedBy, Takes};
-ghost use Rattle.dgt_ask.specs.Asks.{AskInOrder, Asks, AsksBytes, DetailAsks, HasBytes, IsAlone, IsNamed, IsRaw};
+ghost use Rattle.dgt_ask.specs.Asking.{Adds, AddsBytes, IsAskedBy, IsUnfit, Takes};
+ghost use Rattle.dgt_ask.specs.Asks.{AskInOrder, Asks, AsksBytes, AsksStray, DetailAsks, HasBytes, IsAlone, IsNamed, IsNoStray, IsRaw, IsStray};
 
 use crate::details::{
     BadRaw, Detail, beep, byte, detail_of, eight_letters, icons, leds, raw, set_and_run, six_places,
 };
 use dgt_command::{
-    ClockCommand, Command, CommandDecoder, CommandEvent, MAX_LED_BYTES, MAX_PAYLOAD, MAX_WORD,
-    encode,
+    ClockCommand, Command, FoundWord, MAX_LED_BYTES, MAX_PAYLOAD, MAX_WORD, WordFramer, encode,
 };
 use dgt_host::{Host, RESTART_LENGTH};
 use std::alloc::{AllocError, Global};
@@ -153,6 +153,8 @@ fn begin<'a>(word: &'a str, bytes: &mut Vec<u8>) -> Result<Awaited<'a>, BadAsk<'
         Takes result bytes.old.items bytes.new.items (command_encoding command) }
     ensures alone { (asked : List ℕ) → IsAlone word.now asked →
         Takes result bytes.old.items bytes.new.items asked }
+    ensures stray { (asked : List ℕ) → AsksStray word.now asked →
+        Takes result bytes.old.items bytes.new.items asked }
 {
     if let Some((name, rest)) = word.split_once(' ') {
         match detail_of(name) {
@@ -201,8 +203,12 @@ fn push_restart(bytes: &mut Vec<u8>) -> Result<(), AllocError>
 
 // Appends the command of a word and its operand.
 fn push_detail<'a>(detail: Detail, word: &'a str, bytes: &mut Vec<u8>) -> Result<(), BadAsk<'a>>
-    ensures { (command : CommandContent) → detail ≢ Detail.ClockMessage →
+    ensures command { (command : CommandContent) → detail ≢ Detail.ClockMessage →
         DetailAsks detail word.now command → Adds result bytes.old.items bytes.new.items command }
+    ensures stray { (byte : ℕ) → detail ≡ Detail.Stray → IsStray word.now byte →
+        AddsBytes result bytes.old.items bytes.new.items (byte ∷ []) }
+    ensures unfit { detail ≡ Detail.Stray → IsNoStray word.now →
+        IsErrAnd result (IsUnfit Detail.Stray word.now) × (bytes.new.items ≡ bytes.old.items) }
 {
     let mut room = [0; MAX_LED_BYTES];
     match detail {
@@ -229,6 +235,8 @@ fn push_fit<'a>(
         Adds result bytes.old.items bytes.new.items (command_content command)) }
     ensures added { OnOk result (IsSomeAnd command.entry (λ command. bytes.new.items
         ≡ bytes.old.items ++ command_encoding (command_content command))) }
+    ensures unfit { IfNone command.entry (IsErrAnd result (IsUnfit detail given.now)
+        × (bytes.new.items ≡ bytes.old.items)) }
 {
     match command {
         Some(command) => Ok(push(&command, bytes)?),
@@ -274,17 +282,26 @@ fn push_clock_message<'a>(id: &'a str, word: &'a str, bytes: &mut Vec<u8>) -> Re
 
 // Appends a byte that starts no command.
 fn push_stray<'a>(word: &'a str, bytes: &mut Vec<u8>) -> Result<(), BadAsk<'a>>
-    ensures { OnOk result (IsOkAnd (decode_sized word.now 1) (λ stray.
-        bytes.new.items ≡ bytes.old.items ++ nth stray 0 ∷ [])) }
+    ensures stray { (byte : ℕ) → IsStray word.now byte →
+        AddsBytes result bytes.old.items bytes.new.items (byte ∷ []) }
+    ensures unfit { IsNoStray word.now → IsErrAnd result (IsUnfit Detail.Stray word.now)
+        × (bytes.new.items ≡ bytes.old.items) }
 {
-    if let Some(byte) = byte(word) {
-        let mut reader = CommandDecoder::new();
-        if let Some(CommandEvent::Stray(_)) = reader.feed(&[byte]).event {
-            return Ok(bytes.extend_from_slice(&[byte])?);
-        }
+    let Some(byte) = byte(word) else {
+        return push_fit(None, Detail::Stray, word, bytes);
+    };
+    if !begins_no_command(byte) {
+        return push_fit(None, Detail::Stray, word, bytes);
     }
-    Err(BadAsk::Unfit {
-        detail: Detail::Stray,
-        given: word,
-    })
+    Ok(bytes.extend_from_slice(&[byte])?)
+}
+
+#[tactic(auto, using(crate::proofs::AskLemmas::only_stray))]
+fn begins_no_command(byte: u8) -> bool
+    ensures { IsTrue result ↔ BeginsNoCommand byte }
+{
+    let Some(found) = WordFramer::new().advance(&[byte]).found else {
+        return false;
+    };
+    matches!(found, FoundWord::Stray(_))
 }

@@ -8,7 +8,7 @@ ghost use Rattle.dgt_command.specs.declared.ids.KnownId.{KnownId};
 ghost use Rattle.dgt_command.specs.Content.{Battery, Clock, ClockContent, ClockMessage, CommandContent, Dump, Leds, LongSerial, Reset, Serial, Trademark, Update, UpdateBoard, UpdateNice, Version, known_clock};
 ghost use Rattle.dgt_command.specs.Display.{Shows};
 ghost use Rattle.dgt_command.specs.Encoding.{command_encoding};
-ghost use Rattle.dgt_ask.specs.Asks.{AskInOrder, Asks, AsksBytes};
+ghost use Rattle.dgt_ask.specs.Asks.{AskInOrder, Asks, AsksBytes, IsNoStray};
 
 /// Each word without an operand requests its command.
 pub fn names_ask()
@@ -50,13 +50,16 @@ pub fn details_ask()
     ensures no_leds { Asks (codes "leds -") (Leds []) }
 {}
 
-/// A word that requests a command requests its bytes. Other words request other bytes.
+/// A word that requests a command requests its bytes. Other words request other bytes, and `stray`
+/// only one byte that begins no command.
 pub fn bytes_are_asked()
     ensures command { (word : List ℕ) (command : CommandContent) → Asks word command
         → AsksBytes word (command_encoding command) }
     ensures follow { AsksBytes (codes "follow") (0x44 ∷ 0x42 ∷ []) }
     ensures restart { AsksBytes (codes "restart") (replicate 255 0 ++ 0x44 ∷ 0x42 ∷ []) }
     ensures log { AsksBytes (codes "log") (0x49 ∷ []) }
+    ensures stray { AsksBytes (codes "stray 4f") (0x4f ∷ []) }
+    ensures no_stray { IsNoStray (codes "42") × IsNoStray (codes "4f4f") }
 {}
 
 /// An empty list of words requests no bytes, and a list requests the bytes of its words in order.

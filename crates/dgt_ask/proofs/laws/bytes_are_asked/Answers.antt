@@ -1,14 +1,29 @@
-use Rattle.std.proofs.Common.{inl, inr, refl}
+use Rattle.std.proofs.Common.{[], inl, inr, refl, rules}
+use Rattle.std.specs.Prelude.{codes}
+use Rattle.hex.specs.Hex.{decode_pairs}
+use Rattle.dgt_command.specs.Content.{Dump}
+use Rattle.dgt_command.specs.Words.{BeginsNoCommand}
 use Rattle.dgt_ask.proofs.laws.bytes_are_asked.Goals as goal
 
 pub returns-clause-command : goal.returns-clause-command
 returns-clause-command c = λ word command asks. inl (command, asks, refl)
 
 pub returns-clause-follow : goal.returns-clause-follow
-returns-clause-follow c = inr (inl (refl, refl))
+returns-clause-follow c = inr (inl (inl (refl, refl)))
 
 pub returns-clause-restart : goal.returns-clause-restart
-returns-clause-restart c = inr (inr (inl (refl, refl)))
+returns-clause-restart c = inr (inl (inr (inl (refl, refl))))
 
 pub returns-clause-log : goal.returns-clause-log
-returns-clause-log c = inr (inr (inr (refl, refl)))
+returns-clause-log c = inr (inl (inr (inr (refl, refl))))
+
+no_command : BeginsNoCommand 0x4f
+no_command command rest e = search rules
+
+pub returns-clause-stray : goal.returns-clause-stray
+unfolding decode_pairs
+returns-clause-stray c = inr (inr (codes "4f", 0x4f, refl, (refl, no_command), refl))
+
+pub returns-clause-no_stray : goal.returns-clause-no_stray
+unfolding decode_pairs
+returns-clause-no_stray c = (λ byte stray. stray.1 Dump [] (rw stray.0 refl), λ byte stray. absurd stray.0)
