@@ -1,5 +1,5 @@
 -- The words of commands.
-use Rattle.std.proofs.Common.{◌≡◌, ◌≢◌, ◌+◌, ◌/◌, ◌<◌, ◌≤◌, ℕ, false, List, [], ◌∷◌, ◌++◌, length, get_or, take, map, Bor, add-one, Option, Result, Ok, Err, None, Some, ap, arith, refl, sym, ◌∙◌, slice_index as nth}
+use Rattle.std.proofs.Common.{◌≡◌, ◌≢◌, ◌+◌, ◌/◌, ◌<◌, ◌≤◌, ◌⊎◌, inl, inr, ℕ, false, List, [], ◌∷◌, ◌++◌, length, length-append, get_or, take, map, Bor, add-one, Option, Result, Ok, Err, None, Some, ap, arith, refl, sym, ◌∙◌, slice_index as nth}
 use Rattle.std.proofs.Common.{rules}
 use Rattle.std.specs.Prelude.{OnErr, IfNone, IfOk, IsErrAnd, IsOkAnd, MatchResult, Bool, true, not, codes, decimal, ◌==◌}
 use Rattle.std.specs.List.{list_all}
@@ -17,12 +17,17 @@ use Rattle.dgt_command.specs.Words.{BeginsNoCommand, HasForm, IsPartial, IsWord}
 use Rattle.dgt_ask.specs.declared.details.Detail.TheVariants as detail
 use Rattle.dgt_ask.specs.declared.details.Detail.{Detail}
 use Rattle.dgt_ask.specs.declared.asking.BadAsk.{BadAsk}
-use Rattle.dgt_ask.specs.declared.asking.BadAsk.TheVariants.{OutOfMemory}
-use Rattle.dgt_ask.specs.Asks.{AskInOrder, AsksBytes, DetailAsks, HasBytes, IsNamed, IsRaw, detail_text}
+use Rattle.dgt_ask.specs.declared.asking.BadAsk.TheVariants.{Missing, OutOfMemory}
+use Rattle.dgt_ask.specs.declared.asking.Awaited.{Awaited}
+use Rattle.dgt_ask.specs.declared.asking.Awaited.TheVariants.{Name}
+use Rattle.dgt_ask.specs.declared.asking.Awaited.TheVariants as awaited
+use Rattle.dgt_ask.specs.Asking.{Awaits, AwaitsBytes, IsAfterId}
+use Rattle.dgt_ask.specs.Asks.{AskInOrder, AsksBytes, AsksHelp, DetailAsks, HasBytes, IsNamed, IsRaw, LacksOperand, detail_text}
 use Rattle.std.specs.List.{concat}
 use Rattle.std.proofs.lemmas.List.Folds.{concat-append}
-use Rattle.std.proofs.lemmas.List.{append-nil, get_or-map, length-map}
+use Rattle.std.proofs.lemmas.List.{append-nil, get_or-append-add, get_or-map, get_or_append_left, get_or_at, length-map, take_all}
 use Rattle.std.proofs.Math.Seq.{take-suc}
+use Rattle.std.proofs.lemmas.Bool.{cases_lt}
 use Rattle.std.proofs.lemmas.Grind.{common_steps}
 
 -- a number of a beep, and its command
@@ -202,3 +207,138 @@ same_byte (Err fault) byte other found is = absurd is
 
 pub stray_name : (each : Detail) → detail_text each ≡ codes "stray" → each ≡ detail.Stray
 stray_name each name = search rules
+
+-- ---- missing operands
+
+-- a word that has a space has no operand after it
+pub spaced : (each : Detail) (word name rest : List ℕ) → word ≡ name ++ 32 ∷ rest → word ≡ detail_text each → ⊥
+spaced each word name rest split same =
+    let is : detail_text each ≡ name ++ 32 ∷ rest = sym same ∙ split in
+    let small : length name < length (detail_text each) = rw (is, length-append name (32 ∷ rest)) (omega arith) in
+    name_lacks_space each (length name) small (rw is (get_or_at name 32 rest 0 (length name) refl))
+
+pub no_help : (each : Detail) (word : List ℕ) → word ≡ detail_text each → ¬ AsksHelp word
+no_help each word same help = search rules
+
+pub next_awaited : (before rest asked : List (List ℕ)) (at : ℕ) (word : List ℕ) (was next : Awaited)
+    (old new : List ℕ) → word ≡ get_or (before ++ rest) at [] → AskInOrder before asked
+    → Awaits before rest asked at was old
+    → ((bytes : List ℕ) → was ≡ Name → AsksBytes word bytes → (next ≡ Name) × (new ≡ old ++ bytes))
+    → ((each : Detail) → was ≡ Name → word ≡ detail_text each → next ≡ awaited.Detail each)
+    → (was ≡ awaited.Detail detail.ClockMessage → ¬ AsksHelp word → IsAfterId next)
+    → Awaits before rest asked (at + 1) next new
+next_awaited before rest asked at word was next old new is order awaits takes operand id = record {
+  name = λ small.
+      let inside : at < length before = omega (arith, small) in
+      let now = awaits.name (omega (arith, small)) in
+      let same : word ≡ get_or before at [] = is ∙ get_or_append_left before rest [] at inside in
+      let more = takes (get_or asked at []) now.0 (rw same (order.each at inside)) in (
+        more.0,
+        more.1 ∙ ap (λ bytes. bytes ++ get_or asked at []) now.1
+            ∙ sym (next_bytes asked at (rw order.all inside)),
+      );
+  operand = λ each more end follows.
+      let here : length before ≡ at = omega (arith, end) in
+      operand each (awaits.name (omega (arith, here))).0
+      (is ∙ rw follows (get_or_at before (detail_text each) more [] at here));
+  id = λ number more end follows other.
+      let here : at ≡ length before + 1 = omega (arith, end) in
+      let held = get_or-append-add before (detail_text detail.ClockMessage ∷ number ∷ more) 1 [] in
+      let same : word ≡ number = is ∙ rw (here, follows) held in
+      id (awaits.operand detail.ClockMessage (number ∷ more) here follows) (rw same other);
+}
+
+-- such a line is refused at its end, or for memory before
+pub ends_before : (before rest asked : List (List ℕ)) (word : Detail) (at : ℕ) (next : Awaited) (bytes : List ℕ)
+    → Awaits before rest asked at next bytes → LacksOperand word rest → at ≡ length (before ++ rest)
+    → (next ≡ awaited.Detail word) ⊎ ((word ≡ detail.ClockMessage) × IsAfterId next)
+ends_before before rest asked word at next bytes awaits lacks end = elim lacks [
+  | inl alone ↦
+      inl (awaits.operand word [] (end ∙ rw alone (length-append before (detail_text word ∷ []))) alone)
+  | inr id ↦
+      inr (
+        id.0,
+        awaits.id id.1 [] (end ∙ rw id.2 (length-append before (detail_text word ∷ id.1 ∷ [])))
+            (rw id.0 at id.2) id.3,
+      )
+]
+
+pub stopped : (before rest asked : List (List ℕ)) (lack : Detail) (at : ℕ) (word : List ℕ) (was : Awaited)
+    (old : List ℕ) (fault : BadAsk) → word ≡ get_or (before ++ rest) at [] → at < length (before ++ rest)
+    → AskInOrder before asked → Awaits before rest asked at was old → LacksOperand lack rest
+    → ((bytes : List ℕ) → was ≡ Name → AsksBytes word bytes → fault ≡ OutOfMemory)
+    → ((each : Detail) → was ≡ Name → word ≡ detail_text each → ⊥)
+    → (was ≡ awaited.Detail detail.ClockMessage → ¬ AsksHelp word → ⊥) → fault ≡ OutOfMemory
+stopped before rest asked lack at word was old fault is small order awaits lacks takes operand id =
+    elim (cases_lt at (length before)) [
+      | inl inside ↦
+          takes (get_or asked at []) (awaits.name (omega (arith, inside))).0
+          (rw (is ∙ get_or_append_left before rest [] at inside) (order.each at inside))
+      | inr past ↦ absurd (elim lacks [
+        | inl alone ↦
+            let inside = rw (alone, length-append before (detail_text lack ∷ [])) at small in
+            let here : length before ≡ at = omega (arith, past, inside) in
+            operand lack (awaits.name (omega (arith, here))).0
+            (is ∙ rw alone (get_or_at before (detail_text lack) [] [] at here))
+        | inr number ↦
+            let inside = rw (number.2, length-append before (detail_text lack ∷ number.1 ∷ [])) at small in
+            elim (cases_lt (length before) at) [
+              | inl beyond ↦
+                  let here : at ≡ length before + 1 = omega (arith, beyond, inside) in
+                  let same : word ≡ number.1 = is ∙ rw (here, number.2)
+                  (get_or-append-add before (detail_text lack ∷ number.1 ∷ []) 1 []) in
+                  id (rw number.0 at (awaits.operand lack (number.1 ∷ []) here number.2)) (rw same number.3)
+              | inr upto ↦
+                  let here : length before ≡ at = omega (arith, past, upto) in
+                  operand lack (awaits.name (omega (arith, here))).0
+                  (is ∙ rw number.2 (get_or_at before (detail_text lack) (number.1 ∷ []) [] at here))
+            ]
+      ])
+    ]
+
+pub word_at : (words : List (Bor (List ℕ))) (line : List (List ℕ)) (i : ℕ) → map (λ word. word.now) words ≡ line
+    → i < length words → (get_or words i (record { ref_ptr = (0, 0); now = [] })).now ≡ get_or line i []
+word_at words line i same small = search (rules, get_or-map, length-map)
+
+pub inside_line : (words : List (Bor (List ℕ))) (line : List (List ℕ)) (i : ℕ) → map (λ word. word.now) words ≡ line
+    → i < length words → i < length line
+inside_line words line i same small = search (rules, length-map)
+
+pub none_awaited : (before rest asked : List (List ℕ)) → Awaits before rest asked 0 Name []
+none_awaited before rest asked = record {
+  name = λ small. (refl, refl);
+  operand = λ word more end follows. absurd (omega (arith, end));
+  id = λ id more end follows other. absurd (omega (arith, end));
+}
+
+pub refused_or : {A : Type 0} (word : Detail) (r : Result A BadAsk) (fault : BadAsk) → IsErrAnd r (λ e. e ≡ fault)
+    → fault ≡ OutOfMemory → IsErrAnd r (λ e. (e ≡ Missing word) ⊎ (e ≡ OutOfMemory))
+refused_or word r fault is none = search rules
+
+pub all_read : (line asked : List (List ℕ)) (at : ℕ) (next : Awaited) (bytes : List ℕ) → AskInOrder line asked
+    → Awaits line [] asked at next bytes → at ≡ length line → (next ≡ Name) × (bytes ≡ concat asked)
+all_read line asked at next bytes order awaits end =
+    let now = awaits.name (omega (arith, end)) in
+    (now.0, now.1 ∙ ap concat (take_all at asked (rw (order.all, end) (omega arith))))
+
+pub at_end : (words : List (Bor (List ℕ))) (line : List (List ℕ)) (i : ℕ) → map (λ word. word.now) words ≡ line
+    → i ≡ length words → i ≡ length line
+at_end words line i same end = search (rules, length-map)
+
+-- a line that ends before an operand is refused for that
+abbrev IsMissing : Detail → Awaited → Type 0
+IsMissing word next = (next ≡ awaited.Detail word) ⊎ ((word ≡ detail.ClockMessage) × IsAfterId next)
+
+pub name_missing : (word : Detail) (next : Awaited) → next ≡ Name → IsMissing word next → ⊥
+name_missing word next is missing = search rules
+
+pub detail_missing : (word each : Detail) (next : Awaited) → next ≡ awaited.Detail each → IsMissing word next
+    → (Missing each ≡ Missing word) ⊎ (Missing each ≡ OutOfMemory)
+detail_missing word each next is missing = search rules
+
+pub bytes_missing : (word : Detail) (id : Bor (List ℕ)) (next : Awaited) → next ≡ awaited.Bytes id → IsMissing word next
+    → (Missing detail.ClockMessage ≡ Missing word) ⊎ (Missing detail.ClockMessage ≡ OutOfMemory)
+bytes_missing word id next is missing = search rules
+
+pub after_id : (id : List ℕ) (next : Awaited) → AwaitsBytes id next → IsAfterId next
+after_id id next awaits = search rules

@@ -1,15 +1,18 @@
 -- The effects of the calls that read a word of `dgt ask`.
-use Rattle.std.specs.Prelude.{◌≡◌, ℕ, List, ◌++◌, codes, Result, MatchResult}
+use Rattle.std.specs.Prelude.{◌≡◌, ◌+◌, ◌≤◌, ℕ, List, ◌∷◌, ◌++◌, codes, length, take, Result, MatchResult}
+use Rattle.std.specs.List.{concat}
 use Rattle.dgt_command.specs.Content.{CommandContent, command_content}
 use Rattle.dgt_command.specs.Encoding.{command_encoding}
 use Rattle.dgt_ask.specs.declared.asking.Asked.{Asked}
 use Rattle.dgt_ask.specs.declared.asking.Asked.TheVariants as asked
 use Rattle.dgt_ask.specs.declared.asking.Awaited.{Awaited}
 use Rattle.dgt_ask.specs.declared.asking.Awaited.TheVariants.{Name}
+use Rattle.dgt_ask.specs.declared.asking.Awaited.TheVariants as awaited
 use Rattle.dgt_ask.specs.declared.asking.BadAsk.{BadAsk}
 use Rattle.dgt_ask.specs.declared.asking.BadAsk.TheVariants.{OutOfMemory, Unfit}
 use Rattle.dgt_ask.specs.declared.details.Detail.{Detail}
-use Rattle.dgt_ask.specs.Asks.{IsNamed, detail_text}
+use Rattle.dgt_ask.specs.declared.details.Detail.TheVariants as detail
+use Rattle.dgt_ask.specs.Asks.{AsksHelp, IsNamed, detail_text}
 
 -- the request of this word, which is a command without operands
 abbrev pub IsAskedBy : List ℕ → Asked → Type 0
@@ -38,3 +41,23 @@ Takes r old new bytes =
 abbrev pub IsUnfit : Detail → List ℕ → BadAsk → Type 0
 IsUnfit word text (Unfit detail given) = (detail ≡ word) × (given.now ≡ text)
 IsUnfit word text _ = ⊥
+
+-- the bytes of a clock message with this id are awaited
+abbrev pub AwaitsBytes : List ℕ → Awaited → Type 0
+AwaitsBytes id (awaited.Bytes given) = given.now ≡ id
+AwaitsBytes id _ = ⊥
+
+-- the bytes of a clock message are awaited
+abbrev pub IsAfterId : Awaited → Type 0
+IsAfterId (awaited.Bytes id) = Unit {0}
+IsAfterId _ = ⊥
+
+-- What is awaited after the first `at` words of a line, and what they appended. The line begins
+-- with words that request these bytes, and `rest` follows.
+pub record Awaits (before rest asked : List (List ℕ)) (at : ℕ) (next : Awaited) (bytes : List ℕ) :
+    Type 0 where
+  pub name : at ≤ length before → (next ≡ Name) × (bytes ≡ concat (take at asked))
+  pub operand : (word : Detail) (more : List (List ℕ)) → at ≡ length before + 1
+      → rest ≡ detail_text word ∷ more → next ≡ awaited.Detail word
+  pub id : (id : List ℕ) (more : List (List ℕ)) → at ≡ length before + 2
+      → rest ≡ detail_text detail.ClockMessage ∷ id ∷ more → ¬ AsksHelp id → IsAfterId next

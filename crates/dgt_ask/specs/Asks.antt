@@ -134,3 +134,16 @@ AsksBytes word bytes =
 pub record AskInOrder (words asked : List (List ℕ)) : Type 0 where
   pub all : length asked ≡ length words
   pub each : (i : ℕ) → i < length words → AsksBytes (get_or words i []) (get_or asked i [])
+
+-- ---- missing operands
+
+-- these words print the help, unless they are the operand of `text`
+abbrev pub AsksHelp : List ℕ → Type 0
+AsksHelp word = (word ≡ codes "--help") ⊎ (word ≡ codes "-h")
+
+-- the words are this one, without its operand, or `clockmessage` and an id, without the bytes
+abbrev pub LacksOperand : Detail → List (List ℕ) → Type 0
+LacksOperand word words =
+    (words ≡ detail_text word ∷ [])
+    ⊎ ((word ≡ detail.ClockMessage)
+    × (id : List ℕ) × (words ≡ detail_text word ∷ id ∷ []) × (¬ AsksHelp id))

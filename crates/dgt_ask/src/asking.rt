@@ -1,6 +1,6 @@
 //! The words of `dgt ask`, and the bytes of their commands.
 
-ghost use Rattle.std.specs.Prelude.{◌≡◌, ◌≢◌, ◌≤◌, ◌↔◌, ◌++◌, false, ℕ, List, [], ◌∷◌, codes, length, map, slice_index as nth};
+ghost use Rattle.std.specs.Prelude.{◌≡◌, ◌≢◌, ◌≤◌, ◌↔◌, ◌⊎◌, ◌++◌, false, ℕ, List, [], ◌∷◌, codes, length, map, slice_index as nth};
 ghost use Rattle.std.specs.Prelude.{OnOk, IfNone, IfOk, IfSome, IsErrAnd, IsOkAnd, IsSomeAnd, IsTrue, MatchOption, MatchResult};
 ghost use Rattle.std.specs.List.{concat};
 ghost use Rattle.dgt_command.specs.Content.{command_content, ClockContent, ClockMessage, CommandContent};
@@ -9,8 +9,8 @@ ghost use Rattle.dgt_command.specs.Encoding.{command_encoding};
 ghost use Rattle.dgt_command.specs.Words.{BeginsNoCommand};
 ghost use Rattle.dgt_host.specs.Host.{follow_bytes, restart_bytes};
 ghost use Rattle.hex.specs.Hex.{decode_of, decode_sized};
-ghost use Rattle.dgt_ask.specs.Asking.{Adds, AddsBytes, IsAskedBy, IsUnfit, Takes};
-ghost use Rattle.dgt_ask.specs.Asks.{AskInOrder, Asks, AsksBytes, AsksStray, DetailAsks, HasBytes, IsAlone, IsNamed, IsNoStray, IsRaw, IsStray};
+ghost use Rattle.dgt_ask.specs.Asking.{Adds, AddsBytes, AwaitsBytes, IsAskedBy, IsUnfit, Takes};
+ghost use Rattle.dgt_ask.specs.Asks.{AskInOrder, Asks, AsksBytes, AsksHelp, AsksStray, DetailAsks, HasBytes, IsAlone, IsNamed, IsNoStray, IsRaw, IsStray, LacksOperand, detail_text};
 
 use crate::details::{
     BadRaw, Detail, beep, byte, detail_of, eight_letters, icons, leds, raw, set_and_run, six_places,
@@ -70,7 +70,8 @@ enum Asked {
 fn named(word: &str) -> Option<Asked>
     ensures { MatchOption result
         (((each : CommandContent) → ¬ (IsNamed word.now each))
-        × ((bytes : List ℕ) → ¬ (IsAlone word.now bytes)))
+        × ((bytes : List ℕ) → ¬ (IsAlone word.now bytes))
+        × ((each : Detail) → word.now ≢ detail_text each))
         (IsAskedBy word.now) }
 {
     let command = match word {
@@ -108,11 +109,16 @@ enum Awaited<'a> {
 /// The bytes of the commands that these words request, in order.
 ///
 /// A command is the text that `dgt commands` prints, as one word, or with its operands as words of
-/// their own. The contract is about commands of one word.
+/// their own. The contract is about commands of one word, and about a missing operand after them.
+#[tactic(auto, using(crate::proofs::AskLemmas::none_awaited))]
 pub fn asked_bytes<'a>(alloc: Global, words: &[&'a str]) -> Result<Vec<u8>, BadAsk<'a>>
-    ensures { (asked : List (List ℕ)) → AskInOrder (map (λ word. word.now) words.now) asked →
+    ensures asked { (asked : List (List ℕ)) → AskInOrder (map (λ word. word.now) words.now) asked →
         MatchResult result (λ bytes. bytes.items ≡ concat asked)
         (λ fault. fault ≡ BadAsk.OutOfMemory) }
+    ensures missing { (before rest asked : List (List ℕ)) (word : Detail) →
+        map (λ word. word.now) words.now ≡ before ++ rest → AskInOrder before asked →
+        LacksOperand word rest → IsErrAnd result (λ fault.
+        (fault ≡ BadAsk.Missing word) ⊎ (fault ≡ BadAsk.OutOfMemory)) }
 {
     let mut bytes = Vec::new(alloc);
     let mut awaited = Awaited::Name;
@@ -127,13 +133,19 @@ pub fn asked_bytes<'a>(alloc: Global, words: &[&'a str]) -> Result<Vec<u8>, BadA
 }
 
 // Takes a word, appends the bytes of the command that it ends, and returns what must follow.
+#[tactic(auto, using(crate::proofs::AskLemmas::no_help))]
 fn take<'a>(
     awaited: Awaited<'a>,
     word: &'a str,
     bytes: &mut Vec<u8>,
 ) -> Result<Awaited<'a>, BadAsk<'a>>
-    ensures { (asked : List ℕ) → awaited.entry ≡ Awaited.Name → AsksBytes word.now asked →
+    ensures asked { (asked : List ℕ) → awaited.entry ≡ Awaited.Name → AsksBytes word.now asked →
         Takes result bytes.old.items bytes.new.items asked }
+    ensures operand { (each : Detail) → awaited.entry ≡ Awaited.Name →
+        word.now ≡ detail_text each → IsOkAnd result (λ next. next ≡ Awaited.Detail each)
+        × (bytes.new.items ≡ bytes.old.items) }
+    ensures id { awaited.entry ≡ Awaited.Detail Detail.ClockMessage → ¬ (AsksHelp word.now) →
+        IsOkAnd result (AwaitsBytes word.now) × (bytes.new.items ≡ bytes.old.items) }
 {
     match awaited {
         // Only here are `--help` and `-h` a text.
@@ -148,6 +160,7 @@ fn take<'a>(
 }
 
 // Takes the first word of a command, or a whole command in one word.
+#[tactic(auto, using(crate::proofs::AskLemmas::spaced))]
 fn begin<'a>(word: &'a str, bytes: &mut Vec<u8>) -> Result<Awaited<'a>, BadAsk<'a>>
     ensures command { (command : CommandContent) → Asks word.now command →
         Takes result bytes.old.items bytes.new.items (command_encoding command) }
@@ -155,6 +168,9 @@ fn begin<'a>(word: &'a str, bytes: &mut Vec<u8>) -> Result<Awaited<'a>, BadAsk<'
         Takes result bytes.old.items bytes.new.items asked }
     ensures stray { (asked : List ℕ) → AsksStray word.now asked →
         Takes result bytes.old.items bytes.new.items asked }
+    ensures operand { (each : Detail) → word.now ≡ detail_text each →
+        IsOkAnd result (λ next. next ≡ Awaited.Detail each)
+        × (bytes.new.items ≡ bytes.old.items) }
 {
     if let Some((name, rest)) = word.split_once(' ') {
         match detail_of(name) {

@@ -8,7 +8,8 @@ ghost use Rattle.dgt_command.specs.declared.ids.KnownId.{KnownId};
 ghost use Rattle.dgt_command.specs.Content.{Battery, Clock, ClockContent, ClockMessage, CommandContent, Dump, Leds, LongSerial, Reset, Serial, Trademark, Update, UpdateBoard, UpdateNice, Version, known_clock};
 ghost use Rattle.dgt_command.specs.Display.{Shows};
 ghost use Rattle.dgt_command.specs.Encoding.{command_encoding};
-ghost use Rattle.dgt_ask.specs.Asks.{AskInOrder, Asks, AsksBytes, IsNoStray};
+ghost use Rattle.dgt_ask.specs.declared.details.Detail.{Detail};
+ghost use Rattle.dgt_ask.specs.Asks.{AskInOrder, Asks, AsksBytes, IsNoStray, LacksOperand, detail_text};
 
 /// Each word without an operand requests its command.
 pub fn names_ask()
@@ -67,4 +68,15 @@ pub fn words_ask_in_order()
     ensures none { AskInOrder [] [] }
     ensures more { (word asked : List ℕ) (words others : List (List ℕ)) → AsksBytes word asked
         → AskInOrder words others → AskInOrder (word ∷ words) (asked ∷ others) }
+{}
+
+/// A line ends before an operand if its last word needs one, or if an id is its last word. Words
+/// that ask for help are no ids.
+pub fn operands_are_missing()
+    ensures alone { (word : Detail) → LacksOperand word (detail_text word ∷ []) }
+    ensures id { LacksOperand Detail.ClockMessage (codes "clockmessage" ∷ codes "ff" ∷ []) }
+    ensures help { ¬ (LacksOperand Detail.ClockMessage
+        (codes "clockmessage" ∷ codes "--help" ∷ []))
+        × ¬ (LacksOperand Detail.ClockMessage (codes "clockmessage" ∷ codes "-h" ∷ [])) }
+    ensures whole { ¬ (LacksOperand Detail.Beep (codes "beep" ∷ codes "1" ∷ [])) }
 {}
