@@ -13,7 +13,7 @@ ghost use Rattle.dgt_host.specs.Host.{HostView, Request, Sends, host_after};
 ghost use Rattle.dgt_host.specs.Confirmed.{changes, repeats};
 ghost use Rattle.dgt_follow.specs.Calls.{Call, ConfirmedOverCalls, DueAtIsFirst, OneStretchIsSeen, bytes_heard, follower_after_call, follower_after_calls};
 ghost use Rattle.dgt_follow.specs.Follower.{Asks, AskingsConfirmNothing, ConfirmedAsHeard, DisturbedIsAskedAnew, FollowedInChunks, FollowerView, HasReason, OverdueIsAskedAnew, OverdueIsDoubt, SureStaysSure, asking_of, clock_known, follower_after, following};
-ghost use Rattle.dgt_follow.specs.Pace.{KeepsCount, PaceView, asking, asking_bytes, is_blank, is_overdue, is_stuck, new_pace, next_due, pace_after_asking, pace_after_event, pace_at, unfinished_by};
+ghost use Rattle.dgt_follow.specs.Pace.{KeepsCount, PaceView, asking, asking_bytes, forgetting, is_blank, is_overdue, is_stuck, new_pace, next_due, pace_after_asking, pace_after_event, pace_at, unfinished_by};
 ghost use Rattle.dgt_follow.specs.declared.asking.Asking.{Asking};
 ghost use Rattle.dgt_follow.specs.declared.asking.UpdateMode.{UpdateMode};
 
@@ -305,6 +305,8 @@ pub fn askings_out_of_turn()
     ensures tries { (pace : PaceView) (now : ℕ) → pace.tries ≡ 3 →
         let after = pace_after_asking Asking.Identify pace now in
         (after.tries ≡ 2) × (after.requested ≡ true) }
+    ensures wanted { (pace : PaceView) (now : ℕ) →
+        (pace_after_asking Asking.Identify pace now).wanted ≡ pace.wanted }
     ensures again { (pace : PaceView) (now : ℕ) →
         let after = pace_after_asking Asking.Heartbeat pace now in
         (after.requested ≡ false) × (after.wanted ≡ false) × (after.pardons ≡ false) }
@@ -405,6 +407,14 @@ pub fn notes_of_events()
         [] None (Event.Message (Content.field square piece))).heard ≡ Some now }
     ensures unheard { (pace : PaceView) (now byte : ℕ) →
         (pace_after_event pace now [] None (Event.Stray byte)).heard ≡ pace.heard }
+    ensures faults { (pace : PaceView) (now have code : ℕ) (awaited : List Kind)
+        (picture : Option (List Piece)) →
+        let after = λ (event : Event). pace_after_event pace now awaited picture event in
+        ((after (Event.Cut have)).disturbed ≡ true) × ((after Event.BadLength).disturbed ≡ true)
+        × ((after (Event.Refused code BodyFault.WrongSize)).disturbed ≡ true) }
+    ensures not_whole { (pace : PaceView) (now code : ℕ) (fault : BodyFault) (awaited : List Kind)
+        (picture : Option (List Piece)) → (pace_after_event pace now awaited picture
+        (Event.Refused code fault)).heard ≡ pace.heard }
 {}
 
 /// What confirms a picture: an awaited dump that repeats it. The first dump after a new start
@@ -440,6 +450,10 @@ pub fn what_confirms()
         (Event.Message (Content.dump pieces))).confirmed ≡ false }
     ensures anew { (pace : PaceView) (now : ℕ) →
         (pace_after_asking Asking.Anew pace now).settling ≡ true }
+    ensures never { (period patience : ℕ) (mode : UpdateMode) (confirm identify : Bool) →
+        (new_pace period patience mode confirm identify).settling ≡ false }
+    ensures forgotten { (pace : PaceView) → forgetting pace ≡ new_pace pace.period pace.patience
+        pace.mode pace.confirm pace.identify }
     ensures waits { (pace : PaceView) (now byte : ℕ) (picture : Option (List Piece)) →
         pace.settling ≡ true →
         (pace_after_event pace now [] picture (Event.Stray byte)).settling ≡ true }

@@ -1,6 +1,6 @@
 //! Laws of the names. Each function does nothing at run time: its contract states the facts.
 
-ghost use Rattle.std.specs.Prelude.{◌≡◌, ℕ, List, [], ◌∷◌, map, None, Some, codes, false, true};
+ghost use Rattle.std.specs.Prelude.{◌≡◌, ℕ, List, [], ◌∷◌, length, map, slice_index as nth, None, Some, codes, false, true};
 ghost use Rattle.dgt_values.specs.Equality.{CloneIsSame, EqualIsSame};
 ghost use Rattle.dgt_names.specs.declared.battery.BatteryState.{BatteryState as AnyState};
 ghost use Rattle.dgt_names.specs.declared.clock.Button.{Button as AnyButton};
@@ -64,12 +64,16 @@ pub fn button_is_pressed()
     ensures { ¬ (IsSignal (0x10 ∷ 0x08 ∷ 0x06 ∷ 0x31 ∷ []) (AnySignal.Done KnownId.Button)) }
 {}
 
-/// The bits of a time have one meaning only, and so do the bytes of a battery.
+/// The bits of a time have one meaning only, and so do the bytes of a battery. Bytes mean a signal
+/// only after 10, and a battery only if they are nine.
 pub fn one_is_meant()
     ensures flags { (carried : ℕ) (one other : AnyFlags) →
         AreFlags carried one → AreFlags carried other → one ≡ other }
     ensures battery { (bytes : List ℕ) (one other : AnyState) →
         IsBattery bytes one → IsBattery bytes other → one ≡ other }
+    ensures first { (ack : List ℕ) (signal : AnySignal) → IsSignal ack signal → nth ack 0 ≡ 0x10 }
+    ensures nine { (bytes : List ℕ) (state : AnyState) → IsBattery bytes state →
+        length bytes ≡ 9 }
 {}
 
 /// The meaning of the flags of times, by example.
