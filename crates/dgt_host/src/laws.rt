@@ -1,7 +1,7 @@
 //! Laws of a host, for all bytes that it may receive. Each function does nothing at run time: its
 //! contract states a fact.
 
-ghost use Rattle.std.specs.Prelude.{◌≡◌, ◌≤◌, ◌+◌, ◌++◌, ℕ, Bool, List, [], ◌∷◌, Option, None, Some, false, flat_map, length, option_to_list, true, Result};
+ghost use Rattle.std.specs.Prelude.{◌≡◌, ◌≤◌, ◌+◌, ◌++◌, ℕ, Bool, List, [], ◌∷◌, Option, None, Some, IsTrue, false, flat_map, length, option_to_list, true, Result};
 ghost use Rattle.std.specs.List.{AllByRecursion};
 ghost use Rattle.dgt_values.specs.declared.pieces.Piece.{Piece};
 ghost use Rattle.dgt_values.specs.Equality.{CloneIsSame, EqualIsSame, EqualIsSameRead};
@@ -10,7 +10,7 @@ ghost use Rattle.dgt_message.specs.Encoding.{encoding};
 ghost use Rattle.dgt_decode.specs.Feeding.{event_content_if_any};
 ghost use Rattle.dgt_decode.specs.Grammar.{Event, Placed, shifted, unfinished_message};
 ghost use Rattle.dgt_message.specs.Picture.{clock_after_all, picture_after_all};
-ghost use Rattle.dgt_host.specs.Confirmed.{Ends, ChangesIsExact, ConfirmedByDump, ConfirmedIsReported, ConfirmedWasReported, FaultlessIsRight, IsRight, LateFaultsSuffice, Passage, StretchIsOne, TwoFaultsSuffice, UnconfirmedIsWrong, changes, confirmed_after, faults_after, heard_in, repeats, sent_in};
+ghost use Rattle.dgt_host.specs.Confirmed.{Ends, ChangesIsExact, ConfirmedByDump, ConfirmedIsReported, ConfirmedWasReported, FaultlessIsRight, IsRight, LateFaultsSuffice, Passage, StretchIsOne, TwoFaultsSuffice, UnconfirmedIsWrong, changes, confirmed_after, faults_after, heard_in, repeats, sent_in, AllLeave, faults_after_all, heard, sent};
 ghost use Rattle.dgt_host.specs.declared.sending.SendFault.{SendFault as Fault};
 ghost use Rattle.dgt_host.specs.Host.{HeardInChunks, HostView, Request, Sends, host_after, host_after_events, host_after_message};
 
@@ -98,6 +98,18 @@ pub fn one_fault_is_seen()
     ensures is { ConfirmedIsReported }
     ensures dump { ConfirmedByDump }
     ensures right { FaultlessIsRight }
+{}
+
+/// So it is if the dump that confirms is the only fault since the last whole dump: then the picture
+/// is what the board had reported before.
+pub fn a_faulty_dump_confirms()
+    ensures { (reported pieces : List Piece) (shown : Option (List Piece))
+        (earlier later : List Passage) (meant : Option Content) → IsRight reported shown →
+        IsTrue (repeats (picture_after_all shown (heard earlier)) pieces) →
+        AllLeave pieces (heard later) → faults_after_all 0 earlier ≡ 0 →
+        picture_after_all shown
+        (heard (earlier ++ Passage.Faulty meant (Some (Content.dump pieces)) ∷ later))
+        ≡ picture_after_all (Some reported) (sent earlier) }
 {}
 
 /// Whatever bytes are between whole messages, the messages before and after them are heard. Bytes
