@@ -6,6 +6,7 @@ ghost use Rattle.dgt_values.specs.Equality.{CloneIsSame, EqualIsSame, EqualIsSam
 ghost use Rattle.dgt_message.specs.Content.{Content, IsMessage};
 ghost use Rattle.dgt_command.specs.Content.{CommandContent, EventContent, command_event_content};
 ghost use Rattle.dgt_command.specs.Equality.{EventHasArrays};
+ghost use Rattle.dgt_command.specs.Words.{IsPartial};
 ghost use Rattle.dgt_board.specs.declared.boards.Taken.{Taken};
 ghost use Rattle.dgt_board.specs.declared.modes.Mode.{Mode as BoardMode};
 ghost use Rattle.dgt_board.specs.State.{BoardState, IdentityContent, OwesByItsMode, after_hand_clock, after_line_lost, command_mode, effect, effects, follows_clock, new_board, updates, IsKeptBody, IsShortClock, IsShortIdentity};
@@ -13,16 +14,24 @@ ghost use Rattle.dgt_message.specs.Clock.{Absence, ClockState};
 ghost use Rattle.dgt_values.specs.Bytes.{AreSevenBit};
 ghost use Rattle.dgt_values.specs.declared.pieces.Piece.{Piece};
 ghost use Rattle.dgt_board.specs.Sending.{after_sending, backlog, clock_news, left_to_send, next_message, piece_on, unreported_squares};
-ghost use Rattle.dgt_board.specs.View.{BoardView, HasTaken, Polls};
+ghost use Rattle.dgt_board.specs.View.{BoardView, HasTaken, IsBoard, Polls};
 ghost use Rattle.dgt_board.specs.declared.sending.Polled.{Polled as Answer};
 
 use crate::{Busy, MAX_KEPT_BODY, MAX_OWED, MAX_SENT, Mode, Polled, Taken, TooLong};
 
-/// The limits by their numbers.
+/// The limits by their numbers, and what keeps to them.
 pub fn limits()
     ensures owed { MAX_OWED ≡ 8 }
     ensures kept_body { MAX_KEPT_BODY ≡ 64 }
     ensures sent { MAX_SENT ≡ 67 }
+    ensures identity { (identity : IdentityContent) → IsShortIdentity identity →
+        (length identity.serial ≤ 64) × (length identity.trademark ≤ 64)
+        × (length identity.battery ≤ 64) × (length identity.long_serial ≤ 64) }
+    ensures clock { (absence : Absence) → IsShortClock (ClockState.no_clock absence) →
+        length absence.raw ≤ 63 }
+    ensures board { (board : BoardView) → IsBoard board → (length board.state.squares ≡ 64)
+        × (length board.state.reported_squares ≡ 64) × (length board.state.owed ≤ 8)
+        × IsPartial board.partial }
 {}
 
 /// Two values are equal by `==` exactly if they are the same. For borrowed bytes, the bytes count

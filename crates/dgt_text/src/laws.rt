@@ -1,7 +1,7 @@
 //! Facts about lines, scripts and conversations. Nothing here runs: the contract of each function
 //! states a fact.
 
-ghost use Rattle.std.specs.Prelude.{◌≡◌, ℕ, List};
+ghost use Rattle.std.specs.Prelude.{◌≡◌, ◌++◌, ℕ, List, codes};
 ghost use Rattle.dgt_link.specs.Healing.{IsPromisedWorld};
 ghost use Rattle.dgt_link.specs.Machine.{MachineState};
 ghost use Rattle.dgt_link.specs.Promise.{IsPromised};
@@ -101,6 +101,13 @@ pub fn pictures_are_shown()
     ensures healed { (world : WorldView) (out : List ℕ) →
         ShowsHealed world out → IsPromisedWorld world → IsQuietWorld world
         → HasBoth (placement_text world.board.state.squares) out }
+{}
+
+/// A text with both lines contains them with one placement, one after the other.
+pub fn what_has_both()
+    ensures { (placement out : List ℕ) → HasBoth placement out →
+        (before : List ℕ) × (rest : List ℕ) × (out ≡ before ++ codes "board " ++ placement
+        ++ codes "\nhost " ++ placement ++ codes "\n" ++ rest) }
 {}
 
 /// The picture that is printed is that of a host that hears the same bytes. If that is unknown,
