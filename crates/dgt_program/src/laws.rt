@@ -14,7 +14,7 @@ ghost use Rattle.dgt_ask.specs.declared.tasks.BadArguments.{BadArguments as Bad}
 ghost use Rattle.dgt_link.specs.declared.world.WorldFault.{WorldFault};
 ghost use Rattle.dgt_lines.specs.declared.faults.RunFault.{RunFault};
 ghost use Rattle.dgt_text.specs.Simulating.{ShowsHealed, ShowsPicture, faulty_rules, plain_rules};
-ghost use Rattle.dgt_program.specs.Ends.{AllIsMonitored, AllIsShown, FaultsComeFirst, OddWordsAreRefused, PlacementsAreRefused, PlaysAll, PositionsArePlaced, ShowsAll, ShowsNothing, SmallLinesAreRefused, TextsAreFlushed, WordsAreDecoded, WorldsAreLarge};
+ghost use Rattle.dgt_program.specs.Ends.{AllIsMonitored, AllIsShown, FaultsComeFirst, IsBeforeRuns, OddWordsAreRefused, PlacementsAreRefused, PlaysAll, PositionsArePlaced, ShowsAll, ShowsNothing, SmallLinesAreRefused, TextsAreFlushed, WordsAreDecoded, WorldsAreLarge};
 ghost use Rattle.dgt_program.specs.Faults.{IsOfWords, IsOfWorld, fault_lines, fault_status};
 ghost use Rattle.dgt_program.specs.declared.fault.Fault.{Fault as AnyFault};
 
@@ -53,6 +53,7 @@ pub fn faults()
         fault_status fault ≡ 2 }
     ensures memory { (fault : AnyFault) → IsOfWorld WorldFault.OutOfMemory fault →
         fault_status fault ≡ 3 }
+    ensures early { (text : String Global) → IsBeforeRuns (AnyFault.CommandLine text) }
 {}
 
 /// If a task ends with a fault that is not of a run, no bytes were read or written.
