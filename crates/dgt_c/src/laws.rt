@@ -1,9 +1,15 @@
 //! Laws of what calls report to C. [`header`] contains those of numbers and structs. Each function
 //! does nothing at run time: its contract states a fact.
 
-ghost use Rattle.std.specs.Prelude.{◌≡◌, ◌⊎◌, ◌<◌, ◌∷◌, ◌↔◌, ℕ, List, [], map, replicate, None, Some, IsTrue};
+ghost use Rattle.std.specs.Prelude.{◌≡◌, ◌⊎◌, ◌≤◌, ◌<◌, ◌∷◌, ◌↔◌, ℕ, List, [], map, replicate, take, None, Some, All, Bool, Contains, IsTrue};
 ghost use Rattle.dgt_values.specs.declared.pieces.Piece.{Piece as AnyPiece};
+ghost use Rattle.std.specs.Mem.{type_size};
+ghost use denote.Memory.{lone};
+ghost use prog.Offsets.{Lies};
 ghost use Rattle.dgt_values.specs.Board.{piece_code};
+ghost use Rattle.dgt_values.specs.Bytes.{AreSevenBit};
+ghost use Rattle.dgt_command.specs.Content.{clock_content};
+ghost use Rattle.dgt_command.specs.declared.clock.ClockCommand.{ClockCommand};
 ghost use Rattle.dgt_command.specs.Ids.{id_number};
 ghost use Rattle.dgt_command.specs.declared.ids.KnownId.{KnownId};
 ghost use Rattle.dgt_message.specs.Clock.{Absence, Time, Times};
@@ -11,7 +17,7 @@ ghost use Rattle.dgt_message.specs.Content.{Content, IsMessage};
 ghost use Rattle.dgt_message.specs.declared.viewing.BodyFault.{BodyFault};
 ghost use Rattle.dgt_message.specs.declared.viewing.BodyFault.TheVariants.{WrongSize, BadPiece, BadSquare, BadReading};
 ghost use Rattle.dgt_decode.specs.Grammar.{Message, Refused, Cut, BadLength, Stray};
-ghost use Rattle.dgt_host.specs.Host.{Request};
+ghost use Rattle.dgt_host.specs.Host.{HostView, Request};
 ghost use Rattle.dgt_names.specs.Names.{button_byte};
 ghost use Rattle.dgt_names.specs.declared.battery.BatteryState.{BatteryState as AnyState};
 ghost use Rattle.dgt_names.specs.declared.clock.Button.{Button as AnyButton};
@@ -19,16 +25,24 @@ ghost use Rattle.dgt_names.specs.declared.clock.Signal.{Signal as AnySignal};
 ghost use Rattle.dgt_stored.specs.Stored.{StoredContent, mark_byte};
 ghost use Rattle.dgt_stored.specs.declared.stored.Mark.{Mark as AnyMark};
 ghost use Rattle.dgt_c.specs.Boards.{PollsReported};
+ghost use Rattle.dgt_c.specs.ClockSending.{SendsClock, SendsMessage};
 ghost use Rattle.dgt_c.specs.Clocks.{absence_said, time_said, times_said};
+ghost use Rattle.dgt_c.specs.Commands.{CommandReporting};
 ghost use Rattle.dgt_c.specs.Encoding.{IsMessageKind, SaysContent, SaysMessage};
 ghost use Rattle.dgt_c.specs.Followers.{AsksReported};
-ghost use Rattle.dgt_c.specs.Once.{BusyBoardsStay, ClocksAreInRange, CommandsReserveZeros, EventsAreRead, EventsHaveTexts, IdentitiesAreInRange, LeavesOne, MessagesAreEncoded, MessagesAreRead, NothingHasNoText, NothingIsEncoded, OneClock, OneEncoding, OneFeed, OneHearing, OneReportEach, OneStart, OneTaking, OneUse, OneWord, RefusedCommandsStay, ReportsAreSaid, ReportsReserveZeros, RoomIsLeft, TextsAreShown, ViewsReserveZeros};
+ghost use Rattle.dgt_c.specs.Hearing.{Reporting};
+ghost use Rattle.dgt_c.specs.Layouts.{Ascend, FitsIn, LiesAs};
+ghost use Rattle.dgt_c.specs.Once.{AreSameCommands, AreSameReports, BusyBoardsStay, ClocksAreInRange, CommandsReserveZeros, EventsAreRead, EventsHaveTexts, IdentitiesAreInRange, IsEvent, IsShort, LeavesOne, MessagesAreEncoded, MessagesAreRead, NothingHasNoText, NothingIsEncoded, OneClock, OneEncoding, OneFeed, OneHearing, OneReportEach, OneStart, OneTaking, OneUse, OneWord, RefusedCommandsStay, ReportsAreSaid, ReportsReserveZeros, RoomIsLeft, TextsAreShown, ViewsReserveZeros};
 ghost use Rattle.dgt_c.specs.Names.{battery_reported, number_if_known, signal_reported, stored_reported};
+ghost use Rattle.dgt_c.specs.contracts.header.{DgtEvent.the_row as event_row};
 ghost use Rattle.dgt_c.specs.declared.header.DgtBattery.{DgtBattery};
+ghost use Rattle.dgt_c.specs.declared.header.DgtBody.{DgtBody};
 ghost use Rattle.dgt_c.specs.declared.header.DgtEvent.{DgtEvent};
+ghost use Rattle.dgt_c.specs.declared.header.DgtSent.{DgtSent};
 ghost use Rattle.dgt_c.specs.declared.header.DgtSignal.{DgtSignal};
 ghost use Rattle.dgt_c.specs.declared.header.DgtStored.{DgtStored};
 ghost use Rattle.dgt_c.specs.Sent.{SendsReported};
+ghost use Rattle.dgt_c.specs.Starting.{ArePieces};
 ghost use Rattle.dgt_c.specs.Texts.{SaysEvent, SaysFault};
 
 pub mod header;
@@ -200,4 +214,37 @@ pub fn one_sending()
 pub fn refused_commands()
     ensures stay { RefusedCommandsStay }
     ensures texts { TextsAreShown }
+{}
+
+/// What the words of these laws say, and what is enough for them.
+pub fn words_of_laws()
+    ensures pieces { (codes : List ℕ) → All (λ code. code < 16) codes → ArePieces codes }
+    ensures event { (message : Content) → IsMessage message → IsEvent (Message message) }
+    ensures refused { (code : ℕ) (fault : BodyFault) → code < 128 → IsEvent (Refused code fault) }
+    ensures fault { (have byte : ℕ) →
+        IsEvent (Cut have) × IsEvent BadLength × IsEvent (Stray byte) }
+    ensures kinds { (kind : ℕ) → IsMessageKind kind →
+        Contains (1 ∷ 2 ∷ 3 ∷ 4 ∷ 5 ∷ 6 ∷ 7 ∷ 8 ∷ 9 ∷ 10 ∷ 11 ∷ []) kind }
+    ensures short { (said : DgtBody) → IsShort said →
+        (said.len ≤ 64) × AreSevenBit (take said.len said.bytes) }
+    ensures reports { (first second : Reporting) → AreSameReports first second →
+        (first.event ≡ second.event) × (first.new ≡ second.new) }
+    ensures commands { (first second : CommandReporting) → AreSameCommands first second →
+        (first.command ≡ second.command) × (first.new ≡ second.new) }
+    ensures message { (message : ClockCommand) (before after : HostView) (old new : List ℕ)
+        (sent : DgtSent) → SendsMessage message before after old new sent →
+        SendsClock (clock_content message) before after old new sent }
+    ensures one { (leaves : HostView → HostView → List ℕ → List ℕ → DgtSent → Bool)
+        (before after other : HostView) (old new also : List ℕ) (sent second : DgtSent) →
+        LeavesOne (λ a b c d e. IsTrue (leaves a b c d e)) →
+        IsTrue (leaves before after old new sent) → IsTrue (leaves before other old also second) →
+        (after ≡ other) × (new ≡ also) × (sent ≡ second) }
+    ensures ascend { (a b : ℕ) (rest : List ℕ) → Ascend (a ∷ b ∷ rest) →
+        (a < b) × Ascend (b ∷ rest) }
+    ensures lies { (size alignment : ℕ) (offsets : List ℕ) →
+        LiesAs event_row size alignment offsets →
+        Lies (lone event_row.mir) size alignment offsets }
+    ensures fits { (room alignment : ℕ) (offsets : List ℕ) →
+        FitsIn event_row room alignment offsets → (type_size event_row ≤ room)
+        × LiesAs event_row (type_size event_row) alignment offsets }
 {}
