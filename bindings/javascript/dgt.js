@@ -1071,7 +1071,11 @@ export class Host extends Sender {
   }
 }
 
-/** A host that keeps its picture right: it requests the whole position again and again. */
+/**
+ * A host that keeps its picture right: it requests the whole position again and again. After LED
+ * frames and messages to the clock, it repeats its mode's command: if a byte of those is lost, the
+ * board may read others of them as commands, and reset ends its reports.
+ */
 export class Follower extends Sender {
   /**
    * @param {Library} dgt

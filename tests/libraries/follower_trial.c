@@ -146,7 +146,9 @@ enum {
     ASKINGS, /* the second byte of each asking is lost */
     FIELDS,  /* one field message in 50 comes with another piece, or is lost */
     MUTE,    /* what the board sends is lost for 20 to 90 s in each ten minutes */
-    GAPS     /* each byte is lost for two seconds in each two minutes */
+    GAPS,    /* each byte is lost for two seconds in each two minutes */
+    LEDS,    /* the host sends an LED frame each 3 s */
+    DISPLAYS /* the host sends a text with hyphens to the clock each 3 s */
 };
 
 /* What the host `old` counts and notes. */
@@ -170,6 +172,7 @@ static struct {
     int trouble;
     uint64_t trouble_chance;
     uint64_t gap_due, window; /* when a gap begins or ends, and when the next one's window begins */
+    uint64_t frame_due;       /* when the host sends a frame */
 
     dgt_follower follower;
     dgt_host host;
@@ -334,6 +337,23 @@ static void send_leds(void) {
         : dgt_host_send_leds(&world.host, leds, count, out, sizeof out);
     check(sent.status == DGT_SENT, "LEDs are refused");
     put(&world.down, world.now, out, sent.bytes);
+}
+
+/* A frame with bytes 40: that is the reset to a board that reads them as commands. */
+static void send_frame(void) {
+    static const uint8_t leds[4] = {0x00, 0x40, 0x40, 0x00};
+    uint8_t out[DGT_MAX_ASKING];
+    dgt_sent sent;
+    if (world.trouble == LEDS)
+        sent = is_follower() ? dgt_follower_send_leds(&world.follower, leds, 4, out, sizeof out)
+                             : dgt_host_send_leds(&world.host, leds, 4, out, sizeof out);
+    else
+        sent = is_follower()
+            ? dgt_follower_show_digits(&world.follower, "------", 0, 0, out, sizeof out)
+            : dgt_host_show_digits(&world.host, "------", 0, 0, out, sizeof out);
+    check(sent.status == DGT_SENT, "a frame is refused");
+    put(&world.down, world.now, out, sent.bytes);
+    world.frame_due += 3 * SECOND;
 }
 
 /* ---- The board, and the hands at it. */
@@ -506,7 +526,7 @@ static void start(int kind, uint64_t seed, uint64_t number) {
     dgt_board_line_lost(&world.board);
     memcpy(world.earlier, world.pieces, 64);
     world.has_to_ask = true;
-    world.power_due = world.gap_due = NEVER;
+    world.power_due = world.gap_due = world.frame_due = NEVER;
     world.hand_due = SECOND;
     world.clock_due = has_clock() ? SECOND : NEVER;
     if (kind == CLOCK) dgt_follower_set_mode(&world.follower, DGT_MODE_UPDATE_NICE);
@@ -553,7 +573,7 @@ static uint64_t least(uint64_t one, uint64_t other) { return one < other ? one :
 /* When something happens next, but not after `end`. */
 static uint64_t next_time(uint64_t end) {
     uint64_t next = least(least(end, world.hand_due), least(world.power_due, ask_due()));
-    next = least(next, least(world.clock_due, world.gap_due));
+    next = least(least(next, world.clock_due), least(world.gap_due, world.frame_due));
     if (world.up.count > 0) next = least(next, world.up.due);
     if (world.down.count > 0) next = least(next, world.down.due);
     if (world.now < world.changed + LATE) next = least(next, world.changed + LATE);
@@ -582,6 +602,7 @@ static void play(uint64_t end, uint64_t power_mean) {
             give_board(arrived, carry(&world.down, arrived));
         if (world.power_due == world.now) switch_power(power_mean);
         if (world.gap_due == world.now) switch_gap();
+        if (world.frame_due == world.now) send_frame();
         if (world.hand_due == world.now) move_pieces();
         if (world.clock_due == world.now) tick();
         ask();
@@ -610,7 +631,9 @@ static const row rows[] = {{"none", 0, 0, NOTHING},
                            {"askings", 0, 0, ASKINGS},
                            {"fields", 0, 0, FIELDS},
                            {"mute", 0, 0, MUTE},
-                           {"gaps", 0, 0, GAPS}};
+                           {"gaps", 0, 0, GAPS},
+                           {"leds", 1000, 0, LEDS},
+                           {"displays", 1000, 0, DISPLAYS}};
 
 static int compare_times(const void *one, const void *other) {
     uint64_t first = *(const uint64_t *)one, second = *(const uint64_t *)other;
@@ -636,6 +659,7 @@ static void play_hour(int kind, uint64_t seed, uint64_t number, const row *of) {
     world.trouble = of->trouble;
     world.window = SECOND;
     if (of->trouble == MUTE || of->trouble == GAPS) await_gap();
+    if (of->trouble == LEDS || of->trouble == DISPLAYS) world.frame_due = SECOND;
     play(SECOND, of->power_mean);
     world.is_measured = true;
     play(SECOND + HOUR, of->power_mean);

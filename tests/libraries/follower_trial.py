@@ -30,9 +30,11 @@ LONGEST_WORD, DUMP_LENGTH = 257, 67
 END = 64
 Row = tuple[str, int, int]
 TROUBLES = ["dumps", "modes", "askings", "fields", "mute", "gaps"]
+FRAMES = ["leds", "displays"]
 # Each row by its name, with its rate and the mean of its losses of power.
 ROWS: list[Row] = [("none", 0, 0), ("power", 0, 7200), ("10000", 10000, 7200), ("1000", 1000, 7200),
-                   ("alone", 1000, 0), ("100", 100, 7200), *((name, 0, 0) for name in TROUBLES)]
+                   ("alone", 1000, 0), ("100", 100, 7200), *((name, 0, 0) for name in TROUBLES),
+                   *((name, 1000, 0) for name in FRAMES)]
 FIELD, RESET, MODE_COMMANDS = 0x8E, 0x40, b"\x43\x44\x4B"
 GAMES, MOVES = 32, 80
 LEDS = bytes([0x00, 0x2B, 0x40, 0x42, 0x44, 0x60, 0x05, 0xFF])
@@ -165,6 +167,7 @@ class World:
         self.board, self.inbox = dgt.Board(dgt.Position(bytes(self.pieces))), bytearray()
         self.is_off, self.power_due, self.hand_due = False, NEVER, SECOND
         self.trouble, self.gap_due, self.window = "", NEVER, SECOND
+        self.frame_due = NEVER
         self.has_leds = self.is_measured = self.is_wrong = False
         self.has_stopped = self.is_unhealed = False
         self.began = self.askings = self.needed = self.healed = 0
@@ -207,6 +210,11 @@ class World:
         count = self.leds_chance.below(17)
         leds = bytes(LEDS[self.leds_chance.below(8)] for _ in range(count))
         self.down.put(self.now, self.follower.send_leds(leds))
+
+    def send_frame(self) -> None:
+        self.down.put(self.now, self.follower.send_leds(b"\x00@@\x00") if self.trouble == "leds"
+                      else self.follower.send_display("------"))
+        self.frame_due += 3 * SECOND
 
     # The board, and the hands at it
 
@@ -342,7 +350,7 @@ class World:
             self.judge_healing(is_same)
 
     def next_time(self, end: int) -> int:
-        times = [end, self.hand_due, self.power_due, self.gap_due, self.ask_due]
+        times = [end, self.hand_due, self.power_due, self.gap_due, self.frame_due, self.ask_due]
         times += [line.due for line in (self.up, self.down) if line.held]
         if self.now < self.changed + LATE:
             times.append(self.changed + LATE)
@@ -370,6 +378,8 @@ class World:
                 self.switch_power(mean)
             if self.gap_due == self.now:
                 self.switch_gap()
+            if self.frame_due == self.now:
+                self.send_frame()
             if self.hand_due == self.now:
                 self.move_pieces()
             self.ask()
@@ -400,6 +410,8 @@ def play_hour(world: World, row: Row) -> None:
     world.power_due = world.next_loss(mean)
     if world.trouble in ("mute", "gaps"):
         world.await_gap()
+    if world.trouble in FRAMES:
+        world.frame_due = SECOND
     world.play(SECOND, mean)
     world.is_measured = True
     world.play(SECOND + HOUR, mean)
@@ -428,7 +440,7 @@ def play_run(world: World, number: int) -> None:
 
 def measure_row(play: Play, hours: int, row: Row) -> None:
     tally = Tally()
-    for hour in range((hours + 3) // 4 if row[0] in TROUBLES else hours):
+    for hour in range((hours + 3) // 4 if row[0] in TROUBLES + FRAMES else hours):
         play_hour(World(play, hour, tally), row)
     print("row", play.host, row[0], *tally.sums(), *numbers_of(tally.times))
 

@@ -11,6 +11,7 @@ static uint64_t now;
 
 #define SEND(name, ...) dgt_follower_##name(follower, __VA_ARGS__)
 #define MODEL &model.host
+#define SENT(sending) model_follower_sending(&model, sending)
 #include "sends.h"
 
 static void check_hear(const uint8_t *bytes, size_t n, size_t used, const dgt_event *right,

@@ -11,6 +11,7 @@ static uint8_t right_body[DGT_MAX_BODY];
 
 #define SEND(name, ...) dgt_host_##name(host, __VA_ARGS__)
 #define MODEL &model
+#define SENT(sending) (sending)
 #include "sends.h"
 
 /* ---- What it hears. */

@@ -136,6 +136,9 @@ void model_follower_line_lost(model_follower *follower);
 size_t model_follower_hear(model_follower *follower, uint64_t now, const uint8_t *bytes, size_t n,
                            dgt_event *event, uint8_t body[DGT_MAX_BODY]);
 
+/* What a follower makes of a sending: its mode's command follows a frame. */
+model_sending model_follower_sending(const model_follower *follower, model_sending sending);
+
 /* As dgt_follower_due_at. */
 bool model_due_at(const model_follower *follower, uint64_t *due);
 

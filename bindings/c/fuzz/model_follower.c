@@ -221,6 +221,11 @@ static model_sending sending_of(const model_follower *follower, asking asking) {
     return sending;
 }
 
+model_sending model_follower_sending(const model_follower *follower, model_sending sending) {
+    if (sending.n > 1) sending.bytes[sending.n++] = mode_command(follower);
+    return sending;
+}
+
 /* Records that an answer, or the rest of a message, is late. */
 static void note_time(model_follower *follower, uint64_t now) {
     bool is_overdue = is_unanswered(follower) && has_come(overdue_at(follower), now);

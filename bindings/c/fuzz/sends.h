@@ -1,5 +1,5 @@
 /* What both a host and a follower send. A file that includes this defines SEND(name, ..), the call
- * of this name, and MODEL, the model of the host. */
+ * of this name, MODEL, the model of the host, and SENT(sending), what the sender makes of it. */
 
 static void check_sent(dgt_sent sent, dgt_sent right, const uint8_t *out, size_t room,
                        const model_sending *sending) {
@@ -22,17 +22,17 @@ static dgt_sent send_by_meaning(const model_clock_call *it, uint8_t *out, size_t
 }
 
 static void send_clock_call(void) {
-    size_t room = input_room(DGT_MAX_WORD + 3);
+    size_t room = input_room(DGT_MAX_WORD + 4);
     uint8_t *out = guarded(OUT, room);
     model_clock_call call = any_clock_call();
-    model_sending sending = model_called(&call);
+    model_sending sending = SENT(model_called(&call));
     dgt_sent sent = send_by_meaning(&call, out, room);
     check_sent(sent, model_send(MODEL, &sending, room), out, room, &sending);
 }
 
 /* A command of one byte, a clock message, or an LED frame. */
 static void send_code(uint8_t how, chunk (*any_payload)(void)) {
-    size_t room = input_room(DGT_MAX_WORD + 3);
+    size_t room = input_room(DGT_MAX_WORD + 4);
     uint8_t *out = guarded(OUT, room), code = input_byte();
     chunk payload = any_payload();
     model_sending sending = model_command(code);
@@ -46,5 +46,6 @@ static void send_code(uint8_t how, chunk (*any_payload)(void)) {
         sending = model_leds(payload.bytes, payload.n);
         sent = SEND(send_leds, payload.bytes, payload.n, out, room);
     }
+    sending = SENT(sending);
     check_sent(sent, model_send(MODEL, &sending, room), out, room, &sending);
 }

@@ -145,7 +145,7 @@ uint32_t dgt_version(void);
 #define DGT_MAX_LEDS 255        /* the most bytes that an LED frame carries */
 #define DGT_MAX_AWAITED 16      /* the most replies that a host awaits */
 #define DGT_RESTART_LENGTH 257  /* how many bytes dgt_host_restart writes */
-#define DGT_MAX_ASKING 259      /* the most bytes that dgt_follower_ask writes */
+#define DGT_MAX_ASKING 259      /* the most bytes that a follower writes at once */
 #define DGT_LEAST_PERIOD 1000   /* the least period of a follower, in milliseconds */
 #define DGT_MAX_OWED 8          /* the most replies that a board owes */
 #define DGT_MAX_SENT 67         /* the most bytes that dgt_board_poll writes */
@@ -671,7 +671,9 @@ void dgt_follower_set_identify(dgt_follower *follower, bool identify) DGT_NONNUL
 dgt_sent dgt_follower_send(dgt_follower *follower, uint8_t code, uint8_t *out, size_t n)
     DGT_MUST_USE_ DGT_NONNULL_(1) DGT_WRITES_(3, 4);
 
-/* Sends a message to the clock, as dgt_host_send_clock does. */
+/* Sends a message to the clock, as dgt_host_send_clock does. The mode's command follows it, as one
+ * byte more: if a byte of the message is lost, the board may read others of it as commands, such as
+ * DGT_SEND_RESET, after which it reports nothing. So do the calls below. */
 dgt_sent dgt_follower_send_clock(dgt_follower *follower, uint8_t id, const uint8_t *payload,
                                  size_t payload_len, uint8_t *out, size_t n)
     DGT_MUST_USE_ DGT_NONNULL_(1) DGT_READS_(3, 4) DGT_WRITES_(5, 6);
@@ -716,7 +718,7 @@ dgt_sent dgt_follower_send_button(dgt_follower *follower, uint8_t *out, size_t n
 dgt_sent dgt_follower_send_clock_version(dgt_follower *follower, uint8_t *out, size_t n)
     DGT_MUST_USE_ DGT_NONNULL_(1) DGT_WRITES_(2, 3);
 
-/* Sends an LED frame, as dgt_host_send_leds does. */
+/* Sends an LED frame, as dgt_host_send_leds does, and the mode's command. */
 dgt_sent dgt_follower_send_leds(dgt_follower *follower, const uint8_t *leds, size_t leds_len,
                                 uint8_t *out, size_t n)
     DGT_MUST_USE_ DGT_NONNULL_(1) DGT_READS_(2, 3) DGT_WRITES_(4, 5);

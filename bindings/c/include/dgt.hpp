@@ -1128,7 +1128,9 @@ public:
             throw std::invalid_argument("a follower's mode can't be idle");
     }
 
-    /// As Host::send, send_clock and send_leds. They don't count as the follower's requests.
+    /// As Host::send, send_clock and send_leds. They don't count as the follower's requests. The
+    /// mode's command follows a message to the clock and an LED frame: if a byte of those is lost,
+    /// the board may read others of them as commands, and Ask::reset ends its reports.
     Commands send(Ask ask) {
         auto code = static_cast<std::uint8_t>(ask);
         return detail::sent([&](auto *out, auto n) {

@@ -404,9 +404,9 @@ static void follower(void) {
     CHECK(dgt_follower_mode(follower) == DGT_MODE_UPDATE_NICE);
     CHECK(is_sent(dgt_follower_send(follower, DGT_SEND_VERSION, out, 1), out, BYTES(0x4d)));
     CHECK(is_sent(dgt_follower_send_clock(follower, DGT_ID_BEEP, BYTES(9), out, sizeof out), out,
-                  BYTES(0x2b, 4, 3, 0x0b, 9, 0)));
+                  BYTES(0x2b, 4, 3, 0x0b, 9, 0, 0x4b)));
     CHECK(is_sent(dgt_follower_send_leds(follower, BYTES(1, 2), out, sizeof out), out,
-                  BYTES(0x60, 2, 1, 2)));
+                  BYTES(0x60, 2, 1, 2, 0x4b)));
     CHECK(dgt_follower_send(follower, 0x46, out, sizeof out).status == DGT_NO_COMMAND);
     dgt_follower_clock(follower, &clock);
     CHECK(clock.kind == DGT_CLOCK_UNKNOWN);
@@ -623,48 +623,58 @@ static void setting_a_clock(void) {
     free(follower);
 }
 
-/* Has a host and a follower send the same, and compares the bytes. */
+/* Has a host send a message, and then a follower, and compares the bytes. The follower writes one
+ * byte more, its mode's command: `more` is 0 for the host, and 1 for the follower. */
 #define SENDS(name, bytes, ...)                                                                  \
     do {                                                                                         \
+        size_t more = 0;                                                                         \
         CHECK(is_sent(dgt_host_##name(host, __VA_ARGS__), out, bytes));                          \
-        CHECK(is_sent(dgt_follower_##name(follower, __VA_ARGS__), out, bytes));                  \
+        more = 1;                                                                                \
+        dgt_sent told = dgt_follower_##name(follower, __VA_ARGS__);                              \
+        CHECK(told.bytes > 0 && out[--told.bytes] == DGT_SEND_UPDATE_BOARD);                     \
+        CHECK(is_sent(told, out, bytes));                                                        \
     } while (0)
 
-/* Has a host and a follower send the same, which returns this status and this number. */
+/* The same for a message that is refused with this status and this number. */
 #define REFUSES(name, said, count, ...)                                                          \
     do {                                                                                         \
+        size_t more = 0;                                                                         \
         dgt_sent told = dgt_host_##name(host, __VA_ARGS__);                                      \
         CHECK(told.status == (said) && told.bytes == (count));                                   \
+        more = 1;                                                                                \
         told = dgt_follower_##name(follower, __VA_ARGS__);                                       \
         CHECK(told.status == (said) && told.bytes == (count));                                   \
+        (void)more;                                                                              \
     } while (0)
 
 static void clock_commands(void) {
     dgt_host *host = room(dgt_host_size());
     dgt_follower *follower = room(dgt_follower_size());
     CHECK(dgt_host_new(host) && dgt_follower_new(follower, 1000, 1));
-    uint8_t *out = room(DGT_MAX_WORD), *many = room(DGT_MAX_PAYLOAD + 1);
+    uint8_t *out = room(DGT_MAX_WORD + 1), *many = room(DGT_MAX_PAYLOAD + 1);
     uint8_t *left = copy("\1\0\0", 3), *right = copy("\0\73\36", 3);
     uint8_t *digits = copy("-12345", 6), *other = copy("12345a", 6);
     uint8_t *letters = copy("Resume!\377", 8);
 
     SENDS(send_display, BYTES(0x2b, 11, 3, 1, 0x5b, 6, 0x40, 0x6d, 0x66, 0x4f, 1, 2, 0), digits, 1,
-          2, out, 13);
-    REFUSES(send_display, DGT_NO_COMMAND, 0, other, 0, 0, out, 0);
-    REFUSES(send_display, DGT_NO_ROOM, 13, digits, 0, 0, out, 12);
+          2, out, 13 + more);
+    REFUSES(send_display, DGT_NO_COMMAND, 0, other, 0, 0, out, 0 + more);
+    REFUSES(send_display, DGT_NO_ROOM, 13 + more, digits, 0, 0, out, 12 + more);
     SENDS(send_text, BYTES(0x2b, 12, 3, 12, 'R', 'e', 's', 'u', 'm', 'e', '!', 255, 7, 0), letters,
-          7, out, 14);
-    SENDS(send_beep, BYTES(0x2b, 4, 3, 11, 3, 0), 3, out, 6);
+          7, out, 14 + more);
+    SENDS(send_beep, BYTES(0x2b, 4, 3, 11, 3, 0), 3, out, 6 + more);
     SENDS(send_set_and_run, BYTES(0x2b, 10, 3, 10, 1, 0, 0, 0, 59, 30, 1, 0), left, right, 1, out,
-          12);
-    SENDS(send_icons, BYTES(0x2b, 5, 3, 2, 8, 9, 0), BYTES(8, 9), out, 7);
+          12 + more);
+    SENDS(send_icons, BYTES(0x2b, 5, 3, 2, 8, 9, 0), BYTES(8, 9), out, 7 + more);
     dgt_sent sent = dgt_host_send_icons(host, many, DGT_MAX_PAYLOAD, out, DGT_MAX_WORD);
     CHECK(sent.status == DGT_SENT && sent.bytes == DGT_MAX_WORD && out[1] == 255 && out[4] == 0xa5);
-    REFUSES(send_icons, DGT_NO_COMMAND, 0, many, DGT_MAX_PAYLOAD + 1, out, DGT_MAX_WORD);
-    SENDS(send_end, BYTES(0x2b, 3, 3, 3, 0), out, 5);
-    SENDS(send_button, BYTES(0x2b, 3, 3, 8, 0), out, 5);
-    SENDS(send_clock_version, BYTES(0x2b, 3, 3, 9, 0), out, 5);
-    REFUSES(send_clock_version, DGT_NO_ROOM, 5, out, 4);
+    sent = dgt_follower_send_icons(follower, many, DGT_MAX_PAYLOAD, out, DGT_MAX_WORD + 1);
+    CHECK(sent.status == DGT_SENT && sent.bytes == DGT_MAX_WORD + 1 && out[1] == 255);
+    REFUSES(send_icons, DGT_NO_COMMAND, 0, many, DGT_MAX_PAYLOAD + 1, out, DGT_MAX_WORD + more);
+    SENDS(send_end, BYTES(0x2b, 3, 3, 3, 0), out, 5 + more);
+    SENDS(send_button, BYTES(0x2b, 3, 3, 8, 0), out, 5 + more);
+    SENDS(send_clock_version, BYTES(0x2b, 3, 3, 9, 0), out, 5 + more);
+    REFUSES(send_clock_version, DGT_NO_ROOM, 5 + more, out, 4 + more);
     free(host), free(follower), free(out), free(many), free(left), free(right);
     free(digits), free(other), free(letters);
 }
@@ -674,23 +684,23 @@ static void texts(void) {
     dgt_host *host = room(dgt_host_size());
     dgt_follower *follower = room(dgt_follower_size());
     CHECK(dgt_host_new(host) && dgt_follower_new(follower, 1000, 1));
-    uint8_t out[14];
+    uint8_t out[15];
     char *five = (char *)copy("hello", 6), *none = (char *)copy("", 1); /* no byte after them */
     SENDS(show_text, BYTES(0x2b, 12, 3, 12, 'h', 'e', 'l', 'l', 'o', ' ', ' ', ' ', 7, 0), five, 7,
-          out, 14);
+          out, 14 + more);
     SENDS(show_text, BYTES(0x2b, 12, 3, 12, 'i', 'n', ' ', 'e', 'i', 'g', 'h', 't', 0, 0),
-          "in eight", 0, out, 14);
+          "in eight", 0, out, 14 + more);
     SENDS(show_text, BYTES(0x2b, 12, 3, 12, ' ', ' ', ' ', ' ', ' ', ' ', ' ', ' ', 0, 0), none, 0,
-          out, 14);
-    REFUSES(show_text, DGT_NO_COMMAND, 0, "nine char", 0, out, 14);
-    REFUSES(show_text, DGT_NO_COMMAND, 0, "R\xc3\xa9sum\xc3\xa9", 0, out, 14);
-    REFUSES(show_text, DGT_NO_ROOM, 14, five, 0, out, 13);
+          out, 14 + more);
+    REFUSES(show_text, DGT_NO_COMMAND, 0, "nine char", 0, out, 14 + more);
+    REFUSES(show_text, DGT_NO_COMMAND, 0, "R\xc3\xa9sum\xc3\xa9", 0, out, 14 + more);
+    REFUSES(show_text, DGT_NO_ROOM, 14 + more, five, 0, out, 13 + more);
     SENDS(show_digits, BYTES(0x2b, 11, 3, 1, 0x40, 0x5b, 6, 0, 0, 0x4f, 1, 2, 0), "12-3", 1, 2, out,
-          13);
-    SENDS(show_digits, BYTES(0x2b, 11, 3, 1, 0, 0, 0, 0, 0, 0, 0, 0, 0), none, 0, 0, out, 13);
-    REFUSES(show_digits, DGT_NO_COMMAND, 0, "1234567", 0, 0, out, 14);
-    REFUSES(show_digits, DGT_NO_COMMAND, 0, five, 0, 0, out, 14);
-    REFUSES(show_digits, DGT_NO_ROOM, 13, "123456", 0, 0, out, 12);
+          13 + more);
+    SENDS(show_digits, BYTES(0x2b, 11, 3, 1, 0, 0, 0, 0, 0, 0, 0, 0, 0), none, 0, 0, out, 13 + more);
+    REFUSES(show_digits, DGT_NO_COMMAND, 0, "1234567", 0, 0, out, 14 + more);
+    REFUSES(show_digits, DGT_NO_COMMAND, 0, five, 0, 0, out, 14 + more);
+    REFUSES(show_digits, DGT_NO_ROOM, 13 + more, "123456", 0, 0, out, 12 + more);
     free(host), free(follower), free(five), free(none);
 }
 

@@ -54,6 +54,12 @@ class Follower(EventReader, Asker):
     These are disturbances: lost or altered bytes that are noticed, an answer without a request, a
     dump that contradicts the picture, and a message that stays unfinished for a second after its
     last byte. A clock without digits isn't one.
+
+    After an LED frame and a message to the clock, it repeats the mode's command: if a byte of those
+    is lost, the board may read others of them as commands, and `RESET` ends its reports.
+
+    >>> follower.send_leds(b"@@")
+    b'`\\x02@@D'
     """
 
     _prefix, _feed_name, _most = "dgt_follower", "hear", 1

@@ -7,7 +7,7 @@ use Rattle.dgt_message.specs.Clock.{Absence, AreTimes, ClockState, IsAbsence, Ti
 use Rattle.dgt_message.specs.Content.{Content, IsMessage}
 use Rattle.dgt_message.specs.Encoding.{encoding}
 use Rattle.dgt_decode.specs.Grammar.{Event, Message, Placed, Refused}
-use Rattle.dgt_command.specs.Content.{ClockContent, EventContent}
+use Rattle.dgt_command.specs.Content.{ClockContent, CommandContent, EventContent}
 use Rattle.dgt_command.specs.Display.{HasNoSegments, Shows}
 use Rattle.dgt_board.specs.View.{BoardView}
 use Rattle.dgt_host.specs.Host.{HostView}
@@ -227,9 +227,10 @@ RefusedCommandsStay =
 -- a text is shown if and only if its characters have segments
 abbrev pub TextsAreShown : Type 0
 TextsAreShown =
-    (text old new : List ℕ) (dots beep : ℕ) (before after : HostView) (reported : DgtSent)
-    → SendsDisplay text dots beep before after old new reported
+    (written : CommandContent → List ℕ) (text old new : List ℕ) (dots beep : ℕ)
+    (before after : HostView) (reported : DgtSent)
+    → SendsDisplay written text dots beep before after old new reported
     → (¬ (HasNoSegments text) → (message : ClockContent) × Shows text dots beep message
-    × SendsClock message before after old new reported)
+    × SendsClock written message before after old new reported)
     × (((message : ClockContent) → ¬ (Shows text dots beep message))
     → RefusesCommand before after old new reported)

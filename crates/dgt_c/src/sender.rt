@@ -1,10 +1,11 @@
 //! Sends commands for C: from a host, or from a follower through its host.
 
-ghost use Rattle.std.specs.Prelude.{◌≡◌, ◌≢◌, ◌≤◌, ◌<◌, ◌+◌, ⊤, None, length, refl};
+ghost use Rattle.std.specs.Prelude.{◌≡◌, ◌≢◌, ◌≤◌, ◌<◌, ◌+◌, ⊤, ℕ, List, None, length, refl};
 ghost use Rattle.dgt_command.specs.Content.{CommandContent, command_content, requested_kind};
 ghost use Rattle.dgt_command.specs.Encoding.{command_encoding};
 ghost use Rattle.dgt_command.specs.declared.carried.TheConstants.{MAX_LED_BYTES, MAX_PAYLOAD};
 ghost use Rattle.dgt_host.specs.Host.{HostView, Sends};
+ghost use Rattle.dgt_follow.specs.Pace.{sent_bytes};
 ghost use Rattle.dgt_c.specs.ClockSending.{SendsClock, SendsDisplay, SendsMessage};
 ghost use Rattle.dgt_c.specs.Sent.{RefusesCommand, SendsReported};
 
@@ -18,13 +19,16 @@ use dgt_host::{Host, SendFault};
 pub(crate) trait Sender {
     ghost host: { Self → HostView };
 
+    // The bytes by which it sends a command.
+    ghost bytes: { Self → CommandContent → List ℕ };
+
     // Everything but the host stays as it is.
     ghost keeps: { Self → Self → Type 0 };
 
-    /// Sends a command, as [`Host::send`] does.
+    /// Sends a command, as [`Host::send`] or [`Follower::send`] does.
     fn send_command(&mut self, command: &Command<'_>, out: &mut [u8]) -> Result<usize, SendFault>
         ensures sends { let said = command_content command.now in
-            Sends (record { kind = requested_kind said; bytes = command_encoding said })
+            Sends (record { kind = requested_kind said; bytes = bytes self.old said })
             (host self.old) (host self.new) out.old out.new result }
         ensures keeps { keeps self.old self.new };
 
@@ -33,6 +37,8 @@ pub(crate) trait Sender {
 
 impl Sender for Host {
     ghost host = { λ host. host };
+
+    ghost bytes = { λ _ said. command_encoding said };
 
     ghost keeps = { λ _ _. ⊤ };
 
@@ -46,6 +52,8 @@ impl Sender for Host {
 impl Sender for Follower {
     ghost host = { λ follower. follower.host };
 
+    ghost bytes = { λ follower said. sent_bytes follower.pace.mode said };
+
     ghost keeps = { λ old new. new.pace ≡ old.pace };
 
     ghost keeps_itself = { λ _. refl };
@@ -58,7 +66,7 @@ impl Sender for Follower {
 /// Sends the command with exactly these bytes, if there is one.
 pub(crate) fn send_word<S: Sender>(sender: &mut S, word: &[u8], out: &mut [u8]) -> DgtSent
     ensures sends { (said : CommandContent) → word.now ≡ command_encoding said →
-        SendsReported (record { kind = requested_kind said; bytes = word.now })
+        SendsReported (record { kind = requested_kind said; bytes = S.bytes sender.old said })
         (S.host sender.old) (S.host sender.new) out.old out.new result }
     ensures refused { ((said : CommandContent) → word.now ≢ command_encoding said) →
         RefusesCommand (S.host sender.old) (S.host sender.new) out.old out.new result }
@@ -75,7 +83,7 @@ pub(crate) fn send_word<S: Sender>(sender: &mut S, word: &[u8], out: &mut [u8]) 
 pub(crate) fn send_leds<S: Sender>(sender: &mut S, leds: &[u8], out: &mut [u8]) -> DgtSent
     ensures sends { length leds.now ≤ MAX_LED_BYTES →
         SendsReported
-        (record { kind = None; bytes = command_encoding (CommandContent.Leds leds.now) })
+        (record { kind = None; bytes = S.bytes sender.old (CommandContent.Leds leds.now) })
         (S.host sender.old) (S.host sender.new) out.old out.new result }
     ensures refused { MAX_LED_BYTES < length leds.now →
         RefusesCommand (S.host sender.old) (S.host sender.new) out.old out.new result }
@@ -109,7 +117,7 @@ pub(crate) fn send_clock<S: Sender>(
     out: &mut [u8],
 ) -> DgtSent
     ensures sends { length payload.now ≤ MAX_PAYLOAD →
-        SendsClock (record { id = id; payload = payload.now })
+        SendsClock (S.bytes sender.old) (record { id = id; payload = payload.now })
         (S.host sender.old) (S.host sender.new) out.old out.new result }
     ensures refused { MAX_PAYLOAD < length payload.now →
         RefusesCommand (S.host sender.old) (S.host sender.new) out.old out.new result }
@@ -130,7 +138,7 @@ pub(crate) fn send_message<S: Sender>(
     message: ClockCommand<'_>,
     out: &mut [u8],
 ) -> DgtSent
-    ensures sends { SendsMessage message.entry
+    ensures sends { SendsMessage (S.bytes sender.old) message.entry
         (S.host sender.old) (S.host sender.new) out.old out.new result }
     ensures keeps { S.keeps sender.old sender.new }
 {
@@ -145,7 +153,7 @@ pub(crate) fn send_display<S: Sender>(
     beep: u8,
     out: &mut [u8],
 ) -> DgtSent
-    ensures sends { SendsDisplay text.now dots beep
+    ensures sends { SendsDisplay (S.bytes sender.old) text.now dots beep
         (S.host sender.old) (S.host sender.new) out.old out.new result }
     ensures keeps { S.keeps sender.old sender.new }
 {

@@ -6,6 +6,7 @@ ghost use Rattle.dgt_command.specs.Encoding.{command_encoding};
 ghost use Rattle.dgt_command.specs.declared.carried.TheConstants.{MAX_LED_BYTES, MAX_PAYLOAD};
 ghost use Rattle.dgt_values.specs.declared.kinds.Kind.TheVariants as kind;
 ghost use Rattle.dgt_host.specs.Host.{follow_bytes, restart_bytes};
+ghost use Rattle.dgt_follow.specs.Pace.{sent_bytes};
 ghost use Rattle.dgt_c.specs.Sent.{RefusesCommand, SendsReported, sent_reported};
 ghost use Rattle.dgt_command.specs.declared.clock.ClockCommand.TheVariants as clock;
 ghost use Rattle.dgt_command.specs.declared.ids.KnownId.{KnownId};
@@ -85,7 +86,7 @@ pub extern "C" fn dgt_host_send_clock(
 ) -> DgtSent
     ensures place { host.new.at ≡ host.old.at }
     ensures sends { length payload.now ≤ MAX_PAYLOAD →
-        SendsClock (record { id = id; payload = payload.now })
+        SendsClock command_encoding (record { id = id; payload = payload.now })
         host.old.inside host.new.inside out.old out.new result }
     ensures refused { MAX_PAYLOAD < length payload.now →
         RefusesCommand host.old.inside host.new.inside out.old out.new result }
@@ -104,6 +105,7 @@ pub extern "C" fn dgt_follower_send(follower: &mut DgtFollower, code: u8, out: &
         RefusesCommand follower.old.inside.host follower.new.inside.host out.old out.new result }
     ensures pace { follower.new.inside.pace ≡ follower.old.inside.pace }
 {
+    dgt_follow::laws::what_follows_a_command();
     send_word(follower.get(), &[code], out)
 }
 
@@ -117,7 +119,10 @@ pub extern "C" fn dgt_follower_send_leds(
     ensures place { follower.new.at ≡ follower.old.at }
     ensures sends { length leds.now ≤ MAX_LED_BYTES →
         SendsReported
-        (record { kind = None; bytes = command_encoding (CommandContent.Leds leds.now) })
+        (record {
+          kind = None;
+          bytes = sent_bytes follower.old.inside.pace.mode (CommandContent.Leds leds.now);
+        })
         follower.old.inside.host follower.new.inside.host out.old out.new result }
     ensures refused { MAX_LED_BYTES < length leds.now →
         RefusesCommand follower.old.inside.host follower.new.inside.host out.old out.new result }
@@ -136,7 +141,8 @@ pub extern "C" fn dgt_follower_send_clock(
 ) -> DgtSent
     ensures place { follower.new.at ≡ follower.old.at }
     ensures sends { length payload.now ≤ MAX_PAYLOAD →
-        SendsClock (record { id = id; payload = payload.now })
+        SendsClock (sent_bytes follower.old.inside.pace.mode)
+        (record { id = id; payload = payload.now })
         follower.old.inside.host follower.new.inside.host out.old out.new result }
     ensures refused { MAX_PAYLOAD < length payload.now →
         RefusesCommand follower.old.inside.host follower.new.inside.host out.old out.new result }
@@ -155,7 +161,7 @@ pub extern "C" fn dgt_host_send_display(
     out: &mut [u8],
 ) -> DgtSent
     ensures place { host.new.at ≡ host.old.at }
-    ensures sends { SendsDisplay text.now dots beep
+    ensures sends { SendsDisplay command_encoding text.now dots beep
         host.old.inside host.new.inside out.old out.new result }
 {
     send_display(host.get(), text, dots, beep, out)
@@ -170,7 +176,7 @@ pub extern "C" fn dgt_host_send_text(
     out: &mut [u8],
 ) -> DgtSent
     ensures place { host.new.at ≡ host.old.at }
-    ensures sends { SendsMessage (clock.Text text.now beep)
+    ensures sends { SendsMessage command_encoding (clock.Text text.now beep)
         host.old.inside host.new.inside out.old out.new result }
 {
     send_message(
@@ -187,7 +193,7 @@ pub extern "C" fn dgt_host_send_text(
 #[unsafe(no_mangle)]
 pub extern "C" fn dgt_host_send_beep(host: &mut DgtHost, duration: u8, out: &mut [u8]) -> DgtSent
     ensures place { host.new.at ≡ host.old.at }
-    ensures sends { SendsMessage (clock.Beep duration)
+    ensures sends { SendsMessage command_encoding (clock.Beep duration)
         host.old.inside host.new.inside out.old out.new result }
 {
     send_message(host.get(), ClockCommand::Beep(duration), out)
@@ -203,7 +209,7 @@ pub extern "C" fn dgt_host_send_set_and_run(
     out: &mut [u8],
 ) -> DgtSent
     ensures place { host.new.at ≡ host.old.at }
-    ensures sends { SendsMessage (clock.SetAndRun left.now right.now control)
+    ensures sends { SendsMessage command_encoding (clock.SetAndRun left.now right.now control)
         host.old.inside host.new.inside out.old out.new result }
 {
     let (left, right) = (*left, *right);
@@ -220,7 +226,7 @@ pub extern "C" fn dgt_host_send_set_and_run(
 pub extern "C" fn dgt_host_send_icons(host: &mut DgtHost, icons: &[u8], out: &mut [u8]) -> DgtSent
     ensures place { host.new.at ≡ host.old.at }
     ensures sends { length icons.now ≤ MAX_PAYLOAD →
-        SendsClock (known_clock KnownId.Icons icons.now)
+        SendsClock command_encoding (known_clock KnownId.Icons icons.now)
         host.old.inside host.new.inside out.old out.new result }
     ensures refused { MAX_PAYLOAD < length icons.now →
         RefusesCommand host.old.inside host.new.inside out.old out.new result }
@@ -232,7 +238,8 @@ pub extern "C" fn dgt_host_send_icons(host: &mut DgtHost, icons: &[u8], out: &mu
 #[unsafe(no_mangle)]
 pub extern "C" fn dgt_host_send_end(host: &mut DgtHost, out: &mut [u8]) -> DgtSent
     ensures place { host.new.at ≡ host.old.at }
-    ensures sends { SendsMessage clock.End host.old.inside host.new.inside out.old out.new result }
+    ensures sends { SendsMessage command_encoding clock.End
+        host.old.inside host.new.inside out.old out.new result }
 {
     send_message(host.get(), ClockCommand::End, out)
 }
@@ -241,7 +248,7 @@ pub extern "C" fn dgt_host_send_end(host: &mut DgtHost, out: &mut [u8]) -> DgtSe
 #[unsafe(no_mangle)]
 pub extern "C" fn dgt_host_send_button(host: &mut DgtHost, out: &mut [u8]) -> DgtSent
     ensures place { host.new.at ≡ host.old.at }
-    ensures sends { SendsMessage clock.Button
+    ensures sends { SendsMessage command_encoding clock.Button
         host.old.inside host.new.inside out.old out.new result }
 {
     send_message(host.get(), ClockCommand::Button, out)
@@ -251,7 +258,7 @@ pub extern "C" fn dgt_host_send_button(host: &mut DgtHost, out: &mut [u8]) -> Dg
 #[unsafe(no_mangle)]
 pub extern "C" fn dgt_host_send_clock_version(host: &mut DgtHost, out: &mut [u8]) -> DgtSent
     ensures place { host.new.at ≡ host.old.at }
-    ensures sends { SendsMessage clock.Version
+    ensures sends { SendsMessage command_encoding clock.Version
         host.old.inside host.new.inside out.old out.new result }
 {
     send_message(host.get(), ClockCommand::Version, out)
@@ -267,7 +274,8 @@ pub extern "C" fn dgt_follower_send_display(
     out: &mut [u8],
 ) -> DgtSent
     ensures place { follower.new.at ≡ follower.old.at }
-    ensures sends { SendsDisplay text.now dots beep
+    ensures sends { SendsDisplay (sent_bytes follower.old.inside.pace.mode)
+        text.now dots beep
         follower.old.inside.host follower.new.inside.host out.old out.new result }
     ensures pace { follower.new.inside.pace ≡ follower.old.inside.pace }
 {
@@ -283,7 +291,8 @@ pub extern "C" fn dgt_follower_send_text(
     out: &mut [u8],
 ) -> DgtSent
     ensures place { follower.new.at ≡ follower.old.at }
-    ensures sends { SendsMessage (clock.Text text.now beep)
+    ensures sends { SendsMessage (sent_bytes follower.old.inside.pace.mode)
+        (clock.Text text.now beep)
         follower.old.inside.host follower.new.inside.host out.old out.new result }
     ensures pace { follower.new.inside.pace ≡ follower.old.inside.pace }
 {
@@ -305,7 +314,8 @@ pub extern "C" fn dgt_follower_send_beep(
     out: &mut [u8],
 ) -> DgtSent
     ensures place { follower.new.at ≡ follower.old.at }
-    ensures sends { SendsMessage (clock.Beep duration)
+    ensures sends { SendsMessage (sent_bytes follower.old.inside.pace.mode)
+        (clock.Beep duration)
         follower.old.inside.host follower.new.inside.host out.old out.new result }
     ensures pace { follower.new.inside.pace ≡ follower.old.inside.pace }
 {
@@ -322,7 +332,8 @@ pub extern "C" fn dgt_follower_send_set_and_run(
     out: &mut [u8],
 ) -> DgtSent
     ensures place { follower.new.at ≡ follower.old.at }
-    ensures sends { SendsMessage (clock.SetAndRun left.now right.now control)
+    ensures sends { SendsMessage (sent_bytes follower.old.inside.pace.mode)
+        (clock.SetAndRun left.now right.now control)
         follower.old.inside.host follower.new.inside.host out.old out.new result }
     ensures pace { follower.new.inside.pace ≡ follower.old.inside.pace }
 {
@@ -344,7 +355,8 @@ pub extern "C" fn dgt_follower_send_icons(
 ) -> DgtSent
     ensures place { follower.new.at ≡ follower.old.at }
     ensures sends { length icons.now ≤ MAX_PAYLOAD →
-        SendsClock (known_clock KnownId.Icons icons.now)
+        SendsClock (sent_bytes follower.old.inside.pace.mode)
+        (known_clock KnownId.Icons icons.now)
         follower.old.inside.host follower.new.inside.host out.old out.new result }
     ensures refused { MAX_PAYLOAD < length icons.now →
         RefusesCommand follower.old.inside.host follower.new.inside.host out.old out.new result }
@@ -357,7 +369,8 @@ pub extern "C" fn dgt_follower_send_icons(
 #[unsafe(no_mangle)]
 pub extern "C" fn dgt_follower_send_end(follower: &mut DgtFollower, out: &mut [u8]) -> DgtSent
     ensures place { follower.new.at ≡ follower.old.at }
-    ensures sends { SendsMessage clock.End
+    ensures sends { SendsMessage (sent_bytes follower.old.inside.pace.mode)
+        clock.End
         follower.old.inside.host follower.new.inside.host out.old out.new result }
     ensures pace { follower.new.inside.pace ≡ follower.old.inside.pace }
 {
@@ -368,7 +381,8 @@ pub extern "C" fn dgt_follower_send_end(follower: &mut DgtFollower, out: &mut [u
 #[unsafe(no_mangle)]
 pub extern "C" fn dgt_follower_send_button(follower: &mut DgtFollower, out: &mut [u8]) -> DgtSent
     ensures place { follower.new.at ≡ follower.old.at }
-    ensures sends { SendsMessage clock.Button
+    ensures sends { SendsMessage (sent_bytes follower.old.inside.pace.mode)
+        clock.Button
         follower.old.inside.host follower.new.inside.host out.old out.new result }
     ensures pace { follower.new.inside.pace ≡ follower.old.inside.pace }
 {
@@ -382,7 +396,8 @@ pub extern "C" fn dgt_follower_send_clock_version(
     out: &mut [u8],
 ) -> DgtSent
     ensures place { follower.new.at ≡ follower.old.at }
-    ensures sends { SendsMessage clock.Version
+    ensures sends { SendsMessage (sent_bytes follower.old.inside.pace.mode)
+        clock.Version
         follower.old.inside.host follower.new.inside.host out.old out.new result }
     ensures pace { follower.new.inside.pace ≡ follower.old.inside.pace }
 {

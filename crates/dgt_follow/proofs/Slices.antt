@@ -1,15 +1,15 @@
 -- A slice after a host's request, with a mode's command and the clock's request.
-use Rattle.std.proofs.Common.{◌≡◌, ◌+◌, ◌<◌, ◌≤◌, ℕ, List, [], ◌∷◌, ◌++◌, Some, Ok, refl, sym, ap, ◌∙◌, append_assoc, length, drop, slice_set, arith}
+use Rattle.std.proofs.Common.{◌≡◌, ◌≢◌, ◌+◌, ◌-◌, ◌<◌, ◌≤◌, ℕ, List, [], ◌∷◌, ◌++◌, Some, Ok, refl, sym, ap, ◌∙◌, append_assoc, length, drop, take, slice_set, Option, arith}
 use Rattle.std.proofs.Common.{rules}
-use Rattle.std.proofs.lemmas.List.{drop-drop, length-append, length-drop}
+use Rattle.std.proofs.lemmas.List.{drop-append-le, drop-drop, length-append, length-drop, length-take, take-append-drop}
 use Rattle.std.proofs.Math.Seq.{set-append_seam}
 use Rattle.dgt_values.specs.declared.kinds.Kind.{Kind}
 use Rattle.dgt_command.specs.Content.{CommandContent}
 use Rattle.dgt_command.specs.Encoding.{command_encoding}
-use Rattle.dgt_host.specs.Host.{HostView, follow_bytes, host_awaiting, restart_bytes, without_awaited}
+use Rattle.dgt_host.specs.Host.{HostView, Sends, follow_bytes, host_awaiting, restart_bytes, without_awaited}
 use Rattle.dgt_follow.specs.declared.asking.Asking.{Asking}
 use Rattle.dgt_follow.specs.declared.asking.UpdateMode.{UpdateMode}
-use Rattle.dgt_follow.specs.Pace.{clock_request, mode_command}
+use Rattle.dgt_follow.specs.Pace.{clock_request, mode_command, sent_bytes}
 use Rattle.dgt_follow.specs.Follower.{HostAsks}
 
 -- a byte that is set at the end of the first bytes follows them
@@ -66,3 +66,47 @@ anew_asks mode code sent written before after old begun new encoded all e host c
     let long : written ≡ length ((restart_bytes ++ mode_bytes) ++ clock_request mode)
     = omega (arith, count, whole, length-append (restart_bytes ++ mode_bytes) (clock_request mode)) in
     ((long, room, follows (restart_bytes ++ mode_bytes) old whole set), host)
+
+-- ---- another command
+
+frame_bytes : (mode : UpdateMode) (said : CommandContent) → length (command_encoding said) ≢ 1
+    → sent_bytes mode said ≡ command_encoding said ++ command_encoding (mode_command mode)
+frame_bytes mode said long = search rules
+
+some_bytes : (said : CommandContent) → 0 < length (command_encoding said)
+some_bytes said = search rules
+
+-- the bytes behind those written into the front of a slice
+kept_behind : (old : List ℕ) (written room : ℕ) → written ≤ length (take room old)
+    → drop written (take room old) ++ drop room old ≡ drop written old
+kept_behind old written room within =
+    sym (drop-append-le written (take room old) (drop room old) within)
+    ∙ ap (λ (bytes : List ℕ). drop written bytes) (take-append-drop room old)
+
+-- A frame is written into all of a slice but its last byte, and the mode's command after it.
+pub frame_sent : (mode : UpdateMode) (said : CommandContent) (kind : Option Kind) (code written room : ℕ)
+    (before after : HostView) (old front : List ℕ) → length (command_encoding said) ≢ 1
+    → command_encoding (mode_command mode) ≡ code ∷ [] → room ≡ length old - 1
+    → Sends (record { kind = kind; bytes = command_encoding said }) before after (take room old) front (Ok written)
+    → Sends (record { kind = kind; bytes = sent_bytes mode said }) before after old
+    (slice_set (front ++ drop room old) written code) (Ok (written + 1))
+frame_sent mode said kind code written room before after old front long encoded short sent =
+    let bytes = command_encoding said in
+    let all : sent_bytes mode said ≡ bytes ++ code ∷ []
+    = frame_bytes mode said long ∙ ap (λ (last : List ℕ). bytes ++ last) encoded in
+    let within : written + 1 ≤ length old
+    = omega (arith, some_bytes said, short, sent.1, sent.2, length-take room old) in
+    let whole : front ++ drop room old ≡ bytes ++ drop written old
+    = ap (λ (slice : List ℕ). slice ++ drop room old) sent.3
+    ∙ append_assoc bytes (drop written (take room old)) (drop room old)
+    ∙ ap (λ (kept : List ℕ). bytes ++ kept) (kept_behind old written room sent.2) in
+    let set : slice_set (front ++ drop room old) written code ≡ (bytes ++ code ∷ []) ++ drop (written + 1) old
+    = ap (λ (slice : List ℕ). slice_set slice written code) whole
+    ∙ set_in_slice bytes old written code (sym sent.1) within in
+    let counted : written + 1 ≡ length (bytes ++ code ∷ [])
+    = omega (arith, sent.1, length-append bytes (code ∷ [])) in
+    rw all (sent.0, counted, within, set, sent.4)
+
+pub short_sent : (mode : UpdateMode) (said : CommandContent) → length (command_encoding said) ≤ 257
+    → length (sent_bytes mode said) ≤ 259
+short_sent mode said short = search (rules, arith, length-append)

@@ -1,5 +1,5 @@
 -- When a follower sends a request, and which: what it counts and what it records of the messages.
-use Rattle.std.specs.Prelude.{◌≡◌, ℕ, ◌+◌, ◌-◌, ◌/◌, ◌^◌, max, min, nat_le, nat_lt, List, [], ◌∷◌, ◌++◌, Option, Some, None, is_some, Bool, false, true, not, ◌==◌, ◌&&◌, ◌||◌, if◌then◌else◌}
+use Rattle.std.specs.Prelude.{◌≡◌, ℕ, ◌+◌, ◌-◌, ◌/◌, ◌^◌, max, min, nat_le, nat_lt, List, [], ◌∷◌, ◌++◌, Option, Some, None, is_some, Bool, false, true, not, ◌==◌, ◌&&◌, ◌||◌, if◌then◌else◌, flat_map}
 use Rattle.dgt_values.specs.declared.kinds.Kind.{Kind}
 use Rattle.dgt_message.specs.declared.known.KnownCode.{KnownCode}
 use Rattle.dgt_message.specs.Clock.{Time, Times}
@@ -314,6 +314,17 @@ abbrev pub mode_command : UpdateMode → CommandContent
 mode_command UpdateMode.Squares = CommandContent.UpdateBoard
 mode_command UpdateMode.Clock = CommandContent.Update
 mode_command UpdateMode.ClockChanges = CommandContent.UpdateNice
+
+-- What is sent for a command of the caller's. The board may read a frame that lost a byte as other
+-- commands, of which 40, Reset, ends its reports. So the mode's command follows a frame.
+abbrev pub sent_commands : UpdateMode → CommandContent → List CommandContent
+sent_commands mode (CommandContent.ClockMessage message) =
+    CommandContent.ClockMessage message ∷ mode_command mode ∷ []
+sent_commands mode (CommandContent.Leds bytes) = CommandContent.Leds bytes ∷ mode_command mode ∷ []
+sent_commands mode said = said ∷ []
+
+abbrev pub sent_bytes : UpdateMode → CommandContent → List ℕ
+sent_bytes mode said = flat_map command_encoding (sent_commands mode said)
 
 -- the request of a reading of the clock, in the modes that report it
 abbrev pub clock_request : UpdateMode → List ℕ

@@ -8,13 +8,13 @@ ghost use Rattle.dgt_command.specs.Encoding.{EncodesCommand, command_encoding};
 ghost use Rattle.dgt_decode.specs.Grammar.{Event as EventSaid};
 ghost use Rattle.dgt_decode.specs.Feeding.{FirstEvent, at_place_if_any, event_content_if_any};
 ghost use Rattle.dgt_host.specs.Host.{IsUnasked, Sends, awaits_too_many, new_host};
-ghost use Rattle.dgt_follow.specs.Pace.{clock_request, forgetting, next_due, pace_disturbed};
+ghost use Rattle.dgt_follow.specs.Pace.{clock_request, forgetting, next_due, pace_disturbed, sent_bytes};
 ghost use Rattle.dgt_follow.specs.Follower.{Asks, HostAsks, asking_of, clock_known, follower_after, following, new_follower};
 
 use crate::asking::{Asking, UpdateMode};
 use crate::notes::Seen;
 use crate::pace::Pace;
-use dgt_command::{Command, MAX_WORD};
+use dgt_command::{Command, length};
 use dgt_decode::Listener;
 use dgt_host::{Clock, Event, Host, MAX_AWAITED, Position, RESTART_LENGTH, SendFault};
 use dgt_values::NoRoom;
@@ -281,17 +281,34 @@ impl Follower {
     /// Sends another command, as [`Host::send`] does. It doesn't count as a request of the
     /// follower's.
     ///
-    /// After `Reset` the board reports no change until the next request.
+    /// The mode's command follows an LED frame and a clock message, as one byte more, since the
+    /// board may read a frame that lost a byte as other commands, `Reset` among them. After `Reset`
+    /// the board reports no change until the next request.
     pub fn send(&mut self, command: &Command<'_>, out: &mut [u8]) -> Result<usize, SendFault>
         ensures sends { let said = command_content command.now in
-            Sends (record { kind = requested_kind said; bytes = command_encoding said })
-            self.old.host self.new.host out.old out.new result }
+            Sends (record {
+                kind = requested_kind said;
+                bytes = sent_bytes self.old.pace.mode said;
+            }) self.old.host self.new.host out.old out.new result }
         ensures encodes { let said = command_content command.now in
             OnOk result (EncodesCommand said (command_encoding said)) }
-        ensures limit { length (command_encoding (command_content command.now)) ≤ MAX_WORD }
+        ensures limit { length (sent_bytes self.old.pace.mode (command_content command.now))
+            ≤ MAX_ASKING }
         ensures pace { self.new.pace ≡ self.old.pace }
     {
-        self.host.send(command, out)
+        if length(command) == 1 {
+            return self.host.send(command, out);
+        }
+        let code = self.pace.mode().code();
+        let room = out.len().saturating_sub(1);
+        match self.host.send(command, &mut out[..room]) {
+            Ok(written) => {
+                out[written] = code;
+                Ok(written + 1)
+            }
+            Err(SendFault::NoRoom { need }) => Err(SendFault::NoRoom { need: need + 1 }),
+            Err(SendFault::TooMany) => Err(SendFault::TooMany),
+        }
     }
 
     /// Which changes the board is asked to report by itself.

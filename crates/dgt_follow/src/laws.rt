@@ -7,13 +7,15 @@ ghost use Rattle.dgt_values.specs.declared.pieces.Piece.{Piece};
 ghost use Rattle.dgt_message.specs.Clock.{Absence, Time, Times as BothTimes, time_of, times_of};
 ghost use Rattle.dgt_message.specs.Content.{Content};
 ghost use Rattle.dgt_message.specs.declared.viewing.BodyFault.{BodyFault};
+ghost use Rattle.dgt_command.specs.Content.{CommandContent};
+ghost use Rattle.dgt_command.specs.Encoding.{command_encoding};
 ghost use Rattle.dgt_decode.specs.Grammar.{Event};
 ghost use Rattle.dgt_values.specs.Equality.{CloneIsSame, EqualIsSame};
 ghost use Rattle.dgt_host.specs.Host.{HostView, Request, Sends, host_after};
 ghost use Rattle.dgt_host.specs.Confirmed.{changes, repeats};
 ghost use Rattle.dgt_follow.specs.Calls.{Call, ConfirmedOverCalls, DueAtIsFirst, OneStretchIsSeen, bytes_heard, follower_after_call, follower_after_calls};
 ghost use Rattle.dgt_follow.specs.Follower.{Asks, AskingsConfirmNothing, ConfirmedAsHeard, DisturbedIsAskedAnew, FollowedInChunks, FollowerView, HasReason, OverdueIsAskedAnew, OverdueIsDoubt, SureStaysSure, asking_of, clock_known, follower_after, following};
-ghost use Rattle.dgt_follow.specs.Pace.{KeepsCount, PaceView, asking, asking_bytes, forgetting, is_blank, is_overdue, is_stuck, new_pace, next_due, pace_after_asking, pace_after_event, pace_at, unfinished_by};
+ghost use Rattle.dgt_follow.specs.Pace.{KeepsCount, PaceView, asking, asking_bytes, forgetting, is_blank, is_overdue, is_stuck, mode_command, new_pace, next_due, pace_after_asking, pace_after_event, pace_at, sent_bytes, unfinished_by};
 ghost use Rattle.dgt_follow.specs.declared.asking.Asking.{Asking};
 ghost use Rattle.dgt_follow.specs.declared.asking.UpdateMode.{UpdateMode};
 
@@ -507,4 +509,13 @@ pub fn kept_counts()
       requested = before.requested;
       wanted = before.wanted;
     } }
+{}
+
+/// The mode's command follows a command of several bytes, and nothing follows one of a single byte.
+pub fn what_follows_a_command()
+    ensures byte { (mode : UpdateMode) (said : CommandContent) →
+        length (command_encoding said) ≡ 1 → sent_bytes mode said ≡ command_encoding said }
+    ensures frame { (mode : UpdateMode) (said : CommandContent) →
+        length (command_encoding said) ≢ 1 →
+        sent_bytes mode said ≡ command_encoding said ++ command_encoding (mode_command mode) }
 {}

@@ -37,7 +37,7 @@ fits line bytes room = search rules
 one_byte : (b : ℕ) → b < 256 → AreBytes (b ∷ [])
 one_byte b small i = search rules
 
-mode_done : (mode : UpdateMode) (world : WorldView) → HasRoom world.down (command_encoding (mode_command mode))
+pub mode_done : (mode : UpdateMode) (world : WorldView) → HasRoom world.down (command_encoding (mode_command mode))
     → FaultyStep (sends (mode_command mode)) world Outcome.Done
     (record world { down = with_bytes world.down (command_encoding (mode_command mode)) })
 mode_done mode world room = search (rules, fits, one_byte, append-nil)

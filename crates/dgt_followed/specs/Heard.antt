@@ -1,17 +1,20 @@
 -- A board and a follower that records only what it hears, on lines that may fail.
-use Rattle.std.specs.Prelude.{◌≡◌, ◌≢◌, ℕ, List, [], ◌∷◌, ◌++◌, Bool, true, false, if◌then◌else◌, Option, None, Some, take, option_to_list, IsTrue}
+use Rattle.std.specs.Prelude.{◌≡◌, ◌≢◌, ℕ, List, [], ◌∷◌, ◌++◌, Bool, true, false, if◌then◌else◌, Option, None, Some, map, take, option_to_list, IsTrue}
 use Rattle.std.specs.List.{AllByRecursion, flat_map}
 use Rattle.dgt_values.specs.declared.pieces.Piece.{Piece}
 use Rattle.dgt_message.specs.Content.{Content, IsMessage}
 use Rattle.dgt_message.specs.Encoding.{encoding}
 use Rattle.dgt_message.specs.Picture.{picture_after_all}
 use Rattle.dgt_decode.specs.Grammar.{events, unfinished_message}
+use Rattle.dgt_command.specs.Content.{CommandContent}
 use Rattle.dgt_board.specs.Sending.{next_message}
 use Rattle.dgt_host.specs.Confirmed.{IsRight, confirmed_after_all, messages}
 use Rattle.dgt_follow.specs.Calls.{Call, bytes_heard, follower_after_call, follower_after_calls}
 use Rattle.dgt_follow.specs.Follower.{follower_after}
+use Rattle.dgt_follow.specs.Pace.{sent_commands}
+use Rattle.dgt_follow.specs.declared.asking.UpdateMode.{UpdateMode}
 use Rattle.dgt_link.specs.Act.{ActContent}
-use Rattle.dgt_link.specs.Faults.{FaultyContent}
+use Rattle.dgt_link.specs.Faults.{FaultyContent, sends}
 use Rattle.dgt_link.specs.View.{LineContents, overflows}
 use Rattle.dgt_followed.specs.Followed.{FollowedStep, FollowedView, Happening, follower_of}
 
@@ -68,6 +71,10 @@ NotesOnly (TimedHappening.Acts act) before after =
 abbrev pub HeardStep : TimedHappening → FollowedView → FollowedView → Type 0
 HeardStep happening before after =
     FollowedStep (happening_of happening) before after × NotesOnly happening before after
+
+-- the acts by which a follower in this mode sends a command
+abbrev pub sending : UpdateMode → CommandContent → List TimedHappening
+sending mode command = map (λ each. TimedHappening.Acts (sends each)) (sent_commands mode command)
 
 -- ---- what is sent and heard
 

@@ -40,10 +40,10 @@ ghost use Rattle.dgt_board.specs.State.{BoardState};
 ghost use Rattle.dgt_host.specs.Confirmed.{IsRight, messages};
 ghost use Rattle.dgt_host.specs.Host.{HostView, Sends};
 ghost use Rattle.dgt_follow.specs.Calls.{Call, follower_after_call};
-ghost use Rattle.dgt_follow.specs.Pace.{PaceView, asking_bytes, is_overdue, is_stuck, is_unanswered, pace_after_asking, pace_after_event, pace_at};
+ghost use Rattle.dgt_follow.specs.Pace.{PaceView, asking_bytes, is_overdue, is_stuck, is_unanswered, pace_after_asking, pace_after_event, pace_at, sent_bytes};
 ghost use Rattle.dgt_follow.specs.Follower.{Asks, FollowerView, asking_of, follower_after, follower_after_event, new_follower};
 ghost use Rattle.dgt_followed.specs.Followed.{AfterAskings, FollowedRuns, FollowedStep, FollowedView, Happening, HasRoom, RunsDone, after_writing, asking_acts, clock_count_after, clock_count_after_asking, count_after, count_after_asking, follower_of, unsettles};
-ghost use Rattle.dgt_followed.specs.Heard.{ConfirmedAsDelivered, ConfirmedIsReportedInWorlds, HappeningsAreCalls, HeardRuns, HeardStep, IsOneStretch, KeepsPower, OneStretchIsSeenInWorlds, SentIsReported, TimedHappening, bytes_by, happening_of, is_noticed, is_setting, sent_by};
+ghost use Rattle.dgt_followed.specs.Heard.{ConfirmedAsDelivered, ConfirmedIsReportedInWorlds, HappeningsAreCalls, HeardRuns, HeardStep, IsOneStretch, KeepsPower, OneStretchIsSeenInWorlds, SentIsReported, TimedHappening, bytes_by, happening_of, is_noticed, is_setting, sending, sent_by};
 ghost use Rattle.dgt_followed.specs.OneByte.{OneByteIsAStretch, with_fault};
 ghost use Rattle.dgt_followed.specs.Restated.{ActsAtRest, AllRestate, DumpsAtRest, HasNoDoubt, IsAtRest, IsRestatedWorld, IsSoundHappening, RunsAtRest, SendsAtRest, SoundRuns};
 ghost use Rattle.dgt_link.specs.Act.{ActContent};
@@ -74,9 +74,9 @@ pub fn asking_is_acts()
 
 /// The effect of a follower's calls on it, on its host's world and on the counts is a step of
 /// `HeardStep`, and therefore of `FollowedStep`. `ask` is a request, `hear` and `hear_all` of bytes
-/// of the up line are the act `ToHost`, and `send` is the act `Host(command)`. A call that only
-/// sets something leaves the world as it is. Laws about all happenings therefore hold for these
-/// calls.
+/// of the up line are the act `ToHost`, and `send` is the act `Host(command)`, which `Host(mode)`
+/// follows after a frame. A call that only sets something leaves the world as it is. Laws about all
+/// happenings therefore hold for these calls.
 pub fn calls_are_happenings()
     ensures ask { (before : FollowedView) (after : FollowerView) (now written : ℕ)
         (old new : List ℕ) → let what = asking_of (follower_of before) now in
@@ -101,17 +101,14 @@ pub fn calls_are_happenings()
           clock_since = before.clock_since;
         }) }
     ensures send { (before : FollowedView) (command : CommandContent) (after : HostView)
-        (written : ℕ) (old new : List ℕ) →
-        Sends (record { kind = requested_kind command; bytes = command_encoding command })
+        (written : ℕ) (old new : List ℕ) → let mode = before.pace.mode in
+        Sends (record { kind = requested_kind command; bytes = sent_bytes mode command })
         before.world.host after old new (Ok written) →
         EncodesCommand command (command_encoding command) →
-        HasRoom before.world.down (command_encoding command) →
-        HeardStep (TimedHappening.Acts (sends command)) before (record {
-          world = after_writing before.world after (take written new);
-          pace = before.pace;
-          since = count_after (sends command) before.since;
-          clock_since = clock_count_after (sends command) before.clock_since;
-        }) }
+        HasRoom before.world.down (sent_bytes mode command) →
+        (ended : FollowedView) × HeardRuns (sending mode command) [] [] before ended
+        × (ended.world ≡ after_writing before.world after (take written new))
+        × (ended.pace ≡ before.pace) }
     ensures set { (before : FollowedView) (call : Call) → is_setting call ≡ true →
         HeardStep (TimedHappening.Sets call) before (record before {
           pace = (follower_after_call (follower_of before) call).pace;

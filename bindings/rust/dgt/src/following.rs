@@ -1,6 +1,6 @@
 //! Follows a board over a stream, view by view.
 
-use crate::{Clock, Command, Follower, MAX_ASKING, MAX_WORD, Position};
+use crate::{Clock, Command, Follower, MAX_ASKING, Position};
 use core::fmt::{self, Display, Formatter};
 use core::time::Duration;
 use std::io::{self, ErrorKind, Read, Write};
@@ -164,7 +164,7 @@ impl<Open: FnMut() -> io::Result<Stream>, Stream: Read + Write> Views<Open, Stre
         let Some(stream) = &mut self.stream else {
             return Err(ErrorKind::NotConnected.into());
         };
-        let mut out = [0; MAX_WORD];
+        let mut out = [0; MAX_ASKING];
         let count = self.follower.send(command, &mut out)?;
         stream.write_all(&out[..count])
     }
