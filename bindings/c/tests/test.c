@@ -697,7 +697,8 @@ static void texts(void) {
     REFUSES(show_text, DGT_NO_ROOM, 14 + more, five, 0, out, 13 + more);
     SENDS(show_digits, BYTES(0x2b, 11, 3, 1, 0x40, 0x5b, 6, 0, 0, 0x4f, 1, 2, 0), "12-3", 1, 2, out,
           13 + more);
-    SENDS(show_digits, BYTES(0x2b, 11, 3, 1, 0, 0, 0, 0, 0, 0, 0, 0, 0), none, 0, 0, out, 13 + more);
+    SENDS(show_digits, BYTES(0x2b, 11, 3, 1, 0, 0, 0, 0, 0, 0, 0, 0, 0), none, 0, 0, out,
+          13 + more);
     REFUSES(show_digits, DGT_NO_COMMAND, 0, "1234567", 0, 0, out, 14 + more);
     REFUSES(show_digits, DGT_NO_COMMAND, 0, five, 0, 0, out, 14 + more);
     REFUSES(show_digits, DGT_NO_ROOM, 13 + more, "123456", 0, 0, out, 12 + more);

@@ -55,8 +55,8 @@ class Follower(EventReader, Asker):
     dump that contradicts the picture, and a message that stays unfinished for a second after its
     last byte. A clock without digits isn't one.
 
-    After an LED frame and a message to the clock, it repeats the mode's command: if a byte of those
-    is lost, the board may read others of them as commands, and `RESET` ends its reports.
+    After an LED frame and a message to the clock, it repeats the mode's command. The board may read
+    a frame that lost a byte as other commands, and `RESET` ends its reports.
 
     >>> follower.send_leds(b"@@")
     b'`\\x02@@D'

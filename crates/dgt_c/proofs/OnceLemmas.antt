@@ -165,5 +165,7 @@ pub refused_commands_stay : RefusedCommandsStay
 refused_commands_stay before after old new reported p = (ap (λ s. s.status) p.0, p.1, p.2)
 
 pub texts_are_shown : TextsAreShown
-texts_are_shown written text old new dots beep before after reported (inl p) = (λ none. p, λ none. absurd (none p.0 p.1))
-texts_are_shown written text old new dots beep before after reported (inr p) = (λ none. absurd (none p.0), λ none. p.1)
+texts_are_shown written text old new dots beep before after reported (inl p) =
+    (λ none. p, λ none. absurd (none p.0 p.1))
+texts_are_shown written text old new dots beep before after reported (inr p) =
+    (λ none. absurd (none p.0), λ none. p.1)

@@ -8,7 +8,7 @@ ghost use denote.Memory.{lone};
 ghost use prog.Offsets.{Lies};
 ghost use Rattle.dgt_values.specs.Board.{piece_code};
 ghost use Rattle.dgt_values.specs.Bytes.{AreSevenBit};
-ghost use Rattle.dgt_command.specs.Content.{clock_content};
+ghost use Rattle.dgt_command.specs.Content.{CommandContent, clock_content};
 ghost use Rattle.dgt_command.specs.declared.clock.ClockCommand.{ClockCommand};
 ghost use Rattle.dgt_command.specs.Ids.{id_number};
 ghost use Rattle.dgt_command.specs.declared.ids.KnownId.{KnownId};
@@ -231,9 +231,10 @@ pub fn words_of_laws()
         (first.event ≡ second.event) × (first.new ≡ second.new) }
     ensures commands { (first second : CommandReporting) → AreSameCommands first second →
         (first.command ≡ second.command) × (first.new ≡ second.new) }
-    ensures message { (message : ClockCommand) (before after : HostView) (old new : List ℕ)
-        (sent : DgtSent) → SendsMessage message before after old new sent →
-        SendsClock (clock_content message) before after old new sent }
+    ensures message { (written : CommandContent → List ℕ) (message : ClockCommand)
+        (before after : HostView) (old new : List ℕ) (sent : DgtSent) →
+        SendsMessage written message before after old new sent →
+        SendsClock written (clock_content message) before after old new sent }
     ensures one { (leaves : HostView → HostView → List ℕ → List ℕ → DgtSent → Bool)
         (before after other : HostView) (old new also : List ℕ) (sent second : DgtSent) →
         LeavesOne (λ a b c d e. IsTrue (leaves a b c d e)) →

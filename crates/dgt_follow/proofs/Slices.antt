@@ -76,10 +76,10 @@ frame_bytes mode said long = search rules
 some_bytes : (said : CommandContent) → 0 < length (command_encoding said)
 some_bytes said = search rules
 
--- the bytes behind those written into the front of a slice
-kept_behind : (old : List ℕ) (written room : ℕ) → written ≤ length (take room old)
+-- the bytes of a slice after those that were written into its first part
+rest_after : (old : List ℕ) (written room : ℕ) → written ≤ length (take room old)
     → drop written (take room old) ++ drop room old ≡ drop written old
-kept_behind old written room within =
+rest_after old written room within =
     sym (drop-append-le written (take room old) (drop room old) within)
     ∙ ap (λ (bytes : List ℕ). drop written bytes) (take-append-drop room old)
 
@@ -99,7 +99,7 @@ frame_sent mode said kind code written room before after old front long encoded 
     let whole : front ++ drop room old ≡ bytes ++ drop written old
     = ap (λ (slice : List ℕ). slice ++ drop room old) sent.3
     ∙ append_assoc bytes (drop written (take room old)) (drop room old)
-    ∙ ap (λ (kept : List ℕ). bytes ++ kept) (kept_behind old written room sent.2) in
+    ∙ ap (λ (kept : List ℕ). bytes ++ kept) (rest_after old written room sent.2) in
     let set : slice_set (front ++ drop room old) written code ≡ (bytes ++ code ∷ []) ++ drop (written + 1) old
     = ap (λ (slice : List ℕ). slice_set slice written code) whole
     ∙ set_in_slice bytes old written code (sym sent.1) within in

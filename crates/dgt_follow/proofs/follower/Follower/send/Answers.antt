@@ -9,4 +9,5 @@ returns-in-Ok-clause-sends c =
     rw (← c.self.view_is) sent
 
 pub returns-in-Err-NoRoom-clause-limit : goal.returns-in-Err-NoRoom-clause-limit
-returns-in-Err-NoRoom-clause-limit c = rw (← c.self.view_is) (short_sent c.self.inside.pace.mode _ c.send-2.ensures.limit)
+returns-in-Err-NoRoom-clause-limit c =
+    rw (← c.self.view_is) (short_sent c.self.inside.pace.mode _ c.send-2.ensures.limit)
