@@ -74,9 +74,8 @@ pub fn words_ask_in_order()
 /// that ask for help are no ids.
 pub fn operands_are_missing()
     ensures alone { (word : Detail) → LacksOperand word (detail_text word ∷ []) }
-    ensures id { LacksOperand Detail.ClockMessage (codes "clockmessage" ∷ codes "ff" ∷ []) }
-    ensures help { ¬ (LacksOperand Detail.ClockMessage
-        (codes "clockmessage" ∷ codes "--help" ∷ []))
-        × ¬ (LacksOperand Detail.ClockMessage (codes "clockmessage" ∷ codes "-h" ∷ [])) }
-    ensures whole { ¬ (LacksOperand Detail.Beep (codes "beep" ∷ codes "1" ∷ [])) }
+    ensures id { LacksOperand Detail.ClockMessage (codes "clockmessage" ∷ codes "ff" ∷ [])
+        × ¬ (LacksOperand Detail.ClockMessage (codes "clockmessage" ∷ codes "--help" ∷ []))
+        × ¬ (LacksOperand Detail.ClockMessage (codes "clockmessage" ∷ codes "-h" ∷ []))
+        × ¬ (LacksOperand Detail.Beep (codes "beep" ∷ codes "1" ∷ [])) }
 {}

@@ -10,4 +10,9 @@ pub returns-clause-alone : goal.returns-clause-alone
 returns-clause-alone c = λ word. inl refl
 
 pub returns-clause-id : goal.returns-clause-id
-returns-clause-id c = inr (refl, codes "ff", refl, no_help)
+returns-clause-id c = (
+  inr (refl, codes "ff", refl, no_help),
+  (λ lacks. search rules),
+  (λ lacks. search rules),
+  (λ lacks. search rules),
+)
