@@ -86,7 +86,7 @@ fn refusals_say_what_is_wrong() {
         (Box::new(NoSegment), "not a digit, a space or a hyphen"),
         (Box::new(BadPlacement { at: 7 }), "not a placement: wrong at offset 7"),
         (Box::new(Known), "this has a variant of its own"),
-        (Box::new(BadDigits), "not a time from 0:00:00 to 9:59:59"),
+        (Box::new(BadDigits), "not a time from 0:00:00 to 9:59:59 with flags from 0 to 7"),
         (Box::new(NotThisKind), "these bytes are another kind of clock message"),
         (Box::new(TooLong), "a body is longer than 64 bytes"),
         (Box::new(Busy), "the board owes 8 replies: poll it first"),

@@ -71,7 +71,8 @@ fn errors_have_texts(rt: HostRuntime) -> Result<(), Fail> {
     assert_said(&rt, alloc, &square, "byte 6 is not a square")?;
     let reading = BodyFault::BadReading { at: 4 };
     assert_said(&rt, alloc, &reading, "byte 4 is not valid in a clock time")?;
-    assert_said(&rt, alloc, &BadDigits, "not a time from 0:00:00 to 9:59:59")?;
+    let time = "not a time from 0:00:00 to 9:59:59 with flags from 0 to 7";
+    assert_said(&rt, alloc, &BadDigits, time)?;
     let kind = "these bytes are another kind of clock message";
     assert_said(&rt, alloc, &NotThisKind, kind)
 }
