@@ -21,26 +21,18 @@ static void show(dgt_follower *board, int port) {
     puts(strcpy(shown, text));
     snprintf(number, sizeof number, "%d", ++changes);
     dgt_sent sent = dgt_follower_show_text(board, number, 0, out, sizeof out);
-    dgt_port_write(port, out, sent.bytes); /* dgt_port_exchange will find a lost port */
+    dgt_port_write(port, out, sent.bytes); /* dgt_port_turn will find a lost port */
 }
 
 int main(int count, char **words) {
     static dgt_follower board;
-    uint8_t chunk[256];
-    dgt_event event;
     if (count != 2 || !dgt_follower_new(&board, 10000, 6)) return 2;
     dgt_follower_set_mode(&board, DGT_MODE_UPDATE_NICE); /* it reports its clock, too */
     setlinebuf(stdout);
     for (int port; /* ever */; dgt_port_close(port), dgt_follower_line_lost(&board)) {
-        dgt_port_faults faults = {0};
+        dgt_port_input input = {0};
         for (int why = 0; (port = dgt_port_open(words[1])) < 0; sleep(2))
             if (errno != why) fprintf(stderr, "%s: %s\n", words[1], dgt_port_advice(why = errno));
-        dgt_port_is_disturbed(port, &faults); /* faults from before don't count */
-        for (long n; (n = dgt_port_exchange(port, &board, chunk, sizeof chunk)) >= 0;) {
-            for (long at = 0; at < n; show(&board, port))
-                at += (long)dgt_follower_hear(&board, dgt_port_now(), chunk + at, (size_t)(n - at),
-                                              &event, NULL, 0);
-            if (dgt_port_is_disturbed(port, &faults)) dgt_follower_line_disturbed(&board);
-        }
+        while (dgt_port_turn(port, &board, &input)) show(&board, port);
     }
 }

@@ -509,7 +509,8 @@ dgt_sent dgt_host_send_button(dgt_host *host, uint8_t *out, size_t n)
 dgt_sent dgt_host_send_clock_version(dgt_host *host, uint8_t *out, size_t n)
     DGT_MUST_USE_ DGT_NONNULL_(1) DGT_WRITES_(2, 3);
 
-/* Sends an LED frame. Returns DGT_NO_COMMAND for more than DGT_MAX_LEDS bytes. */
+/* Sends an LED frame, such as that of dgt_lighting. Returns DGT_NO_COMMAND for more than
+ * DGT_MAX_LEDS bytes. */
 dgt_sent dgt_host_send_leds(dgt_host *host, const uint8_t *leds, size_t leds_len, uint8_t *out,
                             size_t n)
     DGT_MUST_USE_ DGT_NONNULL_(1) DGT_READS_(2, 3) DGT_WRITES_(4, 5);
@@ -936,6 +937,27 @@ typedef struct dgt_polled {
 dgt_polled dgt_board_poll(dgt_board *board, uint8_t *out, size_t n)
     DGT_MUST_USE_ DGT_NONNULL_(1) DGT_WRITES_(2, 3);
 
+/* Takes a host's bytes, and writes the next message to be sent: first those that were pending, and
+ * after each command those that answer it. Returns its length, at most DGT_MAX_SENT, or 0 once all
+ * bytes are used and nothing is to be sent. `used` is how many of the n bytes were used: set it to
+ * 0 first, and call again with the same bytes until the result is 0.
+ *
+ *     size_t used = 0, length;
+ *     while ((length = dgt_board_answer(&board, bytes, n, &used, out)) > 0)
+ *         write(line, out, length);
+ *
+ * A command is taken once each message before it was written. */
+DGT_MUST_USE_ DGT_NONNULL_(1, 4, 5) DGT_READS_(2, 3)
+static inline size_t dgt_board_answer(dgt_board *board, const uint8_t *bytes, size_t n,
+                                      size_t *used, uint8_t out[DGT_LEAST_ DGT_MAX_SENT]) {
+    for (;;) {
+        dgt_command command;
+        dgt_polled polled = dgt_board_poll(board, out, DGT_MAX_SENT);
+        if (polled.status == DGT_WROTE || *used >= n) return polled.bytes;
+        *used += dgt_board_take(board, bytes + *used, n - *used, &command, NULL, 0).used;
+    }
+}
+
 /* Whether there is anything to send. */
 bool dgt_board_owes(dgt_board *board) DGT_NONNULL_(1);
 
@@ -1162,6 +1184,21 @@ bool dgt_placement(const uint8_t pieces[64], char text[DGT_PLACEMENT_ROOM])
 bool dgt_differ(const uint8_t pieces[64], const uint8_t others[64], uint64_t *squares)
     DGT_MUST_USE_ DGT_NONNULL_(1, 2, 3) DGT_READS_(1) DGT_READS_(2) DGT_WRITES_(3);
 
+/* Writes the bytes of an LED frame that lights two squares, such as those of a move (n is 2), or
+ * none (n is 0): pass them to dgt_host_send_leds. Returns false and writes nothing for another
+ * number of squares, or if one is above 63. Other programs encode it this way; no board with lights
+ * was tried. */
+DGT_MUST_USE_ DGT_NONNULL_(3) DGT_READS_(1, 2)
+static inline bool dgt_lighting(const uint8_t *squares, size_t n, uint8_t leds[4]) {
+    const bool is_lit = n == 2;
+    if (n != 0 && (!is_lit || squares[0] > 63 || squares[1] > 63)) return false;
+    leds[0] = is_lit ? 1 : 0;
+    leds[1] = is_lit ? squares[0] : 64;
+    leds[2] = is_lit ? squares[1] : 64;
+    leds[3] = 0;
+    return true;
+}
+
 typedef struct dgt_parsed {
     bool ok;
     size_t at; /* if it is not ok: the offset of the first wrong byte of the text, or its length
@@ -1331,6 +1368,7 @@ static inline dgt_board *dgt_board_(dgt_board *handle) {
 #define dgt_board_line_lost(it) dgt_board_line_lost(dgt_board_(it))
 #define dgt_board_take(it, ...) dgt_board_take(dgt_board_(it), __VA_ARGS__)
 #define dgt_board_poll(it, ...) dgt_board_poll(dgt_board_(it), __VA_ARGS__)
+#define dgt_board_answer(it, ...) dgt_board_answer(dgt_board_(it), __VA_ARGS__)
 #define dgt_board_owes(it) dgt_board_owes(dgt_board_(it))
 #define dgt_board_owed_len(it) dgt_board_owed_len(dgt_board_(it))
 #define dgt_board_partial(it) dgt_board_partial(dgt_board_(it))

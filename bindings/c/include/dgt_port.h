@@ -5,12 +5,10 @@
  * program follows a board:
  *
  *     int port = dgt_port_open("/dev/ttyUSB0");
+ *     dgt_port_input input = {0};
  *     if (port < 0) return fprintf(stderr, "%s\n", dgt_port_advice(errno)), 1;
- *     dgt_port_is_disturbed(port, &faults);                   // faults from before don't count
- *     while ((n = dgt_port_exchange(port, &follower, chunk, sizeof chunk)) >= 0) {
- *         dgt_follower_hear_all(&follower, dgt_port_now(), chunk, (size_t)n);
- *         if (dgt_port_is_disturbed(port, &faults)) dgt_follower_line_disturbed(&follower);
- *     }
+ *     while (dgt_port_turn(port, &follower, &input))
+ *         if (dgt_follower_placement(&follower, text)) ...
  *     fprintf(stderr, "%s\n", dgt_port_advice(errno));        // the port has gone
  *     dgt_port_close(port);                                   // open it again once it is back
  *
@@ -250,6 +248,39 @@ static inline bool dgt_port_is_disturbed(int port, dgt_port_faults *faults) {
     if (count != faults->count_) faults->late_until_ = now + DGT_PORT_LATE;
     faults->count_ = count;
     return now < faults->late_until_;
+}
+
+/* What dgt_port_turn keeps between two calls. Set all of it to 0 each time that the port was
+ * opened. `event` is what the last call heard, and has the kind DGT_EVENT_NONE if that is nothing.
+ * A body isn't kept: for one, use dgt_port_exchange and dgt_follower_hear. */
+typedef struct dgt_port_input {
+    dgt_event event;
+    dgt_port_faults faults_;
+    size_t heard_, came_;
+    bool is_begun_, is_disturbed_;
+    uint8_t chunk_[256];
+} dgt_port_input;
+
+/* Follows a board for one step; call it again and again. If all bytes were heard, it sends the
+ * follower's request, if one is due, waits for bytes until the follower is to be called again, and
+ * reads them. The follower then hears the bytes up to the first event, or all of them. If the port
+ * has lost or altered bytes since the first call, the follower's line is disturbed. Returns false,
+ * with errno, if the port has gone, or takes no bytes: then call dgt_follower_line_lost before you
+ * open it again. */
+static inline bool dgt_port_turn(int port, dgt_follower *follower, dgt_port_input *input) {
+    if (!input->is_begun_) input->faults_.count_ = dgt_port_count_(port);
+    input->is_begun_ = true;
+    if (input->heard_ == input->came_) {
+        long n = dgt_port_exchange(port, follower, input->chunk_, sizeof input->chunk_);
+        if (n < 0) return false;
+        input->heard_ = 0;
+        input->came_ = (size_t)n;
+        input->is_disturbed_ = dgt_port_is_disturbed(port, &input->faults_);
+    }
+    input->heard_ += dgt_follower_hear(follower, dgt_port_now(), input->chunk_ + input->heard_,
+                                       input->came_ - input->heard_, &input->event, NULL, 0);
+    if (input->is_disturbed_) dgt_follower_line_disturbed(follower);
+    return true;
 }
 
 /* Closes a port, so that others can open it. */

@@ -41,7 +41,7 @@ class Port {
 public:
     explicit Port(const std::string &name) : name_(name), port_(dgt_port_open(name.c_str())) {
         if (port_ < 0) throw PortError(name_, errno);
-        is_disturbed(); // faults from before don't count
+        faults_.count_ = dgt_port_count_(port_); // faults from before don't count
     }
     ~Port() {
         if (port_ >= 0) dgt_port_close(port_);

@@ -210,6 +210,25 @@ static void start(void) {
     free(board);
 }
 
+/* A board answers more requests than it can owe, and first what was pending. */
+static void answers(void) {
+    dgt_board *board = room(dgt_board_size());
+    uint8_t *asked = copy("\x44MMMMMMMMMM\x42\x4d", 13), *out = room(DGT_MAX_SENT);
+    size_t used = 0, count = 0;
+    CHECK(dgt_board_new(board) && dgt_board_answer(board, asked, 1, &used, out) == 0 && used == 1);
+    CHECK(dgt_board_change(board, 52, 0) && dgt_board_answer(board, asked, 13, &used, out) == 5);
+    CHECK(used == 1 && !memcmp(out, "\x8e\0\5\x34\0", 5));
+    for (; dgt_board_answer(board, asked, 12, &used, out) == 5; count++)
+        CHECK(!memcmp(out, "\x93\0\5\1\3", 5) && used == 2 + count);
+    CHECK(count == 10 && used == 12 && out[0] == 0x86 && dgt_board_partial(board) == 0);
+    CHECK(dgt_board_answer(board, asked, 12, &used, out) == 0 && !dgt_board_owes(board));
+    used = 0;
+    CHECK(dgt_board_answer(board, NULL, 0, &used, out) == 0 && used == 0);
+    CHECK(dgt_board_answer(board, BYTES(DGT_SEND_CLOCK_MESSAGE, 4), &used, out) == 0 && used == 2);
+    CHECK(dgt_board_partial(board) == 2);
+    free(board), free(asked), free(out);
+}
+
 static void events(void) {
     dgt_host *host = room(dgt_host_size());
     CHECK(dgt_host_new(host));
@@ -751,6 +770,12 @@ static void helpers(void) {
     CHECK(dgt_square_name(36, name) && !strcmp(name, "e4") && !dgt_square_name(64, name));
     CHECK(dgt_square_number('e', '4') == 36 && dgt_square_number('i', '4') == DGT_NO_SUCH);
     CHECK(dgt_segment('8') == 0x7f && dgt_segment('x') == DGT_NO_SUCH);
+    uint8_t leds[4];
+    CHECK(dgt_lighting(BYTES(52, 36), leds) && !memcmp(leds, "\1\x34\x24\0", 4));
+    CHECK(!dgt_lighting(BYTES(52), leds) && !dgt_lighting(BYTES(52, 36, 0), leds));
+    CHECK(!dgt_lighting(BYTES(64, 0), leds) && !dgt_lighting(BYTES(0, 64), leds) && leds[1] == 52);
+    CHECK(dgt_lighting(BYTES(0, 63), leds) && !memcmp(leds, "\1\0\x3f\0", 4));
+    CHECK(dgt_lighting(NULL, 0, leds) && !memcmp(leds, "\0\x40\x40\0", 4));
     uint8_t pieces[64];
     char text[DGT_PLACEMENT_ROOM];
     dgt_parsed parsed = dgt_parse_placement("8/8/8/8/8/8/8/K6k", 17, pieces);
@@ -1135,6 +1160,7 @@ static void all_calls(void) {
     host_and_board();
     lost_reply();
     start();
+    answers();
     events();
     chunks();
     follower();

@@ -136,6 +136,29 @@ static void counting(void) {
     CHECK(!is_noticed(&faults, &counted.tx) && !is_noticed(&faults, &counted.cts));
 }
 
+/* Each turn hears one event. All events of a chunk are in doubt if the port has counted a fault
+ * since the turn before, and not if it did before the first turn. */
+static void turning(dgt_follower *follower) {
+    static const uint8_t fields[] = {0x8e, 0, 5, 52, 0, 0x8e, 0, 5, 36, 1, 0x8e};
+    const uint8_t dump[67] = {0x86, 0, 67, [3 + 36] = 1};
+    dgt_port_input input = {0};
+    counted.frame++;
+    CHECK(write(line, fields, 11) == 11 && dgt_port_turn(port, follower, &input));
+    CHECK(input.event.kind == DGT_EVENT_FIELD && input.event.square == 52);
+    CHECK(!dgt_follower_in_doubt(follower) && dgt_port_turn(port, follower, &input));
+    CHECK(input.event.square == 36 && dgt_follower_unread(follower) == 0);
+    CHECK(dgt_port_turn(port, follower, &input) && input.event.kind == DGT_EVENT_NONE);
+    CHECK(dgt_follower_unread(follower) == 1 && !dgt_follower_in_doubt(follower));
+    counted.overrun++;
+    CHECK(write(line, fields + 6, 4) == 4 && write(line, dump, sizeof dump) == sizeof dump);
+    CHECK(dgt_port_turn(port, follower, &input) && input.event.square == 36);
+    CHECK(dgt_follower_in_doubt(follower) && dgt_port_turn(port, follower, &input));
+    CHECK(input.event.kind == DGT_EVENT_DUMP && dgt_follower_in_doubt(follower));
+    nanosleep(&(struct timespec){0, 300000000}, NULL); /* a quarter of the period, and more */
+    CHECK(write(line, dump, sizeof dump) == sizeof dump && dgt_port_turn(port, follower, &input));
+    CHECK(input.event.kind == DGT_EVENT_DUMP && !dgt_follower_in_doubt(follower));
+}
+
 static void exchanging(void) {
     static dgt_follower follower;
     const uint8_t dump[67] = {0x86, 0, 67, [3 + 52] = 1};
@@ -149,6 +172,8 @@ static void exchanging(void) {
     CHECK(dgt_port_exchange(port, &follower, bytes, sizeof bytes) == sizeof dump);
     dgt_follower_hear_all(&follower, dgt_port_now(), bytes, sizeof dump);
     CHECK(dgt_follower_placement(&follower, text) && !strcmp(text, "8/8/8/8/8/8/4P3/8"));
+
+    turning(&follower);
 
     /* A follower that asks never again waits for bytes. */
     CHECK(dgt_follower_new(&follower, UINT64_MAX, 6));
