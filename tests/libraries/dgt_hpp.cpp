@@ -19,6 +19,8 @@
 #include <iostream>
 #include <iterator>
 #include <memory>
+#include <mutex>
+#include <thread>
 
 #if __cplusplus >= 202002L
 #include <span>
@@ -277,6 +279,9 @@ void encodings() {
     const dgt::Word beep = dgt::ClockMessage{dgt::ClockId::beep, Bytes{3}};
     CHECK(hex(dgt::encode_command(beep)) == "2b04030b0300");
     CHECK(hex(dgt::encode_command(dgt::Leds{Bytes{1, 2}})) == "60020102");
+    const dgt::Word lit = dgt::lighting(dgt::Square("e2"), dgt::Square("e4"));
+    CHECK(hex(dgt::encode_command(lit)) == "600401342400");
+    CHECK(hex(dgt::encode_command(dgt::lighting())) == "600400404000");
     CHECK(refuses([] { dgt::encode_command(dgt::BadEnd{}); }));
     CHECK(refuses([] { dgt::encode_command(dgt::Leds{Bytes(256)}); }));
     CHECK(text(dgt::view_command(Bytes{0x60, 1, 7}).value()) == "leds 07");
@@ -654,6 +659,146 @@ void ports() {
     CHECK(throws<dgt::PortError>([&] { other.write(dgt::Bytes{0x44}); }));
 }
 
+/// A board on a pseudo-terminal, with a link that goes and comes back with it.
+class Plugged {
+public:
+    explicit Plugged(std::string link) : link_(std::move(link)), thread_([this] { serve(); }) {}
+    ~Plugged() {
+        is_over_ = true;
+        thread_.join();
+        unplug();
+    }
+
+    void plug() {
+        std::lock_guard<std::mutex> lock(busy_);
+        line_ = posix_openpt(O_RDWR | O_NOCTTY | O_NONBLOCK);
+        CHECK(line_ >= 0 && grantpt(line_) == 0 && unlockpt(line_) == 0);
+        std::filesystem::create_symlink(ptsname(line_), link_);
+    }
+    void unplug() {
+        std::lock_guard<std::mutex> lock(busy_);
+        std::filesystem::remove(link_);
+        if (line_ >= 0) close(std::exchange(line_, -1));
+        board_.line_lost();
+    }
+    void change(const char *square, dgt::Piece piece) {
+        std::lock_guard<std::mutex> lock(busy_);
+        board_.change(dgt::Square(square), piece);
+        answer({});
+    }
+    void hand_clock(const dgt::Clock &clock) {
+        std::lock_guard<std::mutex> lock(busy_);
+        board_.hand_clock(clock);
+        answer({});
+    }
+
+    std::atomic<bool> is_mute{false};
+    std::string asked() { // as hex
+        std::lock_guard<std::mutex> lock(busy_);
+        return hex(asked_);
+    }
+
+private:
+    void answer(dgt::ByteView bytes) {
+        board_.answer(bytes, [&](auto &message) {
+            if (is_mute) return;
+            CHECK(write(line_, message.data(), message.size()) == ssize_t(message.size()));
+        });
+    }
+    void serve() {
+        for (std::uint8_t bytes[300]; !is_over_; std::this_thread::sleep_for(ms(5))) {
+            std::lock_guard<std::mutex> lock(busy_);
+            auto count = line_ < 0 ? -1 : read(line_, bytes, sizeof bytes);
+            if (count <= 0) continue;
+            asked_.insert(asked_.end(), bytes, bytes + count);
+            answer({bytes, std::size_t(count)});
+        }
+    }
+    using ms = std::chrono::milliseconds;
+
+    std::string link_;
+    int line_ = -1;
+    dgt::Board board_;
+    dgt::Bytes asked_;
+    std::mutex busy_;
+    std::atomic<bool> is_over_{false};
+    std::thread thread_;
+};
+
+/// The next view. Each is another one.
+dgt::BoardView next(dgt::Following &board) {
+    const dgt::BoardView before = board.view();
+    const auto view = board.wait(std::chrono::seconds(20));
+    CHECK(view && *view == board.view() && *view != before);
+    return *view;
+}
+
+void followings() {
+    const std::string link = "board";
+    const std::string gone = "the port has gone; it is looked for every two seconds";
+    const dgt::Position start = dgt::Position::start();
+    dgt::FollowOptions options{std::chrono::seconds(60)};
+    Plugged plugged(link);
+    CHECK(throws<dgt::PortError>([&] { dgt::follow(link); }));
+    options.clock = options.confirm = options.identify = options.wait_for_port = true;
+    CHECK(throws<dgt::PortError>([&] { dgt::follow("/dev/null", options); }));
+    dgt::Following board(link, options);
+    CHECK(next(board).away->find("no such port") == 0 && !board.view().picture);
+    CHECK(board.view().in_doubt && !board.wait(dgt::Milliseconds(0)));
+    board.write(dgt::Bytes{1}); // it is lost
+    plugged.plug();
+    CHECK(!next(board).away && next(board).picture == start && !board.view().in_doubt);
+    CHECK(hex(*next(board).serial) == "3030303031" && next(board).confirmed);
+    CHECK(!board.wait(dgt::Milliseconds(50)));
+    dgt::Times times{dgt::Time{1}, dgt::Time{0, 59}, DGT_STATUS_WHITE_TURN};
+    plugged.hand_clock(times);
+    CHECK(next(board).clock == dgt::Clock(times));
+    plugged.hand_clock(dgt::Times());
+    CHECK(!next(board).clock); // no reading
+    plugged.hand_clock(times);
+    plugged.change("e2", dgt::Piece::none);
+    CHECK(next(board).clock && next(board).picture != start && !board.view().confirmed);
+    board.light(dgt::Square("e2"), dgt::Square("e4"));
+    board.light();
+    board.write(board.follower().send(dgt::Ask::version));
+    while (plugged.asked().find("6004013424006004004040004d") == std::string::npos)
+        CHECK(!board.wait(dgt::Milliseconds(10)) || board.view().confirmed);
+    const dgt::BoardView last = board.view();
+    plugged.unplug();
+    CHECK(next(board).away == gone && board.view().in_doubt && !board.view().confirmed);
+    CHECK(board.view().picture == last.picture && board.view().clock == last.clock);
+    plugged.change("e4", dgt::Piece::white_pawn); // nobody hears it
+    plugged.plug();
+    CHECK(!next(board).away && board.view().in_doubt && next(board).picture != last.picture);
+    CHECK(!board.view().in_doubt && board.view().serial == last.serial);
+    std::thread closer([&] {
+        std::this_thread::sleep_for(std::chrono::milliseconds(100));
+        board.close();
+    });
+    for (const dgt::BoardView &view : board) CHECK(view.picture && !view.away);
+    closer.join();
+    CHECK(!board.wait() && why_not(link).empty());
+    board.write(dgt::Bytes{1});
+}
+
+void silent_boards() {
+    Plugged plugged("board");
+    plugged.plug();
+    dgt::FollowOptions options{std::chrono::seconds(1), 6, dgt::Mode::update};
+    auto board = std::make_unique<dgt::Following>("board", options);
+    CHECK(next(*board).picture && board->follower().mode() == dgt::Mode::update);
+    CHECK(!board->view().away);
+    plugged.is_mute = true;
+    while (!next(*board).away) CHECK(board->view().confirmed || board->view().in_doubt);
+    CHECK(board->view().away->find("the board doesn't answer") == 0 && board->view().in_doubt);
+    CHECK(board->view().picture && !board->view().confirmed);
+    plugged.is_mute = false;
+    while (board->view().in_doubt) next(*board);
+    CHECK(!board->view().away);
+    options.clock = true;
+    CHECK(refuses([&] { dgt::follow("board", options); }));
+}
+
 } // namespace
 
 int main(int count, char **words) {
@@ -673,5 +818,7 @@ int main(int count, char **words) {
     views();
     ports();
     listed_ports();
+    followings();
+    silent_boards();
     return 0;
 }

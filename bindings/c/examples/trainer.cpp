@@ -2,40 +2,27 @@
 // clock, and shows the number of changes on the clock. It waits for a port that disappears.
 #include <dgt_port.hpp>
 #include <iostream>
-#include <thread>
-
-using std::chrono::seconds;
-
-static void show(dgt::Follower &board, dgt::Port &port) {
-    static std::optional<dgt::Position> shown;
-    static dgt::Clock shown_clock = dgt::NoClock();
-    static int changes = 0;
-    dgt::Clock clock = board.clock().value_or(shown_clock);
-    auto *times = std::get_if<dgt::Times>(&clock);
-    if (times && clock != shown_clock)
-        std::cout << "clock " << to_string(times->first) << ' ' << to_string(times->second) << '\n';
-    shown_clock = clock;
-    auto picture = board.in_doubt() ? std::nullopt : board.picture();
-    if (!picture || picture == shown) return;
-    std::cout << (shown = picture)->placement() << '\n';
-    port.write(board.send_text(std::to_string(++changes)));
-}
 
 int main(int count, char **words) {
     if (count != 2) return 2;
-    dgt::Follower board(seconds(10), 6, dgt::Mode::update_nice); // it reports its clock, too
+    dgt::FollowOptions options;
+    options.clock = options.wait_for_port = true;
+    dgt::Following board(words[1], options);
     std::cout << std::unitbuf;
-    for (std::string why;; std::this_thread::sleep_for(seconds(2))) {
-        try {
-            board.line_lost();
-            dgt::Port port(words[1]);
-            for (;;) {
-                const auto chunk = port.exchange(board);
-                board.hear(dgt::now(), chunk, [&](auto &) { show(board, port); });
-                if (port.is_disturbed()) board.line_disturbed();
-            }
-        } catch (const dgt::PortError &error) {
-            if (error.what() != why) std::cerr << (why = error.what()) << '\n';
+    int changes = 0;
+    dgt::BoardView last, shown;
+    for (const dgt::BoardView &view : board) {
+        if (view.away && view.away != last.away)
+            std::cerr << words[1] << ": " << *view.away << '\n';
+        auto *times = view.clock ? std::get_if<dgt::Times>(&*view.clock) : nullptr;
+        if (times && view.clock != last.clock)
+            std::cout << "clock " << to_string(times->first) << ' ' << to_string(times->second)
+                      << '\n';
+        if (view.picture && view.picture != shown.picture && !view.in_doubt) {
+            std::cout << view.picture->placement() << '\n';
+            shown = view;
+            board.write(board.follower().send_text(std::to_string(++changes)));
         }
+        last = view;
     }
 }

@@ -613,79 +613,22 @@ inline std::optional<Milliseconds> time(bool is_known, std::uint64_t count) {
 
 // The calls of dgt.h that send a clock message, under one name for a host and a follower.
 
-inline dgt_sent send_display(dgt_host *it, const std::uint8_t *text, std::uint8_t dots,
-                             std::uint8_t beep, std::uint8_t *out, std::size_t n) {
-    return dgt_host_send_display(it, text, dots, beep, out, n);
-}
-
-inline dgt_sent send_display(dgt_follower *it, const std::uint8_t *text, std::uint8_t dots,
-                             std::uint8_t beep, std::uint8_t *out, std::size_t n) {
-    return dgt_follower_send_display(it, text, dots, beep, out, n);
-}
-
-inline dgt_sent send_text(dgt_host *it, const std::uint8_t *text, std::uint8_t beep,
-                          std::uint8_t *out, std::size_t n) {
-    return dgt_host_send_text(it, text, beep, out, n);
-}
-
-inline dgt_sent send_text(dgt_follower *it, const std::uint8_t *text, std::uint8_t beep,
-                          std::uint8_t *out, std::size_t n) {
-    return dgt_follower_send_text(it, text, beep, out, n);
-}
-
-inline dgt_sent send_beep(dgt_host *it, std::uint8_t duration, std::uint8_t *out, std::size_t n) {
-    return dgt_host_send_beep(it, duration, out, n);
-}
-
-inline dgt_sent send_beep(dgt_follower *it, std::uint8_t duration, std::uint8_t *out,
-                          std::size_t n) {
-    return dgt_follower_send_beep(it, duration, out, n);
-}
-
-inline dgt_sent send_set_and_run(dgt_host *it, const std::uint8_t *left, const std::uint8_t *right,
-                                 std::uint8_t control, std::uint8_t *out, std::size_t n) {
-    return dgt_host_send_set_and_run(it, left, right, control, out, n);
-}
-
-inline dgt_sent send_set_and_run(dgt_follower *it, const std::uint8_t *left,
-                                 const std::uint8_t *right, std::uint8_t control, std::uint8_t *out,
-                                 std::size_t n) {
-    return dgt_follower_send_set_and_run(it, left, right, control, out, n);
-}
-
-inline dgt_sent send_icons(dgt_host *it, const std::uint8_t *icons, std::size_t count,
-                           std::uint8_t *out, std::size_t n) {
-    return dgt_host_send_icons(it, icons, count, out, n);
-}
-
-inline dgt_sent send_icons(dgt_follower *it, const std::uint8_t *icons, std::size_t count,
-                           std::uint8_t *out, std::size_t n) {
-    return dgt_follower_send_icons(it, icons, count, out, n);
-}
-
-inline dgt_sent send_end(dgt_host *it, std::uint8_t *out, std::size_t n) {
-    return dgt_host_send_end(it, out, n);
-}
-
-inline dgt_sent send_end(dgt_follower *it, std::uint8_t *out, std::size_t n) {
-    return dgt_follower_send_end(it, out, n);
-}
-
-inline dgt_sent send_button(dgt_host *it, std::uint8_t *out, std::size_t n) {
-    return dgt_host_send_button(it, out, n);
-}
-
-inline dgt_sent send_button(dgt_follower *it, std::uint8_t *out, std::size_t n) {
-    return dgt_follower_send_button(it, out, n);
-}
-
-inline dgt_sent send_clock_version(dgt_host *it, std::uint8_t *out, std::size_t n) {
-    return dgt_host_send_clock_version(it, out, n);
-}
-
-inline dgt_sent send_clock_version(dgt_follower *it, std::uint8_t *out, std::size_t n) {
-    return dgt_follower_send_clock_version(it, out, n);
-}
+#define DGT_OF_BOTH_(call)                                                      \
+    template <class... Given> dgt_sent call(dgt_host *it, Given... given) {     \
+        return dgt_host_##call(it, given...);                                   \
+    }                                                                           \
+    template <class... Given> dgt_sent call(dgt_follower *it, Given... given) { \
+        return dgt_follower_##call(it, given...);                               \
+    }
+DGT_OF_BOTH_(send_display)
+DGT_OF_BOTH_(send_text)
+DGT_OF_BOTH_(send_beep)
+DGT_OF_BOTH_(send_set_and_run)
+DGT_OF_BOTH_(send_icons)
+DGT_OF_BOTH_(send_end)
+DGT_OF_BOTH_(send_button)
+DGT_OF_BOTH_(send_clock_version)
+#undef DGT_OF_BOTH_
 
 } // namespace detail
 
@@ -736,6 +679,13 @@ inline Bytes encode_command(const Word &word) {
     return detail::encoded([&](auto *out, auto n) {
         return dgt_encode_command(code, id, carried.data(), carried.size(), out, n);
     });
+}
+
+/// The LED frame that lights two squares, such as those of a move, or none. Other programs encode
+/// it this way; no board with lights was tried.
+inline Leds lighting() { return {Bytes{0, 64, 64, 0}}; }
+inline Leds lighting(Square one, Square other) {
+    return {Bytes{1, one.number(), other.number(), 0}};
 }
 
 /// The command with exactly these bytes, if there is one.
@@ -998,7 +948,8 @@ public:
         });
     }
 
-    /// Sends an LED frame. Throws std::invalid_argument for more than DGT_MAX_LEDS bytes.
+    /// Sends an LED frame, such as `lighting(one, other).leds`. Throws std::invalid_argument for
+    /// more than DGT_MAX_LEDS bytes.
     Commands send_leds(ByteView leds) {
         return detail::sent([&](auto *out, auto n) {
             return dgt_host_send_leds(&host_, leds.data(), leds.size(), out, n);
