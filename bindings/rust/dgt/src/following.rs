@@ -4,13 +4,14 @@ use crate::{Clock, Command, Follower, MAX_ASKING, Position};
 use core::fmt::{self, Display, Formatter};
 use core::time::Duration;
 use std::io::{self, ErrorKind, Read, Write};
-use std::sync::OnceLock;
+use std::sync::atomic::{AtomicBool, Ordering};
+use std::sync::{Arc, OnceLock};
 use std::thread;
 use std::time::Instant;
 
 /// The time between two searches for a port that has gone, in milliseconds.
 const LOOK: u64 = 2000;
-/// How many milliseconds to wait if a stream has nothing to read and doesn't block.
+/// How many milliseconds to wait if a stream has gone, or has nothing to read and doesn't block.
 const NAP: u64 = 10;
 
 /// The time in milliseconds, by a clock that doesn't go back, for [`Follower::hear`] and other
@@ -61,8 +62,20 @@ pub struct BoardView {
     pub away: Option<Away>,
 }
 
-/// A followed board on a stream, as an iterator of [`BoardView`]s, one for each change. It never
-/// ends: a stream that has gone is reopened.
+/// Ends a [`Views`], also from another thread.
+#[derive(Clone, Debug)]
+pub struct Closer(Arc<AtomicBool>);
+
+impl Closer {
+    /// Ends the views: a call that waits for one closes the stream, and returns `None`. It does so
+    /// within ten milliseconds, or once a read or a write of the stream returns.
+    pub fn close(&self) {
+        self.0.store(true, Ordering::Release);
+    }
+}
+
+/// A followed board on a stream, as an iterator of [`BoardView`]s, one for each change. A stream
+/// that has gone is reopened. It ends only if a [`Closer`] ends it.
 ///
 /// `open` returns the stream. If no bytes arrive, a read has to return `TimedOut` or `WouldBlock`
 /// after a while, so that the next request is on time. `InvalidData` means that bytes were lost or
@@ -118,6 +131,7 @@ pub struct Views<Open, Stream> {
     chunk: [u8; 256],
     heard: usize,
     came: usize,
+    closed: Arc<AtomicBool>,
 }
 
 impl<Open: FnMut() -> io::Result<Stream>, Stream: Read + Write> Views<Open, Stream> {
@@ -127,20 +141,53 @@ impl<Open: FnMut() -> io::Result<Stream>, Stream: Read + Write> Views<Open, Stre
     /// # Errors
     ///
     /// The error of opening the stream for the first time.
-    pub fn new(mut open: Open) -> io::Result<Self> {
+    pub fn new(open: Open) -> io::Result<Self> {
+        Views::with_follower(open, Follower::default())
+    }
+
+    /// The same with this follower, which has another period or patience. It has asked nothing yet.
+    ///
+    /// # Errors
+    ///
+    /// As for [`Views::new`].
+    pub fn with_follower(mut open: Open, follower: Follower) -> io::Result<Self> {
         let stream = Some(open()?);
         Ok(Views {
             open,
             stream,
             looked: now(),
-            follower: Follower::default(),
+            follower,
             view: BoardView::default(),
             asked: None,
             asked_before: None,
             chunk: [0; 256],
             heard: 0,
             came: 0,
+            closed: Arc::default(),
         })
+    }
+
+    /// Waits until something changes, and returns the new view. Returns `None` if nothing has
+    /// changed for this time, and once it was closed. It may wait ten milliseconds longer, or as
+    /// long as a read or a write of the stream takes.
+    pub fn wait(&mut self, timeout: Duration) -> Option<BoardView> {
+        let end = Instant::now().checked_add(timeout);
+        while !self.closed.load(Ordering::Acquire) {
+            if self.turn() {
+                return Some(self.view);
+            }
+            if self.heard == self.came && end.is_some_and(|end| Instant::now() >= end) {
+                return None;
+            }
+        }
+        self.stream = None;
+        None
+    }
+
+    /// What ends it, for another thread. To end it in this one, drop it.
+    #[must_use]
+    pub fn closer(&self) -> Closer {
+        Closer(Arc::clone(&self.closed))
     }
 
     /// What is known now.
@@ -203,10 +250,13 @@ impl<Open: FnMut() -> io::Result<Stream>, Stream: Read + Write> Views<Open, Stre
         self.follower.line_lost();
     }
 
+    /// Opens the stream again if it is time to look for it, or else waits a little.
     fn look(&mut self) {
-        let next = self.looked + LOOK;
-        thread::sleep(Duration::from_millis(next.saturating_sub(now())));
-        (self.stream, self.looked) = ((self.open)().ok(), now());
+        if now() < self.looked + LOOK {
+            thread::sleep(Duration::from_millis(NAP));
+        } else {
+            (self.stream, self.looked) = ((self.open)().ok(), now());
+        }
     }
 
     /// Whether nothing was heard since the first of the last two requests.
@@ -244,10 +294,9 @@ impl<Open: FnMut() -> io::Result<Stream>, Stream: Read + Write> Views<Open, Stre
 impl<Open: FnMut() -> io::Result<Stream>, Stream: Read + Write> Iterator for Views<Open, Stream> {
     type Item = BoardView;
 
-    /// Waits until something changes, and returns the new view.
+    /// Waits until something changes, and returns the new view. Returns `None` once it was closed.
     fn next(&mut self) -> Option<BoardView> {
-        while !self.turn() {}
-        Some(self.view)
+        self.wait(Duration::MAX)
     }
 }
 

@@ -14,19 +14,15 @@
 //! is on by default, `follow` follows a board on a serial port, and [`Views`] one on any stream.
 //!
 //! ```
-//! use dgt::{Board, Host, MAX_SENT, Piece, Polled, RESTART_LENGTH};
+//! use dgt::{Board, Host, Piece, RESTART_LENGTH};
 //!
 //! let (mut board, mut host) = (Board::default(), Host::new());
 //! let mut asked = [0; RESTART_LENGTH];
 //! let count = host.restart(&mut asked)?;
-//! let (mut bytes, mut message) = (&asked[..count], [0; MAX_SENT]);
-//! while !bytes.is_empty() {
-//!     bytes = &bytes[board.take(bytes)?.used..];
-//! }
 //! board.change("e2".parse()?, Piece::Empty);
 //! board.change("e4".parse()?, Piece::WhitePawn);
-//! while let Polled::Wrote(count) = board.poll(&mut message) {
-//!     host.hear_all(&message[..count]);
+//! for message in board.answers(&asked[..count]) {
+//!     host.hear_all(&message);
 //! }
 //! let picture = host.picture().unwrap().to_string();
 //! assert_eq!(picture, "rnbqkbnr/pppppppp/8/8/4P3/8/PPPP1PPP/RNBQKBNR");
@@ -45,7 +41,7 @@
 //!
 //! | Feature | It adds |
 //! |---|---|
-//! | `std` (by default) | `follow`, `ports`, `Port`, [`Views`], and errors of `std::io` |
+//! | `std` (by default) | `follow`, `follow_with`, `ports`, `Port`, [`Views`], `std::io` errors |
 //! | `serde` | `Serialize` and `Deserialize` of values, clocks and modes |
 //!
 //! Without `std` it depends only on `core` and the crate `arrayvec`.
@@ -78,6 +74,7 @@ generated! {
     follow "generated/follow/mod.rs",
 }
 
+mod answers;
 mod encoding;
 mod text;
 mod traits;
@@ -89,6 +86,7 @@ mod port;
 #[cfg(feature = "serde")]
 mod serde_values;
 
+pub use answers::{Answer, Answers, lighting};
 pub use board::{
     Board, Busy, Identity, MAX_KEPT_BODY, MAX_OWED, MAX_SENT, Mode, Polled, Taken, TooLong,
     simulated_clock,
@@ -110,6 +108,6 @@ pub use values::{
 };
 
 #[cfg(feature = "std")]
-pub use following::{Away, BoardView, Views, now};
+pub use following::{Away, BoardView, Closer, Views, now};
 #[cfg(all(feature = "std", target_os = "linux"))]
-pub use port::{Port, Reopen, follow, ports};
+pub use port::{Port, Reopen, follow, follow_with, ports};

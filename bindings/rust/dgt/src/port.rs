@@ -1,5 +1,6 @@
 //! The serial port of a board, on Linux.
 
+use crate::Follower;
 use crate::following::{Views, now};
 use core::mem;
 use core::time::Duration;
@@ -83,8 +84,21 @@ pub type Reopen = Box<dyn FnMut() -> io::Result<Port> + Send>;
 ///
 /// Those of [`Port::open`].
 pub fn follow(path: impl Into<PathBuf>) -> io::Result<Views<Reopen, Port>> {
+    follow_with(path, Follower::default())
+}
+
+/// The same with this follower, which has another period or patience:
+/// `follow_with("/dev/ttyUSB0", Follower::new(5000, 6))` asks every five seconds.
+///
+/// # Errors
+///
+/// Those of [`Port::open`].
+pub fn follow_with(
+    path: impl Into<PathBuf>,
+    follower: Follower,
+) -> io::Result<Views<Reopen, Port>> {
     let path = path.into();
-    Views::new(Box::new(move || Port::open(&path)))
+    Views::with_follower(Box::new(move || Port::open(&path)), follower)
 }
 
 /// A serial port: 9600 baud, 8 bits, no parity, 1 stop bit, raw. It is closed with the object.

@@ -6,6 +6,8 @@ use std::cell::RefCell;
 use std::collections::VecDeque;
 use std::io::{self, Read, Write};
 use std::rc::Rc;
+use std::thread;
+use std::time::{Duration, Instant};
 
 /// A board, the bytes that wait for the host, and whether its port is there.
 struct Plugged {
@@ -16,10 +18,9 @@ struct Plugged {
 }
 
 impl Plugged {
-    fn send(&mut self) {
-        let mut message = [0; MAX_SENT];
-        while let Polled::Wrote(count) = self.board.poll(&mut message) {
-            self.waiting.extend(&message[..count]);
+    fn answer(&mut self, asked: &[u8]) {
+        for message in self.board.answers(asked) {
+            self.waiting.extend(&*message);
         }
     }
 }
@@ -48,7 +49,7 @@ impl Line {
     fn change(&self, square: &str, piece: Piece) {
         let mut it = self.0.borrow_mut();
         it.board.change(square.parse().unwrap(), piece);
-        it.send();
+        it.answer(&[]);
     }
 
     fn unplug(&self) {
@@ -74,11 +75,7 @@ impl Write for Line {
     fn write(&mut self, bytes: &[u8]) -> io::Result<usize> {
         let mut it = self.0.borrow_mut();
         if !it.is_deaf {
-            let mut rest = bytes;
-            while !rest.is_empty() {
-                rest = &rest[it.board.take(rest).expect("all was sent").used..];
-                it.send();
-            }
+            it.answer(bytes);
         }
         Ok(bytes.len())
     }
@@ -163,12 +160,57 @@ fn a_port_that_is_not_there_is_a_fault_at_first() {
 #[test]
 fn a_board_that_does_not_answer_is_silent() {
     let line = Line::new();
-    let mut views = Views::new(|| line.open()).unwrap();
-    *views.follower() = Follower::new(LEAST_PERIOD, 6);
+    let mut views = Views::with_follower(|| line.open(), Follower::new(LEAST_PERIOD, 6)).unwrap();
     assert_eq!(views.next().unwrap().away, None);
     line.0.borrow_mut().is_deaf = true;
     let silent = views.by_ref().find(|view| view.away.is_some()).unwrap();
     assert_eq!((silent.away, silent.in_doubt), (Some(Away::Silent), true));
     assert_eq!(silent.picture, Some(Position::start()));
     assert_eq!(Away::Silent.to_string(), "the board doesn't answer");
+}
+
+#[test]
+fn a_wait_ends_in_time() {
+    let line = Line::new();
+    let mut views = Views::new(|| line.open()).unwrap();
+    let (none, some) = (Duration::ZERO, Duration::from_millis(50));
+    assert_eq!(views.wait(some).unwrap().picture, Some(Position::start()));
+    let begun = Instant::now();
+    assert_eq!((views.wait(none), views.wait(some)), (None, None));
+    assert!(begun.elapsed() >= some && begun.elapsed() < Duration::from_secs(5));
+    line.change("e2", Piece::Empty);
+    line.change("e4", Piece::WhitePawn);
+    let (lifted, put) = (views.wait(none).unwrap(), views.wait(none).unwrap());
+    assert_eq!((lifted.picture, put.picture), (Some(start_without("e2")), views.view().picture));
+    assert!(put != lifted && views.wait(none).is_none());
+    line.unplug();
+    assert_eq!(views.wait(none).unwrap().away, Some(Away::Gone));
+    assert_eq!(views.wait(none), None);
+}
+
+#[test]
+fn another_thread_closes_it() {
+    let line = Line::new();
+    let mut views = Views::new(|| line.open()).unwrap();
+    let closer = views.closer();
+    let other = thread::spawn(move || {
+        thread::sleep(Duration::from_millis(50));
+        closer.close();
+    });
+    assert_eq!(views.by_ref().count(), 1); // until it ends
+    other.join().unwrap();
+    assert_eq!((views.next(), views.wait(Duration::MAX)), (None, None));
+    let fault = views.send(&Command::Dump).unwrap_err();
+    assert_eq!(fault.kind(), io::ErrorKind::NotConnected);
+}
+
+/// A board answers more requests than it can owe, and first what was pending.
+#[test]
+fn answers_are_in_order() {
+    let mut board = Board::default();
+    assert_eq!(board.answers(&[0x44]).count(), 0);
+    board.change("e2".parse().unwrap(), Piece::Empty);
+    let kinds: Vec<_> = board.answers(b"MMMMMMMMMM\x42\x2b\x04").map(|it| it[0]).collect();
+    assert_eq!(kinds, [&[0x8e][..], &[0x93; 10], &[0x86]].concat());
+    assert_eq!((board.partial(), board.answers(&[]).next()), (2, None));
 }
