@@ -44,6 +44,7 @@ The package contains::
     ClockCommands   are the calls of `follow`, Host and Follower for the board's clock
     MoveRecogniser  finds the moves of a game in the host's pictures; GameState knows the rules
     Games, PgnFile  make games from the pictures, and keep them in a file; PgnGame, san write PGN
+    WhiteClock      learns which side of the clock is White's
 
 A Host, Follower, Decoder, CommandDecoder and Board is one of the library libdgt, in memory that
 Python owns. The Rattle code of libdgt is proved; all else, such as World, is written in Python and
@@ -57,6 +58,7 @@ from ._pgn_file import KeptGame, PgnFile
 from ._version import VERSION
 from .board import Board, Identity, Mode
 from .clock_commands import ClockCommands
+from .clock_side import WhiteClock
 from .commands import (Ask, Asked, BadEnd, BadSize, BadStart, ClockId, ClockMessage, Command, Leds,
                        StrayByte, Word)
 from .decoder import CommandDecoder, Decoder
@@ -95,7 +97,8 @@ __all__ = [
     "NoClock", "NoSuchCommand", "Off", "Other", "Outcome", "PgnFile", "PgnGame", "PgnMove",
     "Position", "Pressed", "Ready", "Refused", "SQUARES", "START_FEN", "STORED_REQUEST", "Serial",
     "SerialLine", "SerialPort", "Signal", "Stored", "StoredPiece", "StoredTime", "Stray",
-    "StrayByte", "Time", "Times", "TooManyAwaited", "Trademark", "UnknownByte", "Version", "Word",
-    "World", "encode_command", "encode_message", "follow", "follow_async", "piece_code", "ports",
-    "read_stored", "san", "segment", "square_number", "view_command", "view_message",
+    "StrayByte", "Time", "Times", "TooManyAwaited", "Trademark", "UnknownByte", "Version",
+    "WhiteClock", "Word", "World", "encode_command", "encode_message", "follow", "follow_async",
+    "piece_code", "ports", "read_stored", "san", "segment", "square_number", "view_command",
+    "view_message",
 ]

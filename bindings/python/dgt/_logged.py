@@ -6,9 +6,9 @@ import time
 from collections.abc import Callable, Sequence
 from dataclasses import replace
 
-from ._clock_side import SIDES, Learner
 from ._port import Port
 from ._session import FAULTS
+from .clock_side import SIDES, WhiteClock
 from .decoder import Decoder
 from .events import Other
 from .following import BoardView, _has_input
@@ -127,7 +127,7 @@ class LoggedGames:
         self._now = self._shown_at = 0.0
         self._left = list[Time | None]([None, None])  # the time of each side of the clock
         self._begun_with: Sequence[Time | None] = self._left[:]
-        self._learner = Learner()
+        self._learner = WhiteClock()
         self._outside, self._unknown = list[int](), list[str]()
 
     def read(self, body: bytes) -> None:
@@ -232,7 +232,7 @@ class LoggedGames:
         if self._keeper.game is not self._game:
             self._finish("")
             self._game, self._begun_with = self._keeper.game, self._left[:]
-            self._learner = Learner()
+            self._learner = WhiteClock()
 
     def _note_time(self, left: Time) -> None:
         """Lets the position rest, and notes the time of one side of the clock. If a side's time has
@@ -242,7 +242,7 @@ class LoggedGames:
         if left == self._left[side]:
             return
         if self._game is not None and self._game.moves and self._left[side] is not None:
-            self._learner.turns[len(self._game.moves)] = self._game.moves[-1].before.white, side
+            self._learner._turns[len(self._game.moves)] = self._game.moves[-1].before.white, side
         self._left[side] = left
         if self._keeper is not None:
             if self._side != self._keeper.white_clock:

@@ -76,10 +76,10 @@ import sys
 import time
 
 from ._board_with_clock import _PATIENCE
-from ._clock_side import SIDES
 from ._logged import LoggedGames, NoLog, Stopped, ask_for_log
 from ._pgn_file import PgnFile
 from .board import Mode
+from .clock_side import SIDES
 from .errors import BadFen
 from .following import Following, _has_input, follow
 from .games import Games

@@ -8,9 +8,9 @@ from collections.abc import Callable, Sequence
 from dataclasses import replace
 from typing import Protocol
 
-from ._clock_side import SIDES, Learner
 from ._handle import Uncopied
 from ._turn import to_put
+from .clock_side import SIDES, WhiteClock
 from .errors import BadValue
 from .following import BoardView
 from .moves import GameBegun, MoveEvent, MoveMade, MoveRecogniser, MoveTakenBack
@@ -88,7 +88,7 @@ class Games(Uncopied):
         left until then. `fen` is that of `MoveRecogniser`, and `port` names the board in warnings.
         `BadFen` if the FEN is invalid, `BadValue` if the side is."""
         self._is_white_left, self._learns = _is_left(white_clock), white_clock == "learn"
-        self._learner, self._fallen = Learner(), set[str]()
+        self._learner, self._fallen = WhiteClock(), set[str]()
         self.recogniser = MoveRecogniser(fen, set_up=_SET_UP_WAIT)
         self.game: PgnGame | None = None
         self._text = _GameText(PgnGame())
@@ -397,7 +397,7 @@ class Games(Uncopied):
         self._result = self._advice = ""
         self._lost = {}
         self._seen.clear()
-        self._learner = Learner(before=self._learner.before)  # clocks are turned between games
+        self._learner.new_game()
         self._is_white_left |= self._learns
         if self._file is not None:
             self._file.begin()
