@@ -1,12 +1,13 @@
 """Programs that follow a board on a port: the trainers and the programs of the pages, in each
-language. tests/libraries/c_library, tests/libraries/cargo and tests/apps/examples run these cases.
-The line of the board is that of ports.py."""
+language. tests/libraries/c_library, tests/libraries/cargo, tests/apps/examples and tests/apps/web
+run these cases. The line of the board is that of ports.py; clocks are shown with board.py."""
 
 import contextlib
 import pathlib
 import re
 import signal
 import subprocess
+import sys
 import threading
 import time
 
@@ -19,6 +20,13 @@ ASKED_FIRST = bytes(255) + b"\x44\x42\x4b\x41"
 CLOCK = "clock 1:00:00 0:59:30"
 ROOT = pathlib.Path(__file__).resolve().parents[2]
 PORT = "/dev/ttyUSB0"
+BOARD = ROOT / "bindings/python/examples/board.py"
+# Lines of its input, and what a clock display prints after each.
+SHOWN = [
+    ("wait 0", f"{START} 1:30:00 1:29:55 -"),
+    ("e2e4", f"{LIFTED} 1:30:00 1:29:55 -", f"{PUT} 1:30:00 1:29:55 -"),
+    ("clock start", f"{PUT} 1:30:00 1:29:55 white", f"{PUT} 1:29:59 1:29:55 white"),
+]
 
 
 class Program(contextlib.ExitStack):
@@ -141,12 +149,13 @@ def a_trainer_waits(dgt, line, words):
 # ---- The programs of the pages
 
 
-def first_program(language, port):
+def first_program(language, port, with_clock=False):
     """The first program of README.md and docs/USING.md in a language that names a port, for this
-    port."""
+    port: of those without a clock, or with one."""
     text = "\n".join((ROOT / page).read_text() for page in ("README.md", "docs/USING.md"))
     blocks = re.findall(rf"^```{language}\n(.*?)^```", text, re.M | re.S)
-    program = next((block for block in blocks if PORT in block), "")
+    found = (each for each in blocks if PORT in each and ("clock" in each) == with_clock)
+    program = next(found, "")
     wanted(f"ports in the program in {language}", program.count(PORT), 1)
     return program.replace(PORT, str(port))
 
@@ -169,3 +178,34 @@ def a_first_program(_, line, words, status=None):
             line.plug()
             program.expect(ANSWERED.replace("BNR", "B1R"))
         program.end(status)
+
+
+@contextlib.contextmanager
+def simulated(path):
+    """board.py at this path: a function that passes a line to it."""
+    how = {"stdin": subprocess.PIPE, "stdout": subprocess.PIPE, "text": True, "bufsize": 1}
+    with subprocess.Popen([sys.executable, BOARD, path], **how) as board:
+        def tell(line):
+            board.stdin.write(f"{line}\n")
+            while (said := board.stdout.readline()) != "ready\n":
+                if not said:
+                    raise Wrong(f"board.py ends after {line!r}")
+
+        board.stdout.readline()
+        yield tell
+        board.stdin.close()
+
+
+def a_clock_display(path, words):
+    """It prints position, both times and the player to move, once one of them has changed."""
+    with simulated(path) as tell:
+        tell("clock 1:30:00 1:29:55")
+        with Program(None, words) as display:
+            last = ""
+            for line, *right in SHOWN:
+                tell(line)
+                for each in right:
+                    while (shown := display.ran.stdout.readline().rstrip("\n")) == last and shown:
+                        pass
+                    wanted(f"what {display.ran.args} prints after {line}", shown, each)
+                    last = shown

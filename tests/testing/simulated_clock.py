@@ -14,14 +14,14 @@ SECONDS = 20
 # Lines of its input, and the texts of the clock that follow them, in order.
 ROWS = [
     (["clock 1:00:00 0:59:30"], ["times 1:00:00 0 0:59:30 0 00"]),
-    (["clock start"], ["times 1:00:00 0 0:59:30 0 01", "times 0:59:59 0 0:59:30 0 01",
-                       "times 0:59:58 0 0:59:30 0 01"]),
-    (["clock stop"], ["times 0:59:58 0 0:59:30 0 00"]),
+    (["clock start"], ["times 1:00:00 0 0:59:30 0 11", "times 0:59:59 0 0:59:30 0 11",
+                       "times 0:59:58 0 0:59:30 0 11"]),
+    (["clock stop"], ["times 0:59:58 0 0:59:30 0 10"]),
     (["clock start", "wait 0.1", "clock 9:59:59 0:00:00"],
-     ["times 0:59:58 0 0:59:30 0 01", "times 9:59:59 0 0:00:00 0 00"]),
+     ["times 0:59:58 0 0:59:30 0 11", "times 9:59:59 0 0:00:00 0 00"]),
     (["clock 0:00:02 0:00:05", "wait 0.1", "clock start"],
-     ["times 0:00:02 0 0:00:05 0 00", "times 0:00:02 0 0:00:05 0 01",
-      "times 0:00:01 0 0:00:05 0 01", "times 0:00:00 0 0:00:05 0 00"]),
+     ["times 0:00:02 0 0:00:05 0 00", "times 0:00:02 0 0:00:05 0 11",
+      "times 0:00:01 0 0:00:05 0 11", "times 0:00:00 0 0:00:05 0 10"]),
 ]
 # Lines that it refuses, and what it says of them.
 REFUSED = [
@@ -58,8 +58,8 @@ def check_row(following, board, lines, right):
     board.stdin.write("".join(f"{line}\n" for line in lines))
     texts = clocks(following, len(right), begun + SECONDS)
     passed = time.monotonic() - begun
-    least = len({text.split()[1] for text in right if text.endswith("01")}) - 1
-    if texts == right and not right[-1].endswith("01"):
+    least = len({text.split()[1] for text in right if text.endswith("11")}) - 1
+    if texts == right and not right[-1].endswith("11"):
         texts += clocks(following, 1, time.monotonic() + 1.2)
     if texts != right:
         return f"{lines}: {texts} instead of {right}"

@@ -11,9 +11,9 @@ from standard input, one per line:
     turn                   sets up the pieces of a new game the other way round
     clock 1:00:00 0:59:30  sets the times of the clock's first and second side,
                            and stops it
-    clock start            starts the clock: its first side counts down each
-                           second, to 0:00:00
-    clock stop             stops the clock
+    clock start            starts the clock: White is to move; the first side
+                           counts down each second, to 0:00:00
+    clock stop             stops the clock; White stays to move
     wait 0.5               waits for half a second; 3600 at most
     off                    switches the board off and on; the port stays open.
                            The board logs this, and all changes while no host
@@ -64,7 +64,7 @@ except ImportError as missing:
     sys.exit(f"board.py: {missing}")
 
 
-RUNNING = 0x01  # the bit of a clock's status
+RUNNING, WHITE_TURN = 0x01, 0x10  # bits of a clock's status
 SQUARES = {0x86, 0x8E}  # the first bytes of messages with squares: all of them, and one
 MOVE = re.compile("([a-h][1-8])([a-h][1-8])")
 
@@ -76,18 +76,19 @@ class RunningClock:
     def __init__(self, board: dgt.Board) -> None:
         self.board, self.first, self.second = board, 0, dgt.Time()
         self.due: float | None = None  # when it counts next, if it runs
+        self.turn = 0  # the bit of the side to move
 
     def set(self, first: str, second: str) -> None:
         """Shows these times, and stops. ValueError if one of them isn't valid."""
         shown, self.second = read_time(first), read_time(second)
-        self.first = 3600 * shown.hours + 60 * shown.minutes + shown.seconds
+        self.first, self.turn = 3600 * shown.hours + 60 * shown.minutes + shown.seconds, 0
         self.stop()
 
     def start(self) -> None:
         """ValueError if the first side has no time left."""
         if self.first == 0:
             raise ValueError("the clock's first side has no time left")
-        self.due = time.monotonic() + 1
+        self.due, self.turn = time.monotonic() + 1, WHITE_TURN
         self.show()
 
     def stop(self) -> None:
@@ -104,7 +105,8 @@ class RunningClock:
     def show(self) -> None:
         minutes, seconds = divmod(self.first, 60)
         first = dgt.Time(*divmod(minutes, 60), seconds)
-        self.board.hand_clock(dgt.Times(first, self.second, RUNNING if self.due else 0))
+        status = self.turn | (RUNNING if self.due else 0)
+        self.board.hand_clock(dgt.Times(first, self.second, status))
 
 
 def read_time(text: str) -> dgt.Time:
