@@ -1274,18 +1274,36 @@ export class Board extends Handle {
    * @param {Uint8Array} bytes
    */
   take(bytes) {
-    const { dgt } = this, commands = [];
+    const commands = [];
     let used = 0;
     while (used < chunk(bytes).length) {
-      const part = bytes.subarray(used, used + CHUNK);
-      const taken = this.call("take", dgt.put(dgt.in, part), part.length, dgt.small, dgt.body,
-                              MAX_BODY);
+      const taken = this.#takeOne(bytes.subarray(used, used + CHUNK));
       if (taken.busy) break;
       used += taken.used;
-      const command = dgt.command(dgt.body);
+      const command = this.dgt.command(this.dgt.body);
       if (command) commands.push(command);
     }
     return { used, commands };
+  }
+
+  /** @param {Uint8Array} part */
+  #takeOne(part) {
+    const { dgt } = this;
+    return this.call("take", dgt.put(dgt.in, part), part.length, dgt.small, dgt.body, MAX_BODY);
+  }
+
+  /**
+   * Takes all of a host's bytes, and yields the messages to send: first those that were pending,
+   * and then the replies to each command. A command is taken once you have taken each message
+   * before it.
+   * @param {Uint8Array} bytes
+   * @returns {Generator<Uint8Array, void, undefined>}
+   */
+  *answers(bytes) {
+    for (let used = 0;; used += this.#takeOne(bytes.subarray(used, used + CHUNK)).used) {
+      for (let message; (message = this.poll());) yield message;
+      if (used === chunk(bytes).length) return;
+    }
   }
 
   /** The next message to send, or null. It then counts as sent. */

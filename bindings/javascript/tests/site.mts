@@ -3,6 +3,7 @@
 
 import { ASK, Board, CommandDecoder, Follower, Host, IDS, MODES, lighting, load,
          type Command, type Event, type Library } from "dgt-board";
+import { follow, type BoardView } from "dgt-board/following.js";
 import { Game } from "dgt-board/moves.js";
 
 const dgt: Library = await load(new URL("https://example.org/dgt64.wasm"));
@@ -33,6 +34,16 @@ export const sent: Uint8Array[] = [
   new Host(dgt).restart(), dgt.encodeCommand(ASK.leds, 0, lighting("a1", "h8")),
 ];
 const board = new Board(dgt);
+export const answers: Uint8Array[] = [...board.answers(sent[0])];
+export async function show(port: Parameters<typeof follow>[1]): Promise<string | null> {
+  const followed = follow(dgt, port, { period: 2000, clock: true, waitForPort: true });
+  for await (const view of followed) if (view.confirmed) return view.placement;
+  const next: BoardView | null = await followed.wait(500);
+  // @ts-expect-error squares have names
+  followed.light(52, 36);
+  // @ts-expect-error there may be no view
+  return next.away;
+}
 export const commands: Command[] = new CommandDecoder(dgt).feed(sent[0]);
 const { used }: { used: number } = board.take(sent[0]);
 follower.mode = MODES.update;
