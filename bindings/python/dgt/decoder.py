@@ -7,11 +7,12 @@ from collections.abc import Callable, Iterator
 from ctypes import byref
 from typing import Any
 
-from ._c import MAX_BODY, MAX_WORD, CommandStruct, EventStruct
+from ._c import EVENT_FIELD, MAX_BODY, MAX_WORD, CommandStruct, EventStruct
 from ._handle import Bytes, Handle, readable, writable
 from ._library import dgt
 from .commands import Word, read_word
-from .events import Event, read_event, read_events, read_offsets
+from .events import (FIELDS, KIND, PIECE, SQUARE, Event, read_event, read_events,
+                     read_offsets)
 
 
 class EventReader(Handle):
@@ -71,7 +72,7 @@ class EventReader(Handle):
 
     def _steps(self, held: bytes, address: int, *time: int) -> Iterator[Event]:
         end = address + len(held)
-        feed, told, told_at, body_at = self._feed, self._told, self._events_at, self._body_at
+        feed, told, told_at, body_at = self._feed, self._events, self._events_at, self._body_at
         while address < end:
             # The body of `_call`: calling it for each event would take 50 % longer.
             with self._lock:
@@ -82,7 +83,10 @@ class EventReader(Handle):
                     used = feed(self._at, *time, address, end - address, told_at, body_at, MAX_BODY)
                     address += used
                     self._offset += used
-                    event = read_event(told, self._body) if told.kind else None
+                    kind = told[KIND]
+                    # Most events are fields: no call, and no member of a struct, for these.
+                    event = (FIELDS[told[SQUARE]][told[PIECE]] if kind == EVENT_FIELD
+                             else read_event(self._told, self._body) if kind else None)
                 finally:
                     self._running = False
             if event is not None:

@@ -204,7 +204,7 @@ Message = (Dump | Field | Times | NoClock | Ack | Serial | Version | Trademark |
 Event = Message | Refused | Cut | BadLength | Stray
 
 # The fields of all squares with all pieces, made once: to look one up is faster than to make it.
-_FIELDS = [[Field(square, letter) for letter in LETTERS] for square in SQUARES]
+FIELDS = [[Field(square, letter) for letter in LETTERS] for square in SQUARES]
 
 _Maker = Callable[[EventStruct, bytearray], Event]
 
@@ -214,7 +214,7 @@ def _carried(kind: Callable[[bytes, bool], Event]) -> _Maker:
 
 
 def _field(told: EventStruct, body: bytearray) -> Field:
-    field: Field = _FIELDS[told.square][told.piece]
+    field: Field = FIELDS[told.square][told.piece]
     return field
 
 
@@ -255,14 +255,14 @@ def read_offsets(told: bytearray, count: int, before: int) -> list[int]:
     return [before + EventStruct.from_buffer(told, index * size).place for index in range(count)]
 
 
-_OFFSETS = tuple(getattr(EventStruct, name).offset for name in ("kind", "square", "piece"))
+KIND, SQUARE, PIECE = (getattr(EventStruct, name).offset for name in ("kind", "square", "piece"))
 
 
 def read_events(told: bytearray, count: int, body: bytearray) -> list[Event]:
     """Returns the events that the library has reported in an array of structs. Only the last of
     them may have a body."""
     size = ctypes.sizeof(EventStruct)
-    kinds, squares, pieces = (told[at:count * size:size] for at in _OFFSETS)
-    return [_FIELDS[square][piece] if kind == EVENT_FIELD
+    kinds, squares, pieces = (told[at:count * size:size] for at in (KIND, SQUARE, PIECE))
+    return [FIELDS[square][piece] if kind == EVENT_FIELD
             else read_event(EventStruct.from_buffer(told, index * size), body)
             for index, (kind, square, piece) in enumerate(zip(kinds, squares, pieces))]
