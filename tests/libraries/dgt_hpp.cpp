@@ -764,6 +764,11 @@ void followings() {
     while (plugged.asked().find("6004013424006004004040004d") == std::string::npos)
         CHECK(!board.wait(dgt::Milliseconds(10)) || board.view().confirmed);
     const dgt::BoardView last = board.view();
+    plugged.is_mute = true;
+    board.follower().ask_now();
+    const auto asked = dgt::now();
+    CHECK(next(board).in_doubt && dgt::now() - asked < std::chrono::seconds(10));
+    plugged.is_mute = false;
     plugged.unplug();
     CHECK(next(board).away == gone && board.view().in_doubt && !board.view().confirmed);
     CHECK(board.view().picture == last.picture && board.view().clock == last.clock);
