@@ -130,6 +130,7 @@ fn a_port_that_goes_is_found_again() {
     assert_eq!(views.next().unwrap().picture, Some(Position::start()));
     assert_eq!(views.next().unwrap().clock, Some(clock()));
     line.unplug();
+    let begun = Instant::now();
     let gone = views.next().unwrap();
     assert_eq!((gone.picture, gone.in_doubt), (Some(Position::start()), true));
     assert_eq!((gone.away, gone.confirmed), (Some(Away::Gone), false));
@@ -138,6 +139,7 @@ fn a_port_that_goes_is_found_again() {
     line.0.borrow_mut().is_there = true;
     line.change("e2", Piece::Empty); // nobody hears it
     let back = views.next().unwrap();
+    assert!(begun.elapsed() > Duration::from_millis(1900)); // it is looked for every two seconds
     assert_eq!((back.picture, back.in_doubt), (Some(Position::start()), true));
     assert_eq!(back.away, None);
     let right = views.next().unwrap();
