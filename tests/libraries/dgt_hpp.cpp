@@ -761,7 +761,7 @@ void followings() {
     board.light(dgt::Square("e2"), dgt::Square("e4"));
     board.light();
     board.write(board.follower().send(dgt::Ask::version));
-    while (plugged.asked().find("6004013424006004004040004d") == std::string::npos)
+    while (plugged.asked().find("6004013424004b6004004040004b4d") == std::string::npos)
         CHECK(!board.wait(dgt::Milliseconds(10)) || board.view().confirmed);
     const dgt::BoardView last = board.view();
     plugged.is_mute = true;
