@@ -179,8 +179,9 @@ class Desk(web.Visit):
         link = (f'<a href="/desk?{urllib.parse.urlencode({"board": name})}" '
                 f'aria-label="Board {quoted(name)}">{quoted(name)}</a>')
         white, black = (players["white"], players["black"]) if players else ("?", "?")
-        advice = advice_of(game)
-        state = f"lost: {advice}" if advice and event["state"] == "following" else event["state"]
+        state, advice = event["state"], advice_of(game)
+        if advice and state in ("following", "unknown"):
+            state = f"lost: {advice}"
         mark = "" if state == "following" else ' class="bad"'
         return (f'<tr><th scope="row">{link}</th><td>{quoted(white)}</td><td>{quoted(black)}</td>'
                 f'<td>{clocks(event)}</td>'
