@@ -1,7 +1,5 @@
 -- Texts in which no two digits are adjacent.
-use Rattle.std.proofs.Common.{◌≡◌, ℕ, zero, suc, ◌+◌, arith, List, [], ◌∷◌, ◌++◌, get_or, rules}
-use Rattle.std.specs.Char.{IsAsciiDigit}
-use Rattle.dgt_values.specs.Placement.{DigitsApart}
+use Rattle.{std.{proofs.Common.{◌≡◌, ℕ, zero, suc, ◌+◌, arith, List, [], ◌∷◌, ◌++◌, get_or, rules}, specs.Char.{IsAsciiDigit}}, dgt_values.specs.Placement.{DigitsApart}}
 
 abbrev pub BeginsWithDigit : List ℕ → Type 0
 BeginsWithDigit [] = ⊥
@@ -33,12 +31,13 @@ pub digits_apart : (text : List ℕ) → DigitsApart text → Apart text
 digits_apart [] h = tt
 digits_apart (byte ∷ bytes) h = (
   λ a b. h 0 a (begins_first bytes b),
-  digits_apart bytes (λ k a b. let further : suc k + 1 ≡ suc (k + 1) = omega arith in h (suc k) a (rw further b)),
+  digits_apart bytes
+      (λ k a b. let further : suc k + 1 ≡ suc (k + 1) = omega arith in h (suc k) a (rw further b)),
 )
 
 -- a byte that isn't a digit keeps its neighbours apart
-pub apart_around : (before : List ℕ) (byte : ℕ) (after : List ℕ) → Apart before → (IsAsciiDigit byte → ⊥) → Apart after
-    → Apart (before ++ byte ∷ after)
+pub apart_around : (before : List ℕ) (byte : ℕ) (after : List ℕ) → Apart before
+    → (IsAsciiDigit byte → ⊥) → Apart after → Apart (before ++ byte ∷ after)
 apart_around [] byte after h other k = (λ a b. other a, k)
 apart_around (first ∷ []) byte after h other k = (λ a b. other b, (λ a b. other a, k))
 apart_around (first ∷ second ∷ before) byte after h other k =

@@ -1,43 +1,37 @@
 -- Each text has an outcome.
 use Prim.Native.Char.{code as ascii}
-use Rattle.std.proofs.Common.{◌≡◌, ℕ, zero, suc, ◌+◌, ◌-◌, ◌<◌, ◌≤◌, ◌⊎◌, inl, inr, refl, sym, ap, ◌∙◌, arith, List, []}
-use Rattle.std.proofs.Common.{◌∷◌, ◌++◌, length, take, replicate, get_or, append_assoc, length-append, rules}
-use Rattle.std.specs.Prelude.{◌≢◌, Result, Ok, Err}
-use Rattle.std.proofs.lemmas.Bool.{cases_lt}
-use Rattle.std.proofs.lemmas.Bool.Decides.{eqb_tells}
-use Rattle.std.proofs.lemmas.List.{append-nil, take_at}
-use Rattle.std.proofs.Math.Seq.{get_or-append_seam}
-use Rattle.dgt_values.specs.declared.pieces.Piece.{Piece}
-use Rattle.dgt_values.specs.declared.pieces.Piece.TheVariants.{Empty}
-use Rattle.dgt_values.specs.declared.refusals.BadPlacement.{BadPlacement}
-use Rattle.dgt_values.specs.Board.{piece_letter}
-use Rattle.dgt_values.specs.declared.positions.Position.{Position}
-use Rattle.dgt_values.specs.Placement.{MeansSquares, IsPlacement, IsFirstBadOffset, ParsesPlacement}
-use Rattle.dgt_values.proofs.Finishing.{means_one, above_slash, Steps}
-use Rattle.dgt_values.proofs.PieceCodes.{letter_piece, letter_piece-letter}
-use Rattle.dgt_values.proofs.Written.{placement_long}
-use Rattle.dgt_values.proofs.Reading.{Leaves, leaves_start, leaves_more, leaves_none, first_bad, ends_short}
+use Rattle.std.proofs.Common.{◌≡◌, ℕ, zero, suc, ◌+◌, ◌-◌, ◌<◌, ◌≤◌, ◌⊎◌, inl, inr, refl, sym, ap, ◌∙◌, arith, List, [], ◌∷◌, ◌++◌, length, take, replicate, get_or, append_assoc, length-append, rules}
+use Rattle.std.{proofs.{Math.Seq.{get_or-append_seam}, lemmas.{Bool.{cases_lt}, List.{append-nil, take_at}, Bool.Decides.{eqb_tells}}}, specs.Prelude.{◌≢◌, Result, Ok, Err}}
+use Rattle.dgt_values.specs.{Board.{piece_letter}, Placement.{MeansSquares, IsPlacement, IsFirstBadOffset, ParsesPlacement}, declared.{pieces.Piece.{Piece}, positions.Position.{Position}}}
+use Rattle.dgt_values.{specs.declared.{refusals.BadPlacement.{BadPlacement}, pieces.Piece.TheVariants.{Empty}}, proofs.{Finishing.{means_one, above_slash, Steps}, PieceCodes.{letter_piece}}}
+use Rattle.dgt_values.proofs.{PieceCodes.{letter_piece-letter}, Reading.{Leaves, leaves_start, leaves_more, leaves_none, first_bad, ends_short}, Written.{placement_long}}
 
 -- a byte is a piece's letter or it isn't
-letter_or_not : (byte : ℕ) → ((piece : Piece) × (piece ≢ Empty) × (byte ≡ piece_letter piece)) ⊎ ((piece : Piece)
-    → piece ≢ Empty → byte ≡ piece_letter piece → ⊥)
+letter_or_not : (byte : ℕ)
+    → ((piece : Piece) × (piece ≢ Empty) × (byte ≡ piece_letter piece))
+    ⊎ ((piece : Piece) → piece ≢ Empty → byte ≡ piece_letter piece → ⊥)
 letter_or_not byte = elim (eqb_tells byte (ascii ".")) [
   | inl dot ↦ search (rules, letter_piece-letter, letter_piece)
   | inr other ↦ elim (eqb_tells (piece_letter (letter_piece byte)) byte) [
     | inl same ↦ inl (letter_piece byte, λ e. other.1 (sym same.1 ∙ ap piece_letter e), sym same.1)
-    | inr none ↦ inr (λ piece full e. none.1 (ap piece_letter (ap letter_piece e ∙ letter_piece-letter piece) ∙ sym e))
+    | inr none ↦
+        inr
+        (λ piece full e.
+        none.1 (ap piece_letter (ap letter_piece e ∙ letter_piece-letter piece) ∙ sym e))
   ]
 ]
 
 -- a byte that isn't a letter or a digit from 1 to 8 means nothing
 means_none : (byte : ℕ) → ((piece : Piece) → piece ≢ Empty → byte ≡ piece_letter piece → ⊥)
-    → (byte ≤ ascii "0") ⊎ (ascii "9" ≤ byte) → (squares : List Piece) → MeansSquares byte squares → ⊥
+    → (byte ≤ ascii "0") ⊎ (ascii "9" ≤ byte) → (squares : List Piece) → MeansSquares byte squares
+    → ⊥
 means_none byte none out squares h4 = search rules
 
 -- a byte that isn't a letter is a digit from 1 to 8 or means nothing
 digit_or_not : (byte : ℕ) → ((piece : Piece) → piece ≢ Empty → byte ≡ piece_letter piece → ⊥)
     → (ascii "0" < byte) ⊎ (byte ≤ ascii "0") → (byte < ascii "9") ⊎ (ascii "9" ≤ byte)
-    → ((squares : List Piece) × MeansSquares byte squares) ⊎ ((squares : List Piece) → MeansSquares byte squares → ⊥)
+    → ((squares : List Piece) × MeansSquares byte squares)
+    ⊎ ((squares : List Piece) → MeansSquares byte squares → ⊥)
 digit_or_not byte none (inl low) (inl high) =
     let digit : byte ≡ ascii "0" + (byte - ascii "0") = omega arith in
     inl (
@@ -48,18 +42,22 @@ digit_or_not byte none (inr low) high = inr (means_none byte none (inl (omega ar
 digit_or_not byte none (inl low) (inr high) = inr (means_none byte none (inr high))
 
 -- a byte means squares or it doesn't
-means_or_not : (byte : ℕ) → ((squares : List Piece) × MeansSquares byte squares) ⊎ ((squares : List Piece)
-    → MeansSquares byte squares → ⊥)
+means_or_not : (byte : ℕ)
+    → ((squares : List Piece) × MeansSquares byte squares)
+    ⊎ ((squares : List Piece) → MeansSquares byte squares → ⊥)
 means_or_not byte = elim (letter_or_not byte) [
-  | inl letter ↦ inl
-      (letter.0 ∷ [], inr (record { piece = letter.0; not_empty = letter.1; letter = letter.2; one_square = refl }))
+  | inl letter ↦ inl (
+    letter.0 ∷ [],
+    inr (record { piece = letter.0; not_empty = letter.1; letter = letter.2; one_square = refl }),
+  )
   | inr none ↦ digit_or_not byte none (cases_lt (ascii "0") byte) (cases_lt byte (ascii "9"))
 ]
 
 -- squares that do not fit in the rank are not a step
 too_long : (byte n s : ℕ) (squares : List Piece) → MeansSquares byte squares → s < length squares
     → (n' s' : ℕ) (first : List Piece) → Steps byte n s n' s' first → ⊥
-too_long byte n s squares stands long n' s' first (inl x) = omega (arith, x.slash, above_slash byte squares stands)
+too_long byte n s squares stands long n' s' first (inl x) =
+    omega (arith, x.slash, above_slash byte squares stands)
 too_long byte n s squares stands long n' s' first (inr x) =
     omega (arith, x.fewer, ap length (means_one byte first squares x.stands stands))
 
@@ -92,7 +90,8 @@ with_squares byte n s squares le stands (inr fits) =
 -- a byte that means nothing and isn't a slash in its place has no effect
 no_slash : (byte n s : ℕ) → ((squares : List Piece) → MeansSquares byte squares → ⊥)
     → (byte ≡ ascii "/" → s ≡ 0 → 0 < n → ⊥) → IsStuck byte n s
-no_slash byte n s none refused n' s' first (inl x) = refused x.slash x.full (omega (arith, x.one_less))
+no_slash byte n s none refused n' s' first (inl x) =
+    refused x.slash x.full (omega (arith, x.one_less))
 no_slash byte n s none refused n' s' first (inr x) = none first x.stands
 
 -- a byte that means nothing is a step if it is a slash in its place
@@ -100,7 +99,8 @@ with_slash : (byte n s : ℕ) → ((squares : List Piece) → MeansSquares byte 
     → ((byte ≡ ascii "/") ⊎ (byte ≢ ascii "/")) → Step byte n s ⊎ IsStuck byte n s
 with_slash byte n s none (inr other) = inr (no_slash byte n s none (λ slash _ _. other slash))
 with_slash byte zero s none (inl slash) = inr (no_slash byte zero s none (λ _ _ less. omega arith))
-with_slash byte (suc n) (suc s) none (inl slash) = inr (no_slash byte (suc n) (suc s) none (λ _ full _. omega arith))
+with_slash byte (suc n) (suc s) none (inl slash) =
+    inr (no_slash byte (suc n) (suc s) none (λ _ full _. omega arith))
 with_slash byte (suc n) zero none (inl slash) = inl (record {
   ranks = n;
   left = 8;
@@ -111,7 +111,8 @@ with_slash byte (suc n) zero none (inl slash) = inl (record {
 
 -- a byte is a slash or not
 slash_or_not : (byte : ℕ) → (byte ≡ ascii "/") ⊎ (byte ≢ ascii "/")
-slash_or_not byte = elim (eqb_tells byte (ascii "/")) [ inl same ↦ inl same.1 | inr other ↦ inr other.1 ]
+slash_or_not byte =
+    elim (eqb_tells byte (ascii "/")) [ inl same ↦ inl same.1 | inr other ↦ inr other.1 ]
 
 -- a byte is a step or has no effect
 step_or_not : (byte n s : ℕ) → s ≤ 8 → Step byte n s ⊎ IsStuck byte n s
@@ -126,23 +127,30 @@ Outcome text = (r : Result Position BadPlacement) × ParsesPlacement text r
 
 -- the outcome of an accepted text
 outcome_accepted : (text : List ℕ) (pieces : List Piece) → IsPlacement text pieces → Outcome text
-outcome_accepted text pieces p = (Ok (record { pieces = pieces; all = placement_long text pieces p }), p)
+outcome_accepted text pieces p =
+    (Ok (record { pieces = pieces; all = placement_long text pieces p }), p)
 
 -- the outcome of a text that was read to its end
-outcome_at_end : (text : List ℕ) (n s : ℕ) (done : List Piece) → s ≤ 8 → Leaves text n s done → Outcome text
+outcome_at_end : (text : List ℕ) (n s : ℕ) (done : List Piece) → s ≤ 8 → Leaves text n s done
+    → Outcome text
 outcome_at_end text zero zero done le h = outcome_accepted text done (leaves_none text done h)
-outcome_at_end text zero (suc s) done le h =
-    (Err (record { at = length text }), ends_short text zero (suc s) done le h (λ _ full. omega arith))
+outcome_at_end text zero (suc s) done le h = (
+  Err (record { at = length text }),
+  ends_short text zero (suc s) done le h (λ _ full. omega arith),
+)
 outcome_at_end text (suc n) s done le h =
     (Err (record { at = length text }), ends_short text (suc n) s done le h (λ none _. omega arith))
 
 -- a byte without effect is the first wrong one
-stuck_is_bad : (text rest : List ℕ) (byte n s : ℕ) (done : List Piece) → s ≤ 8 → Leaves text n s done → IsStuck byte n s
-    → IsFirstBadOffset (text ++ byte ∷ rest) (length text)
+stuck_is_bad : (text rest : List ℕ) (byte n s : ℕ) (done : List Piece) → s ≤ 8
+    → Leaves text n s done → IsStuck byte n s → IsFirstBadOffset (text ++ byte ∷ rest) (length text)
 stuck_is_bad text rest byte n s done le h stuck =
-    let inside : length text < length (text ++ byte ∷ rest) = omega (arith, length-append text (byte ∷ rest)) in
-    let prefix : take (length text) (text ++ byte ∷ rest) ≡ text = take_at text (byte ∷ rest) (length text) refl in
-    let here : get_or (text ++ byte ∷ rest) (length text) 0 ≡ byte = get_or-append_seam text byte rest 0 in
+    let inside : length text < length (text ++ byte ∷ rest) =
+    omega (arith, length-append text (byte ∷ rest)) in
+    let prefix : take (length text) (text ++ byte ∷ rest) ≡ text =
+    take_at text (byte ∷ rest) (length text) refl in
+    let here : get_or (text ++ byte ∷ rest) (length text) 0 ≡ byte =
+    get_or-append_seam text byte rest 0 in
     first_bad (text ++ byte ∷ rest) done (length text) n s inside le (rw prefix h) (rw here stuck)
 
 -- the rest of a text has an outcome

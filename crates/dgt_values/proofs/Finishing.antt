@@ -1,16 +1,9 @@
 -- How a text continues to the end of a placement, byte by byte: this many ranks follow this one,
 -- and this many squares of this rank are left.
 use Prim.Native.Char.{code as ascii}
-use Rattle.std.proofs.Common.{◌≡◌, ℕ, suc, ◌+◌, ◌<◌, ◌⊎◌, inl, inr, refl, sym, ap, ◌∙◌, arith, List, [], ◌∷◌, ◌++◌}
-use Rattle.std.proofs.Common.{length, append_assoc, length-append, rules}
-use Rattle.std.specs.Prelude.{◌≢◌}
-use Rattle.std.specs.List.{join_with_byte}
-use Rattle.std.proofs.lemmas.List.{append-nil}
-use Rattle.dgt_values.specs.declared.pieces.Piece.{Piece}
-use Rattle.dgt_values.specs.declared.pieces.Piece.TheVariants.{Empty}
-use Rattle.dgt_values.specs.Board.{piece_letter}
-use Rattle.dgt_values.specs.Placement.{MeansSquares, IsRank, AreRanks, IsPlacement}
-use Rattle.dgt_values.proofs.PieceCodes.{letter_one}
+use Rattle.std.proofs.{Common.{◌≡◌, ℕ, suc, ◌+◌, ◌<◌, ◌⊎◌, inl, inr, refl, sym, ap, ◌∙◌, arith, List, [], ◌∷◌, ◌++◌, length, append_assoc, length-append, rules}, lemmas.List.{append-nil}}
+use Rattle.{std.specs.{List.{join_with_byte}, Prelude.{◌≢◌}}, dgt_values.specs.{Board.{piece_letter}, Placement.{MeansSquares, IsRank, AreRanks, IsPlacement}, declared.pieces.Piece.{Piece}}}
+use Rattle.dgt_values.{specs.declared.pieces.Piece.TheVariants.{Empty}, proofs.PieceCodes.{letter_one}}
 
 -- letters are above the slash and the digits
 pub letter_above : (piece : Piece) → piece ≢ Empty → ascii "9" < piece_letter piece
@@ -59,14 +52,16 @@ pub record SameStep (ranks left ranks' left' : ℕ) (first first' : List Piece) 
   pub first_same : first ≡ first'
 
 -- two steps of a byte are equal
-pub steps_one : (byte n s n1 s1 n2 s2 : ℕ) (a b : List Piece) → Steps byte n s n1 s1 a → Steps byte n s n2 s2 b
-    → SameStep n1 s1 n2 s2 a b
+pub steps_one : (byte n s n1 s1 n2 s2 : ℕ) (a b : List Piece) → Steps byte n s n1 s1 a
+    → Steps byte n s n2 s2 b → SameStep n1 s1 n2 s2 a b
 steps_one byte n s n1 s1 n2 s2 a b h9 h10 = search (rules, above_slash, means_one)
 
 -- a text ends a placement with at most one list of pieces
-pub finishes_one : (text : List ℕ) (n s : ℕ) (a b : List Piece) → Finishes text n s a → Finishes text n s b → a ≡ b
+pub finishes_one : (text : List ℕ) (n s : ℕ) (a b : List Piece) → Finishes text n s a
+    → Finishes text n s b → a ≡ b
 finishes_one [] n s a b h k = h.2 ∙ sym k.2
-finishes_one (byte ∷ text) n s a b (n1, s1, first, rest, step, more, is) (n2, s2, first', rest', step', more', is') =
+finishes_one (byte ∷ text) n s a b (n1, s1, first, rest, step, more, is)
+    (n2, s2, first', rest', step', more', is') =
     let same = steps_one byte n s n1 s1 n2 s2 first first' step step' in
     let over : Finishes text n1 s1 rest' = rw (same.ranks_same, same.left_same) more' in
     search (rules, finishes_one text n1 s1 rest rest' more over)
@@ -80,7 +75,8 @@ rank_finishes (byte ∷ bytes) squares (first, others, stands, h, is) n more res
     search (rules, length-append, append_assoc, rank_finishes bytes others h n more rest f)
 
 -- ranks that are joined by slashes
-ranks_finish : (ranks : List (List ℕ)) (rank : List ℕ) (pieces : List Piece) → AreRanks (rank ∷ ranks) pieces
+ranks_finish : (ranks : List (List ℕ)) (rank : List ℕ) (pieces : List Piece)
+    → AreRanks (rank ∷ ranks) pieces
     → Finishes (join_with_byte (ascii "/") (rank ∷ ranks)) (length ranks) 8 pieces
 ranks_finish [] rank pieces (squares, rest, eight, h, none, is) =
     let f = rank_finishes rank squares h 0 [] [] (refl, refl, refl) in
@@ -102,12 +98,14 @@ record Parts (text : List ℕ) (n s : ℕ) (pieces : List Piece) : Type 0 where
   whole : pieces ≡ squares ++ rest
 
 -- one more byte of the first rank
-longer_rank : (byte : ℕ) (rank : List ℕ) (ranks : List (List ℕ)) → byte ∷ join_with_byte (ascii "/") (rank ∷ ranks)
+longer_rank : (byte : ℕ) (rank : List ℕ) (ranks : List (List ℕ))
+    → byte ∷ join_with_byte (ascii "/") (rank ∷ ranks)
     ≡ join_with_byte (ascii "/") ((byte ∷ rank) ∷ ranks)
 longer_rank byte rank ranks = search rules
 
 -- a text that ends a placement can be divided
-parts : (text : List ℕ) (n s : ℕ) (pieces : List Piece) → Finishes text n s pieces → Parts text n s pieces
+parts : (text : List ℕ) (n s : ℕ) (pieces : List Piece) → Finishes text n s pieces
+    → Parts text n s pieces
 parts [] n s pieces h = record {
   rank = [];
   ranks = [];
@@ -131,7 +129,14 @@ parts (byte ∷ bytes) n s pieces (n', s', first, rest, inl slash, h, is) =
       joined = rw (slash.slash, ← after.joined) refl;
       is_rank = refl;
       so_long = sym slash.full;
-      others = (after.squares, after.rest, after.so_long ∙ slash.eight, after.is_rank, after.others, after.whole);
+      others = (
+        after.squares,
+        after.rest,
+        after.so_long ∙ slash.eight,
+        after.is_rank,
+        after.others,
+        after.whole,
+      );
       whole = is ∙ ap (λ l. l ++ rest) slash.none;
     }
 parts (byte ∷ bytes) n s pieces (n', s', first, rest, inr more, h, is) =
@@ -144,9 +149,11 @@ parts (byte ∷ bytes) n s pieces (n', s', first, rest, inr more, h, is) =
       so_many = after.so_many ∙ more.same_rank;
       joined = ap (λ l. byte ∷ l) after.joined ∙ longer_rank byte after.rank after.ranks;
       is_rank = (first, after.squares, more.stands, after.is_rank, refl);
-      so_long = length-append first after.squares ∙ ap (λ k. length first + k) after.so_long ∙ sym more.fewer;
+      so_long = length-append first after.squares ∙ ap (λ k. length first + k) after.so_long
+          ∙ sym more.fewer;
       others = after.others;
-      whole = is ∙ ap (λ l. first ++ l) after.whole ∙ sym (append_assoc first after.squares after.rest);
+      whole =
+          is ∙ ap (λ l. first ++ l) after.whole ∙ sym (append_assoc first after.squares after.rest);
     }
 
 -- eight ranks that are joined by slashes
@@ -156,11 +163,13 @@ from_ranks text pieces [] eight joined each = absurd (omega (arith, eight))
 from_ranks text pieces (rank ∷ ranks) eight joined each = search (rules, ranks_finish)
 
 -- the counters say the same as the definition
-pub placement_finishes : (text : List ℕ) (pieces : List Piece) → IsPlacement text pieces → Finishes text 7 8 pieces
+pub placement_finishes : (text : List ℕ) (pieces : List Piece) → IsPlacement text pieces
+    → Finishes text 7 8 pieces
 placement_finishes text pieces h = from_ranks text pieces h.ranks h.eight h.joined h.each
 
 -- a text that is finished according to the counters is a placement
-pub finishes_placement : (text : List ℕ) (pieces : List Piece) → Finishes text 7 8 pieces → IsPlacement text pieces
+pub finishes_placement : (text : List ℕ) (pieces : List Piece) → Finishes text 7 8 pieces
+    → IsPlacement text pieces
 finishes_placement text pieces h =
     let all = parts text 7 8 pieces h in
     record {

@@ -1,26 +1,23 @@
 -- A piece is determined by its code, and by its letter.
 use Prim.Native.Char.{code as ascii}
-use Rattle.std.proofs.Common.{◌≡◌, ◌<◌, ℕ, List, [], ◌∷◌, get_or, lit<, sym, ◌∙◌, ap, rules}
-use Rattle.std.specs.Prelude.{◌==◌, if◌then◌else◌}
-use Rattle.dgt_values.specs.declared.pieces.Piece.{Piece}
-use Rattle.dgt_values.specs.declared.pieces.Piece.TheVariants.{Empty, WhitePawn, WhiteRook, WhiteKnight, WhiteBishop}
-use Rattle.dgt_values.specs.declared.pieces.Piece.TheVariants.{WhiteKing, WhiteQueen, BlackPawn, BlackRook, BlackKnight}
-use Rattle.dgt_values.specs.declared.pieces.Piece.TheVariants.{BlackBishop, BlackKing, BlackQueen, FirstExtra}
-use Rattle.dgt_values.specs.declared.pieces.Piece.TheVariants.{SecondExtra, ThirdExtra}
-use Rattle.dgt_values.specs.Board.{piece_code, piece_letter}
+use Rattle.{std.{proofs.Common.{◌≡◌, ◌<◌, ℕ, List, [], ◌∷◌, get_or, lit<, sym, ◌∙◌, ap, rules}, specs.Prelude.{◌==◌, if◌then◌else◌}}, dgt_values.specs.Board.{piece_code, piece_letter}}
+use Rattle.dgt_values.specs.declared.pieces.Piece.{Piece, TheVariants.{Empty, WhitePawn, WhiteRook, WhiteKnight, WhiteBishop, WhiteKing, WhiteQueen, BlackPawn, BlackRook, BlackKnight, BlackBishop}}
+use Rattle.dgt_values.specs.declared.pieces.Piece.TheVariants.{BlackKing, BlackQueen, FirstExtra, SecondExtra, ThirdExtra}
 
 -- the pieces in the order of their codes
 by_code : List Piece
 by_code =
     Empty ∷ WhitePawn ∷ WhiteRook ∷ WhiteKnight ∷ WhiteBishop ∷ WhiteKing ∷ WhiteQueen ∷ BlackPawn
-    ∷ BlackRook ∷ BlackKnight ∷ BlackBishop ∷ BlackKing ∷ BlackQueen ∷ FirstExtra ∷ SecondExtra ∷ ThirdExtra ∷ []
+    ∷ BlackRook ∷ BlackKnight ∷ BlackBishop ∷ BlackKing ∷ BlackQueen ∷ FirstExtra ∷ SecondExtra
+    ∷ ThirdExtra ∷ []
 
 piece_of_code : (piece : Piece) → get_or by_code (piece_code piece) Empty ≡ piece
 unfolding by_code
 piece_of_code piece = search rules
 
 pub same_code : (a b : Piece) → piece_code a ≡ piece_code b → a ≡ b
-same_code a b same = sym (piece_of_code a) ∙ ap (λ code. get_or by_code code Empty) same ∙ piece_of_code b
+same_code a b same =
+    sym (piece_of_code a) ∙ ap (λ code. get_or by_code code Empty) same ∙ piece_of_code b
 
 -- the piece with a letter
 abbrev pub letter_piece : ℕ → Piece

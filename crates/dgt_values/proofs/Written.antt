@@ -1,26 +1,11 @@
 -- The written text of a position.
 use Prim.Native.Char.{code as ascii}
-use Rattle.std.proofs.Common.{◌≡◌, ℕ, zero, suc, ◌+◌, ◌*◌, ◌≤◌, ◌⊎◌, inl, inr, refl, sym, ap, ◌∙◌, arith, List, [], ◌∷◌}
-use Rattle.std.proofs.Common.{◌++◌, length, take, drop, replicate, append_assoc, length-append, length-take}
-use Rattle.std.proofs.Common.{length-drop, zero-add, rules}
-use Rattle.std.specs.Prelude.{◌≢◌}
-use Rattle.std.specs.List.{join_with_byte}
-use Rattle.std.specs.Prelude.{◌<◌, Bool, true, false, cond, ◌&&◌, nat_le}
-use Rattle.std.proofs.lemmas.List.Sums.{sum_by-append}
-use Rattle.std.proofs.lemmas.Bool.{ne_eqb}
-use Rattle.std.proofs.lemmas.Bool.Decides.{eqb_tells, nat_tests}
-use Rattle.std.proofs.lemmas.Grind.{replicate_next, common_steps}
-use Rattle.std.proofs.lemmas.List.{append-nil, nil_from_length, take-append-drop, take_at, drop_at}
-use Rattle.dgt_values.specs.declared.pieces.Piece.{Piece}
-use Rattle.dgt_values.specs.declared.pieces.Piece.TheVariants.{Empty}
-use Rattle.dgt_values.specs.Board.{piece_letter}
-use Rattle.dgt_values.specs.Placement.{MeansSquares, digit_count, IsRank, AreRanks, IsPlacement, run_text, rank_text_after, ranks_text, placement_text}
-use Rattle.dgt_values.proofs.Finishing.{letter_above}
-use Rattle.dgt_values.proofs.PieceCodes.{letter_one}
-use Rattle.dgt_values.proofs.Placing.{text_after_piece}
-use Rattle.dgt_values.proofs.Apart.{Apart, apart_around, apart_before, apart_after}
-use Rattle.std.specs.Char.{IsAsciiDigit}
-use Rattle.dgt_values.proofs.Apart.{BeginsWithDigit}
+use Rattle.std.proofs.Common.{◌≡◌, ℕ, zero, suc, ◌+◌, ◌*◌, ◌≤◌, ◌⊎◌, inl, inr, refl, sym, ap, ◌∙◌, arith, List, [], ◌∷◌, ◌++◌, length, take, drop, replicate, append_assoc, length-append, length-take}
+use Rattle.std.proofs.{Common.{length-drop, zero-add, rules}, lemmas.{Bool.{ne_eqb}, Grind.{replicate_next, common_steps}, List.{append-nil, nil_from_length, take-append-drop, take_at, drop_at}}}
+use Rattle.std.{proofs.lemmas.{Bool.Decides.{eqb_tells, nat_tests}, List.Sums.{sum_by-append}}, specs.{Char.{IsAsciiDigit}, List.{join_with_byte}, Prelude.{◌≢◌, ◌<◌, Bool, true, false, cond, ◌&&◌}}}
+use Rattle.{std.specs.Prelude.{nat_le}, dgt_values.specs.{Board.{piece_letter}, Placement.{MeansSquares, digit_count, IsRank, AreRanks, IsPlacement, run_text, rank_text_after, ranks_text}}}
+use Rattle.dgt_values.{specs.{Placement.{placement_text}, declared.pieces.Piece.{Piece, TheVariants.{Empty}}}, proofs.Apart.{Apart, apart_around, apart_before, apart_after, BeginsWithDigit}}
+use Rattle.dgt_values.proofs.{Finishing.{letter_above}, PieceCodes.{letter_one}, Placing.{text_after_piece}}
 
 -- a square is empty or not
 empty_or_not : (piece : Piece) → (piece ≡ Empty) ⊎ (piece ≢ Empty)
@@ -41,14 +26,15 @@ text_after_empty : (piece : Piece) (empty : ℕ) (squares : List Piece) → piec
 text_after_empty piece empty squares is = ap (λ p. rank_text_after empty (p ∷ squares)) is
 
 -- the squares of a longer run
-one_more : (piece : Piece) (empty : ℕ) (squares : List Piece) → piece ≡ Empty → replicate empty Empty ++ piece ∷ squares
-    ≡ replicate (empty + 1) Empty ++ squares
+one_more : (piece : Piece) (empty : ℕ) (squares : List Piece) → piece ≡ Empty
+    → replicate empty Empty ++ piece ∷ squares ≡ replicate (empty + 1) Empty ++ squares
 one_more piece empty squares is = search (rules, replicate_next, append_assoc)
 
 -- the text of a rank, after a run of empty squares, is one of its texts
 rank_after : (squares : List Piece) (empty : ℕ) → empty + length squares ≤ 8
     → IsRank (rank_text_after empty squares) (replicate empty Empty ++ squares)
-rank_after [] empty le = rw (← append-nil (run_text empty)) (run_rank empty [] [] (omega arith) refl)
+rank_after [] empty le =
+    rw (← append-nil (run_text empty)) (run_rank empty [] [] (omega arith) refl)
 rank_after (piece ∷ squares) empty le = elim (empty_or_not piece) [
   | inl is ↦
       search (rules, text_after_empty, one_more, rank_after squares (empty + 1) (omega arith))
@@ -59,7 +45,8 @@ rank_after (piece ∷ squares) empty le = elim (empty_or_not piece) [
 ]
 
 -- the texts of the ranks of a position are texts of its ranks
-are_ranks : (n : ℕ) (pieces : List Piece) → length pieces ≡ 8 * n → AreRanks (ranks_text n pieces) pieces
+are_ranks : (n : ℕ) (pieces : List Piece) → length pieces ≡ 8 * n
+    → AreRanks (ranks_text n pieces) pieces
 are_ranks zero pieces long = nil_from_length pieces long
 are_ranks (suc n) pieces long =
     let prefix : length (take 8 pieces) ≡ 8 = omega (arith, length-take 8 pieces) in
@@ -73,19 +60,28 @@ are_ranks (suc n) pieces long =
     )
 
 -- the written text is accepted
-pub written_placement : (pieces : List Piece) → length pieces ≡ 64 → IsPlacement (placement_text pieces) pieces
+pub written_placement : (pieces : List Piece) → length pieces ≡ 64
+    → IsPlacement (placement_text pieces) pieces
 unfolding placement_text
 written_placement pieces long =
-    record { ranks = ranks_text 8 pieces; eight = refl; joined = refl; each = are_ranks 8 pieces long }
+    record {
+      ranks = ranks_text 8 pieces;
+      eight = refl;
+      joined = refl;
+      each =
+          are_ranks 8 pieces long;
+    }
 
 -- ranks have eight squares each
-are_long : (ranks : List (List ℕ)) (pieces : List Piece) → AreRanks ranks pieces → length pieces ≡ 8 * length ranks
+are_long : (ranks : List (List ℕ)) (pieces : List Piece) → AreRanks ranks pieces
+    → length pieces ≡ 8 * length ranks
 are_long [] pieces none = ap length none
 are_long (rank ∷ ranks) pieces (squares, rest, eight, h, more, is) =
     omega (arith, ap length is, length-append squares rest, are_long ranks rest more)
 
 -- an accepted text has a piece for each square of the board
-pub placement_long : (text : List ℕ) (pieces : List Piece) → IsPlacement text pieces → length pieces ≡ 64
+pub placement_long : (text : List ℕ) (pieces : List Piece) → IsPlacement text pieces
+    → length pieces ≡ 64
 placement_long text pieces p = omega (arith, are_long p.ranks pieces p.each, p.eight)
 
 -- the text of a run is one digit at most
@@ -99,12 +95,14 @@ rank_apart (piece ∷ squares) empty = elim (empty_or_not piece) [
   | inl is ↦ rw (text_after_empty piece empty squares is) (rank_apart squares (empty + 1))
   | inr other ↦
       rw (text_after_piece piece empty squares other)
-      (apart_around (run_text empty) (piece_letter piece) (rank_text_after 0 squares) (run_apart empty)
+      (apart_around (run_text empty) (piece_letter piece) (rank_text_after 0 squares)
+      (run_apart empty)
       (λ digit. omega (arith, digit.1, letter_above piece other)) (rank_apart squares 0))
 ]
 
 -- no two digits of written ranks are adjacent
-ranks_apart : (n : ℕ) (pieces : List Piece) → Apart (join_with_byte (ascii "/") (ranks_text n pieces))
+ranks_apart : (n : ℕ) (pieces : List Piece)
+    → Apart (join_with_byte (ascii "/") (ranks_text n pieces))
 ranks_apart zero pieces = tt
 ranks_apart (suc zero) pieces = rank_apart (take 8 pieces) 0
 ranks_apart (suc (suc n)) pieces =
@@ -116,13 +114,14 @@ unfolding placement_text
 written_apart pieces = ranks_apart 8 pieces
 
 -- a run after a run is a single run
-run_after : (count empty : ℕ) (rest : List Piece) → rank_text_after empty (replicate count Empty ++ rest)
-    ≡ rank_text_after (empty + count) rest
+run_after : (count empty : ℕ) (rest : List Piece)
+    → rank_text_after empty (replicate count Empty ++ rest) ≡ rank_text_after (empty + count) rest
 run_after zero empty rest = let same : empty + 0 ≡ empty = omega arith in rw same refl
 run_after (suc count) empty rest = search (rules, run_after count (empty + 1) rest)
 
 -- the text after a run of empty squares is written unchanged if it doesn't begin with a digit
-after_run : (bytes : List ℕ) (rest : List Piece) (count : ℕ) → IsRank bytes rest → (BeginsWithDigit bytes → ⊥)
+after_run : (bytes : List ℕ) (rest : List Piece) (count : ℕ) → IsRank bytes rest
+    → (BeginsWithDigit bytes → ⊥)
     → rank_text_after count rest ≡ run_text count ++ rank_text_after 0 rest
 after_run [] rest count none other = rw none (sym (append-nil (run_text count)))
 after_run (byte ∷ bytes) rest count (first, others, inl run, h, is) other =
@@ -144,16 +143,20 @@ only_rank (byte ∷ bytes) squares (first, rest, inr letter, h, is) apart =
     rw (whole, text_after_piece letter.piece 0 rest letter.not_empty, letter.letter)
     (ap (λ l. piece_letter letter.piece ∷ l) (only_rank bytes rest h apart.1))
 only_rank (byte ∷ bytes) squares (first, rest, inl run, h, is) apart =
-    let whole : squares ≡ replicate run.count Empty ++ rest = is ∙ ap (λ l. l ++ rest) run.all_empty in
-    let digit : IsAsciiDigit byte = (omega (arith, run.digit), omega (arith, run.digit, run.at_most_eight)) in
+    let whole : squares ≡ replicate run.count Empty ++ rest =
+    is ∙ ap (λ l. l ++ rest) run.all_empty in
+    let digit : IsAsciiDigit byte =
+    (omega (arith, run.digit), omega (arith, run.digit, run.at_most_eight)) in
     let after : rank_text_after 0 squares ≡ run_text run.count ++ rank_text_after 0 rest =
-    ap (rank_text_after 0) whole ∙ run_after run.count 0 rest ∙ ap (λ n. rank_text_after n rest) (zero-add run.count)
+    ap (rank_text_after 0) whole ∙ run_after run.count 0 rest
+    ∙ ap (λ n. rank_text_after n rest) (zero-add run.count)
     ∙ after_run bytes rest run.count h (apart.0 digit) in
     rw (after, run_digit run.count run.at_least_one, run.digit)
     (ap (λ l. (ascii "0" + run.count) ∷ l) (only_rank bytes rest h apart.1))
 
 -- the first rank of a text, and the others
-apart_ranks : (rank : List ℕ) (ranks : List (List ℕ)) → Apart (join_with_byte (ascii "/") (rank ∷ ranks))
+apart_ranks : (rank : List ℕ) (ranks : List (List ℕ))
+    → Apart (join_with_byte (ascii "/") (rank ∷ ranks))
     → Apart rank × Apart (join_with_byte (ascii "/") ranks)
 apart_ranks rank ranks apart = search (rules, apart_before, apart_after)
 
@@ -163,7 +166,8 @@ first_eight : (squares rest pieces : List Piece) → length squares ≡ 8 → pi
 first_eight squares rest pieces eight is = ap (take 8) is ∙ take_at squares rest 8 eight
 
 -- the squares of the other ranks
-after_eight : (squares rest pieces : List Piece) → length squares ≡ 8 → pieces ≡ squares ++ rest → drop 8 pieces ≡ rest
+after_eight : (squares rest pieces : List Piece) → length squares ≡ 8 → pieces ≡ squares ++ rest
+    → drop 8 pieces ≡ rest
 after_eight squares rest pieces eight is = ap (drop 8) is ∙ drop_at squares rest 8 eight
 
 -- no other texts of the ranks keep their digits apart
@@ -173,7 +177,8 @@ only_ranks [] pieces none apart = refl
 only_ranks (rank ∷ ranks) pieces (squares, rest, eight, h, more, is) apart =
     let each = apart_ranks rank ranks apart in
     let one : rank ≡ rank_text_after 0 (take 8 pieces) =
-    only_rank rank squares h each.0 ∙ ap (rank_text_after 0) (sym (first_eight squares rest pieces eight is)) in
+    only_rank rank squares h each.0
+    ∙ ap (rank_text_after 0) (sym (first_eight squares rest pieces eight is)) in
     let others : ranks ≡ ranks_text (length ranks) (drop 8 pieces) =
     only_ranks ranks rest more each.1
     ∙ ap (ranks_text (length ranks)) (sym (after_eight squares rest pieces eight is)) in
@@ -198,15 +203,18 @@ counts_above : (byte : ℕ) → ascii "9" < byte → is_digit byte ≡ false
 counts_above byte high = grind (arith, nat_tests)
 
 -- the digits of a list are those of its parts
-counts_joined : (before after : List ℕ) → digit_count (before ++ after) ≡ digit_count before + digit_count after
+counts_joined : (before after : List ℕ)
+    → digit_count (before ++ after) ≡ digit_count before + digit_count after
 counts_joined before after = sum_by-append (λ byte. cond (is_digit byte) 1 0) before after
 
 -- a byte that isn't a digit adds nothing
-counts_other : (byte : ℕ) (bytes : List ℕ) → is_digit byte ≡ false → digit_count (byte ∷ bytes) ≡ digit_count bytes
+counts_other : (byte : ℕ) (bytes : List ℕ) → is_digit byte ≡ false
+    → digit_count (byte ∷ bytes) ≡ digit_count bytes
 counts_other byte bytes h = search (rules, counts_joined)
 
 -- a digit adds one
-counts_one : (byte : ℕ) (bytes : List ℕ) → is_digit byte ≡ true → digit_count (byte ∷ bytes) ≡ suc (digit_count bytes)
+counts_one : (byte : ℕ) (bytes : List ℕ) → is_digit byte ≡ true
+    → digit_count (byte ∷ bytes) ≡ suc (digit_count bytes)
 counts_one byte bytes h = grind (arith, common_steps, counts_joined)
 
 -- a run has one digit at most
@@ -228,7 +236,8 @@ few_in_rank (byte ∷ bytes) squares empty (first, rest, inl run, h, is) =
     )
 few_in_rank (byte ∷ bytes) squares empty (first, rest, inr letter, h, is) =
     let whole : squares ≡ letter.piece ∷ rest = is ∙ ap (λ l. l ++ rest) letter.one_square in
-    let after = ap (rank_text_after empty) whole ∙ text_after_piece letter.piece empty rest letter.not_empty in
+    let after =
+    ap (rank_text_after empty) whole ∙ text_after_piece letter.piece empty rest letter.not_empty in
     let above = letter_above letter.piece letter.not_empty in
     let one = counts_other byte bytes (counts_above byte (omega (arith, letter.letter, above))) in
     let other = counts_other (piece_letter letter.piece) (rank_text_after 0 rest)
@@ -247,7 +256,8 @@ abbrev NoMoreDigits : List (List ℕ) → List (List ℕ) → Type 0
 NoMoreDigits [] [] = Unit {0}
 NoMoreDigits [] (other ∷ others) = ⊥
 NoMoreDigits (rank ∷ ranks) [] = ⊥
-NoMoreDigits (rank ∷ ranks) (other ∷ others) = (digit_count rank ≤ digit_count other) × NoMoreDigits ranks others
+NoMoreDigits (rank ∷ ranks) (other ∷ others) =
+    (digit_count rank ≤ digit_count other) × NoMoreDigits ranks others
 
 -- a slash adds no digit
 slash_counts : (ranks : List ℕ) → digit_count (ascii "/" ∷ ranks) ≡ digit_count ranks
@@ -255,7 +265,8 @@ slash_counts ranks = counts_other (ascii "/") ranks refl
 
 -- joining texts with no more digits by slashes gives no more digits
 few_joined : (ranks others : List (List ℕ)) → NoMoreDigits ranks others
-    → digit_count (join_with_byte (ascii "/") ranks) ≤ digit_count (join_with_byte (ascii "/") others)
+    → digit_count (join_with_byte (ascii "/") ranks)
+    ≤ digit_count (join_with_byte (ascii "/") others)
 few_joined [] [] h = omega arith
 few_joined [] (other ∷ others) h = absurd h
 few_joined (rank ∷ ranks) [] h = absurd h
@@ -279,4 +290,5 @@ pub fewest_digits : (text : List ℕ) (pieces : List Piece) → IsPlacement text
     → digit_count (placement_text pieces) ≤ digit_count text
 unfolding placement_text
 fewest_digits text pieces p =
-    rw p.joined (few_joined (ranks_text 8 pieces) p.ranks (rw p.eight at (few_in_ranks p.ranks pieces p.each)))
+    rw p.joined
+    (few_joined (ranks_text 8 pieces) p.ranks (rw p.eight at (few_in_ranks p.ranks pieces p.each)))

@@ -1,5 +1,4 @@
-use Rattle.std.proofs.Common.{rules, refl}
-use Rattle.std.proofs.lemmas.Slice.Eq.{slice_eq-Decides}
+use Rattle.std.proofs.{Common.{rules, refl}, lemmas.Slice.Eq.{slice_eq-Decides}}
 use Rattle.dgt_values.proofs.laws.equal_is_same.Goals as goal
 
 pub returns-clause-position : goal.returns-clause-position

@@ -1,6 +1,4 @@
-use Rattle.dgt_values.specs.Placement.{placement_text}
-use Rattle.dgt_values.proofs.Apart.{apart_digits}
-use Rattle.dgt_values.proofs.Written.{written_apart}
+use Rattle.dgt_values.{specs.Placement.{placement_text}, proofs.{Apart.{apart_digits}, Written.{written_apart}}}
 use Rattle.dgt_values.proofs.laws.written_digits_stand_apart.Goals as goal
 
 pub returns : goal.returns

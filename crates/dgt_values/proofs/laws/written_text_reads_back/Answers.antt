@@ -1,8 +1,4 @@
-use Rattle.dgt_values.specs.Board.{pieces_of}
-use Rattle.dgt_values.specs.Placement.{placement_text}
-use Rattle.dgt_values.proofs.Outcomes.{one_outcome}
-use Rattle.dgt_values.proofs.Written.{written_placement}
-use Rattle.std.specs.Prelude.{Ok}
+use Rattle.{std.specs.Prelude.{Ok}, dgt_values.{specs.{Board.{pieces_of}, Placement.{placement_text}}, proofs.{Outcomes.{one_outcome}, Written.{written_placement}}}}
 use Rattle.dgt_values.proofs.laws.written_text_reads_back.Goals as goal
 
 pub returns : goal.returns

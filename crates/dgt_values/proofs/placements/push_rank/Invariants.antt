@@ -1,5 +1,4 @@
-use Rattle.std.proofs.Common.{◌≡◌, ◌≤◌, ◌+◌, ◌++◌, length, drop}
-use Rattle.dgt_values.specs.Placement.{rank_text_after}
+use Rattle.{std.proofs.Common.{◌≡◌, ◌≤◌, ◌+◌, ◌++◌, length, drop}, dgt_values.specs.Placement.{rank_text_after}}
 use Rattle.dgt_values.proofs.placements.push_rank.Given as goal
 
 abbrev pub invariant-loop-piece : goal.invariant-loop-piece

@@ -1,6 +1,4 @@
-use Rattle.std.proofs.Common.{◌≡◌, ◌<◌, ℕ, get_or, length}
-use Rattle.dgt_values.specs.declared.pieces.Piece.TheVariants.{Empty}
-use Rattle.dgt_values.specs.Board.{piece_code}
+use Rattle.{std.proofs.Common.{◌≡◌, ◌<◌, ℕ, get_or, length}, dgt_values.specs.{Board.{piece_code}, declared.pieces.Piece.TheVariants.{Empty}}}
 use Rattle.dgt_values.proofs.positions.Position.codes.Given as goal
 
 abbrev pub invariant-loop-square : goal.invariant-loop-square
