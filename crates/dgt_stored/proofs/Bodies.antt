@@ -1,14 +1,8 @@
 -- A body is a list of items, in one way only.
-use Rattle.std.proofs.Common.{◌≡◌, ◌⊎◌, inl, inr, ◌+◌, ◌/◌, ◌%◌, ◌-◌, ◌<◌, ◌≤◌, ℕ, zero, suc, List, [], ◌∷◌, length, refl, sym, ap, arith, length-append}
-use Rattle.std.proofs.Common.{rules}
-use Rattle.std.proofs.Math.Decide.{dec_le, dec_lt, ℕ_discrete}
-use Rattle.dgt_values.specs.declared.pieces.Piece.{Piece}
-use Rattle.dgt_values.proofs.PieceCodes.{piece_code-below}
-use Rattle.dgt_message.specs.Clock.{Time}
-use Rattle.dgt_message.specs.Reading.{piece_with_code, time_in}
-use Rattle.dgt_message.proofs.MessageIn.{piece_code-piece_with_code}
+use Rattle.std.proofs.{Common.{◌≡◌, ◌⊎◌, inl, inr, ◌+◌, ◌/◌, ◌%◌, ◌-◌, ◌<◌, ◌≤◌, ℕ, zero, suc, List, [], ◌∷◌, length, refl, sym, ap, arith, length-append, rules}, Math.Decide.{dec_le, dec_lt}}
+use Rattle.{std.proofs.Math.Decide.{ℕ_discrete}, dgt_values.{specs.declared.pieces.Piece.{Piece}, proofs.PieceCodes.{piece_code-below}}, dgt_message.specs.{Clock.{Time}, Reading.{piece_with_code}}}
+use Rattle.{dgt_message.{specs.Reading.{time_in}, proofs.MessageIn.{piece_code-piece_with_code}}, dgt_stored.specs.Stored.{Begins, IsFirst, IsKnown, Says, StoredContent, mark_byte}}
 use Rattle.dgt_stored.specs.declared.stored.Mark.{Mark}
-use Rattle.dgt_stored.specs.Stored.{Begins, IsFirst, IsKnown, Says, StoredContent, mark_byte}
 
 -- ---- the first bytes of known items
 
@@ -33,8 +27,8 @@ MarkBegins (mark ∷ more) byte = (mark_byte mark ≡ byte) ⊎ MarkBegins more 
 
 abbrev all_marks : List Mark
 all_marks =
-    Mark.Nothing ∷ Mark.PowerUp ∷ Mark.End ∷ Mark.FourRows ∷ Mark.EmptyBoard ∷ Mark.Downloaded ∷ Mark.Begin
-    ∷ Mark.TurnedBegin ∷ Mark.Tag ∷ Mark.Watchdog ∷ Mark.Erased ∷ []
+    Mark.Nothing ∷ Mark.PowerUp ∷ Mark.End ∷ Mark.FourRows ∷ Mark.EmptyBoard ∷ Mark.Downloaded
+    ∷ Mark.Begin ∷ Mark.TurnedBegin ∷ Mark.Tag ∷ Mark.Watchdog ∷ Mark.Erased ∷ []
 
 -- ---- bytes with such a beginning
 
@@ -43,11 +37,14 @@ begins_piece : (byte square : ℕ) (later : List ℕ) → PieceBegins (byte ∷ 
     (StoredContent.piece square (piece_with_code (byte % 16)) ((byte - 0x40) / 16)) later
 begins_piece byte square later h = search (rules, piece_code-piece_with_code)
 
-begins_time : (hours minutes seconds : ℕ) (later : List ℕ) → TimeBegins (hours ∷ minutes ∷ seconds ∷ later)
-    → Begins (hours ∷ minutes ∷ seconds ∷ later) (StoredContent.time (time_in hours minutes seconds)) later
+begins_time : (hours minutes seconds : ℕ) (later : List ℕ)
+    → TimeBegins (hours ∷ minutes ∷ seconds ∷ later)
+    → Begins (hours ∷ minutes ∷ seconds ∷ later)
+    (StoredContent.time (time_in hours minutes seconds)) later
 begins_time hours minutes seconds later h = search rules
 
-marked : (marks : List Mark) (byte : ℕ) → MarkBegins marks byte → (mark : Mark) × (mark_byte mark ≡ byte)
+marked : (marks : List Mark) (byte : ℕ) → MarkBegins marks byte
+    → (mark : Mark) × (mark_byte mark ≡ byte)
 marked [] byte h = absurd h
 marked (mark ∷ more) byte (inl is) = (mark, is)
 marked (mark ∷ more) byte (inr h) = marked more byte h
@@ -76,7 +73,8 @@ either h0 h1 = search rules
 is_piece : (bytes : List ℕ) → Dec (PieceBegins bytes)
 is_piece [] = no (λ h. h)
 is_piece (byte ∷ []) = no (λ h. h)
-is_piece (byte ∷ square ∷ later) = both (dec_le 0x40 byte) (both (dec_lt byte 0x60) (dec_lt square 64))
+is_piece (byte ∷ square ∷ later) =
+    both (dec_le 0x40 byte) (both (dec_lt byte 0x60) (dec_lt square 64))
 
 is_sixty : (byte : ℕ) → Dec (IsSixty byte)
 is_sixty byte = both (dec_le (byte / 16) 5) (dec_le (byte % 16) 9)
@@ -98,15 +96,16 @@ known_first : (bytes : List ℕ) (stored : StoredContent) (later : List ℕ) →
 known_first bytes stored later known begins =
     (stored, later, record { begins = begins; known_first = λ other others is at. known })
 
-unknown_first : (byte : ℕ) (later : List ℕ) → (PieceBegins (byte ∷ later) → ⊥) → (TimeBegins (byte ∷ later) → ⊥)
-    → (MarkBegins all_marks byte → ⊥) → First (byte ∷ later)
+unknown_first : (byte : ℕ) (later : List ℕ) → (PieceBegins (byte ∷ later) → ⊥)
+    → (TimeBegins (byte ∷ later) → ⊥) → (MarkBegins all_marks byte → ⊥) → First (byte ∷ later)
 unknown_first byte later no_piece no_time no_mark = (
   StoredContent.unknown byte,
   later,
   record { begins = record { in_range = tt; begins = refl }; known_first = unknown },
 )
   where
-    unknown : (other : StoredContent) (others : List ℕ) → IsKnown other → Begins (byte ∷ later) other others → ⊥
+    unknown : (other : StoredContent) (others : List ℕ) → IsKnown other
+        → Begins (byte ∷ later) other others → ⊥
     unknown (StoredContent.piece square stands bit) others known at =
         no_piece (piece_begins _ square stands bit others at)
     unknown (StoredContent.time shown) others known at = no_time (time_begins _ shown others at)
@@ -114,17 +113,18 @@ unknown_first byte later no_piece no_time no_mark = (
         no_mark (let same : byte ≡ mark_byte mark = cc in rw same (mark_begins mark))
     unknown (StoredContent.unknown other) others known at = known
 
-by_mark : (byte : ℕ) (later : List ℕ) → (PieceBegins (byte ∷ later) → ⊥) → (TimeBegins (byte ∷ later) → ⊥)
-    → Dec (MarkBegins all_marks byte) → First (byte ∷ later)
+by_mark : (byte : ℕ) (later : List ℕ) → (PieceBegins (byte ∷ later) → ⊥)
+    → (TimeBegins (byte ∷ later) → ⊥) → Dec (MarkBegins all_marks byte) → First (byte ∷ later)
 by_mark byte later no_piece no_time (no no_mark) = unknown_first byte later no_piece no_time no_mark
 by_mark byte later no_piece no_time (yes h) =
     let mark = marked all_marks byte h in
     known_first _ (StoredContent.mark mark.0) later tt
     (record { in_range = tt; begins = ap (λ first. first ∷ later) (sym mark.1) })
 
-by_time : (byte : ℕ) (later : List ℕ) → (PieceBegins (byte ∷ later) → ⊥) → Dec (TimeBegins (byte ∷ later))
-    → First (byte ∷ later)
-by_time byte later no_piece (no no_time) = by_mark byte later no_piece no_time (is_mark all_marks byte)
+by_time : (byte : ℕ) (later : List ℕ) → (PieceBegins (byte ∷ later) → ⊥)
+    → Dec (TimeBegins (byte ∷ later)) → First (byte ∷ later)
+by_time byte later no_piece (no no_time) =
+    by_mark byte later no_piece no_time (is_mark all_marks byte)
 by_time byte [] no_piece (yes h) = absurd h
 by_time byte (minutes ∷ []) no_piece (yes h) = absurd h
 by_time byte (minutes ∷ seconds ∷ later) no_piece (yes h) =
@@ -141,7 +141,8 @@ pub shorter : (bytes later : List ℕ) (stored : StoredContent) → IsFirst byte
     → length later + 1 ≤ length bytes
 shorter bytes later stored first = search (rules, length-append)
 
-pub read : (most : ℕ) (body : List ℕ) → length body ≤ most → (things : List StoredContent) × Says body things
+pub read : (most : ℕ) (body : List ℕ) → length body ≤ most
+    → (things : List StoredContent) × Says body things
 read most [] short = ([], refl)
 read zero (byte ∷ later) short = absurd (omega (arith, short))
 read (suc most) (byte ∷ later) short =
@@ -149,10 +150,11 @@ read (suc most) (byte ∷ later) short =
     let rest = read most first.1 (omega (arith, short, shorter _ first.1 first.0 first.2)) in
     (first.0 ∷ rest.0, (first.1, first.2, rest.1))
 
-module _ (one : (bytes : List ℕ) (one other : StoredContent) (later others : List ℕ) → IsFirst bytes one later
-    → IsFirst bytes other others → (one ≡ other) × (later ≡ others)) where
-  pub one_list : (body : List ℕ) (things others : List StoredContent) → Says body things → Says body others
-      → things ≡ others
+module _
+    (one : (bytes : List ℕ) (one other : StoredContent) (later others : List ℕ)
+    → IsFirst bytes one later → IsFirst bytes other others → (one ≡ other) × (later ≡ others)) where
+  pub one_list : (body : List ℕ) (things others : List StoredContent) → Says body things
+      → Says body others → things ≡ others
   one_list body [] [] says also = refl
   one_list body [] (other ∷ others) says also =
       absurd (omega (arith, ap length says, shorter body also.0 other also.1))

@@ -1,5 +1,4 @@
-use Rattle.std.proofs.Common.{arith, length}
-use Rattle.dgt_stored.proofs.Bodies.{one_list, read}
+use Rattle.{std.proofs.Common.{arith, length}, dgt_stored.proofs.Bodies.{one_list, read}}
 use Rattle.dgt_stored.proofs.laws.bodies_are_read.Goals as goal
 
 pub returns-clause-each : goal.returns-clause-each
