@@ -1,32 +1,20 @@
 -- For a code and a body, at most one message fits or one fault does, and never both.
-use Rattle.std.proofs.Common.{◌≡◌, ℕ, ◌<◌, Bool, cond, sym, ap, ◌∙◌, ◌⊎◌}
-use Rattle.std.proofs.Common.{List, [], ◌∷◌, length, map, arith, length-append, rules}
-use Rattle.std.specs.Prelude.{slice_index}
-use Rattle.std.proofs.lemmas.List.{length-map, get_or-map}
-use Rattle.dgt_values.specs.Board.{piece_code}
-use Rattle.dgt_values.specs.declared.pieces.Piece.{Piece}
-use Rattle.dgt_values.specs.declared.pieces.Piece.TheVariants.{Empty}
-use Rattle.dgt_message.specs.declared.viewing.BodyFault.{BodyFault}
-use Rattle.dgt_message.specs.declared.viewing.BodyFault.TheVariants.{WrongSize, BadReading}
-use Rattle.dgt_message.specs.Content.{Content, IsMessage}
-use Rattle.dgt_message.specs.Content.Content.{dump, field, times}
-use Rattle.dgt_message.specs.Code.{HasSize}
-use Rattle.dgt_message.specs.Reading.{Allows, IsFaultOf, IsFirstBad, fault_of}
+use Rattle.std.proofs.{Common.{◌≡◌, ℕ, ◌<◌, Bool, cond, sym, ap, ◌∙◌, ◌⊎◌, List, [], ◌∷◌, length, map, arith, length-append, rules}, lemmas.List.{length-map, get_or-map}}
+use Rattle.{std.specs.Prelude.{slice_index}, dgt_values.specs.{Board.{piece_code}, declared.pieces.Piece.{Piece, TheVariants.{Empty}}}, dgt_message.specs.Clock.{Times as BothTimes, AreTimes}}
+use Rattle.dgt_message.specs.{Code.{HasSize}, Content.{Content, IsMessage}, Encoding.{BodyEncodes, Fits, times_bytes}, Layout.{Layout, column_at, column_of, layout_of}, Reading.{Allows, IsFaultOf}}
+use Rattle.dgt_message.specs.{Reading.{IsFirstBad, fault_of}, Content.Content.{dump, field, times}, Layout.Column.{hours, sixty, anything}, declared.viewing.BodyFault.{BodyFault}}
+use Rattle.dgt_message.{specs.declared.viewing.BodyFault.TheVariants.{WrongSize, BadReading}, proofs.{Codes.{piece_code-below}, MessageIn.{laid_out, said_layout, message_in-fits}}}
 use Rattle.dgt_message.proofs.Sizes.{AllowsBefore}
-use Rattle.dgt_message.specs.Layout.{Layout, column_at, column_of, layout_of}
-use Rattle.dgt_message.specs.Layout.Column.{hours, sixty, anything}
-use Rattle.dgt_message.specs.Clock.{Times as BothTimes, AreTimes}
-use Rattle.dgt_message.specs.Encoding.{BodyEncodes, Fits, times_bytes}
-use Rattle.dgt_message.proofs.MessageIn.{laid_out, said_layout, message_in-fits}
-use Rattle.dgt_message.proofs.Codes.{piece_code-below}
 
 -- both are the message in the body
-pub one_message : (code : ℕ) (body : List ℕ) (first second : Content) → Fits first code body → Fits second code body
-    → first ≡ second
-one_message code body first second h k = sym (message_in-fits first code body h) ∙ message_in-fits second code body k
+pub one_message : (code : ℕ) (body : List ℕ) (first second : Content) → Fits first code body
+    → Fits second code body → first ≡ second
+one_message code body first second h k =
+    sym (message_in-fits first code body h) ∙ message_in-fits second code body k
 
 -- the fault of a byte of times is a bad reading
-pub times_fault : (a b : Bool) (at : ℕ) → fault_of (cond a anything (cond b hours sixty)) at ≡ BadReading at
+pub times_fault : (a b : Bool) (at : ℕ)
+    → fault_of (cond a anything (cond b hours sixty)) at ≡ BadReading at
 times_fault a b at = search rules
 
 -- a fault is a wrong size or the first bad place
@@ -34,10 +22,12 @@ abbrev Arises : ℕ → List ℕ → BodyFault → Type 0
 Arises code body why = ((HasSize code body → ⊥) × (why ≡ WrongSize))
     ⊎ ((at : ℕ) × IsFirstBad code body at × (why ≡ fault_of (column_at code body at) at))
 
-arises : (code : ℕ) (body : List ℕ) (why : BodyFault) → IsFaultOf code body why → Arises code body why
+arises : (code : ℕ) (body : List ℕ) (why : BodyFault) → IsFaultOf code body why
+    → Arises code body why
 arises code body why h = search (rules, times_fault)
 
-pub one_fault : (code : ℕ) (body : List ℕ) (f g : BodyFault) → IsFaultOf code body f → IsFaultOf code body g → f ≡ g
+pub one_fault : (code : ℕ) (body : List ℕ) (f g : BodyFault) → IsFaultOf code body f
+    → IsFaultOf code body g → f ≡ g
 one_fault code body f g h k = search (rules, arises)
 
 -- each byte of encoded times is valid in its place
@@ -61,8 +51,10 @@ field_allowed s p at h l = search (rules, piece_code-below)
 said_allowed : (said : Content) (body : List ℕ) → IsMessage said → BodyEncodes said body
     → AllowsBefore (said_layout said) body (length body)
 said_allowed (dump pieces) body h s at l = rw s (codes_allowed pieces at (rw (← s) l))
-said_allowed (field where_ what) body h s at l = rw s (field_allowed where_ what at h (omega (arith, ap length s)))
-said_allowed (times readings) body h s at l = rw s (times_allowed readings h at (omega (arith, ap length s)))
+said_allowed (field where_ what) body h s at l =
+    rw s (field_allowed where_ what at h (omega (arith, ap length s)))
+said_allowed (times readings) body h s at l =
+    rw s (times_allowed readings h at (omega (arith, ap length s)))
 said_allowed _ body h s at l = tt
 
 -- therefore it has no fault

@@ -1,22 +1,9 @@
 -- A valid body of the right size means the message of its layout.
-use Rattle.std.proofs.Common.{◌≡◌, ℕ, suc, ◌<◌, ◌+◌, Bool, true, false, cond, refl, sym, ap, ◌∙◌, List}
-use Rattle.std.proofs.Common.{[], ◌∷◌, length, map, arith, Option, Some, rules}
-use Rattle.std.specs.Prelude.{All, slice_index}
-use Rattle.std.proofs.lemmas.List.{length-map}
-use Rattle.dgt_values.specs.Board.{piece_code}
-use Rattle.dgt_message.specs.declared.known.KnownCode.{KnownCode}
-use Rattle.dgt_message.specs.Encoding.{Fits}
-use Rattle.dgt_message.specs.Clock.{IsMarked, SaysNoClock, is_marked, says_no_clock, IsTime}
-use Rattle.dgt_message.specs.Code.{known_number, known_with}
-use Rattle.dgt_message.specs.Content.{IsCarried}
-use Rattle.dgt_message.specs.Reading.{Allows, piece_with_code, said_in, time_in}
+use Rattle.std.proofs.{Common.{◌≡◌, ℕ, suc, ◌<◌, ◌+◌, Bool, true, false, cond, refl, sym, ap, ◌∙◌, List, [], ◌∷◌, length, map, arith, Option, Some, rules}, lemmas.Grind.{common_steps}}
+use Rattle.{std.{proofs.lemmas.List.{length-map}, specs.Prelude.{All, slice_index}}, dgt_values.specs.Board.{piece_code}, dgt_message.specs.Clock.{IsMarked, SaysNoClock, is_marked, says_no_clock}}
+use Rattle.dgt_message.specs.{Clock.{IsTime}, Code.{known_number, known_with}, Content.{IsCarried}, Encoding.{Fits}, Layout.{Layout, known_layout}, Reading.{Allows, piece_with_code, said_in, time_in}}
+use Rattle.dgt_message.{specs.{Layout.Column.{hours, sixty}, declared.known.KnownCode.{KnownCode}}, proofs.{Absence.{absence_fits}, CodeLemmas.{found_number}, MessageIn.{piece_code-piece_with_code}}}
 use Rattle.dgt_message.proofs.Sizes.{AllowsBefore, IsRightSize}
-use Rattle.dgt_message.specs.Layout.{Layout, known_layout}
-use Rattle.dgt_message.specs.Layout.Column.{hours, sixty}
-use Rattle.dgt_message.proofs.Absence.{absence_fits}
-use Rattle.dgt_message.proofs.CodeLemmas.{found_number}
-use Rattle.dgt_message.proofs.MessageIn.{piece_code-piece_with_code}
-use Rattle.std.proofs.lemmas.Grind.{common_steps}
 
 -- a body under this code means the message of this layout
 abbrev FitsAs : KnownCode → Layout → List ℕ → Type 0
@@ -27,7 +14,10 @@ codes_back : (body : List ℕ) → AllowsBefore Layout.dump body (length body)
     → body ≡ map piece_code (map piece_with_code body)
 codes_back [] h = refl
 codes_back (b ∷ body) h =
-    rw (piece_code-piece_with_code b (h 0 (omega arith)), ← codes_back body (λ k l. h (suc k) (omega arith))) refl
+    rw (
+      piece_code-piece_with_code b (h 0 (omega arith)),
+      ← codes_back body (λ k l. h (suc k) (omega arith)),
+    ) refl
 
 -- 64 codes are a dump
 dump_fits : (body : List ℕ) → length body + 3 ≡ 67 → AllowsBefore Layout.dump body (length body)
@@ -40,12 +30,13 @@ field_fits : (body : List ℕ) → length body + 3 ≡ 5 → AllowsBefore Layout
 field_fits body size h = grind (arith, common_steps, piece_code-piece_with_code)
 
 -- three valid bytes are a time
-time_is : (h m s : ℕ) → h < 128 → Allows hours h → Allows sixty m → Allows sixty s → IsTime (time_in h m s)
+time_is : (h m s : ℕ) → h < 128 → Allows hours h → Allows sixty m → Allows sixty s
+    → IsTime (time_in h m s)
 time_is h m s small a b c = (a, omega (arith, b.0, b.1), omega (arith, c.0, c.1), omega arith)
 
 -- seven bytes are the same one by one
-same_seven : (a b c d e f g a' b' c' d' e' f' : ℕ) → a' ≡ a → b' ≡ b → c' ≡ c → d' ≡ d → e' ≡ e → f' ≡ f
-    → a ∷ b ∷ c ∷ d ∷ e ∷ f ∷ g ∷ [] ≡ a' ∷ b' ∷ c' ∷ d' ∷ e' ∷ f' ∷ g ∷ []
+same_seven : (a b c d e f g a' b' c' d' e' f' : ℕ) → a' ≡ a → b' ≡ b → c' ≡ c → d' ≡ d → e' ≡ e
+    → f' ≡ f → a ∷ b ∷ c ∷ d ∷ e ∷ f ∷ g ∷ [] ≡ a' ∷ b' ∷ c' ∷ d' ∷ e' ∷ f' ∷ g ∷ []
 same_seven a b c d e f g a' b' c' d' e' f' p q r s t u = cc
 
 -- seven valid bytes, without a mark and with a clock, are times
@@ -76,14 +67,15 @@ ack_fits : (body : List ℕ) → length body + 3 ≡ 10 → All (λ byte. byte <
 ack_fits body size seven marked = search rules
 
 -- seven bytes without a mark and without a clock are those of a board without one
-none_fits : (body : List ℕ) → length body + 3 ≡ 10 → All (λ byte. byte < 128) body → is_marked body ≡ false
-    → SaysNoClock (slice_index body 6) → FitsAs KnownCode.Clock Layout.no_clock body
+none_fits : (body : List ℕ) → length body + 3 ≡ 10 → All (λ byte. byte < 128) body
+    → is_marked body ≡ false → SaysNoClock (slice_index body 6)
+    → FitsAs KnownCode.Clock Layout.no_clock body
 none_fits body size seven unmarked set = search (rules, absence_fits)
 
 -- seven valid bytes are a clock message, by their marks and then by their status
-clock_fits : (body : List ℕ) → All (λ byte. byte < 128) body → (m : Bool) → is_marked body ≡ m → (s : Bool)
-    → says_no_clock (slice_index body 6) ≡ s
-    → length body + 3 ≡ 10 → let layout : Layout = cond m Layout.ack (cond s Layout.no_clock Layout.times) in
+clock_fits : (body : List ℕ) → All (λ byte. byte < 128) body → (m : Bool) → is_marked body ≡ m
+    → (s : Bool) → says_no_clock (slice_index body 6) ≡ s → length body + 3 ≡ 10
+    → let layout : Layout = cond m Layout.ack (cond s Layout.no_clock Layout.times) in
     AllowsBefore layout body (length body) → FitsAs KnownCode.Clock layout body
 clock_fits body seven m e s f size h = search (rules, ack_fits, none_fits, times_fits)
 

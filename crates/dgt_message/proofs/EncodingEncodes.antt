@@ -1,19 +1,9 @@
 -- The output of `encode` for a message encodes it.
-use Rattle.std.proofs.Common.{◌≡◌, ℕ, ◌<◌, ◌≤◌, ◌+◌, ◌*◌, ◌%◌, true, List, [], ◌∷◌, length, map, get_or}
-use Rattle.std.proofs.Common.{arith, eq-eqb, length-append, rules}
-use Rattle.std.specs.List.{AllByRecursion}
-use Rattle.std.specs.Prelude.{◌↔◌, All}
-use Rattle.std.specs.Int.{bit_at}
-use Rattle.std.proofs.lemmas.List.{length-map}
-use Rattle.std.proofs.lemmas.List.Elements.{All-from_recursion, All-map, All-push}
-use Rattle.dgt_values.specs.Board.{piece_code}
-use Rattle.dgt_values.specs.Bytes.{AreSevenBit}
-use Rattle.dgt_values.specs.declared.pieces.Piece.{Piece}
-use Rattle.dgt_message.specs.Clock.{Answer, Times as BothTimes, AreTimes, is_mark, IsAck}
-use Rattle.dgt_message.specs.Encoding.{ack_in, mark_with, ack_encoding, BodyEncodes, Fits, HasHeader, Encodes, times_bytes, message_bytes, encoding, body_encoding}
-use Rattle.dgt_message.specs.Content.{Content, code_of, IsCarried, IsMessage}
-use Rattle.dgt_message.specs.Content.Content.{dump, field, times, no_clock, ack, carried}
-use Rattle.dgt_message.proofs.Codes.{piece_code-below}
+use Rattle.std.proofs.{Common.{◌≡◌, ℕ, ◌<◌, ◌≤◌, ◌+◌, ◌*◌, ◌%◌, true, List, [], ◌∷◌, length, map, get_or, arith, eq-eqb, length-append, rules}, lemmas.List.{length-map, Elements.{All-from_recursion}}}
+use Rattle.{std.{proofs.lemmas.List.Elements.{All-map, All-push}, specs.{Int.{bit_at}, List.{AllByRecursion}, Prelude.{◌↔◌, All}}}, dgt_values.specs.{Board.{piece_code}, Bytes.{AreSevenBit}}}
+use Rattle.{dgt_values.specs.declared.pieces.Piece.{Piece}, dgt_message.specs.{Clock.{Answer, Times as BothTimes, AreTimes, is_mark, IsAck}, Content.{Content, code_of, IsCarried, IsMessage}}}
+use Rattle.dgt_message.specs.{Encoding.{ack_in, mark_with, ack_encoding, BodyEncodes, Fits, HasHeader, Encodes, times_bytes, message_bytes, encoding, body_encoding}, Content.Content.{dump, field}}
+use Rattle.dgt_message.{specs.Content.Content.{times, no_clock, ack, carried}, proofs.Codes.{piece_code-below}}
 
 -- bytes that are listed
 listed : (bytes : List ℕ) → AllByRecursion (λ byte. byte < 128) bytes → AreSevenBit bytes
@@ -50,7 +40,8 @@ marked : (a b : ℕ) → is_mark (mark_with a b) ≡ true
 marked a b = eq-eqb _ _ (omega arith)
 
 -- four bytes are the same one by one
-four : (a b c d w x y z : ℕ) → a ≡ w → b ≡ x → c ≡ y → d ≡ z → a ∷ b ∷ c ∷ d ∷ [] ≡ w ∷ x ∷ y ∷ z ∷ []
+four : (a b c d w x y z : ℕ) → a ≡ w → b ≡ x → c ≡ y → d ≡ z
+    → a ∷ b ∷ c ∷ d ∷ [] ≡ w ∷ x ∷ y ∷ z ∷ []
 four a b c d w x y z p q r s = cc
 
 -- the four bytes are restored from the encoded bytes
@@ -58,13 +49,15 @@ acks_same : (xs : List ℕ) (status : ℕ) → length xs ≡ 4 → All (λ byte.
     → xs ≡ ack_in (ack_encoding (record { ack = xs; status = status }))
 acks_same (a ∷ b ∷ c ∷ d ∷ []) status h k =
     let at : (i : ℕ) → i < 4 → get_or (a ∷ b ∷ c ∷ d ∷ []) i 0 < 256 = λ i less. k i 0 less in
-    four a b c d _ _ _ _ (first_bit a b (at 0 (omega arith))) (second_bit a b (at 0 (omega arith)) (at 1 (omega arith)))
+    four a b c d _ _ _ _ (first_bit a b (at 0 (omega arith)))
+    (second_bit a b (at 0 (omega arith)) (at 1 (omega arith)))
     (first_bit c d (at 2 (omega arith))) (second_bit c d (at 2 (omega arith)) (at 3 (omega arith)))
 acks_same (a ∷ b ∷ c ∷ d ∷ e ∷ xs) status h k = absurd (omega arith)
 acks_same _ status h k = absurd (omega arith)
 
 -- the output of `encode` for an acknowledgement encodes it
-pub ack_encoding_encodes : (answer : Answer) → IsAck answer → BodyEncodes (ack answer) (ack_encoding answer)
+pub ack_encoding_encodes : (answer : Answer) → IsAck answer
+    → BodyEncodes (ack answer) (ack_encoding answer)
 ack_encoding_encodes answer h = search (rules, marked, acks_same)
 
 -- a code has seven bits

@@ -1,17 +1,10 @@
 -- The derived `==` of lists, of clocks and of messages.
-use Rattle.std.proofs.Common.{◌≡◌, ℕ, ◌+◌, nat_eq, refl, sym, ◌∙◌, ap, rules, arith, [], ◌∷◌, Bool, true, false, ◌&&◌, map}
-use Rattle.std.specs.Prelude.{◌↔◌, IsTrue}
-use Rattle.std.proofs.lemmas.Slice.Eq.{slice_eq-Decides}
-use Rattle.std.proofs.lemmas.Grind.{common_steps}
+use Rattle.std.proofs.{Common.{◌≡◌, ℕ, ◌+◌, nat_eq, refl, sym, ◌∙◌, ap, rules, arith, [], ◌∷◌, Bool, true, false, ◌&&◌, map}, lemmas.{Grind.{common_steps}, Slice.Eq.{slice_eq-Decides}}}
+use Rattle.{std.specs.Prelude.{◌↔◌, IsTrue}, dgt_values.specs.{Bytes.{number}, Equality.{EqualIsSameRead}}, dgt_message.specs.{Code.{HasCase}, Content.{Content, clock_seen, code_of, content}}}
+use Rattle.dgt_message.specs.{Content.{absence_seen, code_number, times_seen}, declared.{other.OtherCode.{OtherCode}, message.Message.TheVariants.{Dump, Field, Times, NoClock, Ack, Serial}}}
+use Rattle.dgt_message.specs.declared.message.Message.TheVariants.{Trademark, Version, Battery, LongSerial, Other}
 use lib.Pointwise.{pointwise}
-use Rattle.dgt_values.specs.Equality.{EqualIsSameRead}
-use Rattle.dgt_values.specs.Bytes.{number}
 use Rattle.dgt_message.specs.declared.clock.Clock.TheVariants as clock_variants
-use Rattle.dgt_message.specs.declared.message.Message.TheVariants.{Dump, Field, Times, NoClock, Ack, Serial, Trademark}
-use Rattle.dgt_message.specs.declared.message.Message.TheVariants.{Version, Battery, LongSerial, Other}
-use Rattle.dgt_message.specs.declared.other.OtherCode.{OtherCode}
-use Rattle.dgt_message.specs.Content.{Content, clock_seen, code_of, content, absence_seen, code_number, times_seen}
-use Rattle.dgt_message.specs.Code.{HasCase}
 use Rattle.dgt_values.specs.contracts.bytes.SevenBitPartialEq.TheImpl as byte
 use Rattle.dgt_values.specs.contracts.pieces.PiecePartialEq.TheImpl as piece
 use Rattle.dgt_message.specs.contracts.clock.NoClockPartialEq.TheImpl as absence
@@ -28,8 +21,8 @@ equal_numbers : (m n : ℕ) → IsTrue (nat_eq m n) ↔ (m ≡ n)
 equal_numbers m n = search rules
 
 -- lists are equal exactly if a clause sees the same in both, if that is true of their elements
-pub equal_lists : {T Read : Type 0} → (read : T → Read) (eq : T → T → Bool) → EqualIsSameRead read eq
-    → EqualIsSameRead (map read) (pointwise eq)
+pub equal_lists : {T Read : Type 0} → (read : T → Read) (eq : T → T → Bool)
+    → EqualIsSameRead read eq → EqualIsSameRead (map read) (pointwise eq)
 equal_lists read eq same [] [] = (λ _. refl, λ _. refl)
 equal_lists read eq same [] (y ∷ ys) = (λ t. cc, λ e. cc)
 equal_lists read eq same (x ∷ xs) [] = (λ t. cc, λ e. cc)
@@ -62,7 +55,8 @@ never t = cc
 
 -- messages of different cases are neither equal nor the same
 apart : (a b : Content) → nat_eq (case_of a) (case_of b) ≡ false → IsTrue false ↔ (a ≡ b)
-apart a b differ = (λ t. absurd (never t), λ e. absurd (never (sym differ ∙ (equal_numbers _ _).1 (ap case_of e))))
+apart a b differ =
+    (λ t. absurd (never t), λ e. absurd (never (sym differ ∙ (equal_numbers _ _).1 (ap case_of e))))
 
 -- another code is not one with a variant of its own
 not_known : (other : OtherCode) (number : ℕ) → code_number other ≡ number → HasCase number → ⊥
@@ -83,6 +77,8 @@ equal_messages (Version main sub) (Version mains subs) = search rules
 equal_messages (Battery a) (Battery b) = search rules
 equal_messages (LongSerial a) (LongSerial b) = search rules
 equal_messages (Other code a) (Other codes b) = search rules
-equal_messages (Other code a) b = (λ t. absurd (never t), λ e. absurd (not_known code _ (ap code_of e) refl))
-equal_messages a (Other code b) = (λ t. absurd (never t), λ e. absurd (not_known code _ (sym (ap code_of e)) refl))
+equal_messages (Other code a) b =
+    (λ t. absurd (never t), λ e. absurd (not_known code _ (ap code_of e) refl))
+equal_messages a (Other code b) =
+    (λ t. absurd (never t), λ e. absurd (not_known code _ (sym (ap code_of e)) refl))
 equal_messages a b = apart (content a) (content b) refl

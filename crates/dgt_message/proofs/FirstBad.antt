@@ -1,19 +1,14 @@
 -- The first byte that isn't valid in its place, as it is computed, and its fault.
-use Rattle.std.proofs.Common.{◌≡◌, ℕ, zero, suc, ◌<◌, Bool, true, false, cond, refl, ap, List}
-use Rattle.std.proofs.Common.{length, arith, Option, Some, None, below_more, rules}
-use Rattle.std.specs.Prelude.{◌==◌, IfSome, MatchOption, slice_index}
-use Rattle.std.specs.Option.{option_map_or, option_or}
-use Rattle.std.proofs.lemmas.Bool.{and_cases, and_parts, eqb-false, eqb-true, leb-true, leb-false, ltb-true, ltb-false}
-use Rattle.dgt_message.specs.Code.{HasSize}
-use Rattle.dgt_message.specs.Reading.{Allows, IsFaultOf, IsFirstBad, fault_of, first_bad_place, first_failure, is_allowed}
-use Rattle.dgt_message.proofs.Sizes.{AllowsBefore}
-use Rattle.dgt_message.specs.Layout.{Column, column_at, layout_of}
-use Rattle.dgt_message.proofs.AtMostOne.{times_fault}
+use Rattle.std.proofs.{Common.{◌≡◌, ℕ, zero, suc, ◌<◌, Bool, true, false, cond, refl, ap, List, length, arith, Option, Some, None, below_more, rules}, lemmas.Bool.{and_cases, and_parts, eqb-false}}
+use Rattle.std.{proofs.lemmas.Bool.{eqb-true, leb-true, leb-false, ltb-true, ltb-false}, specs.{Option.{option_map_or, option_or}, Prelude.{◌==◌, IfSome, MatchOption, slice_index}}}
+use Rattle.dgt_message.specs.{Code.{HasSize}, Layout.{Column, column_at, layout_of}, Reading.{Allows, IsFaultOf, IsFirstBad, fault_of, first_bad_place, first_failure, is_allowed}}
+use Rattle.dgt_message.proofs.{AtMostOne.{times_fault}, Sizes.{AllowsBefore}}
 
 -- a search for the first number that fails a test
 data Search (test : ℕ → Bool) (n : ℕ) : Option ℕ → Type 0 where
   all : ((k : ℕ) → k < n → test k ≡ true) → Search test n None
-  fails : (at : ℕ) → at < n → test at ≡ false → ((k : ℕ) → k < at → test k ≡ true) → Search test n (Some at)
+  fails : (at : ℕ) → at < n → test at ≡ false → ((k : ℕ) → k < at → test k ≡ true)
+      → Search test n (Some at)
 
 -- the search finds the least one
 searched : (test : ℕ → Bool) (n : ℕ) → Search test n (first_failure test n)
@@ -37,14 +32,17 @@ not_allowed c byte h a = search (rules, ltb-false, leb-false, and_cases)
 -- the search in a body of the right size finds the first bad place, and if it finds none there is
 -- none
 search_finds : (code : ℕ) (body : List ℕ) → HasSize code body → (found : Option ℕ)
-    → Search (λ place. is_allowed (column_at code body place) (slice_index body place)) (length body) found
-    → MatchOption found (AllowsBefore (layout_of code body) body (length body)) (IsFirstBad code body)
-search_finds code body size None (all h) = λ k l. allowed (column_at code body k) (slice_index body k) (h k l)
+    → Search (λ place. is_allowed (column_at code body place) (slice_index body place))
+    (length body) found
+    → MatchOption found (AllowsBefore (layout_of code body) body (length body))
+    (IsFirstBad code body)
+search_finds code body size None (all h) =
+    λ k l. allowed (column_at code body k) (slice_index body k) (h k l)
 search_finds code body size (Some at) (fails _ l f h) = search (rules, not_allowed, allowed)
 
 pub first_bad_place-reports : (code : ℕ) (body : List ℕ) → HasSize code body
-    → MatchOption (first_bad_place code body) (AllowsBefore (layout_of code body) body (length body))
-    (IsFirstBad code body)
+    → MatchOption (first_bad_place code body)
+    (AllowsBefore (layout_of code body) body (length body)) (IsFirstBad code body)
 first_bad_place-reports code body size =
     search_finds code body size (first_bad_place code body) (searched _ (length body))
 

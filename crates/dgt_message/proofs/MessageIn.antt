@@ -1,17 +1,8 @@
 -- The message of a code and a body, computed: any message that fits them is this one.
-use Rattle.std.proofs.Common.{◌≡◌, ℕ, ◌<◌, ◌≤◌, ◌+◌, ◌-◌, ◌*◌, ◌/◌, ◌%◌, false, refl, ap, List, [], ◌∷◌}
-use Rattle.std.proofs.Common.{◌++◌, length, map, take, drop, arith, rules}
-use Rattle.std.specs.Prelude.{slice_index}
-use Rattle.std.proofs.lemmas.Bool.{ne_eqb, false_from_ne_true}
-use Rattle.dgt_values.specs.Board.{piece_code}
-use Rattle.dgt_values.specs.declared.pieces.Piece.{Piece}
-use Rattle.dgt_message.specs.Clock.{IsAbsence, absence_of}
-use Rattle.dgt_message.specs.Content.{Content, code_of, IsMessage}
-use Rattle.dgt_message.specs.Content.Content.{dump, field, times, no_clock, ack, carried}
-use Rattle.dgt_message.specs.Layout.{Layout, clock_layout, layout_of}
-use Rattle.dgt_message.specs.Reading.{piece_with_code, said_in}
-use Rattle.dgt_message.specs.Encoding.{BodyEncodes, Fits, Encodes, packed_decimal}
-use Rattle.std.proofs.lemmas.Grind.{common_steps}
+use Rattle.std.proofs.{Common.{◌≡◌, ℕ, ◌<◌, ◌≤◌, ◌+◌, ◌-◌, ◌*◌, ◌/◌, ◌%◌, false, refl, ap, List, [], ◌∷◌, ◌++◌, length, map, take, drop, arith, rules}, lemmas.Bool.{ne_eqb, false_from_ne_true}}
+use Rattle.{std.{proofs.lemmas.Grind.{common_steps}, specs.Prelude.{slice_index}}, dgt_values.specs.{Board.{piece_code}, declared.pieces.Piece.{Piece}}, dgt_message.specs.Clock.{IsAbsence}}
+use Rattle.dgt_message.specs.{Clock.{absence_of}, Content.{Content, code_of, IsMessage}, Encoding.{BodyEncodes, Fits, Encodes, packed_decimal}, Layout.{Layout, clock_layout, layout_of}}
+use Rattle.dgt_message.specs.{Reading.{piece_with_code, said_in}, Content.Content.{dump, field, times, no_clock, ack, carried}}
 
 -- a piece is the one with its code
 pub piece_with_code-piece_code : (piece : Piece) → piece_with_code (piece_code piece) ≡ piece
@@ -22,9 +13,11 @@ pub piece_code-piece_with_code : (n : ℕ) → n < 16 → piece_code (piece_with
 piece_code-piece_with_code n h = search rules
 
 -- pieces are those with their codes
-pub map-piece_with_code : (pieces : List Piece) → map piece_with_code (map piece_code pieces) ≡ pieces
+pub map-piece_with_code : (pieces : List Piece)
+    → map piece_with_code (map piece_code pieces) ≡ pieces
 map-piece_with_code [] = refl
-map-piece_with_code (piece ∷ pieces) = rw (piece_with_code-piece_code piece, map-piece_with_code pieces) refl
+map-piece_with_code (piece ∷ pieces) =
+    rw (piece_with_code-piece_code piece, map-piece_with_code pieces) refl
 
 -- two packed digits are the number that they were packed from
 unpacked : (n : ℕ) → n ≤ 59 → 10 * (packed_decimal n / 16) + packed_decimal n % 16 ≡ n
@@ -51,7 +44,8 @@ laid_out said body h s = search (rules, absence_laid_out, false_from_ne_true, ne
 
 -- six bytes and a status are restored
 absence_back : (raw : List ℕ) (status : ℕ) → length raw ≡ 6
-    → absence_of (take 6 (raw ++ status ∷ [])) (slice_index (raw ++ status ∷ []) 6) ≡ absence_of raw status
+    → absence_of (take 6 (raw ++ status ∷ [])) (slice_index (raw ++ status ∷ []) 6)
+    ≡ absence_of raw status
 absence_back (a ∷ b ∷ c ∷ d ∷ e ∷ f ∷ []) status h = refl
 absence_back (a ∷ b ∷ c ∷ d ∷ e ∷ f ∷ g ∷ raw) status h = absurd (omega arith)
 absence_back _ status h = absurd (omega arith)
@@ -71,7 +65,8 @@ abbrev pub message_in : ℕ → List ℕ → Content
 message_in code body = said_in (layout_of code body) code body
 
 -- a message that fits is the one in the body
-pub message_in-fits : (said : Content) (code : ℕ) (body : List ℕ) → Fits said code body → message_in code body ≡ said
+pub message_in-fits : (said : Content) (code : ℕ) (body : List ℕ) → Fits said code body
+    → message_in code body ≡ said
 message_in-fits said code body h = search (rules, laid_out, said_back)
 
 -- the whole encodes the meaning of its code and its body

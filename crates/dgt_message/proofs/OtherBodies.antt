@@ -1,17 +1,8 @@
 -- Bodies of another size, and bodies that are carried unread.
-use Rattle.std.proofs.Common.{◌≡◌, ◌≢◌, ℕ, zero, suc, ◌+◌, true, false, refl, List, length}
-use Rattle.std.proofs.Common.{Option, Some, None, Ok, Err, rules}
-use Rattle.std.specs.Option.{option_map_or}
-use Rattle.std.specs.Prelude.{◌==◌, IfSome}
-use Rattle.std.proofs.lemmas.Bool.{ne_eqb}
-use Rattle.dgt_message.specs.declared.known.KnownCode.{KnownCode}
+use Rattle.std.{proofs.{Common.{◌≡◌, ◌≢◌, ℕ, zero, suc, ◌+◌, true, false, refl, List, length, Option, Some, None, Ok, Err, rules}, lemmas.Bool.{ne_eqb}}, specs.Option.{option_map_or}}
+use Rattle.{std.specs.Prelude.{◌==◌, IfSome}, dgt_message.specs.{Code.{HasSize, known_total, known_with}, Content.{carried}, Layout.{Layout, known_layout}, Reading.{first_failure, reading}}}
+use Rattle.dgt_message.{specs.declared.{known.KnownCode.{KnownCode}, viewing.BodyFault.TheVariants.{WrongSize}}, proofs.CodeLemmas.{found_number}}
 use Rattle.dgt_message.specs.declared.known.KnownCode.TheVariants as known
-use Rattle.dgt_message.specs.declared.viewing.BodyFault.TheVariants.{WrongSize}
-use Rattle.dgt_message.specs.Code.{HasSize, known_total, known_with}
-use Rattle.dgt_message.specs.Content.{carried}
-use Rattle.dgt_message.specs.Layout.{Layout, known_layout}
-use Rattle.dgt_message.specs.Reading.{first_failure, reading}
-use Rattle.dgt_message.proofs.CodeLemmas.{found_number}
 
 -- the test of another size fails
 fails : (fixed : Option ℕ) (size : ℕ) → (IfSome fixed (λ total. size ≡ total) → ⊥)
@@ -19,9 +10,11 @@ fails : (fixed : Option ℕ) (size : ℕ) → (IfSome fixed (λ total. size ≡ 
 fails fixed size differs = search (rules, ne_eqb)
 
 -- a body with another size than its code fixes
-pub other_size : (code : ℕ) (body : List ℕ) → (HasSize code body → ⊥) → reading code body ≡ Err WrongSize
+pub other_size : (code : ℕ) (body : List ℕ) → (HasSize code body → ⊥)
+    → reading code body ≡ Err WrongSize
 unfolding reading
-other_size code body differs = rw (fails (known_total (known_with code)) (length body + 3) differs) refl
+other_size code body differs =
+    rw (fails (known_total (known_with code)) (length body + 3) differs) refl
 
 -- each byte of a body that is carried is valid
 none_bad : (count : ℕ) → first_failure (λ place. true) count ≡ None

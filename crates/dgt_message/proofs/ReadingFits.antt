@@ -1,23 +1,9 @@
 -- The reading of a code and a body is the message that fits them, or the fault of the body.
-use Rattle.std.proofs.Common.{◌≡◌, ℕ, ◌<◌, ◌-◌, ◌⊎◌, inl, inr, true, cond, refl, ap, List, []}
-use Rattle.std.proofs.Common.{◌∷◌, length, drop, Option, Some, None, Result, Ok, Err, rules}
-use Rattle.std.specs.Prelude.{◌↔◌, All, MatchOption, MatchResult, slice_index}
-use Rattle.std.proofs.lemmas.List.{length-drop}
-use Rattle.std.proofs.lemmas.List.Elements.{All-drop}
-use Rattle.dgt_message.specs.declared.viewing.BodyFault.{BodyFault}
-use Rattle.dgt_message.specs.declared.message.Message.{Message}
-use Rattle.dgt_message.specs.Code.{HasSize, known_with}
-use Rattle.dgt_message.specs.Content.{Content, content, IsCarried}
-use Rattle.dgt_message.proofs.Sizes.{AllowsBefore}
-use Rattle.dgt_message.specs.Reading.{IsFaultOf, IsFirstBad, Views, fault_of, first_bad_place, reading, said_in}
-use Rattle.std.specs.Option.{option_map_or}
-use Rattle.std.specs.Result.{result_map_both}
-use Rattle.dgt_message.specs.Layout.{column_at, layout_of}
-use Rattle.dgt_message.specs.Encoding.{Fits, Encodes}
-use Rattle.dgt_message.proofs.AtMostOne.{one_message, one_fault, not_both}
-use Rattle.dgt_message.proofs.BodyFits.{body_fits}
-use Rattle.dgt_message.proofs.FirstBad.{first_bad_place-reports, place_fault, right_size, wrong_size}
-use Rattle.dgt_message.proofs.EncodingEncodes.{small_code}
+use Rattle.std.proofs.{Common.{◌≡◌, ℕ, ◌<◌, ◌-◌, ◌⊎◌, inl, inr, true, cond, refl, ap, List, [], ◌∷◌, length, drop, Option, Some, None, Result, Ok, Err, rules}, lemmas.List.{length-drop}}
+use Rattle.std.{proofs.lemmas.List.Elements.{All-drop}, specs.{Option.{option_map_or}, Prelude.{◌↔◌, All, MatchOption, MatchResult, slice_index}, Result.{result_map_both}}}
+use Rattle.dgt_message.specs.{Code.{HasSize, known_with}, Content.{Content, content, IsCarried}, Encoding.{Fits, Encodes}, Layout.{column_at, layout_of}, Reading.{IsFaultOf, IsFirstBad, Views}}
+use Rattle.dgt_message.{specs.{Reading.{fault_of, first_bad_place, reading, said_in}, declared.{message.Message.{Message}, viewing.BodyFault.{BodyFault}}}, proofs.AtMostOne.{one_message, one_fault}}
+use Rattle.dgt_message.proofs.{AtMostOne.{not_both}, BodyFits.{body_fits}, EncodingEncodes.{small_code}, FirstBad.{first_bad_place-reports, place_fault, right_size, wrong_size}, Sizes.{AllowsBefore}}
 
 -- the result is true of the code and the body
 abbrev Says : ℕ → List ℕ → Result Content BodyFault → Type 0
@@ -30,26 +16,29 @@ message_or_fault code body found =
     (Ok (said_in (layout_of code body) code body))
 
 -- the same is true of the fault at the first bad place, or of the message if there is none
-by_place : (code : ℕ) (body : List ℕ) → code < 128 → IsCarried body → HasSize code body → (found : Option ℕ)
-    → MatchOption found (AllowsBefore (layout_of code body) body (length body)) (IsFirstBad code body)
-    → Says code body (message_or_fault code body found)
-by_place code body small carried size None h = body_fits (known_with code) code body small carried refl size h
+by_place : (code : ℕ) (body : List ℕ) → code < 128 → IsCarried body → HasSize code body
+    → (found : Option ℕ)
+    → MatchOption found (AllowsBefore (layout_of code body) body (length body))
+    (IsFirstBad code body) → Says code body (message_or_fault code body found)
+by_place code body small carried size None h =
+    body_fits (known_with code) code body small carried refl size h
 by_place code body small carried size (Some at) h = place_fault code body at h
 
 -- and of the reading
-reading_says : (code : ℕ) (body : List ℕ) → code < 128 → IsCarried body → Says code body (reading code body)
+reading_says : (code : ℕ) (body : List ℕ) → code < 128 → IsCarried body
+    → Says code body (reading code body)
 unfolding reading
 reading_says code body small carried =
     search (rules, right_size, by_place, first_bad_place-reports, wrong_size)
 
 -- a message that fits is the reading
-said_is : (code : ℕ) (body : List ℕ) (r : Result Content BodyFault) (said : Content) → Says code body r
-    → Fits said code body → r ≡ Ok said
+said_is : (code : ℕ) (body : List ℕ) (r : Result Content BodyFault) (said : Content)
+    → Says code body r → Fits said code body → r ≡ Ok said
 said_is code body r said h fits = search (rules, one_message, not_both)
 
 -- the fault of a body is the reading
-fault_is : (code : ℕ) (body : List ℕ) (r : Result Content BodyFault) (why : BodyFault) → Says code body r
-    → IsFaultOf code body why → r ≡ Err why
+fault_is : (code : ℕ) (body : List ℕ) (r : Result Content BodyFault) (why : BodyFault)
+    → Says code body r → IsFaultOf code body why → r ≡ Err why
 fault_is code body r why h bad = search (rules, not_both, one_fault)
 
 -- the reading is a message exactly if it fits
@@ -69,7 +58,8 @@ reading-Err code body why small carried =
 -- the reading is a message or a fault
 pub some_reading : (code : ℕ) (body : List ℕ) → code < 128 → IsCarried body
     → ((said : Content) × Fits said code body) ⊎ ((why : BodyFault) × IsFaultOf code body why)
-some_reading code body small carried = some (reading code body) (reading_says code body small carried)
+some_reading code body small carried =
+    some (reading code body) (reading_says code body small carried)
   where
     some : (r : Result Content BodyFault) → Says code body r
         → ((said : Content) × Fits said code body) ⊎ ((why : BodyFault) × IsFaultOf code body why)
@@ -77,8 +67,9 @@ some_reading code body small carried = some (reading code body) (reading_says co
     some (Err why) h = inr (why, h)
 
 -- a view is the reading
-pub view_reads : (code : ℕ) (body : List ℕ) (r : Result Message BodyFault) → code < 128 → IsCarried body
-    → Views code body r → reading code body ≡ result_map_both content (λ why. why) r
+pub view_reads : (code : ℕ) (body : List ℕ) (r : Result Message BodyFault) → code < 128
+    → IsCarried body → Views code body r
+    → reading code body ≡ result_map_both content (λ why. why) r
 view_reads code body (Ok message) small carried h =
     said_is code body (reading code body) (content message) (reading_says code body small carried) h
 view_reads code body (Err why) small carried h =
@@ -87,7 +78,8 @@ view_reads code body (Err why) small carried h =
 -- ---- Of whole encodings
 
 -- bytes from the second on are seven-bit, so bytes from the fourth on are
-third_on : (bytes : List ℕ) → All (λ byte. byte < 128) (drop 1 bytes) → All (λ byte. byte < 128) (drop 3 bytes)
+third_on : (bytes : List ℕ) → All (λ byte. byte < 128) (drop 1 bytes)
+    → All (λ byte. byte < 128) (drop 3 bytes)
 third_on [] h = h
 third_on (a ∷ bytes) h = All-drop (λ byte. byte < 128) 2 bytes h
 
