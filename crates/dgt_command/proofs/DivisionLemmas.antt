@@ -1,18 +1,10 @@
 -- Zeros complete each partial frame, and each list of bytes divides into frames in one way.
-use Rattle.std.proofs.Common.{◌≡◌, ℕ, suc, zero, ◌+◌, ◌-◌, ◌<◌, ◌≤◌, List, [], ◌∷◌, ◌++◌, length, refl, sym, ap, subst}
-use Rattle.std.proofs.Common.{◌∙◌, inl, inr, arith, append_assoc, length-append, replicate, map, rules}
-use Rattle.std.proofs.lemmas.Bool.{cases_eq, cases_lt, le-ltb, lt-ltb, ne_eqb, eq-eqb}
-use Rattle.std.proofs.lemmas.List.{append-nil, length-replicate, replicate_more, replicate-append-replicate}
-use Rattle.std.proofs.lemmas.List.{get_or-replicate, get_or_past}
-use Rattle.std.specs.List.{flat_map, AllByRecursion}
-use Rattle.std.specs.Prelude.{Bool, false, slice_index, if◌then◌else◌}
-use Rattle.dgt_command.specs.Content.{CommandContent, ClockMessage, Leds, EventContent, Read, BadSize, BadStart, Stray}
-use Rattle.dgt_command.specs.Encoding.{AreBytes, command_encoding, EncodesCommand}
-use Rattle.dgt_command.specs.Lengths.{word_length}
-use Rattle.dgt_command.specs.Words.{BeginsNoCommand, HasForm, IsWord, IsPartial, Divides, Word, AreWords, word_bytes, IsNoise, IsNoiseList}
-use Rattle.dgt_command.specs.Laws.{EachDividesOnce, EachHasItsWords, NoWordBeginsAPart, NoWordBeginsAnother, CommandsAreReadBack, ZerosSettleTheReader, DivisionsAppend, PrefixesDivideFirst}
-use Rattle.dgt_command.proofs.WordLemmas.{body_length, form_length, same_word, begins, clock_word}
-use Rattle.dgt_command.proofs.CodeLemmas.{no_command}
+use Rattle.std.proofs.Common.{◌≡◌, ℕ, suc, zero, ◌+◌, ◌-◌, ◌<◌, ◌≤◌, List, [], ◌∷◌, ◌++◌, length, refl, sym, ap, subst, ◌∙◌, inl, inr, arith, append_assoc, length-append, replicate, map, rules}
+use Rattle.std.proofs.lemmas.{Bool.{cases_eq, cases_lt, le-ltb, lt-ltb, ne_eqb, eq-eqb}, List.{append-nil, length-replicate, replicate_more, replicate-append-replicate, get_or-replicate, get_or_past}}
+use Rattle.{std.specs.{List.{flat_map, AllByRecursion}, Prelude.{Bool, false, slice_index, if◌then◌else◌}}, dgt_command.specs.Content.{CommandContent, ClockMessage, Leds, EventContent, Read, BadSize}}
+use Rattle.dgt_command.specs.{Content.{BadStart, Stray}, Encoding.{AreBytes, command_encoding, EncodesCommand}, Laws.{EachDividesOnce, EachHasItsWords, NoWordBeginsAPart, NoWordBeginsAnother}}
+use Rattle.dgt_command.specs.{Laws.{CommandsAreReadBack, ZerosSettleTheReader, DivisionsAppend, PrefixesDivideFirst}, Lengths.{word_length}, Words.{BeginsNoCommand, HasForm, IsWord, IsPartial}}
+use Rattle.dgt_command.{specs.Words.{Divides, Word, AreWords, word_bytes, IsNoise, IsNoiseList}, proofs.{CodeLemmas.{no_command}, WordLemmas.{body_length, form_length, same_word, begins, clock_word}}}
 
 -- this many zeros
 abbrev pub zeros : ℕ → List ℕ
@@ -65,17 +57,20 @@ body_zeros : (size : ℕ) (rest : List ℕ) → 3 ≤ size → size < 256 → le
 body_zeros size [] large byte short =
     let found = clock_word 0 (zeros (size - 3)) size (omega (arith, length_zeros (size - 3))) in
     let shifted : 0 ∷ (zeros (size - 3) ++ 0 ∷ []) ≡ 0 ∷ zeros (size - 2) =
-    ap (λ (zs : List ℕ). 0 ∷ zs) (replicate_more {X = ℕ} (size - 3) 0 ∙ ap (λ (k : ℕ). zeros k) (omega arith)) in
+    ap (λ (zs : List ℕ). 0 ∷ zs)
+    (replicate_more {X = ℕ} (size - 3) 0 ∙ ap (λ (k : ℕ). zeros k) (omega arith)) in
     record {
       event = Read (ClockMessage found.0);
       count = size - 2;
       few = omega arith;
       noise = tt;
-      form = subst (λ (zs : List ℕ). HasForm (Read (ClockMessage found.0)) (0x2b ∷ size ∷ 3 ∷ zs)) shifted found.1;
+      form = subst (λ (zs : List ℕ). HasForm (Read (ClockMessage found.0)) (0x2b ∷ size ∷ 3 ∷ zs))
+          shifted found.1;
     }
 body_zeros size (id ∷ p) large byte short =
     let n : ℕ = size - 3 - length p in
-    let found = clock_word id (p ++ zeros n) size (omega (arith, length-append p (zeros n), length_zeros n)) in
+    let found =
+    clock_word id (p ++ zeros n) size (omega (arith, length-append p (zeros n), length_zeros n)) in
     let shifted : (p ++ zeros n) ++ 0 ∷ [] ≡ p ++ 0 ∷ zeros n =
     append_assoc p (zeros n) (0 ∷ []) ∙ ap (λ (zs : List ℕ). p ++ zs) (sym (zeros_push n)) in
     record {
@@ -83,21 +78,33 @@ body_zeros size (id ∷ p) large byte short =
       count = n;
       few = omega arith;
       noise = tt;
-      form = subst (λ (zs : List ℕ). HasForm (Read (ClockMessage found.0)) (0x2b ∷ size ∷ 3 ∷ id ∷ zs)) shifted found.1;
+      form =
+          subst (λ (zs : List ℕ). HasForm (Read (ClockMessage found.0)) (0x2b ∷ size ∷ 3 ∷ id ∷ zs))
+          shifted found.1;
     }
 
 -- zeros complete the beginning of a clock message
-clock_zeros : (rest : List ℕ) → slice_index rest 0 < 256 → length rest + 1 < word_length (0x2b ∷ rest)
-    → Completed (0x2b ∷ rest)
+clock_zeros : (rest : List ℕ) → slice_index rest 0 < 256
+    → length rest + 1 < word_length (0x2b ∷ rest) → Completed (0x2b ∷ rest)
 clock_zeros [] byte h =
-    record { event = BadSize; count = 0; few = omega arith; noise = tt; form = (0, omega arith, refl) }
+    record {
+      event = BadSize;
+      count = 0;
+      few = omega arith;
+      noise = tt;
+      form =
+          (0, omega arith, refl);
+    }
 clock_zeros (size ∷ rest) byte h = elim (cases_lt size 3) [
-  | inl small ↦ absurd (let k : length (size ∷ rest) + 1 < 2 = rw (lt-ltb size 3 small) at h in omega (arith, k))
+  | inl small ↦ absurd
+      (let k : length (size ∷ rest) + 1 < 2 = rw (lt-ltb size 3 small) at h in omega (arith, k))
   | inr large ↦ size_zeros size rest large byte
-      (let k : length (size ∷ rest) + 1 < body_length size rest = rw (le-ltb size 3 large) at h in k)
+      (let k : length (size ∷ rest) + 1 < body_length size rest = rw (le-ltb size 3 large) at h in
+      k)
 ]
   where
-    size_zeros : (size : ℕ) (rest : List ℕ) → 3 ≤ size → size < 256 → length (size ∷ rest) + 1 < body_length size rest
+    size_zeros : (size : ℕ) (rest : List ℕ) → 3 ≤ size → size < 256
+        → length (size ∷ rest) + 1 < body_length size rest
         → Completed (0x2b ∷ size ∷ rest)
     size_zeros size [] large byte h =
         record {
@@ -110,18 +117,22 @@ clock_zeros (size ∷ rest) byte h = elim (cases_lt size 3) [
     size_zeros size (third ∷ rest) large byte h = elim (cases_eq third 3) [
       | inl is ↦ subst (λ (x : ℕ). Completed (0x2b ∷ size ∷ x ∷ rest)) (sym is)
           (body_zeros size rest large byte
-          (let k : length (size ∷ third ∷ rest) + 1 < size + 2 = rw (eq-eqb third 3 is) at h in omega (arith, k)))
+          (let k : length (size ∷ third ∷ rest) + 1 < size + 2 = rw (eq-eqb third 3 is) at h in
+          omega (arith, k)))
       | inr other ↦ absurd
-          (let k : length (size ∷ third ∷ rest) + 1 < 3 = rw (ne_eqb third 3 other) at h in omega (arith, k))
+          (let k : length (size ∷ third ∷ rest) + 1 < 3 = rw (ne_eqb third 3 other) at h in
+          omega (arith, k))
     ]
 
 -- zeros complete an LED frame
 led_zeros : (rest : List ℕ) → slice_index rest 0 < 256 → length rest + 1 < word_length (0x60 ∷ rest)
     → Completed (0x60 ∷ rest)
-led_zeros [] byte h = record { event = Read (Leds []); count = 0; few = omega arith; noise = tt; form = refl }
+led_zeros [] byte h =
+    record { event = Read (Leds []); count = 0; few = omega arith; noise = tt; form = refl }
 led_zeros (size ∷ rest) byte h =
     let n : ℕ = size - 1 - length rest in
-    let long : length (rest ++ 0 ∷ zeros n) ≡ size = omega (arith, length-append rest (0 ∷ zeros n), length_zeros n) in
+    let long : length (rest ++ 0 ∷ zeros n) ≡ size =
+    omega (arith, length-append rest (0 ∷ zeros n), length_zeros n) in
     record {
       event = Read (Leds (rest ++ 0 ∷ zeros n));
       count = n;
@@ -133,12 +144,20 @@ led_zeros (size ∷ rest) byte h =
 -- bytes shorter than their frame become one by zeros
 pub completed : (r : List ℕ) → AreBytes r → length r < word_length r → Completed r
 completed [] bytes h =
-    record { event = Stray 0; count = 0; few = omega arith; noise = tt; form = (zero_begins_none, refl) }
+    record {
+      event = Stray 0;
+      count = 0;
+      few = omega arith;
+      noise = tt;
+      form =
+          (zero_begins_none, refl);
+    }
 completed (b ∷ rest) bytes h =
     elim (cases_eq b 0x2b) [
       | inl is ↦ subst (λ (x : ℕ). Completed (x ∷ rest)) (sym is)
           (clock_zeros rest (bytes 1)
-          (let k : length (b ∷ rest) < word_length (0x2b ∷ rest) = rw (eq-eqb b 0x2b is) at h in omega (arith, k)))
+          (let k : length (b ∷ rest) < word_length (0x2b ∷ rest) = rw (eq-eqb b 0x2b is) at h in
+          omega (arith, k)))
       | inr other ↦ elim (cases_eq b 0x60) [
         | inl is ↦ subst (λ (x : ℕ). Completed (x ∷ rest)) (sym is)
             (led_zeros rest (bytes 1)
@@ -154,19 +173,28 @@ IsPartial-from_short r bytes h =
     search (rules, bytes_append, bytes_zeros)
 
 -- a partial frame doesn't begin with a frame
-pub not_both : (r : List ℕ) (e : EventContent) (w x : List ℕ) → IsPartial r → HasForm e w → r ≡ w ++ x → ⊥
+pub not_both : (r : List ℕ) (e : EventContent) (w x : List ℕ) → IsPartial r → HasForm e w
+    → r ≡ w ++ x → ⊥
 not_both r e w x partial form is =
     let whole : List ℕ = r ++ partial.next ∷ partial.more in
     let prefix : w ++ (x ++ partial.next ∷ partial.more) ≡ whole ++ [] =
     search (rules, append_assoc, append-nil) in
-    let same = same_word e partial.event w whole (x ++ partial.next ∷ partial.more) [] form partial.word.form prefix in
-    omega (arith, ap length same.word, ap length is, length-append w x, length-append r (partial.next ∷ partial.more))
+    let same = same_word e partial.event w whole (x ++ partial.next ∷ partial.more) [] form
+    partial.word.form prefix in
+    omega (
+      arith,
+      ap length same.word,
+      ap length is,
+      length-append w x,
+      length-append r (partial.next ∷ partial.more),
+    )
 
 -- a proper prefix of a frame is shorter than its frame
 pub short_from_IsPartial : (r : List ℕ) → IsPartial r → length r < word_length r
 short_from_IsPartial r partial = elim (cases_lt (length r) (word_length r)) [
   | inl h ↦ h
-  | inr h ↦ let found = begins r h in absurd (not_both r found.event found.word found.after partial found.form found.is)
+  | inr h ↦ let found = begins r h in
+      absurd (not_both r found.event found.word found.after partial found.form found.is)
 ]
 
 -- a list that begins with a frame isn't part of one
@@ -179,7 +207,8 @@ partial_bytes r more partial are =
     bytes_append r more (bytes_left r (partial.next ∷ partial.more) partial.word.are_bytes) are
 
 -- the rest of a division
-pub partial_left : (bytes rest : List ℕ) (events : List EventContent) → Divides bytes events rest → IsPartial rest
+pub partial_left : (bytes rest : List ℕ) (events : List EventContent) → Divides bytes events rest
+    → IsPartial rest
 partial_left bytes rest [] divides = divides.1
 partial_left bytes rest (e ∷ events) divides = partial_left divides.1 rest events divides.4
 
@@ -192,8 +221,8 @@ pub some_word : (e : EventContent) (w : List ℕ) → HasForm e w → 0 < length
 some_word e w h = search (rules, form_length)
 
 -- bytes up to some length divide
-divide : (n : ℕ) (s : List ℕ) → length s ≤ n → AreBytes s → (events : List EventContent) × (rest : List ℕ)
-    × Divides s events rest
+divide : (n : ℕ) (s : List ℕ) → length s ≤ n → AreBytes s
+    → (events : List EventContent) × (rest : List ℕ) × Divides s events rest
 divide zero s short bytes = (
   [],
   s,
@@ -219,7 +248,8 @@ divide (suc n) s short bytes =
 
 -- the frames of a division
 divided_words : (s : List ℕ) (events : List EventContent) (rest : List ℕ) → Divides s events rest
-    → (words : List Word) × AreWords s words rest × (map (λ (word : Word). word.event) words ≡ events)
+    → (words : List Word) × AreWords s words rest
+    × (map (λ (word : Word). word.event) words ≡ events)
 divided_words s [] rest h = ([], record { each = tt; whole = h.0; partial = h.1 }, refl)
 divided_words s (event ∷ events) rest h =
     let more = divided_words h.1 events rest h.4 in (
@@ -243,8 +273,8 @@ words_once (x ∷ xs) [] r q h k o p e =
 words_once (x ∷ xs) (y ∷ ys) r q h k o p e =
     let both : x.bytes ++ (word_bytes xs ++ r) ≡ y.bytes ++ (word_bytes ys ++ q) =
     sym (append_assoc x.bytes (word_bytes xs) r) ∙ e ∙ append_assoc y.bytes (word_bytes ys) q in
-    let same = same_word x.event y.event x.bytes y.bytes (word_bytes xs ++ r) (word_bytes ys ++ q) h.0.form k.0.form
-    both in
+    let same = same_word x.event y.event x.bytes y.bytes (word_bytes xs ++ r) (word_bytes ys ++ q)
+    h.0.form k.0.form both in
     search (rules, words_once xs ys r q h.1 k.1 o p same.after)
 
 -- bytes are frames and a rest in one way, and in only one
@@ -253,11 +283,13 @@ each_has_its_words = (
   (λ bytes are.
       let found = divide (length bytes) bytes (omega arith) are in
       let words = divided_words bytes found.0 found.1 found.2 in (words.0, found.1, words.1)),
-  (λ bytes xs ys r q h k. words_once xs ys r q h.each k.each h.partial k.partial (sym h.whole ∙ k.whole)),
+  (λ bytes xs ys r q h k.
+      words_once xs ys r q h.each k.each h.partial k.partial (sym h.whole ∙ k.whole)),
 )
 
 -- two divisions of bytes are the same
-once : (s : List ℕ) (es fs : List EventContent) (r q : List ℕ) → Divides s es r → Divides s fs q → (es ≡ fs) × (r ≡ q)
+once : (s : List ℕ) (es fs : List EventContent) (r q : List ℕ) → Divides s es r → Divides s fs q
+    → (es ≡ fs) × (r ≡ q)
 once s es fs r q h k =
     let first = divided_words s es r h in
     let second = divided_words s fs q k in
@@ -266,8 +298,10 @@ once s es fs r q h k =
 
 -- bytes divide in one way, and in only one
 pub each_divides_once : EachDividesOnce
-each_divides_once =
-    ((λ bytes are. divide (length bytes) bytes (omega arith) are), (λ bytes es fs r q h k. once bytes es fs r q h k))
+each_divides_once = (
+  (λ bytes are. divide (length bytes) bytes (omega arith) are),
+  (λ bytes es fs r q h k. once bytes es fs r q h k),
+)
 
 -- a frame that begins a frame is that frame
 pub no_word_begins_another : NoWordBeginsAnother
@@ -276,7 +310,8 @@ no_word_begins_another e f w v more h k is =
     (same.event, same.after)
 
 -- encodings in a row divide into their commands
-read_back : (cs : List CommandContent) → AllByRecursion (λ c. EncodesCommand c (command_encoding c)) cs
+read_back : (cs : List CommandContent)
+    → AllByRecursion (λ c. EncodesCommand c (command_encoding c)) cs
     → Divides (flat_map command_encoding cs) (map Read cs) []
 read_back [] h = (refl, nothing_is_partial)
 read_back (c ∷ cs) h = search (rules, read_back cs h.1)
@@ -284,8 +319,13 @@ read_back (c ∷ cs) h = search (rules, read_back cs h.1)
 -- bytes that follow others are divided from their rest on
 pub Divides-append : DivisionsAppend
 Divides-append s t [] fs r q h k = subst (λ (z : List ℕ). Divides (z ++ t) fs q) (sym h.0) k
-Divides-append s t (e ∷ es) fs r q h k =
-    (h.0, h.1 ++ t, h.2, ap (λ (z : List ℕ). z ++ t) h.3 ∙ append_assoc h.0 h.1 t, Divides-append h.1 t es fs r q h.4 k)
+Divides-append s t (e ∷ es) fs r q h k = (
+  h.0,
+  h.1 ++ t,
+  h.2,
+  ap (λ (z : List ℕ). z ++ t) h.3 ∙ append_assoc h.0 h.1 t,
+  Divides-append h.1 t es fs r q h.4 k,
+)
 
 -- the events of a prefix of bytes are the first of theirs, and its rest is continued
 pub divides_prefix : PrefixesDivideFirst
@@ -294,18 +334,21 @@ divides_prefix s t (e ∷ es) [] r q h k =
     absurd (not_both q e h.0 (h.1 ++ t) k.1 h.2.form
     (sym k.0 ∙ ap (λ (z : List ℕ). z ++ t) h.3 ∙ append_assoc h.0 h.1 t))
 divides_prefix s t (e ∷ es) (f ∷ fs) r q h k =
-    let prefix : s ++ t ≡ h.0 ++ (h.1 ++ t) = ap (λ (z : List ℕ). z ++ t) h.3 ∙ append_assoc h.0 h.1 t in
+    let prefix : s ++ t ≡ h.0 ++ (h.1 ++ t) =
+    ap (λ (z : List ℕ). z ++ t) h.3 ∙ append_assoc h.0 h.1 t in
     let same = same_word e f h.0 k.0 (h.1 ++ t) k.1 h.2.form k.2.form (sym prefix ∙ k.3) in
-    let on = divides_prefix h.1 t es fs r q h.4 (subst (λ (z : List ℕ). Divides z fs q) (sym same.after) k.4) in (
+    let on = divides_prefix h.1 t es fs r q h.4
+    (subst (λ (z : List ℕ). Divides z fs q) (sym same.after) k.4) in (
       on.0,
-      ap (λ (x : EventContent). x ∷ fs) (sym same.event) ∙ ap (λ (xs : List EventContent). e ∷ xs) on.1,
+      ap (λ (x : EventContent). x ∷ fs) (sym same.event)
+          ∙ ap (λ (xs : List EventContent). e ∷ xs) on.1,
       on.2,
     )
 
 -- the same after frames
 pub commands_are_read_back : CommandsAreReadBack
-commands_are_read_back bytes es cs h all = Divides-append bytes (flat_map command_encoding cs) es (map Read cs) [] [] h
-    (read_back cs all)
+commands_are_read_back bytes es cs h all =
+    Divides-append bytes (flat_map command_encoding cs) es (map Read cs) [] [] h (read_back cs all)
 
 -- zeros are stray bytes
 zeros_stray : (n : ℕ) → (es : List EventContent) × IsNoiseList es × Divides (zeros n) es []
@@ -314,7 +357,13 @@ zeros_stray (suc n) =
     let more = zeros_stray n in (
       Stray 0 ∷ more.0,
       (tt, more.1),
-      (0 ∷ [], zeros n, record { form = (zero_begins_none, refl); are_bytes = bytes_zeros 1 }, refl, more.2),
+      (
+        0 ∷ [],
+        zeros n,
+        record { form = (zero_begins_none, refl); are_bytes = bytes_zeros 1 },
+        refl,
+        more.2,
+      ),
     )
 
 -- a part of a frame and 255 zeros are noise
@@ -326,7 +375,8 @@ zeros_settle_the_reader r partial =
     let more = zeros_stray left in
     let word : List ℕ = r ++ zeros (suc found.count) in
     let split : r ++ replicate 255 0 ≡ word ++ zeros left =
-    ap (λ (n : ℕ). r ++ zeros n) (let e : 255 ≡ suc found.count + left = omega (arith, found.few) in e)
+    ap (λ (n : ℕ). r ++ zeros n)
+    (let e : 255 ≡ suc found.count + left = omega (arith, found.few) in e)
     ∙ (search (rules, replicate-append-replicate, append_assoc)) in (
       found.event ∷ more.0,
       (found.noise, more.1),

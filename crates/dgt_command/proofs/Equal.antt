@@ -1,17 +1,10 @@
 -- The derived `==` of clock messages.
-use Rattle.std.proofs.Common.{◌≡◌, ℕ, nat_eq, refl, ap, sym, ◌∙◌, List, [], ◌∷◌, length, true, false, rules}
-use Rattle.std.specs.Prelude.{◌↔◌, IsTrue, slice_index}
-use Rattle.std.proofs.lemmas.Bool.Decides.{Decides-and, Decides-eqb}
-use Rattle.std.proofs.lemmas.Slice.Eq.{slice_eq-Decides}
+use Rattle.std.proofs.{Common.{◌≡◌, ℕ, nat_eq, refl, ap, sym, ◌∙◌, List, [], ◌∷◌, length, true, false, rules}, lemmas.{Bool.Decides.{Decides-and, Decides-eqb}, Slice.Eq.{slice_eq-Decides}}}
+use Rattle.{std.specs.Prelude.{◌↔◌, IsTrue, slice_index}, dgt_command.specs.{Content.{ClockContent, clock_content}, Equality.{HasArrays}, Ids.{has_own_case}, declared.clock.RawClock.{RawClock}}}
+use Rattle.{dgt_command.proofs.ListLemmas.{members}, dgt_values.specs.Equality.{EqualIsSameReadOf}}
 use lib.Pointwise.{pointwise}
 use Rattle.dgt_command.specs.declared.clock.ClockCommand.TheVariants as clock
-use Rattle.dgt_command.specs.declared.clock.RawClock.{RawClock}
-use Rattle.dgt_command.specs.Content.{ClockContent, clock_content}
-use Rattle.dgt_values.specs.Equality.{EqualIsSameReadOf}
-use Rattle.dgt_command.specs.Equality.{HasArrays}
-use Rattle.dgt_command.specs.Ids.{has_own_case}
 use Rattle.dgt_command.specs.contracts.clock.ClockCommandPartialEq.TheImpl as derived_clock
-use Rattle.dgt_command.proofs.ListLemmas.{members}
 
 -- two lists of numbers are equal exactly if they are the same
 pub equal_bytes : (xs ys : List ℕ) → IsTrue (pointwise nat_eq xs ys) ↔ (xs ≡ ys)
@@ -22,7 +15,8 @@ pub never : IsTrue false → ⊥
 never t = cc
 
 -- values of different numbers are neither equal nor the same
-pub differ : {T : Type 0} → (number : T → ℕ) (a b : T) → nat_eq (number a) (number b) ≡ false → IsTrue false ↔ (a ≡ b)
+pub differ : {T : Type 0} → (number : T → ℕ) (a b : T) → nat_eq (number a) (number b) ≡ false
+    → IsTrue false ↔ (a ≡ b)
 differ number a b apart = search (rules, never)
 
 -- the id of a clock message, and its payload
@@ -50,22 +44,29 @@ right_of p = byte_of 3 p ∷ byte_of 4 p ∷ byte_of 5 p ∷ []
 -- the letters of a text
 abbrev letters_of : ClockContent → List ℕ
 letters_of p =
-    byte_of 0 p ∷ byte_of 1 p ∷ byte_of 2 p ∷ byte_of 3 p ∷ byte_of 4 p ∷ byte_of 5 p ∷ byte_of 6 p ∷ byte_of 7 p ∷ []
+    byte_of 0 p ∷ byte_of 1 p ∷ byte_of 2 p ∷ byte_of 3 p ∷ byte_of 4 p ∷ byte_of 5 p ∷ byte_of 6 p
+    ∷ byte_of 7 p ∷ []
 
 -- displays mean the same exactly if their parts are the same
-same_display : (places others : List ℕ) (dots more beep long : ℕ) → length places ≡ 6 → length others ≡ 6
+same_display : (places others : List ℕ) (dots more beep long : ℕ) → length places ≡ 6
+    → length others ≡ 6
     → ((places ≡ others) × ((dots ≡ more) × (beep ≡ long)))
-    ↔ (clock_content (clock.Display places dots beep) ≡ clock_content (clock.Display others more long))
+    ↔ (clock_content (clock.Display places dots beep)
+    ≡ clock_content (clock.Display others more long))
 same_display places others dots more beep long h k = (
   λ parts. λ i. clock_content (clock.Display (parts.0 i) (parts.1.0 i) (parts.1.1 i)),
-  λ e. (members 6 places h ∙ ap places_of e ∙ sym (members 6 others k), (ap (byte_of 6) e, ap (byte_of 7) e)),
+  λ e. (
+    members 6 places h ∙ ap places_of e ∙ sym (members 6 others k),
+    (ap (byte_of 6) e, ap (byte_of 7) e),
+  ),
 )
 
 -- settings mean the same exactly if their parts are the same
-same_setting : (left other right another : List ℕ) (control byte : ℕ)
-    → length left ≡ 3 → length other ≡ 3 → length right ≡ 3 → length another ≡ 3
+same_setting : (left other right another : List ℕ) (control byte : ℕ) → length left ≡ 3
+    → length other ≡ 3 → length right ≡ 3 → length another ≡ 3
     → ((left ≡ other) × ((right ≡ another) × (control ≡ byte)))
-    ↔ (clock_content (clock.SetAndRun left right control) ≡ clock_content (clock.SetAndRun other another byte))
+    ↔ (clock_content (clock.SetAndRun left right control)
+    ≡ clock_content (clock.SetAndRun other another byte))
 same_setting left other right another control byte h k m n = (
   λ parts. λ i. clock_content (clock.SetAndRun (parts.0 i) (parts.1.0 i) (parts.1.1 i)),
   λ e. (
@@ -84,8 +85,8 @@ same_text letters others beep long h k = (
 )
 
 -- a raw clock message has no variant of its own
-raw_apart : (raw : RawClock) (said : ClockContent) → has_own_case said.id (length said.payload) ≡ true
-    → clock_content (clock.Raw raw) ≡ said → ⊥
+raw_apart : (raw : RawClock) (said : ClockContent)
+    → has_own_case said.id (length said.payload) ≡ true → clock_content (clock.Raw raw) ≡ said → ⊥
 raw_apart raw said own e = cc
 
 -- two clock messages are equal exactly if they mean the same
@@ -110,6 +111,8 @@ equal_clocks (clock.Text letters beep) (clock.Text others long) h k =
     let same = same_text letters others beep long h k in
     (λ t. same.0 (equal.0 t), λ e. equal.1 (same.1 e))
 equal_clocks (clock.Raw a) (clock.Raw b) h k = search (rules, equal_bytes)
-equal_clocks (clock.Raw a) b h k = (λ t. absurd (never t), λ e. absurd (raw_apart a (clock_content b) refl e))
-equal_clocks a (clock.Raw b) h k = (λ t. absurd (never t), λ e. absurd (raw_apart b (clock_content a) refl (sym e)))
+equal_clocks (clock.Raw a) b h k =
+    (λ t. absurd (never t), λ e. absurd (raw_apart a (clock_content b) refl e))
+equal_clocks a (clock.Raw b) h k =
+    (λ t. absurd (never t), λ e. absurd (raw_apart b (clock_content a) refl (sym e)))
 equal_clocks a b h k = differ id_of (clock_content a) (clock_content b) refl

@@ -1,21 +1,15 @@
 -- The derived `==` of commands and of events. Different commands differ in their codes, and events
 -- in a number for each variant.
-use Rattle.std.proofs.Common.{◌≡◌, ℕ, refl, ap, List, [], arith, rules}
-use Rattle.std.specs.Prelude.{◌↔◌, IsTrue, Option, Some, None, IfSome}
-use Rattle.std.specs.Option.{option_eq, option_map}
-use Rattle.dgt_command.specs.declared.command.Command.TheVariants as command
-use Rattle.dgt_command.specs.declared.command.CommandEvent.{CommandEvent}
-use Rattle.dgt_command.specs.declared.command.CommandEvent.TheVariants as event
-use Rattle.dgt_command.specs.Encoding.{command_code}
-use Rattle.dgt_command.specs.Content as content
-use Rattle.dgt_command.specs.Content.{ClockContent, CommandContent, EventContent, command_content, command_event_content}
-use Rattle.dgt_command.specs.Equality.{CommandHasArrays, EventHasArrays, FedHasArrays, fed_seen}
+use Rattle.std.{proofs.{Common.{◌≡◌, ℕ, refl, ap, List, [], arith, rules}, lemmas.Grind.{common_steps}}, specs.{Option.{option_eq, option_map}, Prelude.{◌↔◌, IsTrue, Option, Some, None, IfSome}}}
+use Rattle.dgt_command.specs.{Content.{ClockContent, CommandContent, EventContent, command_content, command_event_content}, Encoding.{command_code}, Equality.{CommandHasArrays, EventHasArrays}}
+use Rattle.dgt_command.{specs.{Equality.{FedHasArrays, fed_seen}, declared.command.CommandEvent.{CommandEvent}}, proofs.Equal.{differ, equal_bytes, equal_clocks}}
 use Rattle.dgt_values.specs.Equality.{EqualIsSameReadOf}
+use Rattle.dgt_command.specs.declared.command.Command.TheVariants as command
+use Rattle.dgt_command.specs.declared.command.CommandEvent.TheVariants as event
+use Rattle.dgt_command.specs.Content as content
 use Rattle.dgt_command.specs.contracts.command.CommandPartialEq.TheImpl as derived_command
 use Rattle.dgt_command.specs.contracts.command.CommandEventPartialEq.TheImpl as derived_event
 use Rattle.dgt_command.specs.contracts.decoder.CommandFedPartialEq.TheImpl as derived_fed
-use Rattle.dgt_command.proofs.Equal.{differ, equal_bytes, equal_clocks}
-use Rattle.std.proofs.lemmas.Grind.{common_steps}
 
 -- the clock message of a command, and its LED bytes
 abbrev message_of : CommandContent → ClockContent
@@ -27,7 +21,8 @@ leds_of (content.Leds leds) = leds
 leds_of _ = []
 
 -- two commands are equal exactly if they mean the same
-pub equal_commands : EqualIsSameReadOf CommandHasArrays command_content (derived_command.eq-value).it
+pub equal_commands : EqualIsSameReadOf CommandHasArrays command_content
+    (derived_command.eq-value).it
 equal_commands command.Reset command.Reset h k = (λ _. refl, λ _. refl)
 equal_commands command.Clock command.Clock h k = (λ _. refl, λ _. refl)
 equal_commands command.Dump command.Dump h k = (λ _. refl, λ _. refl)
@@ -61,7 +56,8 @@ byte_of (content.Stray byte) = byte
 byte_of _ = 0
 
 -- two events are equal exactly if they report the same
-pub equal_events : EqualIsSameReadOf EventHasArrays command_event_content (derived_event.eq-value).it
+pub equal_events : EqualIsSameReadOf EventHasArrays command_event_content
+    (derived_event.eq-value).it
 equal_events (event.Command a) (event.Command b) h k = search (rules, equal_commands)
 equal_events event.BadSize event.BadSize h k = (λ _. refl, λ _. refl)
 equal_events event.BadStart event.BadStart h k = (λ _. refl, λ _. refl)

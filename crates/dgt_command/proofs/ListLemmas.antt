@@ -7,7 +7,8 @@ at_places from zero xs = []
 at_places from (suc count) xs = get_or xs from 0 ∷ at_places (suc from) count xs
 
 -- each is one place later in a list with one more member before them
-one_later : (from count a : ℕ) (xs : List ℕ) → at_places (suc from) count (a ∷ xs) ≡ at_places from count xs
+one_later : (from count a : ℕ) (xs : List ℕ)
+    → at_places (suc from) count (a ∷ xs) ≡ at_places from count xs
 one_later from zero a xs = refl
 one_later from (suc count) a xs = ap (λ l. get_or xs from 0 ∷ l) (one_later (suc from) count a xs)
 

@@ -1,14 +1,7 @@
 -- An encoding reports its command.
-use Rattle.std.proofs.Common.{◌≡◌, ℕ, ◌-◌, List, [], ◌∷◌, length, take, sym, ap, ◌∙◌, arith, length-append, Option, Some, None}
-use Rattle.std.proofs.Common.{rules}
-use Rattle.std.proofs.lemmas.List.{take_at}
-use Rattle.std.specs.Prelude.{IfSome, slice_index}
-use Rattle.dgt_command.specs.declared.command.Command.{Command}
-use Rattle.dgt_command.specs.Content.{CommandContent, Read, command_content}
-use Rattle.dgt_command.specs.Laws.{EncodingsGiveCommands}
-use Rattle.dgt_command.specs.Encoding.{IsEncoding, bare_command, command_in, command_encoding, EncodesCommand}
-use Rattle.dgt_command.specs.Words.{IsWord}
-use Rattle.dgt_command.proofs.CodeLemmas.{bare_form}
+use Rattle.std.{proofs.{Common.{◌≡◌, ℕ, ◌-◌, List, [], ◌∷◌, length, take, sym, ap, ◌∙◌, arith, length-append, Option, Some, None, rules}, lemmas.List.{take_at}}, specs.Prelude.{IfSome, slice_index}}
+use Rattle.dgt_command.specs.{Content.{CommandContent, Read, command_content}, Encoding.{IsEncoding, bare_command, command_in, command_encoding, EncodesCommand}, Laws.{EncodingsGiveCommands}}
+use Rattle.dgt_command.{specs.{Words.{IsWord}, declared.command.Command.{Command}}, proofs.CodeLemmas.{bare_form}}
 
 -- the one encoding of a command reports it
 encoded_command : (c : CommandContent) → command_in (command_encoding c) ≡ c
@@ -20,8 +13,10 @@ pub encodes_its_command : EncodingsGiveCommands
 encodes_its_command c word h = ap command_in h.encoded ∙ encoded_command c
 
 -- an encoding is a frame of the command that it reports
-pub word_is_read : (c : CommandContent) (word : List ℕ) → EncodesCommand c word → IsWord (Read (command_in word)) word
-word_is_read c word h = rw (encodes_its_command c word h) (record { form = h.encoded; are_bytes = h.are_bytes })
+pub word_is_read : (c : CommandContent) (word : List ℕ) → EncodesCommand c word
+    → IsWord (Read (command_in word)) word
+word_is_read c word h =
+    rw (encodes_its_command c word h) (record { form = h.encoded; are_bytes = h.are_bytes })
 
 -- a command of one byte is the one with this code
 pub byte_is_read : (read : Option Command) (word : List ℕ) → IsEncoding word → length word ≡ 1

@@ -1,18 +1,16 @@
 -- The bytes of a whole command, one by one.
-use Rattle.std.proofs.Common.{◌≡◌, ℕ, suc, ◌+◌, ◌-◌, ◌<◌, ◌≤◌, List, [], ◌∷◌, ◌++◌, length, get_or, take, drop, refl}
-use Rattle.std.proofs.Common.{sym, ap, subst, ◌⊎◌, inl, inr, arith, length-append}
-use Rattle.dgt_command.specs.Content.{ClockContent, CommandContent, ClockMessage, Leds}
-use Rattle.dgt_command.specs.Encoding.{command_encoding}
-use Rattle.dgt_command.proofs.WordLemmas.{final_of, prefix, last_of}
-use Rattle.std.proofs.lemmas.Grind.{common_steps}
+use Rattle.std.proofs.Common.{◌≡◌, ℕ, suc, ◌+◌, ◌-◌, ◌<◌, ◌≤◌, List, [], ◌∷◌, ◌++◌, length, get_or, take, drop, refl, sym, ap, subst, ◌⊎◌, inl, inr, arith, length-append}
+use Rattle.{std.proofs.lemmas.Grind.{common_steps}, dgt_command.{specs.{Content.{ClockContent, CommandContent, ClockMessage, Leds}, Encoding.{command_encoding}}, proofs.WordLemmas.{final_of, prefix}}}
+use Rattle.dgt_command.proofs.WordLemmas.{last_of}
 
 -- a list of at least one, by its last
-by_last : (xs : List ℕ) → 0 < length xs → xs ≡ take (length xs - 1) xs ++ get_or xs (length xs - 1) 0 ∷ []
+by_last : (xs : List ℕ) → 0 < length xs
+    → xs ≡ take (length xs - 1) xs ++ get_or xs (length xs - 1) 0 ∷ []
 by_last xs h = grind (arith, common_steps, final_of, prefix, last_of)
 
 -- bytes that are framed as a clock message encode it
-pub clock_view : (bytes : List ℕ) (message : ClockContent)
-    → 5 ≤ length bytes → get_or bytes 0 0 ≡ 0x2b → get_or bytes 2 0 ≡ 0x03 → get_or bytes (length bytes - 1) 0 ≡ 0x00
+pub clock_view : (bytes : List ℕ) (message : ClockContent) → 5 ≤ length bytes
+    → get_or bytes 0 0 ≡ 0x2b → get_or bytes 2 0 ≡ 0x03 → get_or bytes (length bytes - 1) 0 ≡ 0x00
     → message.id ≡ get_or bytes 3 0 → message.payload ≡ take (length bytes - 1 - 4) (drop 4 bytes)
     → length (take (length bytes - 1 - 4) (drop 4 bytes)) + 3 ≡ get_or bytes 1 0
     → bytes ≡ command_encoding (ClockMessage message)
@@ -36,13 +34,17 @@ pub record IsLedForm (bytes : List ℕ) : Type 0 where
 -- a command is one byte, a clock message or an LED frame
 pub forms : (command : CommandContent) (bytes : List ℕ) → bytes ≡ command_encoding command
     → (length bytes ≡ 1) ⊎ IsClockForm bytes ⊎ IsLedForm bytes
-forms (ClockMessage message) bytes is = inr (inl (subst IsClockForm (sym is) (clock_form message.id message.payload)))
+forms (ClockMessage message) bytes is =
+    inr (inl (subst IsClockForm (sym is) (clock_form message.id message.payload)))
   where
-    clock_form : (id : ℕ) (p : List ℕ) → IsClockForm (0x2b ∷ (length p + 3) ∷ 0x03 ∷ id ∷ (p ++ 0x00 ∷ []))
+    clock_form : (id : ℕ) (p : List ℕ)
+        → IsClockForm (0x2b ∷ (length p + 3) ∷ 0x03 ∷ id ∷ (p ++ 0x00 ∷ []))
     clock_form id p =
         let rest : List ℕ = p ++ 0x00 ∷ [] in
-        let m : length (0x2b ∷ (length p + 3) ∷ 0x03 ∷ id ∷ rest) - 1 - 4 ≡ length rest - 1 = omega arith in
-        let n : length (0x2b ∷ (length p + 3) ∷ 0x03 ∷ id ∷ rest) - 1 ≡ suc (suc (suc (suc (length rest - 1)))) =
+        let m : length (0x2b ∷ (length p + 3) ∷ 0x03 ∷ id ∷ rest) - 1 - 4 ≡ length rest - 1 =
+        omega arith in
+        let n : length (0x2b ∷ (length p + 3) ∷ 0x03 ∷ id ∷ rest) - 1
+        ≡ suc (suc (suc (suc (length rest - 1)))) =
         omega (arith, length-append p (0x00 ∷ [])) in
         record {
           long = omega (arith, length-append p (0x00 ∷ []));

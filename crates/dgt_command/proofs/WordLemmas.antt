@@ -1,15 +1,9 @@
 -- No frame begins another. A long enough list begins with one, and zeros complete any other.
-use Rattle.std.proofs.Common.{◌≡◌, ◌≢◌, ℕ, ◌+◌, ◌-◌, ◌<◌, ◌≤◌, false, List, [], ◌∷◌, ◌++◌, length, get_or, take, drop}
-use Rattle.std.proofs.Common.{refl, sym, ap, subst, ◌∙◌, inl, inr, arith, length-append, Option, Some, None, rules}
-use Rattle.std.proofs.lemmas.Bool.{cases_eq, cases_lt, le-ltb, lt-ltb, ne_eqb, eq-eqb}
-use Rattle.std.proofs.lemmas.List.{append_cancel_left, take_at, get_or_push, length-take-le, take-append-drop}
-use Rattle.std.specs.Prelude.{◌==◌, slice_index, if◌then◌else◌}
-use Rattle.dgt_command.specs.declared.command.Command.{Command}
-use Rattle.dgt_command.specs.Content.{command_content, ClockContent, CommandContent, ClockMessage, Leds, EventContent, Read, BadSize, BadStart, BadEnd, Stray}
-use Rattle.dgt_command.specs.Encoding.{bare_command, after_code, command_encoding}
-use Rattle.dgt_command.specs.Lengths.{word_length}
-use Rattle.dgt_command.specs.Words.{BeginsNoCommand, HasForm}
-use Rattle.dgt_command.proofs.CodeLemmas.{bare_form, no_command}
+use Rattle.std.proofs.Common.{◌≡◌, ◌≢◌, ℕ, ◌+◌, ◌-◌, ◌<◌, ◌≤◌, false, List, [], ◌∷◌, ◌++◌, length, get_or, take, drop, refl, sym, ap, subst, ◌∙◌, inl, inr, arith, length-append, Option, Some, None}
+use Rattle.std.proofs.{Common.{rules}, lemmas.{Bool.{cases_eq, cases_lt, le-ltb, lt-ltb, ne_eqb, eq-eqb}, List.{append_cancel_left, take_at, get_or_push, length-take-le, take-append-drop}}}
+use Rattle.{std.specs.Prelude.{◌==◌, slice_index, if◌then◌else◌}, dgt_command.specs.Content.{command_content, ClockContent, CommandContent, ClockMessage, Leds, EventContent, Read, BadSize, BadStart}}
+use Rattle.dgt_command.specs.{Content.{BadEnd, Stray}, Encoding.{bare_command, after_code, command_encoding}, Lengths.{word_length}, Words.{BeginsNoCommand, HasForm}}
+use Rattle.dgt_command.{specs.declared.command.Command.{Command}, proofs.CodeLemmas.{bare_form, no_command}}
 
 -- the length of a clock message of a valid size
 abbrev pub body_length : ℕ → List ℕ → ℕ
@@ -29,7 +23,8 @@ not_clock b h =
 -- or an LED frame
 not_leds : (b : ℕ) → BeginsNoCommand b → (b == 0x60) ≡ false
 not_leds b h =
-    ne_eqb b 0x60 (λ e. h (Leds []) (after_code (Leds [])) (ap (λ (x : ℕ). x ∷ after_code (Leds [])) (sym e)))
+    ne_eqb b 0x60
+    (λ e. h (Leds []) (after_code (Leds [])) (ap (λ (x : ℕ). x ∷ after_code (Leds [])) (sym e)))
 
 -- the frame that a list begins with has this length
 encoding_length : (c : CommandContent) (x : List ℕ) → word_length (command_encoding c ++ x) ≡ length
@@ -38,7 +33,8 @@ encoding_length c x = search (rules, le-ltb, length-append)
 
 -- a frame with any bytes after it reports its own length
 pub form_length : (e : EventContent) (w x : List ℕ) → HasForm e w → word_length (w ++ x) ≡ length w
-form_length (Read c) w x h = subst (λ (v : List ℕ). word_length (v ++ x) ≡ length v) (sym h) (encoding_length c x)
+form_length (Read c) w x h =
+    subst (λ (v : List ℕ). word_length (v ++ x) ≡ length v) (sym h) (encoding_length c x)
 form_length BadSize w x (size, small, is) = search (rules, lt-ltb)
 form_length BadStart w x (size, third, large, other, is) = search (rules, le-ltb, ne_eqb)
 form_length BadEnd w x (size, inner, last, long, other, some, is) =
@@ -75,8 +71,8 @@ clock_event _ = BadSize
 abbrev pub event_of : List ℕ → EventContent
 event_of [] = BadSize
 event_of (b ∷ rest) =
-    if b == 0x2b then clock_event rest else if b == 0x60 then Read (Leds (drop 1 rest)) else event_of_byte
-    (bare_command b) b
+    if b == 0x2b then clock_event rest else if b == 0x60 then Read (Leds (drop 1 rest))
+    else event_of_byte (bare_command b) b
 
 -- all but the last byte
 pub prefix : (p : List ℕ) (x : ℕ) → take (length (p ++ x ∷ []) - 1) (p ++ x ∷ []) ≡ p
@@ -87,7 +83,8 @@ pub last_of : (p : List ℕ) (x : ℕ) → get_or (p ++ x ∷ []) (length (p ++ 
 last_of p x = get_or_push p x 0 (length (p ++ x ∷ []) - 1) (omega (arith, length-append p (x ∷ [])))
 
 -- a clock message that ends with zero is read
-end_read : (id : ℕ) (p : List ℕ) → end_event id (p ++ 0 ∷ []) ≡ Read (ClockMessage (record { id = id; payload = p }))
+end_read : (id : ℕ) (p : List ℕ)
+    → end_event id (p ++ 0 ∷ []) ≡ Read (ClockMessage (record { id = id; payload = p }))
 end_read id p = rw (last_of p 0, prefix p 0) refl
 
 -- one that ends with another byte is a fault
@@ -112,7 +109,8 @@ form_event BadStart w (size, third, large, other, is) = ap event_of is
 form_event BadEnd w (size, inner, final, long, other, some, is) =
     ap event_of is ∙ end_bad_long inner final size (omega arith) other
 form_event (Stray b) w (none, is) =
-    ap event_of is ∙ rw (not_clock b none, not_leds b none) (stray_byte (bare_command b) b refl none)
+    ap event_of is
+    ∙ rw (not_clock b none, not_leds b none) (stray_byte (bare_command b) b refl none)
 
 -- Two lists with the same beginning begin with the same frame.
 pub record SameWord (e f : EventContent) (w v x y : List ℕ) : Type 0 where
@@ -126,15 +124,16 @@ same_prefix w v x y h is = sym (take_at w x (length w) refl)
     ∙ (ap (take (length w)) is ∙ take_at v y (length w) (sym h))
 
 -- frames that begin the same bytes are the same
-pub same_word : (e f : EventContent) (w v x y : List ℕ) → HasForm e w → HasForm f v → w ++ x ≡ v ++ y
-    → SameWord e f w v x y
+pub same_word : (e f : EventContent) (w v x y : List ℕ) → HasForm e w → HasForm f v
+    → w ++ x ≡ v ++ y → SameWord e f w v x y
 same_word e f w v x y h k is =
-    let long : length w ≡ length v = sym (form_length e w x h) ∙ (ap word_length is ∙ form_length f v y k) in
+    let long : length w ≡ length v =
+    sym (form_length e w x h) ∙ (ap word_length is ∙ form_length f v y k) in
     search (rules, same_prefix, form_event, append_cancel_left)
 
 -- the frame of one byte, by its command
-word_of_byte : (found : Option Command) (b : ℕ) → bare_command b ≡ found → b ≢ 0x2b → b ≢ 0x60 → (e : EventContent)
-    × HasForm e (b ∷ [])
+word_of_byte : (found : Option Command) (b : ℕ) → bare_command b ≡ found → b ≢ 0x2b → b ≢ 0x60
+    → (e : EventContent) × HasForm e (b ∷ [])
 word_of_byte (Some each) b e not_clock not_leds = (Read (command_content each), bare_form b each e)
 word_of_byte None b e not_clock not_leds = (Stray b, (no_command b e not_clock not_leds, refl))
 
@@ -168,7 +167,8 @@ pub record Ends (ys : List ℕ) : Type 0 where
   pub is : ys ≡ id ∷ (between ++ final ∷ [])
 
 -- a list of at least one, by its last
-pub final_of : (x : ℕ) (ys : List ℕ) → (prefix : List ℕ) × (final : ℕ) × (x ∷ ys ≡ prefix ++ final ∷ [])
+pub final_of : (x : ℕ) (ys : List ℕ)
+    → (prefix : List ℕ) × (final : ℕ) × (x ∷ ys ≡ prefix ++ final ∷ [])
 final_of x [] = ([], x, refl)
 final_of x (y ∷ ys) = let more = final_of y ys in (x ∷ more.0, more.1, ap (λ zs. x ∷ zs) more.2)
 
@@ -197,10 +197,13 @@ ends_word ys size ends h =
     (found.0, subst (λ zs. HasForm found.0 (0x2b ∷ size ∷ 3 ∷ zs)) (sym ends.is) found.1)
 
 -- bytes as long as a clock message of the right third byte begin with it
-whole_body : (size : ℕ) (rest : List ℕ) → 3 ≤ size → size + 2 ≤ length rest + 3 → Begins (0x2b ∷ size ∷ 3 ∷ rest)
+whole_body : (size : ℕ) (rest : List ℕ) → 3 ≤ size → size + 2 ≤ length rest + 3
+    → Begins (0x2b ∷ size ∷ 3 ∷ rest)
 whole_body size rest large h =
-    let long : length (take (size - 1) rest) ≡ size - 1 = length-take-le (size - 1) rest (omega arith) in
-    let found = ends_word (take (size - 1) rest) size (ends_of (take (size - 1) rest) (omega arith)) (omega arith) in
+    let long : length (take (size - 1) rest) ≡ size - 1 =
+    length-take-le (size - 1) rest (omega arith) in
+    let found = ends_word (take (size - 1) rest) size (ends_of (take (size - 1) rest) (omega arith))
+    (omega arith) in
     record {
       event = found.0;
       word = 0x2b ∷ size ∷ 3 ∷ take (size - 1) rest;
@@ -229,9 +232,18 @@ body_begins size (third ∷ rest) large h =
 clock_begins : (rest : List ℕ) → word_length (0x2b ∷ rest) ≤ length rest + 1 → Begins (0x2b ∷ rest)
 clock_begins [] h = absurd (omega arith)
 clock_begins (size ∷ rest) h = elim (cases_lt size 3) [
-  | inl small ↦ record { event = BadSize; word = 0x2b ∷ size ∷ []; after = rest; form = (size, small, refl); is = refl }
+  | inl small ↦
+      record {
+        event = BadSize;
+        word = 0x2b ∷ size ∷ [];
+        after = rest;
+        form =
+            (size, small, refl);
+        is = refl;
+      }
   | inr large ↦ body_begins size rest large
-      (let k : body_length size rest ≤ length (size ∷ rest) + 1 = rw (le-ltb size 3 large) at h in omega (arith, k))
+      (let k : body_length size rest ≤ length (size ∷ rest) + 1 = rw (le-ltb size 3 large) at h in
+      omega (arith, k))
 ]
 
 -- bytes as long as an LED frame begin with it

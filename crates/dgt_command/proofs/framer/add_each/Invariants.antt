@@ -1,5 +1,4 @@
-use Rattle.std.proofs.Common.{◌≡◌, ◌++◌, take}
-use Rattle.dgt_command.specs.Words.{IsPartial}
+use Rattle.{std.proofs.Common.{◌≡◌, ◌++◌, take}, dgt_command.specs.Words.{IsPartial}}
 use Rattle.dgt_command.proofs.framer.add_each.Given as goal
 
 abbrev pub invariant-loop-i : goal.invariant-loop-i

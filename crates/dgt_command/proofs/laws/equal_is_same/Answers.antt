@@ -1,5 +1,4 @@
-use Rattle.dgt_command.proofs.Equal.{equal_clocks}
-use Rattle.dgt_command.proofs.EqualCommands.{equal_commands, equal_events, equal_fed}
+use Rattle.dgt_command.proofs.{Equal.{equal_clocks}, EqualCommands.{equal_commands, equal_events, equal_fed}}
 use Rattle.dgt_command.proofs.laws.equal_is_same.Goals as goal
 
 pub returns-clause-clock : goal.returns-clause-clock

@@ -1,7 +1,4 @@
-use Rattle.std.proofs.Common.{length, arith, rules}
-use Rattle.std.proofs.lemmas.Bool.{leb-true, leb-false}
-use Rattle.dgt_command.specs.Encoding.{AreBytes}
-use Rattle.dgt_command.proofs.ReaderLemmas.{whole_prefix, partial_prefix, whole_last}
+use Rattle.{std.proofs.{Common.{length, arith, rules}, lemmas.Bool.{leb-true, leb-false}}, dgt_command.{specs.Encoding.{AreBytes}, proofs.ReaderLemmas.{whole_prefix, partial_prefix, whole_last}}}
 use Rattle.dgt_command.proofs.lengths.is_whole.Goals as goal
 
 pub returns-clause-whole : goal.returns-clause-whole

@@ -1,5 +1,4 @@
-use Rattle.std.proofs.Common.{rules}
-use Rattle.dgt_command.proofs.ViewLemmas.{clock_view, forms}
+use Rattle.{std.proofs.Common.{rules}, dgt_command.proofs.ViewLemmas.{clock_view, forms}}
 use Rattle.dgt_command.proofs.viewing.view_command.Goals as goal
 
 pub returns-in-43-clause-some : goal.returns-in-43-clause-some

@@ -1,6 +1,4 @@
-use Rattle.std.proofs.Common.{ap, sym}
-use Rattle.dgt_command.specs.Content.{command_content, Read}
-use Rattle.dgt_command.proofs.ReadWords.{encodes_its_command}
+use Rattle.{std.proofs.Common.{ap, sym}, dgt_command.{specs.Content.{command_content, Read}, proofs.ReadWords.{encodes_its_command}}}
 use Rattle.dgt_command.proofs.framer.WordFramer.event.Goals as goal
 
 pub returns-in_ok-command-in-Command : goal.returns-in_ok-command-in-Command

@@ -1,5 +1,4 @@
-use Rattle.std.proofs.Common.{rules}
-use Rattle.dgt_command.proofs.ReaderLemmas.{partial_limit}
+use Rattle.{std.proofs.Common.{rules}, dgt_command.proofs.ReaderLemmas.{partial_limit}}
 use Rattle.dgt_command.proofs.framer.WordFramer.partial.Goals as goal
 
 -- a proper prefix of a frame is shorter than the longest frame
