@@ -1,16 +1,9 @@
 -- A backlog falls with each sending, and rises by at most one with each command taken.
-use Rattle.std.proofs.Common.{arith, ◌≡◌, ℕ, ◌+◌, ◌<◌, ◌≤◌, List, [], ◌∷◌, ◌++◌, Some, Bool, true, false, cond, not, length, length-append}
-use Rattle.std.proofs.Common.{rules}
-use Rattle.std.specs.Prelude.{filter}
-use Rattle.dgt_values.specs.declared.kinds.Kind.{Kind}
-use Rattle.dgt_message.specs.Clock.{ClockState}
-use Rattle.dgt_message.specs.Content.{clock_message, Content}
-use Rattle.dgt_command.specs.Content.{ClockContent, CommandContent, EventContent}
-use Rattle.dgt_board.specs.declared.modes.Mode.{Mode}
-use Rattle.dgt_board.specs.declared.replies.Reply.{Reply}
-use Rattle.dgt_board.specs.State.{BoardState, IdentityContent, acknowledgements, effect, effects, is_reported}
-use Rattle.dgt_board.specs.Sending.{after_sending, backlog, clock_news, differs, every_square, next_message}
-use Rattle.dgt_board.proofs.SendingLemmas.{few_news, left-at_most, left_by, left_is, next_lowers}
+use Rattle.std.{proofs.Common.{arith, ◌≡◌, ℕ, ◌+◌, ◌<◌, ◌≤◌, List, [], ◌∷◌, ◌++◌, Some, Bool, true, false, cond, not, length, length-append, rules}, specs.Prelude.{filter}}
+use Rattle.{dgt_values.specs.declared.kinds.Kind.{Kind}, dgt_message.specs.{Clock.{ClockState}, Content.{clock_message, Content}}, dgt_command.specs.Content.{ClockContent, CommandContent}}
+use Rattle.{dgt_command.specs.Content.{EventContent}, dgt_board.specs.{Sending.{after_sending, backlog, clock_news, differs, every_square, next_message}, State.{BoardState, IdentityContent}}}
+use Rattle.dgt_board.{specs.{State.{acknowledgements, effect, effects, is_reported}, declared.{modes.Mode.{Mode}, replies.Reply.{Reply}}}, proofs.SendingLemmas.{few_news, left-at_most, left_by}}
+use Rattle.dgt_board.proofs.SendingLemmas.{left_is, next_lowers}
 
 -- all the squares that differ count
 backlog_is : (board : BoardState) → backlog board ≡ left_by true board
@@ -41,22 +34,25 @@ mode_raises : (owed : List Reply) (squares : ℕ) (before after : Bool) (message
 mode_raises owed squares before after message =
     rw (length-append owed []) (let few = few_news after message in omega (arith, few))
 
-effect_raises : (board : BoardState) (event : EventContent) → left_by true (effect board event) ≤ left_by true board + 1
+effect_raises : (board : BoardState) (event : EventContent)
+    → left_by true (effect board event) ≤ left_by true board + 1
 effect_raises board (EventContent.Read command) = go command
   where
     squares : ℕ
     squares = length (filter (differs board) every_square)
 
     one : (added : List Reply) → length added ≤ 1
-        → length (board.owed ++ added) + squares + length (clock_news board) ≤ left_by true board + 1
+        → length (board.owed ++ added) + squares + length (clock_news board)
+        ≤ left_by true board + 1
     one added few = reply_raises board.owed added squares (length (clock_news board)) few
 
     mode : (after : Bool)
-        → length (board.owed ++ []) + squares + length (cond after (clock_message board.clock ∷ []) []) ≤ left_by true
-        board + 1
+        → length (board.owed ++ []) + squares
+        + length (cond after (clock_message board.clock ∷ []) []) ≤ left_by true board + 1
     mode after = mode_raises board.owed squares board.times_owed after (clock_message board.clock)
 
-    go : (command : CommandContent) → left_by true (effect board (EventContent.Read command)) ≤ left_by true board + 1
+    go : (command : CommandContent)
+        → left_by true (effect board (EventContent.Read command)) ≤ left_by true board + 1
     go CommandContent.Reset = mode false
     go CommandContent.Update = mode (not (is_reported board.reported_clock board.clock))
     go CommandContent.UpdateBoard = mode false

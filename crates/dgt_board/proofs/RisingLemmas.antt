@@ -1,23 +1,16 @@
 -- Squares are reported in the order of their numbers.
-use Rattle.std.proofs.Common.{arith, ◌≡◌, refl, ℕ, zero, suc, ◌+◌, ◌<◌, ◌≤◌, List, [], ◌∷◌, ◌++◌, Some, Bool, true, false, cond, inl, inr}
-use Rattle.std.proofs.Common.{rules}
-use Rattle.std.proofs.lemmas.Bool.{eqb-true}
-use Rattle.std.proofs.lemmas.Bool.Decides.{eqb_tells}
-use Rattle.std.specs.Prelude.{◌==◌, ◌≢◌, ◌⊎◌, filter, map, slice_get}
-use Rattle.std.specs.List.{range_with_len}
-use Rattle.dgt_values.specs.declared.pieces.Piece.{Piece}
-use Rattle.dgt_values.proofs.PieceCodes.{same_code}
-use Rattle.dgt_message.specs.Clock.{ClockState}
-use Rattle.dgt_message.specs.Content.{Content, clock_message}
+use Rattle.std.proofs.{Common.{arith, ◌≡◌, refl, ℕ, zero, suc, ◌+◌, ◌<◌, ◌≤◌, List, [], ◌∷◌, ◌++◌, Some, Bool, true, false, cond, inl, inr, rules}, lemmas.Bool.{eqb-true, Decides.{eqb_tells}}}
+use Rattle.{std.specs.{List.{range_with_len}, Prelude.{◌==◌, ◌≢◌, ◌⊎◌, filter, map, slice_get}}, dgt_values.{specs.declared.pieces.Piece.{Piece}, proofs.PieceCodes.{same_code}}}
+use Rattle.{dgt_message.specs.{Clock.{ClockState}, Content.{Content, clock_message}}, dgt_board.specs.Sending.{clock_news, differs, every_square, field_of, next_message, piece_on, unreported_squares}}
 use Rattle.dgt_board.specs.State.{BoardState, updates}
-use Rattle.dgt_board.specs.Sending.{clock_news, differs, every_square, field_of, next_message, piece_on, unreported_squares}
 
 -- no number of a range before the first that passes a test passes it
 before_first : (test : ℕ → Bool) (a n at : ℕ) (rest : List ℕ)
     → filter test (range_with_len a n) ≡ at ∷ rest → (k : ℕ) → a ≤ k → k < at → test k ≡ false
 before_first test a zero at rest e k from below = cc
 before_first test a (suc n) at rest e k from below =
-    go (test a) refl e (eqb_tells k a) (λ fails more. before_first test (a + 1) n at rest fails k more below)
+    go (test a) refl e (eqb_tells k a)
+    (λ fails more. before_first test (a + 1) n at rest fails k more below)
   where
     later : List ℕ
     later = filter test (range_with_len (a + 1) n)
@@ -25,7 +18,8 @@ before_first test a (suc n) at rest e k from below =
     go : (passes : Bool) → test a ≡ passes → cond passes (a ∷ later) later ≡ at ∷ rest
         → ((k == a ≡ true) × (k ≡ a)) ⊎ ((k == a ≡ false) × (k ≢ a))
         → (later ≡ at ∷ rest → a + 1 ≤ k → test k ≡ false) → test k ≡ false
-    go true here e which behind = let first : a ≡ at = cc in absurd (omega (arith, first, from, below))
+    go true here e which behind = let first : a ≡ at = cc in
+        absurd (omega (arith, first, from, below))
     go false here e (inl same) behind = rw same.1 here
     go false here e (inr other) behind = behind e (omega (arith, other.1, from))
 
@@ -55,7 +49,8 @@ lower_same board square lower piece none next below =
     go (unreported_squares board) refl (rw none at next)
   where
     go : (squares : List ℕ) → unreported_squares board ≡ squares
-        → slice_get (map (field_of board) squares ++ clock_news board) 0 ≡ Some (Content.field square piece)
+        → slice_get (map (field_of board) squares ++ clock_news board) 0
+        ≡ Some (Content.field square piece)
         → piece_on board.squares lower ≡ piece_on board.reported_squares lower
     go [] e next = absurd (no_field board.times_owed board.clock square piece next)
     go (at ∷ rest) e next =

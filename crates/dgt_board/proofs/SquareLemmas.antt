@@ -1,18 +1,8 @@
 -- The squares that differ from what was reported, and the first of them.
-use Rattle.std.proofs.Common.{arith, ◌≡◌, refl, ap, sym, ◌∙◌, ◌^◌, ℕ, zero, suc, ◌+◌, ◌<◌, [], Some, None, Bool, true, false, not, add-zero, zero-add}
-use Rattle.std.proofs.Common.{rules}
-use Rattle.std.proofs.lemmas.Bool.{eq-eqb, ne_eqb, false≢true}
-use Rattle.std.proofs.lemmas.Nat.{bit_set_by_shift}
-use Rattle.std.proofs.lemmas.Nat.Bits.{bit_at-trailing_zeros, bit_at-zero, shr_and_one}
-use Rattle.std.proofs.lemmas.Option.{slice_get-get_or}
-use Rattle.std.specs.Int.{bit_at, trailing_zeros, w64}
-use Rattle.std.specs.Prelude.{◌≢◌, filter, length, slice_get}
-use Rattle.std.specs.List.{range_with_len}
-use Rattle.dgt_values.specs.declared.pieces.Piece.{Piece}
-use Rattle.dgt_values.specs.Board.{piece_code, DifferingSquares}
-use Rattle.dgt_values.proofs.PieceCodes.{same_code}
-use Rattle.dgt_board.specs.State.{BoardState}
-use Rattle.dgt_board.specs.Sending.{differs, every_square, piece_on}
+use Rattle.std.proofs.{Common.{arith, ◌≡◌, refl, ap, sym, ◌∙◌, ◌^◌, ℕ, zero, suc, ◌+◌, ◌<◌, [], Some, None, Bool, true, false, not, add-zero, zero-add, rules}, lemmas.Bool.{eq-eqb, ne_eqb}}
+use Rattle.std.{proofs.lemmas.{Bool.{false≢true}, Nat.{bit_set_by_shift}, Option.{slice_get-get_or}, Nat.Bits.{bit_at-trailing_zeros, bit_at-zero, shr_and_one}}, specs.Int.{bit_at, trailing_zeros}}
+use Rattle.{std.specs.{Int.{w64}, List.{range_with_len}, Prelude.{◌≢◌, filter, length, slice_get}}, dgt_values.specs.{Board.{piece_code, DifferingSquares}, declared.pieces.Piece.{Piece}}}
+use Rattle.{dgt_values.proofs.PieceCodes.{same_code}, dgt_board.specs.{Sending.{differs, every_square, piece_on}, State.{BoardState}}}
 
 -- nothing of a range passes a test that fails along it
 none_passes : (test : ℕ → Bool) (a n : ℕ) → ((k : ℕ) → k < n → test (a + k) ≡ false)
@@ -36,17 +26,19 @@ first_passes test a (suc n) (suc k) within before holds =
     (rw (next k) holds))
 
 -- if no square passes, there isn't a first
-no_square : (test : ℕ → Bool) → ((k : ℕ) → k < 64 → test k ≡ false) → slice_get (filter test every_square) 0 ≡ None
+no_square : (test : ℕ → Bool) → ((k : ℕ) → k < 64 → test k ≡ false)
+    → slice_get (filter test every_square) 0 ≡ None
 unfolding every_square
 no_square test h = rw (none_passes test 0 64 (λ k l. rw (zero-add k) (h k l))) refl
 
 -- the first square that passes is the first of those
-first_square : (test : ℕ → Bool) (at : ℕ) → at < 64 → ((k : ℕ) → k < at → test k ≡ false) → test at ≡ true
-    → slice_get (filter test every_square) 0 ≡ Some at
+first_square : (test : ℕ → Bool) (at : ℕ) → at < 64 → ((k : ℕ) → k < at → test k ≡ false)
+    → test at ≡ true → slice_get (filter test every_square) 0 ≡ Some at
 unfolding every_square
 first_square test at within before holds =
     rw (← zero-add at)
-    (first_passes test 0 64 at within (λ k l. rw (zero-add k) (before k l)) (rw (zero-add at) holds))
+    (first_passes test 0 64 at within (λ k l. rw (zero-add k) (before k l))
+    (rw (zero-add at) holds))
 
 -- ---- a mask of the squares that differ
 
@@ -78,13 +70,15 @@ module _ (board : BoardState) (mask : ℕ) (reported_all : length board.reported
           sym reported ∙ same ∙ shown in
           let piece : piece_on board.reported_squares k ≡ piece_on board.squares k = cc in
           absurd (false≢true (sym (ap not (eq-eqb _ _ (ap piece_code piece))) ∙ e)) in
-          let one = sym (shr_and_one mask k) ∙ (bit_set_by_shift mask k).1 ((reports k within).1 apart) in
+          let one =
+          sym (shr_and_one mask k) ∙ (bit_set_by_shift mask k).1 ((reports k within).1 apart) in
           absurd (omega (arith, clear, one))
 
   -- with no bit set, no square differs
   pub none_differs : mask ≡ 0 → slice_get (filter (differs board) every_square) 0 ≡ None
   none_differs none =
-      no_square (differs board) (λ k within. clear_same k within (ap (λ m. bit_at m k) none ∙ bit_at-zero k))
+      no_square (differs board)
+      (λ k within. clear_same k within (ap (λ m. bit_at m k) none ∙ bit_at-zero k))
 
   -- the lowest bit is that of the first square that differs
   pub lowest_differs : 0 < mask → mask < 2 ^ 64
@@ -92,5 +86,6 @@ module _ (board : BoardState) (mask : ℕ) (reported_all : length board.reported
   lowest_differs some fits =
       let lowest = bit_at-trailing_zeros w64 mask some fits in
       let at = trailing_zeros w64 mask in
-      first_square (differs board) at lowest.0 (λ k below. clear_same k (omega (arith, lowest.0)) (lowest.2 k below))
+      first_square (differs board) at lowest.0
+      (λ k below. clear_same k (omega (arith, lowest.0)) (lowest.2 k below))
       (set_differs at lowest.0 lowest.1)

@@ -1,15 +1,11 @@
 -- The bytes that a board has taken.
-use Rattle.std.proofs.Common.{◌≡◌, refl, ap, ℕ, List, [], ◌∷◌, ◌++◌, Some, append-nil, append_assoc}
-use Rattle.std.proofs.Common.{rules}
-use Rattle.dgt_command.specs.Content.{EventContent}
-use Rattle.dgt_command.specs.Laws.{DivisionsAppend}
-use Rattle.dgt_command.specs.Words.{IsPartial, IsWord}
-use Rattle.dgt_board.specs.State.{BoardState, effect, effects}
-use Rattle.dgt_board.specs.View.{BoardView, HasTaken, after_bytes}
+use Rattle.{std.proofs.Common.{◌≡◌, refl, ap, ℕ, List, [], ◌∷◌, ◌++◌, Some, append-nil, append_assoc, rules}, dgt_command.specs.{Content.{EventContent}, Laws.{DivisionsAppend}, Words.{IsPartial}}}
+use Rattle.{dgt_command.specs.Words.{IsWord}, dgt_board.specs.{State.{BoardState, effect, effects}, View.{BoardView, HasTaken, after_bytes}}}
 
 -- bytes that complete a frame are taken
 pub takes_word : IsPartial [] → (before after : BoardView) (bytes : List ℕ) (event : EventContent)
-    → IsWord event (before.partial ++ bytes) → after.state ≡ effect before.state event → after.partial ≡ []
+    → IsWord event (before.partial ++ bytes) → after.state ≡ effect before.state event
+    → after.partial ≡ []
     → (after ≡ after_bytes before bytes (Some event)) × HasTaken before bytes after
 takes_word nothing before after bytes event word state rest = (
   rw (← state, ← rest) refl,
@@ -28,7 +24,8 @@ effects-append board (event ∷ events) more = effects-append (effect board even
 
 -- taking in parts is taking together
 pub takes_on : DivisionsAppend → (before between after : BoardView) (bytes more : List ℕ)
-    → HasTaken before bytes between → HasTaken between more after → HasTaken before (bytes ++ more) after
+    → HasTaken before bytes between → HasTaken between more after
+    → HasTaken before (bytes ++ more) after
 takes_on append before between after bytes more first next = record {
   events = first.events ++ next.events;
   divided = search (rules, append_assoc);

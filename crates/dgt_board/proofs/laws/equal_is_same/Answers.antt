@@ -1,5 +1,4 @@
-use Rattle.dgt_command.specs.declared.decoder.CommandFed.{CommandFed}
-use Rattle.dgt_board.specs.declared.boards.Taken.{Taken}
+use Rattle.{dgt_command.specs.declared.decoder.CommandFed.{CommandFed}, dgt_board.specs.declared.boards.Taken.{Taken}}
 use Rattle.dgt_board.proofs.laws.equal_is_same.Goals as goal
 
 -- the result of a decoder of commands

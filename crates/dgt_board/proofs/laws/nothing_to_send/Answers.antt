@@ -1,5 +1,4 @@
-use Rattle.dgt_board.specs.Sending.{pending_messages}
-use Rattle.dgt_board.proofs.SendingLemmas.{none_first, none_owed}
+use Rattle.dgt_board.{specs.Sending.{pending_messages}, proofs.SendingLemmas.{none_first, none_owed}}
 use Rattle.dgt_board.proofs.laws.nothing_to_send.Goals as goal
 
 pub returns-clause-nothing_left : goal.returns-clause-nothing_left

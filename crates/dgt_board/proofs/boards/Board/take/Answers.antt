@@ -1,14 +1,10 @@
-use Rattle.std.proofs.Common.{rules, ◌≡◌, refl, [], ◌++◌, take}
-use Rattle.dgt_command.specs.Content.{EventContent, Read, command_content, command_event_content}
-use Rattle.dgt_command.specs.Words.{IsWord}
-use Rattle.dgt_board.specs.State.{effect}
-use Rattle.dgt_board.specs.Kept.{state_of}
-use Rattle.dgt_board.specs.View.{BoardView}
-use Rattle.dgt_board.proofs.TakingLemmas.{takes_word}
+use Rattle.{std.proofs.Common.{rules, ◌≡◌, refl, [], ◌++◌, take}, dgt_command.specs.{Content.{EventContent, Read, command_content, command_event_content}, Words.{IsWord}}}
+use Rattle.dgt_board.{specs.{Kept.{state_of}, State.{effect}, View.{BoardView}}, proofs.TakingLemmas.{takes_word}}
 use Rattle.dgt_board.proofs.boards.Board.take.Goals as goal
 
 pub invariant_of-self-2 : goal.invariant_of-self-2
-invariant_of-self-2 c = rw (c.advance-advanced.ensures.held, c.in-Some-found.is) c.parts_of_words.ensures.nothing
+invariant_of-self-2 c =
+    rw (c.advance-advanced.ensures.held, c.in-Some-found.is) c.parts_of_words.ensures.nothing
 
 pub returns : goal.returns
 returns c =
@@ -31,5 +27,6 @@ returns-in-Some c =
     let state : state_of c.obey_bare.new.self ≡ effect c.args.self.now.state event =
     rw (← c.self.view_is) c.obey_bare.ensures in
     let after : BoardView = record { state = state_of c.obey_bare.new.self; partial = [] } in
-    let both = takes_word c.parts_of_words.ensures.nothing c.args.self.now after bytes event word state refl in
+    let both =
+    takes_word c.parts_of_words.ensures.nothing c.args.self.now after bytes event word state refl in
     search rules

@@ -1,6 +1,4 @@
-use Rattle.std.proofs.Common.{rules}
-use Rattle.std.proofs.lemmas.Nat.Bits.{bit_at-trailing_zeros}
-use Rattle.dgt_board.proofs.SquareLemmas.{none_differs, lowest_differs}
+use Rattle.{std.proofs.{Common.{rules}, lemmas.Nat.Bits.{bit_at-trailing_zeros}}, dgt_board.proofs.SquareLemmas.{none_differs, lowest_differs}}
 use Rattle.dgt_board.proofs.state.State.differing_square.Goals as goal
 
 pub returns-then-differing-eq0 : goal.returns-then-differing-eq0

@@ -1,8 +1,5 @@
-use Rattle.std.proofs.Common.{sym, subst, ◌∙◌, ap, drop, ◌<◌, ◌≡◌}
-use Rattle.dgt_board.proofs.SendingLemmas.{sending_lowers}
+use Rattle.{std.proofs.Common.{sym, subst, ◌∙◌, ap, drop, ◌<◌, ◌≡◌}, dgt_board.{proofs.SendingLemmas.{sending_lowers}, specs.{Kept.{due_message, state_of}, Sending.{after_sending, left_to_send}}}}
 use Rattle.dgt_board.specs.State.{BoardState}
-use Rattle.dgt_board.specs.Kept.{due_message, state_of}
-use Rattle.dgt_board.specs.Sending.{after_sending, left_to_send}
 use Rattle.dgt_board.proofs.state.State.send.Goals as goal
 
 pub returns-in-Ok-clause-falls : goal.returns-in-Ok-clause-falls
@@ -14,4 +11,5 @@ returns-in-Ok-clause-falls c =
     let with_less : BoardState → BoardState = λ board. record board { owed = drop 1 board.owed } in
     let sent : state_of c.drop_reply.new.self ≡ after_sending before message =
     c.drop_reply.ensures ∙ ap with_less c.note_reported.ensures in
-    λ _ _. subst Lower (sym sent) (sending_lowers before message c.args.self.now.reported_squares.all next)
+    λ _ _. subst Lower (sym sent)
+    (sending_lowers before message c.args.self.now.reported_squares.all next)
