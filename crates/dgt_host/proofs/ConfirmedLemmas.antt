@@ -1,20 +1,11 @@
 -- The effect of a faulty line on a confirmed picture.
-use Rattle.std.proofs.Common.{◌≡◌, ◌⊎◌, inl, inr, ◌+◌, ◌≤◌, Bool, true, false, not, ◌&&◌, nat_eq, Option, Some, None, refl, sym, ap, ◌∙◌, ℕ, List, [], ◌∷◌, ◌++◌, append_assoc, zero, suc, slice_get, slice_set, option_to_list, arith}
-use Rattle.std.proofs.Common.{rules}
-use Rattle.std.specs.Prelude.{◌↔◌, ◌≢◌, IsTrue}
-use Rattle.std.proofs.Math.Bool.{and-true}
-use Rattle.std.proofs.lemmas.Bool.{eqb-true, eq-eqb, false≢true}
-use Rattle.dgt_values.specs.declared.pieces.Piece.{Piece}
-use Rattle.dgt_values.specs.Board.{piece_code}
-use Rattle.dgt_values.proofs.PieceCodes.{same_code}
-use Rattle.dgt_message.specs.Content.{Content, content}
-use Rattle.dgt_message.specs.declared.message.Message.{Message}
-use Rattle.dgt_values.specs.declared.positions.Position.{Position}
-use Rattle.dgt_values.specs.declared.squares.Square.{Square}
-use Rattle.dgt_message.specs.Content.Content.{dump, field}
-use Rattle.dgt_message.specs.Picture.{picture_after, picture_after_all}
-use Rattle.dgt_host.specs.Confirmed.{same_pieces, differ, changes, repeats, confirmed_after, confirmed_after_all, AllLeave, Passage, Whole, Faulty, heard_in, sent, heard, faults_after, faults_after_all, IsRight, reported_by, ConfirmedWasReported, ConfirmedIsReported, TwoFaultsSuffice, LateFaultsSuffice, UnconfirmedIsWrong, ConfirmedByDump, ChangesIsExact, FaultlessIsRight}
-use Rattle.std.proofs.lemmas.Grind.{common_steps}
+use Rattle.std.proofs.Common.{◌≡◌, ◌⊎◌, inl, inr, ◌+◌, ◌≤◌, Bool, true, false, not, ◌&&◌, nat_eq, Option, Some, None, refl, sym, ap, ◌∙◌, ℕ, List, [], ◌∷◌, ◌++◌, append_assoc, zero, suc, slice_get}
+use Rattle.std.{proofs.{Common.{slice_set, option_to_list, arith, rules}, Math.Bool.{and-true}, lemmas.{Bool.{eqb-true, eq-eqb, false≢true}, Grind.{common_steps}}}, specs.Prelude.{◌↔◌, ◌≢◌, IsTrue}}
+use Rattle.dgt_values.{specs.{Board.{piece_code}, declared.{pieces.Piece.{Piece}, positions.Position.{Position}, squares.Square.{Square}}}, proofs.PieceCodes.{same_code}}
+use Rattle.dgt_message.specs.{Content.{Content, content}, Picture.{picture_after, picture_after_all}, Content.Content.{dump, field}, declared.message.Message.{Message}}
+use Rattle.dgt_host.specs.Confirmed.{same_pieces, differ, changes, repeats, confirmed_after, confirmed_after_all, AllLeave, Passage, Whole, Faulty, heard_in, sent, heard, faults_after}
+use Rattle.dgt_host.specs.Confirmed.{faults_after_all, IsRight, reported_by, ConfirmedWasReported, ConfirmedIsReported, TwoFaultsSuffice, LateFaultsSuffice, UnconfirmedIsWrong, ConfirmedByDump}
+use Rattle.dgt_host.specs.Confirmed.{ChangesIsExact, FaultlessIsRight}
 
 -- ---- Booleans
 
@@ -38,8 +29,10 @@ same_is [] (y ∷ b) e = cc
 same_is (x ∷ a) [] e = cc
 same_is (x ∷ a) (y ∷ b) e =
     let head : x ≡ y =
-    same_code x y (eqb-true _ _ (first_of (nat_eq (piece_code x) (piece_code y)) (same_pieces a b) e)) in
-    let tail : a ≡ b = same_is a b (second_of (nat_eq (piece_code x) (piece_code y)) (same_pieces a b) e) in
+    same_code x y
+    (eqb-true _ _ (first_of (nat_eq (piece_code x) (piece_code y)) (same_pieces a b) e)) in
+    let tail : a ≡ b =
+    same_is a b (second_of (nat_eq (piece_code x) (piece_code y)) (same_pieces a b) e) in
     cc
 
 pub is_same : (a : List Piece) → same_pieces a a ≡ true
@@ -47,12 +40,14 @@ is_same [] = refl
 is_same (x ∷ a) = rw (eq-eqb (piece_code x) (piece_code x) refl) (is_same a)
 
 -- whether two pictures are compared as equal
-pub compared : (equal : Bool) (a b : List Piece) → IsTrue equal ↔ (a ≡ b) → not equal ≡ not (same_pieces a b)
+pub compared : (equal : Bool) (a b : List Piece) → IsTrue equal ↔ (a ≡ b)
+    → not equal ≡ not (same_pieces a b)
 compared true a b iff = rw (iff.0 refl, is_same b) refl
 compared false a b iff = search (rules, false≢true, same_is)
 
 -- one square is set
-pub same_set : (a : List Piece) (square : ℕ) (before after : Piece) → slice_get a square ≡ Some before
+pub same_set : (a : List Piece) (square : ℕ) (before after : Piece)
+    → slice_get a square ≡ Some before
     → same_pieces a (slice_set a square after) ≡ nat_eq (piece_code before) (piece_code after)
 same_set [] square before after e = cc
 same_set (x ∷ a) zero before after e = search (rules, is_same, and-true)
@@ -63,7 +58,8 @@ pub unmoved : (picture : Option (List Piece)) → differ picture picture ≡ fal
 unmoved picture = search (rules, is_same)
 
 -- a message that is neither a dump nor a field update
-pub quiet : (picture : Option (List Piece)) (m : Message) → ((x : Position) → m ≡ Message.Dump x → ⊥)
+pub quiet : (picture : Option (List Piece)) (m : Message)
+    → ((x : Position) → m ≡ Message.Dump x → ⊥)
     → ((x : Square) (y : Piece) → m ≡ Message.Field x y → ⊥)
     → (picture ≡ picture_after picture (content m)) × (false ≡ changes picture (content m))
 quiet picture m no_one no_other = search (rules, unmoved)
@@ -102,7 +98,8 @@ record NoDump (said : Content) : Type 0 where
 kinds : (said : Content) → ((pieces : List Piece) × (said ≡ dump pieces)) ⊎ NoDump said
 kinds said = search rules
 
-some_after : (picture : Option (List Piece)) (said : Content) → Known picture → Known (picture_after picture said)
+some_after : (picture : Option (List Piece)) (said : Content) → Known picture
+    → Known (picture_after picture said)
 some_after picture said (known, is) = rw is (known_after known said)
 
 -- ---- Without a fault
@@ -110,65 +107,79 @@ some_after picture said (known, is) = rw is (known_after known said)
 abbrev Right : Option (List Piece) → Option (List Piece) → Type 0
 Right reported shown = (shown ≡ None) ⊎ (shown ≡ reported)
 
-right_known : (reported shown : Option (List Piece)) → Right reported shown → Known shown → shown ≡ reported
+right_known : (reported shown : Option (List Piece)) → Right reported shown → Known shown
+    → shown ≡ reported
 right_known reported shown h2 is = search rules
 
-right_after : (reported shown : Option (List Piece)) (said : Content) → NoDump said → Right reported shown
-    → Right (picture_after reported said) (picture_after shown said)
+right_after : (reported shown : Option (List Piece)) (said : Content) → NoDump said
+    → Right reported shown → Right (picture_after reported said) (picture_after shown said)
 right_after reported shown said no_dump h4 = search rules
 
 -- ---- What always holds
 
-record Holds (reported : Option (List Piece)) (restated : Bool) (shown : Option (List Piece)) (confirmed : Bool)
+record Holds (reported : Option (List Piece)) (restated : Bool) (shown : Option (List Piece))
+    (confirmed : Bool)
     (faults : ℕ) : Type 0 where
   reports : Known reported
   known : confirmed ≡ true → Known shown
   right : faults ≡ 0 → Right reported shown
   is : confirmed ≡ true → restated ≡ true → faults ≤ 1 → shown ≡ reported
 
-module _ (reported : Option (List Piece)) (restated : Bool) (shown : Option (List Piece)) (confirmed : Bool)
+module _ (reported : Option (List Piece)) (restated : Bool) (shown : Option (List Piece))
+    (confirmed : Bool)
     (faults : ℕ) (holds : Holds reported restated shown confirmed faults) where
   whole_holds : (said : Content)
-      → Holds (picture_after reported said) (confirmed_after restated reported said) (picture_after shown said)
-      (confirmed_after confirmed shown said) (faults_after faults (Whole said))
+      → Holds (picture_after reported said) (confirmed_after restated reported said)
+      (picture_after shown said) (confirmed_after confirmed shown said)
+      (faults_after faults (Whole said))
   whole_holds said = search (rules, kinds, some_after, stays, right_after, first_of)
 
-faulty_holds : (reported : Option (List Piece)) (restated : Bool) (shown : Option (List Piece)) (confirmed : Bool)
-    (faults : ℕ) (sent heard : Option Content) → Holds reported restated shown confirmed faults
+faulty_holds : (reported : Option (List Piece)) (restated : Bool) (shown : Option (List Piece))
+    (confirmed : Bool) (faults : ℕ) (sent heard : Option Content)
+    → Holds reported restated shown confirmed faults
     → Holds (picture_after_all reported (option_to_list sent))
-    (confirmed_after_all restated reported (option_to_list sent)) (picture_after_all shown (option_to_list heard))
+    (confirmed_after_all restated reported (option_to_list sent))
+    (picture_after_all shown (option_to_list heard))
     (confirmed_after_all confirmed shown (option_to_list heard)) (faults + 1)
 faulty_holds reported restated shown confirmed faults sent heard holds =
     search (rules, right_known, stays, some_after)
 
-all_hold : (reported : Option (List Piece)) (restated : Bool) (shown : Option (List Piece)) (confirmed : Bool)
-    (faults : ℕ) (line : List Passage) → Holds reported restated shown confirmed faults
-    → Holds (picture_after_all reported (sent line)) (confirmed_after_all restated reported (sent line))
-    (picture_after_all shown (heard line)) (confirmed_after_all confirmed shown (heard line))
-    (faults_after_all faults line)
+all_hold : (reported : Option (List Piece)) (restated : Bool) (shown : Option (List Piece))
+    (confirmed : Bool) (faults : ℕ) (line : List Passage)
+    → Holds reported restated shown confirmed faults
+    → Holds (picture_after_all reported (sent line))
+    (confirmed_after_all restated reported (sent line)) (picture_after_all shown (heard line))
+    (confirmed_after_all confirmed shown (heard line)) (faults_after_all faults line)
 all_hold reported restated shown confirmed faults [] holds = holds
 all_hold reported restated shown confirmed faults (Whole said ∷ more) holds =
-    all_hold (picture_after reported said) (confirmed_after restated reported said) (picture_after shown said)
+    all_hold (picture_after reported said) (confirmed_after restated reported said)
+    (picture_after shown said)
     (confirmed_after confirmed shown said) (faults_after faults (Whole said)) more
     (whole_holds reported restated shown confirmed faults holds said)
 all_hold reported restated shown confirmed faults (Faulty None None ∷ more) holds =
     all_hold reported restated shown confirmed (faults + 1) more
     (faulty_holds reported restated shown confirmed faults None None holds)
 all_hold reported restated shown confirmed faults (Faulty None (Some b) ∷ more) holds =
-    all_hold reported restated (picture_after shown b) (confirmed_after confirmed shown b) (faults + 1) more
-    (faulty_holds reported restated shown confirmed faults None (Some b) holds)
+    all_hold reported restated (picture_after shown b) (confirmed_after confirmed shown b)
+    (faults + 1) more (faulty_holds reported restated shown confirmed faults None (Some b) holds)
 all_hold reported restated shown confirmed faults (Faulty (Some a) None ∷ more) holds =
-    all_hold (picture_after reported a) (confirmed_after restated reported a) shown confirmed (faults + 1) more
-    (faulty_holds reported restated shown confirmed faults (Some a) None holds)
+    all_hold (picture_after reported a) (confirmed_after restated reported a) shown confirmed
+    (faults + 1) more (faulty_holds reported restated shown confirmed faults (Some a) None holds)
 all_hold reported restated shown confirmed faults (Faulty (Some a) (Some b) ∷ more) holds =
-    all_hold (picture_after reported a) (confirmed_after restated reported a) (picture_after shown b)
-    (confirmed_after confirmed shown b) (faults + 1) more
+    all_hold (picture_after reported a) (confirmed_after restated reported a)
+    (picture_after shown b) (confirmed_after confirmed shown b) (faults + 1) more
     (faulty_holds reported restated shown confirmed faults (Some a) (Some b) holds)
 
 begins : (reported : List Piece) (shown : Option (List Piece)) → IsRight reported shown
     → Holds (Some reported) false shown false 0
 begins reported shown right =
-    record { reports = (reported, refl); known = λ e. cc; right = λ e. right; is = λ e again few. cc }
+    record {
+      reports = (reported, refl);
+      known = λ e. cc;
+      right = λ e. right;
+      is =
+          λ e again few. cc;
+    }
 
 pub confirmed_is : ConfirmedIsReported
 confirmed_is reported shown line right few again e =
@@ -177,11 +188,13 @@ confirmed_is reported shown line right few again e =
 -- ---- The dump that confirmed
 
 pub pictures_append : (picture : Option (List Piece)) (said more : List Content)
-    → picture_after_all picture (said ++ more) ≡ picture_after_all (picture_after_all picture said) more
+    → picture_after_all picture (said ++ more)
+    ≡ picture_after_all (picture_after_all picture said) more
 pictures_append picture [] more = refl
 pictures_append picture (m ∷ said) more = pictures_append (picture_after picture m) said more
 
-heard_append : (earlier later : List Passage) → heard (earlier ++ later) ≡ heard earlier ++ heard later
+heard_append : (earlier later : List Passage)
+    → heard (earlier ++ later) ≡ heard earlier ++ heard later
 heard_append earlier later = grind (arith, common_steps, append_assoc)
 
 all_leave : (pieces : List Piece) (said : List Content) → AllLeave pieces said
@@ -189,13 +202,15 @@ all_leave : (pieces : List Piece) (said : List Content) → AllLeave pieces said
 all_leave pieces [] leave = refl
 all_leave pieces (m ∷ said) leave = rw (unchanged pieces m leave.0) (all_leave pieces said leave.1)
 
-repeated : (shown : Option (List Piece)) (pieces : List Piece) → repeats shown pieces ≡ true → shown ≡ Some pieces
+repeated : (shown : Option (List Piece)) (pieces : List Piece) → repeats shown pieces ≡ true
+    → shown ≡ Some pieces
 repeated (Some known) pieces e = ap Some (same_is known pieces e)
 repeated None pieces e = cc
 
-shown_by : (reported shown : Option (List Piece)) (pieces : List Piece) (faults : ℕ) (passage : Passage)
-    → (faults ≡ 0 → Right reported shown) → heard_in passage ≡ dump pieces ∷ [] → repeats shown pieces ≡ true
-    → faults_after faults passage ≤ 1 → Some pieces ≡ reported_by reported passage
+shown_by : (reported shown : Option (List Piece)) (pieces : List Piece) (faults : ℕ)
+    (passage : Passage) → (faults ≡ 0 → Right reported shown) → heard_in passage ≡ dump pieces ∷ []
+    → repeats shown pieces ≡ true → faults_after faults passage ≤ 1
+    → Some pieces ≡ reported_by reported passage
 shown_by reported shown pieces faults passage right is again few =
     search (rules, repeated, right_known)
 
@@ -209,13 +224,21 @@ confirmed_was reported pieces shown earlier later passage right is again leave f
 
 pub two_faults : TwoFaultsSuffice
 two_faults a b =
-    record { counts = refl; restates = is_same a; confirms = is_same b; reports = refl; shows = refl }
+    record {
+      counts = refl;
+      restates = is_same a;
+      confirms = is_same b;
+      reports = refl;
+      shows =
+          refl;
+    }
 
 pub late_faults : LateFaultsSuffice
 late_faults a square piece changed = search (rules, is_same)
 
 pub unconfirmed : UnconfirmedIsWrong
-unconfirmed a b = record { counts = refl; restates = is_same a; confirms = refl; reports = refl; shows = refl }
+unconfirmed a b =
+    record { counts = refl; restates = is_same a; confirms = refl; reports = refl; shows = refl }
 
 -- ---- The meaning of a confirmed picture
 
@@ -230,8 +253,8 @@ Before : Option (List Piece) → Bool → List Content → Type 0
 Before shown confirmed said =
     (confirmed ≡ true) × ((known : List Piece) → shown ≡ Some known → AllLeave known said)
 
-later_by : (shown : Option (List Piece)) (m : Content) (said : List Content) → By (picture_after shown m) said
-    → By shown (m ∷ said)
+later_by : (shown : Option (List Piece)) (m : Content) (said : List Content)
+    → By (picture_after shown m) said → By shown (m ∷ said)
 unfolding By
 later_by shown m said (pieces, before, after, is, again, leave) =
     (pieces, m ∷ before, after, ap (λ (xs : List Content). m ∷ xs) is, again, leave)
@@ -258,13 +281,16 @@ by_which shown confirmed (m ∷ said) e =
       leave pieces (ap (picture_after shown) is),
     )
     go (inr no_dump) (again, leave) =
-        let both : (confirmed && not (changes shown m)) ≡ true = sym (no_dump.rest confirmed shown) ∙ again in
+        let both : (confirmed && not (changes shown m)) ≡ true =
+        sym (no_dump.rest confirmed shown) ∙ again in
         let same : changes shown m ≡ false = not_true _ (second_of confirmed _ both) in
         inl (
           first_of confirmed _ both,
           λ known is. (
             rw is at same,
-            leave known (ap (λ (p : Option (List Piece)). picture_after p m) is ∙ unchanged known m (rw is at same)),
+            leave known
+                (ap (λ (p : Option (List Piece)). picture_after p m) is
+                ∙ unchanged known m (rw is at same)),
           ),
         )
 
@@ -283,13 +309,15 @@ faultless reported shown line right none =
 
 -- ---- A follower records no more than its messages say
 
-more_confirms : (a b : Bool) → (a ≡ true → b ≡ true) → (picture : Option (List Piece)) (said : Content)
-    → confirmed_after a picture said ≡ true → confirmed_after b picture said ≡ true
+more_confirms : (a b : Bool) → (a ≡ true → b ≡ true)
+    → (picture : Option (List Piece)) (said : Content) → confirmed_after a picture said ≡ true
+    → confirmed_after b picture said ≡ true
 more_confirms a b more picture said e = search (rules, kinds, first_of, second_of)
 
-pub confirms_more : (a b : Bool) → (a ≡ true → b ≡ true) → (picture : Option (List Piece)) (said : List Content)
+pub confirms_more : (a b : Bool) → (a ≡ true → b ≡ true)
+    → (picture : Option (List Piece)) (said : List Content)
     → confirmed_after_all a picture said ≡ true → confirmed_after_all b picture said ≡ true
 confirms_more a b more picture [] e = more e
 confirms_more a b more picture (m ∷ said) e =
-    confirms_more (confirmed_after a picture m) (confirmed_after b picture m) (more_confirms a b more picture m)
-    (picture_after picture m) said e
+    confirms_more (confirmed_after a picture m) (confirmed_after b picture m)
+    (more_confirms a b more picture m) (picture_after picture m) said e

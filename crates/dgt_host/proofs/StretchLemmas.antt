@@ -1,12 +1,7 @@
 -- Bytes that a line has altered, between whole messages.
-use Rattle.std.proofs.Common.{◌≡◌, ◌+◌, refl, ap, ◌∙◌, ℕ, List, [], ◌∷◌, ◌++◌, append_assoc, append-nil}
-use Rattle.std.proofs.Common.{rules}
-use Rattle.std.specs.List.{AllByRecursion, flat_map}
-use Rattle.dgt_message.specs.Content.{Content, IsMessage}
-use Rattle.dgt_message.specs.Encoding.{encoding}
-use Rattle.dgt_decode.specs.Grammar.{Message, Placed, cut_of, events, shifted, unfinished_message}
-use Rattle.dgt_decode.specs.Laws.{EncodingIsRead, EventsAppend, UnfinishedAppend}
-use Rattle.dgt_host.specs.Confirmed.{StretchIsOne, message_in, messages}
+use Rattle.{std.{proofs.Common.{◌≡◌, ◌+◌, refl, ap, ◌∙◌, ℕ, List, [], ◌∷◌, ◌++◌, append_assoc, append-nil, rules}, specs.List.{AllByRecursion, flat_map}}, dgt_message.specs.Content.{Content}}
+use Rattle.{dgt_message.specs.{Content.{IsMessage}, Encoding.{encoding}}, dgt_decode.specs.{Grammar.{Message, Placed, cut_of, events, shifted, unfinished_message}, Laws.{EncodingIsRead}}}
+use Rattle.{dgt_decode.specs.Laws.{EventsAppend, UnfinishedAppend}, dgt_host.specs.Confirmed.{StretchIsOne, message_in, messages}}
 
 pub messages_append : (xs ys : List Placed) → messages (xs ++ ys) ≡ messages xs ++ messages ys
 messages_append [] ys = refl
@@ -14,7 +9,8 @@ messages_append (x ∷ xs) ys = search (rules, append_assoc, messages_append xs 
 
 pub messages_behind : (n : ℕ) (xs : List Placed) → messages (shifted n xs) ≡ messages xs
 messages_behind n [] = refl
-messages_behind n (x ∷ xs) = ap (λ (m : List Content). message_in x.event ++ m) (messages_behind n xs)
+messages_behind n (x ∷ xs) =
+    ap (λ (m : List Content). message_in x.event ++ m) (messages_behind n xs)
 
 no_message : (n : ℕ) (unread : List ℕ) → messages (shifted n (cut_of unread)) ≡ []
 no_message n unread = search rules
@@ -51,5 +47,6 @@ module _ (read : EncodingIsRead) (later : EventsAppend) (still : UnfinishedAppen
       let whole : messages (events first) ≡ before = many_more [] before are_before
       ∙ ap (λ (m : List Content). m ++ before) nothing_said.1 in
       many_more (first ++ bytes) after are_after
-      ∙ ap (λ (m : List Content). m ++ after) (by_themselves first bytes (ends [] before nothing_said.0 are_before)
+      ∙ ap (λ (m : List Content). m ++ after)
+      (by_themselves first bytes (ends [] before nothing_said.0 are_before)
       ∙ ap (λ (m : List Content). m ++ messages (events bytes)) whole)

@@ -1,5 +1,4 @@
-use Rattle.std.proofs.Common.{option_map, rules}
-use Rattle.dgt_host.proofs.ConfirmedLemmas.{quiet}
+use Rattle.{std.proofs.Common.{option_map, rules}, dgt_host.proofs.ConfirmedLemmas.{quiet}}
 use Rattle.dgt_host.proofs.hearing.set_picture.Goals as goal
 
 pub returns-in_default : goal.returns-in_default

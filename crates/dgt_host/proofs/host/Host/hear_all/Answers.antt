@@ -1,6 +1,4 @@
-use Rattle.std.proofs.Common.{rules}
-use Rattle.std.proofs.lemmas.List.{length-drop, take_all, take_rest}
-use Rattle.dgt_host.proofs.HearingLemmas.{heard_more}
+use Rattle.{std.proofs.{Common.{rules}, lemmas.List.{length-drop, take_all, take_rest}}, dgt_host.proofs.HearingLemmas.{heard_more}}
 use Rattle.dgt_host.proofs.host.Host.hear_all.Goals as goal
 
 pub loop-at-preserved : goal.loop-at-preserved

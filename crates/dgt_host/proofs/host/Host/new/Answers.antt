@@ -1,5 +1,4 @@
-use Rattle.std.proofs.Common.{refl}
-use Rattle.dgt_decode.specs.Grammar.{unfinished_message}
+use Rattle.{std.proofs.Common.{refl}, dgt_decode.specs.Grammar.{unfinished_message}}
 use Rattle.dgt_host.proofs.host.Host.new.Goals as goal
 
 pub returns : goal.returns
