@@ -1,13 +1,7 @@
 -- A byte with a set top bit starts over, whatever was received before.
-use Rattle.std.proofs.Common.{◌≡◌, ℕ, ◌+◌, ◌-◌, ◌≤◌, List, ◌∷◌, ◌++◌, length, true, refl, sym, ap, ◌∙◌, arith}
-use Rattle.std.proofs.lemmas.List.{append-nil}
-use Rattle.std.proofs.lemmas.Bool.{le-leb}
-use Rattle.dgt_decode.specs.Grammar.{Placed, shifted, has_top_bit, cut_of, events, unfinished_message}
-use Rattle.dgt_decode.specs.Laws.{BeginsAnew}
-use Rattle.dgt_decode.proofs.Places.{shifted-shifted, shifted-zero}
-use Rattle.dgt_decode.proofs.Cuts.{lead-append, segments-append}
-use Rattle.dgt_decode.proofs.Appending.{events-append}
-use Rattle.dgt_decode.proofs.UnfinishedLemmas.{IsUnfinished, nothing, waiting, IsUnfinished-unfinished, length-unfinished, unfinished-append}
+use Rattle.{std.proofs.{Common.{◌≡◌, ℕ, ◌+◌, ◌-◌, ◌≤◌, List, ◌∷◌, ◌++◌, length, true, refl, sym, ap, ◌∙◌, arith}, lemmas.{Bool.{le-leb}, List.{append-nil}}}, dgt_decode.specs.Grammar.{Placed}}
+use Rattle.dgt_decode.{specs.{Grammar.{shifted, has_top_bit, cut_of, events, unfinished_message}, Laws.{BeginsAnew}}, proofs.{Appending.{events-append}, Cuts.{lead-append, segments-append}}}
+use Rattle.dgt_decode.proofs.{Places.{shifted-shifted, shifted-zero}, UnfinishedLemmas.{IsUnfinished, nothing, waiting, IsUnfinished-unfinished, length-unfinished, unfinished-append}}
 
 has_top : (b : ℕ) → 128 ≤ b → has_top_bit b ≡ true
 has_top b top = le-leb 128 b top
@@ -48,5 +42,6 @@ begins_anew s p b top =
           ∙ ap (λ (zs : List Placed). events s ++ zs)
           (shifted-shifted (length s - length o) (length o) reported
           ∙ ap (λ (n : ℕ). shifted n reported) here),
-      unfinished-append s (b ∷ p) ∙ unfinished_behind_unfinished o (IsUnfinished-unfinished s) b p top,
+      unfinished-append s (b ∷ p)
+          ∙ unfinished_behind_unfinished o (IsUnfinished-unfinished s) b p top,
     )

@@ -1,25 +1,19 @@
 -- Bytes in any chunks.
-use Rattle.std.proofs.Common.{◌≡◌, ℕ, ◌+◌, ◌-◌, ◌≤◌, List, [], ◌∷◌, ◌++◌, length, take, Option, sym, ap, subst, ◌∙◌, append_assoc, arith}
-use Rattle.std.proofs.Common.{rules}
-use Rattle.std.proofs.lemmas.List.{append-nil, append_cancel_left, length-append, length-take}
-use Rattle.std.proofs.Math.Seq.{take-length}
-use Rattle.dgt_message.specs.Content.{Content, IsMessage}
-use Rattle.dgt_message.specs.Encoding.{encoding}
-use Rattle.dgt_decode.specs.Grammar.{Event, Message, at_place, shifted, cut_of, events, unfinished_message}
-use Rattle.dgt_decode.specs.Feeding.{FirstEvent, at_place_if_any}
-use Rattle.dgt_decode.specs.Laws.{Call, AreCalls, used_bytes, events_in_chunks}
-use Rattle.dgt_decode.proofs.Appending.{events-append}
-use Rattle.dgt_decode.proofs.UnfinishedLemmas.{unfinished-append, length-unfinished}
-use Rattle.dgt_decode.proofs.Loops.{shifted-at_place_if_any}
-use Rattle.dgt_decode.proofs.Encoded.{AreRead, AreEncoded, encoding_is_read}
+use Rattle.std.proofs.{Common.{◌≡◌, ℕ, ◌+◌, ◌-◌, ◌≤◌, List, [], ◌∷◌, ◌++◌, length, take, Option, sym, ap, subst, ◌∙◌, append_assoc, arith, rules}, Math.Seq.{take-length}, lemmas.List.{append-nil}}
+use Rattle.{std.proofs.lemmas.List.{append_cancel_left, length-append, length-take}, dgt_message.specs.{Content.{Content, IsMessage}, Encoding.{encoding}}, dgt_decode.specs.Feeding.{FirstEvent}}
+use Rattle.dgt_decode.specs.{Feeding.{at_place_if_any}, Grammar.{Event, Message, at_place, shifted, cut_of, events, unfinished_message}, Laws.{Call, AreCalls, used_bytes, events_in_chunks}}
+use Rattle.dgt_decode.proofs.{Appending.{events-append}, Encoded.{AreRead, AreEncoded, encoding_is_read}, Loops.{shifted-at_place_if_any}, UnfinishedLemmas.{unfinished-append, length-unfinished}}
 
 -- no more bytes are used than the chunk has
-first_within : (held chunk : List ℕ) (used : ℕ) (x : Option Event) → FirstEvent held chunk used x → used ≤ length chunk
+first_within : (held chunk : List ℕ) (used : ℕ) (x : Option Event) → FirstEvent held chunk used x
+    → used ≤ length chunk
 first_within held chunk used x h = search rules
 
 -- the meaning of the used bytes of a chunk, after all bytes before it
-pub call_reported : (s : List ℕ) (call : Call) → FirstEvent (unfinished_message s) call.chunk call.used call.event
-    → events (s ++ take call.used call.chunk) ≡ events s ++ at_place_if_any (length s + call.used) call.event
+pub call_reported : (s : List ℕ) (call : Call)
+    → FirstEvent (unfinished_message s) call.chunk call.used call.event
+    → events (s ++ take call.used call.chunk)
+    ≡ events s ++ at_place_if_any (length s + call.used) call.event
 call_reported s call first =
     search (rules, length-unfinished, events-append, shifted-at_place_if_any, take-length)
 
@@ -34,7 +28,8 @@ in_any_chunks s (call ∷ calls) are =
     let held = unfinished-append s (take call.used call.chunk) in
     let later : AreCalls (unfinished_message (s ++ take call.used call.chunk)) calls =
     subst (λ (x : List ℕ). AreCalls x calls) (sym held) are.1 in
-    ap (λ (x : List ℕ). events x) (sym (append_assoc s (take call.used call.chunk) (used_bytes calls)))
+    ap (λ (x : List ℕ). events x)
+    (sym (append_assoc s (take call.used call.chunk) (used_bytes calls)))
     ∙ in_any_chunks (s ++ take call.used call.chunk) calls later
     ∙ rw (count, call_reported s call are.0)
     (search (rules, append_assoc))
@@ -42,7 +37,7 @@ in_any_chunks s (call ∷ calls) are =
 -- the events reported in chunks are those of the whole list
 pub encoding_in_chunks : AreRead → AreEncoded → (s : List ℕ) (said : Content) (calls : List Call)
     → IsMessage said → AreCalls (unfinished_message s) calls → used_bytes calls ≡ encoding said
-    → events_in_chunks (length s) calls ≡ shifted (length s) (cut_of (unfinished_message s)) ++ at_place
-    (length s + length (encoding said)) (Message said) ∷ []
+    → events_in_chunks (length s) calls ≡ shifted (length s) (cut_of (unfinished_message s))
+    ++ at_place (length s + length (encoding said)) (Message said) ∷ []
 encoding_in_chunks reads encoded s said calls is are same =
     search (rules, append_cancel_left, in_any_chunks, encoding_is_read, append_assoc)

@@ -1,13 +1,9 @@
 -- The events of a list with more bytes at its end.
-use Rattle.std.proofs.Common.{◌≡◌, ℕ, ◌+◌, ◌-◌, ◌≤◌, Bool, true, false, cond, List, [], ◌∷◌, ◌++◌, length, drop, Option, Some, None, refl, ap, ◌∙◌, append_assoc, arith}
-use Rattle.std.proofs.Common.{rules}
-use Rattle.std.proofs.lemmas.List.{append-nil, length-append, drop-append-le, length-drop}
-use Rattle.std.proofs.lemmas.Bool.{le-leb, lt-leb, leb-true, leb-false}
-use Rattle.dgt_decode.specs.Grammar.{Placed, shifted, strays, has_top_bit, lead, segments, verdict, unfinished_part, cut_of, cut_before, segments_events, unfinished_segment, events, unfinished_message}
-use Rattle.dgt_decode.proofs.Places.{shifted-append, shifted-shifted, shifted-zero, strays-append}
-use Rattle.dgt_decode.proofs.Cuts.{lead_with, segments_with, lead-append, segments-append}
+use Rattle.std.proofs.{Common.{◌≡◌, ℕ, ◌+◌, ◌-◌, ◌≤◌, Bool, true, false, cond, List, [], ◌∷◌, ◌++◌, length, drop, Option, Some, None, refl, ap, ◌∙◌, append_assoc, arith, rules}, lemmas.Bool.{le-leb}}
+use Rattle.{std.proofs.lemmas.{Bool.{lt-leb, leb-true, leb-false}, List.{append-nil, length-append, drop-append-le, length-drop}}, dgt_decode.specs.Grammar.{Placed, shifted, strays, has_top_bit}}
+use Rattle.dgt_decode.{specs.Grammar.{lead, segments, verdict, unfinished_part, cut_of, cut_before, segments_events, unfinished_segment, events, unfinished_message}, proofs.Cuts.{lead_with}}
+use Rattle.dgt_decode.proofs.{Cuts.{segments_with, lead-append, segments-append}, Places.{shifted-append, shifted-shifted, shifted-zero, strays-append}, SevenBit.{SevenByRecursion}}
 use Rattle.dgt_decode.proofs.Verdicts.{verdict-append}
-use Rattle.dgt_decode.proofs.SevenBit.{SevenByRecursion}
 
 -- a list that is one segment
 pub record IsAlone (g : List ℕ) : Type 0 where
@@ -67,11 +63,13 @@ lengths [] = 0
 lengths (g ∷ gs) = length g + lengths gs
 
 -- a last segment is settled, or it is unfinished
-settled_by-unfinished : (v : Option Placed) (g : List ℕ) → settled_by v g + length (unfinished_part v g) ≡ length g
+settled_by-unfinished : (v : Option Placed) (g : List ℕ)
+    → settled_by v g + length (unfinished_part v g) ≡ length g
 settled_by-unfinished v g = search rules
 
 -- segments are what is settled and what is unfinished
-pub settled-unfinished : (gs : List (List ℕ)) → settled_of gs + length (unfinished_segment gs) ≡ lengths gs
+pub settled-unfinished : (gs : List (List ℕ))
+    → settled_of gs + length (unfinished_segment gs) ≡ lengths gs
 settled-unfinished [] = refl
 settled-unfinished (g ∷ []) = settled_by-unfinished (verdict g) g ∙ (omega arith)
 settled-unfinished (g ∷ h ∷ gs) = omega (arith, settled-unfinished (h ∷ gs))
@@ -100,7 +98,8 @@ regroup place d n l a b e same = search (rules, shifted-append, shifted-shifted,
 
 -- more bytes after a last segment that is finished
 last-finished : (g p : List ℕ) (x : Placed) → verdict g ≡ Some x
-    → segments_events ((g ++ lead p) ∷ segments p) ≡ segments_events (g ∷ []) ++ shifted (length g) (events p)
+    → segments_events ((g ++ lead p) ∷ segments p)
+    ≡ segments_events (g ∷ []) ++ shifted (length g) (events p)
 unfolding events
 last-finished g p x e = search (
   rules,
@@ -116,20 +115,21 @@ last-finished g p x e = search (
 
 -- more bytes after a last segment that is unfinished
 last-unfinished : (g p : List ℕ) → IsAlone g → verdict g ≡ None
-    → segments_events ((g ++ lead p) ∷ segments p) ≡ segments_events (g ∷ []) ++ shifted 0 (events (g ++ p))
+    → segments_events ((g ++ lead p) ∷ segments p)
+    ≡ segments_events (g ∷ []) ++ shifted 0 (events (g ++ p))
 unfolding events
 last-unfinished g p alone e =
     rw (lead-append g p, segments-append g p, alone.no_lead, alone.one, e) (simp shifted-zero)
 
 -- more bytes after segments
 pub segments_events-with : (p g : List ℕ) (gs : List (List ℕ)) → AreAlone (g ∷ gs)
-    → segments_events (segments_with p (g ∷ gs)) ≡ segments_events (g ∷ gs) ++ shifted (settled_of (g ∷ gs))
-    (events (unfinished_segment (g ∷ gs) ++ p))
+    → segments_events (segments_with p (g ∷ gs)) ≡ segments_events (g ∷ gs)
+    ++ shifted (settled_of (g ∷ gs)) (events (unfinished_segment (g ∷ gs) ++ p))
 segments_events-with p g [] alone = go (verdict g) refl
   where
     go : (v : Option Placed) → verdict g ≡ v
-        → segments_events ((g ++ lead p) ∷ segments p) ≡ segments_events (g ∷ []) ++ shifted (settled_by v g)
-        (events (unfinished_part v g ++ p))
+        → segments_events ((g ++ lead p) ∷ segments p)
+        ≡ segments_events (g ∷ []) ++ shifted (settled_by v g) (events (unfinished_part v g ++ p))
     go None e = last-unfinished g p alone.0 e
     go (Some x) e = last-finished g p x e
 segments_events-with p g (h ∷ gs) alone =
@@ -142,8 +142,8 @@ events_by_cut prefix gs = strays prefix ++ shifted (length prefix) (segments_eve
 
 -- more bytes after a lead and segments
 events_by_cut-with : (p prefix : List ℕ) (gs : List (List ℕ)) → AreAlone gs
-    → events_by_cut (lead_with p prefix gs) (segments_with p gs)
-    ≡ events_by_cut prefix gs ++ shifted (length prefix + settled_of gs) (events (unfinished_segment gs ++ p))
+    → events_by_cut (lead_with p prefix gs) (segments_with p gs) ≡ events_by_cut prefix gs
+    ++ shifted (length prefix + settled_of gs) (events (unfinished_segment gs ++ p))
 unfolding events
 events_by_cut-with p prefix [] alone = search (
   rules,
@@ -158,7 +158,8 @@ events_by_cut-with p prefix (g ∷ gs) alone =
     search (rules, segments_events-with, shifted-append, shifted-shifted, append_assoc)
 
 -- how many bytes precede the unfinished message
-pub settled : (s : List ℕ) → length s - length (unfinished_message s) ≡ length (lead s) + settled_of (segments s)
+pub settled : (s : List ℕ)
+    → length s - length (unfinished_message s) ≡ length (lead s) + settled_of (segments s)
 unfolding unfinished_message
 settled s = omega (arith, settled-unfinished (segments s), length-cut s)
 
@@ -167,7 +168,8 @@ events-append_by_cut : (s p : List ℕ) → events (s ++ p) ≡ events s ++ shif
     (length (lead s) + settled_of (segments s)) (events (unfinished_message s ++ p))
 unfolding events unfinished_message
 events-append_by_cut s p =
-    rw (lead-append s p, segments-append s p) (events_by_cut-with p (lead s) (segments s) (AreAlone-segments s))
+    rw (lead-append s p, segments-append s p)
+    (events_by_cut-with p (lead s) (segments s) (AreAlone-segments s))
 
 -- Later bytes change no event, and of the earlier ones need only the unfinished bytes.
 pub events-append : (s p : List ℕ) → events (s ++ p) ≡ events s

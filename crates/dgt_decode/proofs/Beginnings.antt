@@ -1,18 +1,9 @@
 -- A run that begins a message.
-use Rattle.std.proofs.Common.{option_map, ◌≡◌, ℕ, zero, suc, ◌+◌, ◌-◌, ◌<◌, ◌≤◌, List, [], ◌∷◌, length, take, drop, min, not, Some, ap, arith}
-use Rattle.std.proofs.Common.{rules}
-use Rattle.std.specs.List.{position_or_len}
+use Rattle.std.proofs.{Common.{option_map, ◌≡◌, ℕ, zero, suc, ◌+◌, ◌-◌, ◌<◌, ◌≤◌, List, [], ◌∷◌, length, take, drop, min, not, Some, ap, arith, rules}, lemmas.List.{length-take, take-take}}
+use Rattle.{std.{proofs.lemmas.List.Sums.{prefix_len-le-length}, specs.List.{position_or_len}}, dgt_decode.specs.{Feeding.{IsWholeMessage}, Grammar.{has_top_bit, events, unfinished_message}}}
+use Rattle.dgt_decode.{specs.{Grammar.{announced_total}, Taking.{Begins, FramesPrefix, IsKept}}, proofs.{BodyRuns.{seven-before, seven-take}, Feeds.{first_of_run}, Framing.{after, reports-after}}}
+use Rattle.dgt_decode.proofs.{SevenBit.{SevenByRecursion, are_seven, by_recursion}, Steps.{Gives, first-begins, next-short, next-waits}}
 use Rattle.dgt_decode.specs.declared.event.Found.TheVariants as found
-use Rattle.std.proofs.lemmas.List.{length-take, take-take}
-use Rattle.std.proofs.lemmas.List.Sums.{prefix_len-le-length}
-use Rattle.dgt_decode.specs.Grammar.{has_top_bit, events, unfinished_message, announced_total}
-use Rattle.dgt_decode.specs.Feeding.{IsWholeMessage}
-use Rattle.dgt_decode.specs.Taking.{Begins, FramesPrefix, IsKept}
-use Rattle.dgt_decode.proofs.Steps.{Gives, first-begins, next-short, next-waits}
-use Rattle.dgt_decode.proofs.Feeds.{first_of_run}
-use Rattle.dgt_decode.proofs.Framing.{after, reports-after}
-use Rattle.dgt_decode.proofs.BodyRuns.{seven-before, seven-take}
-use Rattle.dgt_decode.proofs.SevenBit.{SevenByRecursion, are_seven, by_recursion}
 
 -- the first bytes, this many, are a header and a run of its body
 pub record IsBeginning (total : ℕ) (rest : List ℕ) (used : ℕ) : Type 0 where
@@ -23,25 +14,30 @@ pub record IsBeginning (total : ℕ) (rest : List ℕ) (used : ℕ) : Type 0 whe
   pub seven : SevenByRecursion (take (used - 3) (drop 3 rest))
 
 -- these are those before the next set top bit after the header
-pub beginning : (total all end run : ℕ) (rest : List ℕ) → Begins total rest → all ≡ min (length rest) total
-    → end ≡ min all 128 → run ≡ position_or_len has_top_bit (take (end - 3) (drop 3 rest))
+pub beginning : (total all end run : ℕ) (rest : List ℕ) → Begins total rest
+    → all ≡ min (length rest) total → end ≡ min all 128
+    → run ≡ position_or_len has_top_bit (take (end - 3) (drop 3 rest))
     → IsBeginning total rest (3 + run)
 beginning total all end run [] begins least first is = absurd (omega (arith, begins.enough))
 beginning total all end run (b ∷ []) begins least first is = absurd (omega (arith, begins.enough))
-beginning total all end run (b ∷ h ∷ []) begins least first is = absurd (omega (arith, begins.enough))
+beginning total all end run (b ∷ h ∷ []) begins least first is =
+    absurd (omega (arith, begins.enough))
 beginning total all end run (b ∷ h ∷ l ∷ more) begins least first is =
     let header = by_recursion (h ∷ l ∷ []) begins.header in
     let missing = end - 3 in
     let wanted = take missing more in
-    let up_to : run ≤ length wanted = omega (arith, is, prefix_len-le-length (λ x. not (has_top_bit x)) wanted) in
+    let up_to : run ≤ length wanted =
+    omega (arith, is, prefix_len-le-length (λ x. not (has_top_bit x)) wanted) in
     let long = length-take missing more in
-    let prefix : take run wanted ≡ take run more = take-take run missing more (omega (arith, up_to, long)) in
+    let prefix : take run wanted ≡ take run more =
+    take-take run missing more (omega (arith, up_to, long)) in
     search (rules, seven-before)
 
 -- there is no event before the last of them
 early : (b h l n total : ℕ) (more : List ℕ) → Gives (b ∷ h ∷ []) [] (b ∷ h ∷ []) → l < 128
     → SevenByRecursion (take n more) → n ≤ length more → 3 + n ≤ total
-    → total ≡ announced_total (b ∷ h ∷ l ∷ more) → events (take (suc (suc n)) (b ∷ h ∷ l ∷ more)) ≡ []
+    → total ≡ announced_total (b ∷ h ∷ l ∷ more)
+    → events (take (suc (suc n)) (b ∷ h ∷ l ∷ more)) ≡ []
 early b h l zero total more two low seven within fits is = two.reported
 early b h l (suc n) total [] two low seven within fits is = absurd (omega (arith, within))
 early b h l (suc n) total (x ∷ more) two low seven within fits is =
@@ -56,16 +52,20 @@ early b h l (suc n) total (x ∷ more) two low seven within fits is =
 
 -- A message that begins is whole if none of its bytes is missing then, and reports nothing
 -- otherwise.
-pub frames-beginning : (kept rest : List ℕ) (total used : ℕ) → unfinished_message kept ≡ [] → Begins total rest
-    → IsBeginning total rest used
+pub frames-beginning : (kept rest : List ℕ) (total used : ℕ) → unfinished_message kept ≡ []
+    → Begins total rest → IsBeginning total rest used
     → FramesPrefix kept rest used (take used rest) (after (total - used)).1
     × IsKept (after (total - used)).0 (take used rest)
 frames-beginning kept [] total used none begins run = absurd (omega (arith, begins.enough))
 frames-beginning kept (b ∷ []) total used none begins run = absurd (omega (arith, begins.enough))
-frames-beginning kept (b ∷ h ∷ []) total used none begins run = absurd (omega (arith, begins.enough))
-frames-beginning kept (b ∷ h ∷ l ∷ more) total zero none begins run = absurd (omega (arith, run.header))
-frames-beginning kept (b ∷ h ∷ l ∷ more) total (suc zero) none begins run = absurd (omega (arith, run.header))
-frames-beginning kept (b ∷ h ∷ l ∷ more) total (suc (suc zero)) none begins run = absurd (omega (arith, run.header))
+frames-beginning kept (b ∷ h ∷ []) total used none begins run =
+    absurd (omega (arith, begins.enough))
+frames-beginning kept (b ∷ h ∷ l ∷ more) total zero none begins run =
+    absurd (omega (arith, run.header))
+frames-beginning kept (b ∷ h ∷ l ∷ more) total (suc zero) none begins run =
+    absurd (omega (arith, run.header))
+frames-beginning kept (b ∷ h ∷ l ∷ more) total (suc (suc zero)) none begins run =
+    absurd (omega (arith, run.header))
 frames-beginning kept (b ∷ h ∷ l ∷ more) total (suc (suc (suc n))) none begins run =
     let used = suc (suc (suc n)) in
     let body = take n more in
@@ -73,7 +73,8 @@ frames-beginning kept (b ∷ h ∷ l ∷ more) total (suc (suc (suc n))) none be
     let is_n : used - 3 ≡ n = omega arith in
     let header = by_recursion (h ∷ l ∷ []) begins.header in
     let seven : SevenByRecursion body = rw is_n at run.seven in
-    let two = next-short (b ∷ []) (h ∷ []) (first-begins b begins.first).leaves (omega arith) (header.0, tt)
+    let two =
+    next-short (b ∷ []) (h ∷ []) (first-begins b begins.first).leaves (omega arith) (header.0, tt)
     (omega arith) in
     let left = total - used in
     let all : announced_total (b ∷ h ∷ l ∷ body) ≡ length (b ∷ h ∷ l ∷ body) + left =
@@ -85,19 +86,23 @@ frames-beginning kept (b ∷ h ∷ l ∷ more) total (suc (suc (suc n))) none be
     search (rules, take-take, early, first_of_run, option_map, after)
 
 -- A message that is complete is reported at once.
-pub frames-whole : (kept rest : List ℕ) (total : ℕ) → unfinished_message kept ≡ [] → total ≤ length rest
-    → IsWholeMessage (take total rest)
+pub frames-whole : (kept rest : List ℕ) (total : ℕ) → unfinished_message kept ≡ []
+    → total ≤ length rest → IsWholeMessage (take total rest)
     → FramesPrefix kept rest total (take total rest) (Some found.Message)
 frames-whole kept rest zero none within whole = absurd (omega (arith, whole.long))
-frames-whole kept rest (suc zero) none within whole = absurd (omega (arith, whole.long, length-take 1 rest))
-frames-whole kept rest (suc (suc zero)) none within whole = absurd (omega (arith, whole.long, length-take 2 rest))
+frames-whole kept rest (suc zero) none within whole =
+    absurd (omega (arith, whole.long, length-take 1 rest))
+frames-whole kept rest (suc (suc zero)) none within whole =
+    absurd (omega (arith, whole.long, length-take 2 rest))
 frames-whole kept [] (suc (suc (suc n))) none within whole = absurd (omega (arith, within))
 frames-whole kept (b ∷ []) (suc (suc (suc n))) none within whole = absurd (omega (arith, within))
-frames-whole kept (b ∷ h ∷ []) (suc (suc (suc n))) none within whole = absurd (omega (arith, within))
+frames-whole kept (b ∷ h ∷ []) (suc (suc (suc n))) none within whole =
+    absurd (omega (arith, within))
 frames-whole kept (b ∷ h ∷ l ∷ more) (suc (suc (suc n))) none within whole =
     let total = suc (suc (suc n)) in
     let rest = b ∷ h ∷ l ∷ more in
-    let is : total ≡ announced_total rest = omega (arith, whole.whole, length-take total rest, within) in
+    let is : total ≡ announced_total rest =
+    omega (arith, whole.whole, length-take total rest, within) in
     let later = by_recursion (h ∷ l ∷ take n more) whole.later in
     let begins : Begins total rest = search (rules, are_seven) in
     let behind : total - 3 ≡ n = omega arith in

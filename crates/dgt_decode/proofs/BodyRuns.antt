@@ -1,36 +1,28 @@
 -- A run of a message's body.
-use Rattle.std.proofs.Common.{◌≡◌, ℕ, zero, suc, ◌+◌, ◌-◌, ◌<◌, ◌≤◌, Bool, true, false, cond, not, List, [], ◌∷◌, ◌++◌, length, take, drop, get_or, refl, subst, arith}
-use Rattle.std.proofs.Common.{rules}
-use Rattle.std.specs.List.{position_or_len}
-use Rattle.std.proofs.lemmas.Bool.{leb-false, lt-leb}
-use Rattle.std.proofs.lemmas.List.{length-append, length-take, take-take}
-use Rattle.std.proofs.lemmas.List.Sums.{prefix_len-le-length}
-use Rattle.dgt_decode.specs.declared.framer.FramerState.{FramerState}
-use Rattle.dgt_decode.specs.declared.framer.FramerState.TheVariants.{Body}
-use Rattle.dgt_decode.specs.Grammar.{has_top_bit, announced_total}
-use Rattle.dgt_decode.specs.Taking.{FramesPrefix, IsKept}
-use Rattle.dgt_decode.proofs.Verdicts.{announced_total-append}
-use Rattle.dgt_decode.proofs.Steps.{next-waits}
-use Rattle.dgt_decode.proofs.Feeds.{first_of_run}
-use Rattle.dgt_decode.proofs.Framing.{after, reports-after}
-use Rattle.dgt_decode.proofs.SevenBit.{SevenByRecursion}
-use Rattle.std.proofs.lemmas.Grind.{common_steps}
+use Rattle.std.proofs.Common.{◌≡◌, ℕ, zero, suc, ◌+◌, ◌-◌, ◌<◌, ◌≤◌, Bool, true, false, cond, not, List, [], ◌∷◌, ◌++◌, length, take, drop, get_or, refl, subst, arith, rules}
+use Rattle.std.{proofs.lemmas.{Bool.{leb-false, lt-leb}, Grind.{common_steps}, List.{length-append, length-take, take-take, Sums.{prefix_len-le-length}}}, specs.List.{position_or_len}}
+use Rattle.dgt_decode.{specs.{Grammar.{has_top_bit, announced_total}, Taking.{FramesPrefix, IsKept}, declared.framer.FramerState.{FramerState, TheVariants.{Body}}}, proofs.Feeds.{first_of_run}}
+use Rattle.dgt_decode.proofs.{Framing.{after, reports-after}, SevenBit.{SevenByRecursion}, Steps.{next-waits}, Verdicts.{announced_total-append}}
 
 -- ---- In a body
 
 -- the bytes before the first with a set top bit are seven-bit
-pub seven-before : (bytes : List ℕ) → SevenByRecursion (take (position_or_len has_top_bit bytes) bytes)
+pub seven-before : (bytes : List ℕ)
+    → SevenByRecursion (take (position_or_len has_top_bit bytes) bytes)
 seven-before [] = tt
 seven-before (b ∷ bytes) = go (has_top_bit b) refl (seven-before bytes)
   where
-    go : (t : Bool) → has_top_bit b ≡ t → SevenByRecursion (take (position_or_len has_top_bit bytes) bytes)
-        → SevenByRecursion (take (cond (not t) (1 + position_or_len has_top_bit bytes) 0) (b ∷ bytes))
+    go : (t : Bool) → has_top_bit b ≡ t
+        → SevenByRecursion (take (position_or_len has_top_bit bytes) bytes)
+        → SevenByRecursion
+        (take (cond (not t) (1 + position_or_len has_top_bit bytes) 0) (b ∷ bytes))
     go true e more = tt
     go false e more = let one_more : 1 + position_or_len has_top_bit bytes ≡ suc
         (position_or_len has_top_bit bytes) = omega arith in rw one_more (leb-false 128 b e, more)
 
 -- there are some if the first byte is
-some-before : (bytes : List ℕ) → 0 < length bytes → get_or bytes 0 0 < 128 → 0 < position_or_len has_top_bit bytes
+some-before : (bytes : List ℕ) → 0 < length bytes → get_or bytes 0 0 < 128
+    → 0 < position_or_len has_top_bit bytes
 some-before bytes some seven = grind (arith, common_steps, lt-leb)
 
 -- The search for a set top bit may begin after seven-bit bytes.
@@ -49,13 +41,15 @@ pub record IsBodyRun (missing : ℕ) (rest : List ℕ) (used : ℕ) : Type 0 whe
   pub seven : SevenByRecursion (take used rest)
 
 -- these are those before the next set top bit among as many as are missing
-pub body_run : (missing used : ℕ) (rest : List ℕ) → 0 < missing → 0 < length rest → get_or rest 0 0 < 128
-    → used ≡ position_or_len has_top_bit (take missing rest) → IsBodyRun missing rest used
+pub body_run : (missing used : ℕ) (rest : List ℕ) → 0 < missing → 0 < length rest
+    → get_or rest 0 0 < 128 → used ≡ position_or_len has_top_bit (take missing rest)
+    → IsBodyRun missing rest used
 body_run missing used [] room some seven is = absurd (omega arith)
 body_run zero used (b ∷ rest) room some seven is = absurd (omega arith)
 body_run (suc more) used (b ∷ rest) room some seven is =
     let wanted = take (suc more) (b ∷ rest) in
-    let up_to : used ≤ length wanted = omega (arith, is, prefix_len-le-length (λ x. not (has_top_bit x)) wanted) in
+    let up_to : used ≤ length wanted =
+    omega (arith, is, prefix_len-le-length (λ x. not (has_top_bit x)) wanted) in
     let long = length-take (suc more) (b ∷ rest) in
     let prefix : take used wanted ≡ take used (b ∷ rest) =
     take-take used (suc more) (b ∷ rest) (omega (arith, up_to, long)) in
@@ -82,7 +76,8 @@ frames-body_run state kept rest left used was body run =
     let sum : length (kept ++ bytes) ≡ length kept + length bytes = length-append kept bytes in
     let all : announced_total (kept ++ bytes) ≡ length (kept ++ bytes) + (left - used) =
     omega (arith, announced_total-append kept bytes is.1, is.2, is.3, run.fits) in
-    let t = reports-after kept bytes (left - used) is.0 (omega (arith, is.1)) (omega (arith, run.some)) run.seven all in
+    let t = reports-after kept bytes (left - used) is.0 (omega (arith, is.1))
+    (omega (arith, run.some)) run.seven all in
     search (
       rules,
       take-take,

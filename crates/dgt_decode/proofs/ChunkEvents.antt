@@ -1,19 +1,10 @@
 -- The events of whole chunks, and their listeners.
-use Rattle.std.proofs.Common.{◌≡◌, ℕ, ◌+◌, ◌-◌, ◌<◌, ◌≤◌, List, [], ◌∷◌, ◌++◌, length, map, take, drop, Option, Some, None, refl, sym, ap, subst, ◌∙◌, append_assoc, arith, inl, inr}
-use Rattle.std.proofs.Common.{rules}
-use Rattle.std.proofs.lemmas.List.{append-nil, length-append, length-drop, length-take-le}
-use Rattle.std.proofs.lemmas.Bool.{cases_lt}
-use Rattle.std.proofs.Math.Seq.{drop-length, take-add}
-use Rattle.std.specs.List.{FoldsTo, concat}
-use Rattle.dgt_decode.specs.Grammar.{Event, Placed, at_place, events, shifted, unfinished_message, segment_events, verdict}
-use Rattle.dgt_decode.specs.Feeding.{FirstEvent, at_place_if_any, chunk_events}
-use Rattle.dgt_decode.specs.Laws.{Call, UnfinishedIsQuiet, ChunksAdd, events_of_chunks}
-use Rattle.dgt_decode.proofs.AnyChunks.{call_reported}
-use Rattle.dgt_decode.proofs.Places.{shifted-append, shifted-shifted, shifted-zero}
-use Rattle.dgt_decode.proofs.Appending.{events-append}
-use Rattle.dgt_decode.proofs.UnfinishedLemmas.{IsUnfinished, nothing, waiting, IsUnfinished-unfinished, events-of_unfinished, length-unfinished, unfinished-append}
-use Rattle.dgt_decode.proofs.Steps.{IsHeld, IsHeld-unfinished, next-begins, next-seven, verdict-new}
-use Rattle.std.proofs.lemmas.Grind.{common_steps}
+use Rattle.std.proofs.Common.{◌≡◌, ℕ, ◌+◌, ◌-◌, ◌<◌, ◌≤◌, List, [], ◌∷◌, ◌++◌, length, map, take, drop, Option, Some, None, refl, sym, ap, subst, ◌∙◌, append_assoc, arith, inl, inr, rules}
+use Rattle.std.{proofs.{Math.Seq.{drop-length, take-add}, lemmas.{Bool.{cases_lt}, Grind.{common_steps}, List.{append-nil, length-append, length-drop, length-take-le}}}, specs.List.{FoldsTo, concat}}
+use Rattle.dgt_decode.specs.{Feeding.{FirstEvent, at_place_if_any, chunk_events}, Grammar.{Event, Placed, at_place, events, shifted, unfinished_message, segment_events, verdict}, Laws.{Call}}
+use Rattle.dgt_decode.{specs.Laws.{UnfinishedIsQuiet, ChunksAdd, events_of_chunks}, proofs.{AnyChunks.{call_reported}, Appending.{events-append}, Places.{shifted-append, shifted-shifted}}}
+use Rattle.dgt_decode.proofs.{Places.{shifted-zero}, Steps.{IsHeld, IsHeld-unfinished, next-begins, next-seven, verdict-new}, UnfinishedLemmas.{IsUnfinished, nothing, waiting}}
+use Rattle.dgt_decode.proofs.UnfinishedLemmas.{IsUnfinished-unfinished, events-of_unfinished, length-unfinished, unfinished-append}
 
 -- These are events after n bytes.
 record IsBehind (n : ℕ) (reported : List Placed) : Type 0 where
@@ -29,8 +20,8 @@ behind_none : (n : ℕ) → IsBehind n []
 behind_none n = record { early = []; is = refl }
 
 -- the event of a byte after an unfinished message
-behind_verdict : (h : List ℕ) (b : ℕ) → verdict h ≡ None → (v : Option Placed) → verdict (h ++ b ∷ []) ≡ v
-    → IsBehind (length h) (segment_events v (h ++ b ∷ []))
+behind_verdict : (h : List ℕ) (b : ℕ) → verdict h ≡ None → (v : Option Placed)
+    → verdict (h ++ b ∷ []) ≡ v → IsBehind (length h) (segment_events v (h ++ b ∷ []))
 behind_verdict h b e None f = behind_none (length h)
 behind_verdict h b e (Some x) f =
     let place = verdict-new h b x e f in
@@ -97,7 +88,8 @@ held_behind s p =
     let quiet = events-of_unfinished o (IsUnfinished-unfinished s) in
     let is : events (o ++ p) ≡ shifted (length o) all.early =
     all.is ∙ ap (λ (xs : List Placed). xs ++ shifted (length o) all.early) quiet in
-    is ∙ ap (shifted (length o)) (sym (ap (nearer (length o)) is ∙ nearer-behind (length o) all.early))
+    is ∙ ap (shifted (length o))
+    (sym (ap (nearer (length o)) is ∙ nearer-behind (length o) all.early))
 
 -- the events of a chunk come after those of all bytes before it
 pub behind : (s p : List ℕ) → events (s ++ p) ≡ events s ++ shifted (length s)
@@ -120,21 +112,24 @@ pieces_add = search (rules, behind, held_in_two, unfinished-append)
 
 -- any chunks
 pub in_a_row : (s : List ℕ) (chunks : List (List ℕ))
-    → events (s ++ concat chunks) ≡ events s ++ events_of_chunks (length s) (unfinished_message s) chunks
+    → events (s ++ concat chunks)
+    ≡ events s ++ events_of_chunks (length s) (unfinished_message s) chunks
 in_a_row s [] = rw (append-nil s) (sym (append-nil (events s)))
 in_a_row s (chunk ∷ more) =
     ap events (sym (append_assoc s chunk (concat more)))
     ∙ in_a_row (s ++ chunk) more
     ∙ rw (length-append s chunk, behind s chunk, unfinished-append s chunk)
     (append_assoc (events s) (shifted (length s) (chunk_events (unfinished_message s) chunk))
-    (events_of_chunks (length s + length chunk) (unfinished_message (unfinished_message s ++ chunk)) more))
+    (events_of_chunks (length s + length chunk) (unfinished_message (unfinished_message s ++ chunk))
+    more))
 
 -- ---- nothing
 
 -- no bytes after the held bytes
 pub held_none : (o : List ℕ) → IsHeld o → chunk_events o [] ≡ []
 held_none o h =
-    ap (nearer (length o)) (ap events (append-nil o) ∙ events-of_unfinished o (subst (λ (x : List ℕ). IsUnfinished x) h
+    ap (nearer (length o))
+    (ap events (append-nil o) ∙ events-of_unfinished o (subst (λ (x : List ℕ). IsUnfinished x) h
     (IsUnfinished-unfinished o)))
 
 pub unfinished_is_quiet : UnfinishedIsQuiet
@@ -150,25 +145,29 @@ unfinished_is_quiet = record {
 -- ---- a listener of calls
 
 -- The first i bytes of a chunk have been fed, and each of their events was heard.
-pub record HasHeard {L : Type 0} (hears : L → Placed → L → Type 0) (held chunk : List ℕ) (i : ℕ) (old new : L)
+pub record HasHeard {L : Type 0} (hears : L → Placed → L → Type 0) (held chunk : List ℕ) (i : ℕ)
+    (old new : L)
     (now : List ℕ) : Type 0 where
   pub within : i ≤ length chunk
   pub holds : now ≡ unfinished_message (held ++ take i chunk)
   pub reported : FoldsTo hears old (chunk_events held (take i chunk)) new
 
-FoldsTo-one : {L : Type 0} (hears : L → Placed → L → Type 0) (a b c : L) (reported : List Placed) (x : Placed)
-    → FoldsTo hears a reported b → hears b x c → FoldsTo hears a (reported ++ x ∷ []) c
+FoldsTo-one : {L : Type 0} (hears : L → Placed → L → Type 0) (a b c : L) (reported : List Placed)
+    (x : Placed) → FoldsTo hears a reported b → hears b x c → FoldsTo hears a (reported ++ x ∷ []) c
 FoldsTo-one hears a b c [] x p q = (c, subst (λ (v : _). hears v x c) (sym p) q, refl)
-FoldsTo-one hears a b c (y ∷ reported) x p q = (p.0, p.1, FoldsTo-one hears p.0 b c reported x p.2 q)
+FoldsTo-one hears a b c (y ∷ reported) x p q =
+    (p.0, p.1, FoldsTo-one hears p.0 b c reported x p.2 q)
 
 module _ {L : Type 0} (hears : L → Placed → L → Type 0) where
   -- nothing yet
-  pub heard_none : (held chunk : List ℕ) (old : L) → IsHeld held → HasHeard hears held chunk 0 old old held
+  pub heard_none : (held chunk : List ℕ) (old : L) → IsHeld held
+      → HasHeard hears held chunk 0 old old held
   heard_none held chunk old h = search (rules, append-nil, held_none)
 
   -- the bytes that a call uses complete one more event
-  next_reported : (held chunk : List ℕ) (i used : ℕ) (now : List ℕ) (event : Option Event) → i ≤ length chunk
-      → now ≡ unfinished_message (held ++ take i chunk) → FirstEvent now (drop i chunk) used event
+  next_reported : (held chunk : List ℕ) (i used : ℕ) (now : List ℕ) (event : Option Event)
+      → i ≤ length chunk → now ≡ unfinished_message (held ++ take i chunk)
+      → FirstEvent now (drop i chunk) used event
       → chunk_events held (take (i + used) chunk)
       ≡ chunk_events held (take i chunk) ++ at_place_if_any (i + used) event
   next_reported held chunk i used now event h e first =
@@ -177,18 +176,21 @@ module _ {L : Type 0} (hears : L → Placed → L → Type 0) where
       let place : length s + used ≡ length held + (i + used) =
       omega (arith, length-append held (take i chunk), length-take-le i chunk h) in
       ap (λ (xs : List ℕ). nearer (length held) (events xs))
-      (ap (λ (xs : List ℕ). held ++ xs) (take-add i used chunk) ∙ sym (append_assoc held (take i chunk) _))
+      (ap (λ (xs : List ℕ). held ++ xs) (take-add i used chunk)
+      ∙ sym (append_assoc held (take i chunk) _))
       ∙ ap (nearer (length held)) (call_reported s call (rw e at first))
       ∙ nearer-append (length held) (events s) (at_place_if_any (length s + used) event)
       ∙ ap (λ (xs : List Placed). chunk_events held (take i chunk) ++ xs)
       (ap (λ (n : ℕ). nearer (length held) (at_place_if_any n event)) place ∙ near event)
     where
-      near : (x : Option Event) → nearer (length held) (at_place_if_any (length held + (i + used)) x) ≡ at_place_if_any
+      near : (x : Option Event)
+          → nearer (length held) (at_place_if_any (length held + (i + used)) x) ≡ at_place_if_any
           (i + used) x
       near None = refl
       near (Some x) = ap (λ (n : ℕ). at_place n x ∷ []) (omega arith)
 
-  next_holds : (held chunk : List ℕ) (i used : ℕ) (now new : List ℕ) → now ≡ unfinished_message (held ++ take i chunk)
+  next_holds : (held chunk : List ℕ) (i used : ℕ) (now new : List ℕ)
+      → now ≡ unfinished_message (held ++ take i chunk)
       → new ≡ unfinished_message (now ++ take used (drop i chunk))
       → new ≡ unfinished_message (held ++ take (i + used) chunk)
   next_holds held chunk i used now new e f =
@@ -197,18 +199,20 @@ module _ {L : Type 0} (hears : L → Placed → L → Type 0) where
   -- a call without an event
   pub heard_quiet : (held chunk : List ℕ) (i used : ℕ) (old now : L) (before new : List ℕ)
       → HasHeard hears held chunk i old now before → used ≤ length (drop i chunk)
-      → FirstEvent before (drop i chunk) used None → new ≡ unfinished_message (before ++ take used (drop i chunk))
+      → FirstEvent before (drop i chunk) used None
+      → new ≡ unfinished_message (before ++ take used (drop i chunk))
       → HasHeard hears held chunk (i + used) old now new
   heard_quiet held chunk i used old now before new heard fits first e = record {
     within = omega (arith, fits, length-drop i chunk, heard.within);
     holds = next_holds held chunk i used before new heard.holds e;
-    reported = rw (next_reported held chunk i used before None heard.within heard.holds first, append-nil)
+    reported =
+        rw (next_reported held chunk i used before None heard.within heard.holds first, append-nil)
         heard.reported;
   }
 
   -- a call with an event, which is heard
-  pub heard_one : (held chunk : List ℕ) (i used : ℕ) (old now later : L) (before new : List ℕ) (event : Event)
-      → HasHeard hears held chunk i old now before → used ≤ length (drop i chunk)
+  pub heard_one : (held chunk : List ℕ) (i used : ℕ) (old now later : L) (before new : List ℕ)
+      (event : Event) → HasHeard hears held chunk i old now before → used ≤ length (drop i chunk)
       → FirstEvent before (drop i chunk) used (Some event)
       → new ≡ unfinished_message (before ++ take used (drop i chunk))
       → hears now (at_place (i + used) event) later
@@ -216,6 +220,7 @@ module _ {L : Type 0} (hears : L → Placed → L → Type 0) where
   heard_one held chunk i used old now later before new event heard fits first e one = record {
     within = omega (arith, fits, length-drop i chunk, heard.within);
     holds = next_holds held chunk i used before new heard.holds e;
-    reported = rw (next_reported held chunk i used before (Some event) heard.within heard.holds first)
+    reported =
+        rw (next_reported held chunk i used before (Some event) heard.within heard.holds first)
         (FoldsTo-one hears old now later _ _ heard.reported one);
   }

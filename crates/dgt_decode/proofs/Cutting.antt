@@ -1,22 +1,12 @@
 -- A program that cuts a whole list, segment by segment.
-use Rattle.std.proofs.Common.{map, ◌≡◌, ℕ, suc, ◌+◌, ◌-◌, ◌<◌, ◌≤◌, Bool, true, List, [], ◌∷◌, ◌++◌, length, take, drop, get_or, Some, None, nat_eq, add-one, refl, sym, ap, subst, ◌∙◌, append_assoc, arith}
-use Rattle.std.proofs.Common.{rules}
-use Rattle.std.specs.Prelude.{if◌then◌else◌}
-use Rattle.std.proofs.lemmas.List.{append-nil, append_cancel_left, drop-drop, length-take, map-append, take_more, take-append-drop}
-use Rattle.std.proofs.lemmas.Bool.{le-leb, leb-true, eq-eqb, ne_eqb, cases_lt}
-use Rattle.std.proofs.Math.Seq.{drop-cons, drop-length}
-use Rattle.dgt_decode.specs.declared.event.Event.{Event as CodeEvent}
+use Rattle.std.proofs.Common.{map, ◌≡◌, ℕ, suc, ◌+◌, ◌-◌, ◌<◌, ◌≤◌, Bool, true, List, [], ◌∷◌, ◌++◌, length, take, drop, get_or, Some, None, nat_eq, add-one, refl, sym, ap, subst, ◌∙◌, append_assoc}
+use Rattle.std.proofs.{Common.{arith, rules}, Math.Seq.{drop-cons, drop-length}, lemmas.{Bool.{le-leb, leb-true, eq-eqb, ne_eqb, cases_lt}, Grind.{common_steps}, List.{append-nil}}}
+use Rattle.{std.{proofs.lemmas.List.{append_cancel_left, drop-drop, length-take, map-append, take_more, take-append-drop}, specs.Prelude.{if◌then◌else◌}}, dgt_decode.specs.Feeding.{event_content}}
+use Rattle.dgt_decode.specs.Grammar.{Event, BadLength, Stray, Placed, at_place, message_event, announced_total, shifted, strays, lead, segments, verdict, segment_events, unfinished_part, cut_of}
+use Rattle.dgt_decode.{specs.{Grammar.{cut_before, segments_events, events}, Laws.{IsSegment}, Taking.{placed_content}, declared.event.Event.{Event as CodeEvent}}, proofs.Appending.{lead-is_seven}}
+use Rattle.dgt_decode.proofs.{Appending.{lead-seven, segments-seven}, Cuts.{lead-append, segments-append}, Places.{shifted-append, shifted-shifted, shifted-zero, strays-append}}
+use Rattle.dgt_decode.proofs.{SevenBit.{SevenByRecursion, are_seven}, Verdicts.{verdict-bad, verdict-waits, verdict-whole}}
 use Rattle.dgt_decode.specs.declared.event.Event.TheVariants as code_events
-use Rattle.dgt_decode.specs.Grammar.{Event, BadLength, Stray, Placed, at_place, message_event, announced_total, shifted, strays, lead, segments, verdict, segment_events, unfinished_part, cut_of, cut_before, segments_events, events}
-use Rattle.dgt_decode.specs.Feeding.{event_content}
-use Rattle.dgt_decode.specs.Laws.{IsSegment}
-use Rattle.dgt_decode.specs.Taking.{placed_content}
-use Rattle.dgt_decode.proofs.Verdicts.{verdict-bad, verdict-waits, verdict-whole}
-use Rattle.dgt_decode.proofs.Places.{shifted-append, shifted-shifted, shifted-zero, strays-append}
-use Rattle.dgt_decode.proofs.Cuts.{lead-append, segments-append}
-use Rattle.dgt_decode.proofs.Appending.{lead-is_seven, lead-seven, segments-seven}
-use Rattle.dgt_decode.proofs.SevenBit.{SevenByRecursion, are_seven}
-use Rattle.std.proofs.lemmas.Grind.{common_steps}
 
 -- ---- The lead
 
@@ -28,10 +18,11 @@ lead_split bytes i seven = ap (λ (x : List ℕ). lead x) (sym (take-append-drop
     ∙ rw (lead-seven (take i bytes) seven, segments-seven (take i bytes) seven) refl
 
 -- the lead ends at the first byte with a set top bit
-pub lead_here : (bytes : List ℕ) (i : ℕ) → i < length bytes → 128 ≤ get_or bytes i 0 → SevenByRecursion (take i bytes)
-    → take i bytes ≡ lead bytes
+pub lead_here : (bytes : List ℕ) (i : ℕ) → i < length bytes → 128 ≤ get_or bytes i 0
+    → SevenByRecursion (take i bytes) → take i bytes ≡ lead bytes
 lead_here bytes i within top seven =
-    let next : lead (drop i bytes) ≡ [] = rw (drop-cons bytes i 0 within, le-leb 128 (get_or bytes i 0) top) refl in
+    let next : lead (drop i bytes) ≡ [] =
+    rw (drop-cons bytes i 0 within, le-leb 128 (get_or bytes i 0) top) refl in
     sym (lead_split bytes i seven ∙ rw next (append-nil (take i bytes)))
 
 -- with no such byte it is the whole
@@ -48,7 +39,8 @@ lead_stops bytes i is =
     (sym (lead_split bytes i seven) ∙ sym is ∙ sym (append-nil (take i bytes)))
 
 -- the segments are after the lead
-segments_behind : (bytes : List ℕ) (i : ℕ) → take i bytes ≡ lead bytes → segments bytes ≡ segments (drop i bytes)
+segments_behind : (bytes : List ℕ) (i : ℕ) → take i bytes ≡ lead bytes
+    → segments bytes ≡ segments (drop i bytes)
 segments_behind bytes i is =
     let seven : SevenByRecursion (take i bytes)
     = subst (λ (x : List ℕ). SevenByRecursion x) (sym is) (lead-is_seven bytes) in
@@ -77,16 +69,18 @@ whole_here g t event is large enough reports =
 
 -- one more Stray
 pub strays_more : (before i : ℕ) (bytes : List ℕ) → i < length bytes
-    → shifted before (strays (take i bytes)) ++ at_place (before + i + 1) (Stray (get_or bytes i 0)) ∷ []
-    ≡ shifted before (strays (take (i + 1) bytes))
+    → shifted before (strays (take i bytes)) ++ at_place (before + i + 1) (Stray (get_or bytes i 0))
+    ∷ [] ≡ shifted before (strays (take (i + 1) bytes))
 strays_more before i bytes within =
     grind (arith, common_steps, length-take, take_more, strays-append, shifted-append)
 
 -- one more Stray is reported
-pub reported_stray : (old reported new : List (ℕ × CodeEvent)) (before i : ℕ) (bytes : List ℕ) → i < length bytes
+pub reported_stray : (old reported new : List (ℕ × CodeEvent)) (before i : ℕ) (bytes : List ℕ)
+    → i < length bytes
     → map placed_content reported ≡ map placed_content old ++ shifted before (strays (take i bytes))
     → new ≡ reported ++ (before + i + 1, code_events.Stray (get_or bytes i 0)) ∷ []
-    → map placed_content new ≡ map placed_content old ++ shifted before (strays (take (i + 1) bytes))
+    → map placed_content new
+    ≡ map placed_content old ++ shifted before (strays (take (i + 1) bytes))
 reported_stray old reported new before i bytes within so_far pushed =
     search (rules, map-append, strays_more, append_assoc)
 
@@ -97,12 +91,15 @@ abbrev pub cut_after : Bool → List ℕ → List Placed
 cut_after is_last unfinished = if is_last then [] else cut_of unfinished
 
 -- the verdict and the strays after it are reported
-pub reported_verdict : (old mid new : List (ℕ × CodeEvent)) (before place : ℕ) (event : CodeEvent) (g rest : List ℕ)
-    (is_last : Bool) → Some (at_place place (event_content event)) ≡ verdict g
+pub reported_verdict : (old mid new : List (ℕ × CodeEvent)) (before place : ℕ) (event : CodeEvent)
+    (g rest : List ℕ) (is_last : Bool) → Some (at_place place (event_content event)) ≡ verdict g
     → mid ≡ old ++ (before + place, event) ∷ [] → rest ≡ drop place g
     → map placed_content new ≡ map placed_content mid ++ shifted (before + place) (strays rest)
-    → map placed_content new ≡ map placed_content old ++ shifted before
-    (segment_events (verdict g) g ++ shifted (length g) (cut_after is_last (unfinished_part (verdict g) g)))
+    → map placed_content new
+    ≡ map placed_content old
+    ++ shifted before
+    (segment_events (verdict g) g
+    ++ shifted (length g) (cut_after is_last (unfinished_part (verdict g) g)))
 reported_verdict old mid new before place event g rest is_last is pushed same reported =
     search (rules, map-append, append-nil, shifted-shifted, append_assoc)
 
@@ -112,7 +109,8 @@ reported_verdict old mid new before place event g rest is_last is pushed same re
 pub record HasReported (bytes : List ℕ) (start : ℕ) (reported : List Placed) : Type 0 where
   pub within : start ≤ length bytes
   pub no_lead : lead (drop start bytes) ≡ []
-  pub so_far : reported ++ shifted start (segments_events (segments (drop start bytes))) ≡ events bytes
+  pub so_far : reported ++ shifted start (segments_events (segments (drop start bytes)))
+      ≡ events bytes
 
 -- the Strays of the lead are reported
 pub reported_lead : (bytes : List ℕ) (start : ℕ) (reported : List Placed) → start ≤ length bytes
@@ -127,8 +125,8 @@ top_first : (b : ℕ) (rest : List ℕ) → lead (b ∷ rest) ≡ [] → 128 ≤
 top_first b rest = search (rules, leb-true)
 
 -- the byte at a place, and the bytes after it
-from_here : (bytes : List ℕ) (start : ℕ) → start < length bytes → drop start bytes ≡ get_or bytes start 0 ∷ drop
-    (start + 1) bytes
+from_here : (bytes : List ℕ) (start : ℕ) → start < length bytes
+    → drop start bytes ≡ get_or bytes start 0 ∷ drop (start + 1) bytes
 from_here bytes start more = rw (add-one, drop-cons bytes start 0 more) refl
 
 -- there is a Cut if another segment follows
@@ -145,8 +143,9 @@ pub record IsNext (bytes : List ℕ) (start count : ℕ) (segment : List ℕ) : 
   pub stops : take count (drop (start + 1) bytes) ≡ lead (drop (start + 1) bytes)
 
 -- the next segment ends where the lead of the bytes after its first byte does
-pub next_segment : (bytes : List ℕ) (start count : ℕ) (reported : List Placed) → HasReported bytes start reported
-    → start < length bytes → take count (drop (start + 1) bytes) ≡ lead (drop (start + 1) bytes)
+pub next_segment : (bytes : List ℕ) (start count : ℕ) (reported : List Placed)
+    → HasReported bytes start reported → start < length bytes
+    → take count (drop (start + 1) bytes) ≡ lead (drop (start + 1) bytes)
     → count ≤ length (drop (start + 1) bytes)
     → IsNext bytes start count (take (start + 1 + count - start) (drop start bytes))
 next_segment bytes start count reported h more is within =
@@ -157,9 +156,10 @@ next_segment bytes start count reported h more is within =
     search (rules, length-take, top_first)
 
 -- it is a segment
-pub IsSegment-next : (bytes : List ℕ) (start count : ℕ) (segment : List ℕ) → IsNext bytes start count segment
-    → IsSegment segment
-IsSegment-next bytes start count segment n = rw n.is (n.top, are_seven _ (lead-is_seven (drop (start + 1) bytes)))
+pub IsSegment-next : (bytes : List ℕ) (start count : ℕ) (segment : List ℕ)
+    → IsNext bytes start count segment → IsSegment segment
+IsSegment-next bytes start count segment n =
+    rw n.is (n.top, are_seven _ (lead-is_seven (drop (start + 1) bytes)))
 
 -- places of the next events are counted from the start of the whole
 regrouped : (reported a c e : List Placed) (start n end : ℕ) → start + n ≡ end
@@ -170,10 +170,11 @@ regrouped reported a c e start n end same =
     rw (← same) (simp (shifted-append, shifted-shifted, append_assoc))
 
 -- the events of the next segment are reported
-pub reported_segment : (bytes : List ℕ) (start count end : ℕ) (reported new : List Placed) (segment : List ℕ)
-    → HasReported bytes start reported → start < length bytes
+pub reported_segment : (bytes : List ℕ) (start count end : ℕ) (reported new : List Placed)
+    (segment : List ℕ) → HasReported bytes start reported → start < length bytes
     → IsNext bytes start count segment → end ≡ start + 1 + count → end ≤ length bytes
-    → new ≡ reported ++ shifted start
+    → new ≡ reported
+    ++ shifted start
     (segment_events (verdict segment) segment ++ shifted (length segment)
     (cut_after (nat_eq end (length bytes)) (unfinished_part (verdict segment) segment)))
     → HasReported bytes end new
@@ -182,6 +183,6 @@ reported_segment bytes start count end reported new segment h more n e within pu
     let rest = drop (start + 1) bytes in
     let g = b ∷ lead rest in
     let u = unfinished_part (verdict g) g in
-    let behind : drop count rest ≡ drop end bytes = drop-drop count (start + 1) bytes ∙ ap (λ (k : ℕ). drop k bytes)
-    (sym e) in
+    let behind : drop count rest ≡ drop end bytes =
+    drop-drop count (start + 1) bytes ∙ ap (λ (k : ℕ). drop k bytes) (sym e) in
     search (rules, lead_stops, segments_behind, from_here, le-leb, cut_here, regrouped)

@@ -1,15 +1,8 @@
 -- The cut is the only division of the list.
-use Rattle.std.proofs.Common.{◌≡◌, ℕ, true, List, [], ◌∷◌, ◌++◌, Option, None, refl, sym, ap, ◌∙◌}
-use Rattle.std.proofs.Common.{rules}
-use Rattle.std.specs.List.{AllByRecursion, concat}
-use Rattle.std.proofs.lemmas.List.{append-nil}
-use Rattle.std.proofs.lemmas.Bool.{leb-true}
-use Rattle.dgt_decode.specs.Grammar.{Placed, shifted, strays, lead, segments, verdict, segment_events, segments_events, unfinished_segment, events, unfinished_message}
-use Rattle.dgt_decode.specs.Laws.{CutsInto, IsSegment}
-use Rattle.dgt_decode.proofs.Cuts.{lead-append, segments-append}
-use Rattle.dgt_decode.proofs.Feeds.{nil_left}
-use Rattle.dgt_decode.proofs.Appending.{IsAlone, IsAlone-from, lead-is_seven, lead-seven, segments-seven}
-use Rattle.dgt_decode.proofs.SevenBit.{SevenByRecursion, are_seven, by_recursion}
+use Rattle.std.{proofs.{Common.{◌≡◌, ℕ, true, List, [], ◌∷◌, ◌++◌, Option, None, refl, sym, ap, ◌∙◌, rules}, lemmas.{Bool.{leb-true}, List.{append-nil}}}, specs.List.{AllByRecursion, concat}}
+use Rattle.dgt_decode.specs.{Grammar.{Placed, shifted, strays, lead, segments, verdict, segment_events, segments_events, unfinished_segment, events, unfinished_message}, Laws.{CutsInto, IsSegment}}
+use Rattle.dgt_decode.proofs.{Appending.{IsAlone, IsAlone-from, lead-is_seven, lead-seven, segments-seven}, Cuts.{lead-append, segments-append}, Feeds.{nil_left}, SevenBit.{SevenByRecursion}}
+use Rattle.dgt_decode.proofs.SevenBit.{are_seven, by_recursion}
 
 -- the parts in a row are the list
 pub whole : (s : List ℕ) → s ≡ lead s ++ concat (segments s)
@@ -32,15 +25,22 @@ lead-parts [] h = refl
 lead-parts (g ∷ parts) h = search (rules, lead-append)
 
 -- they are their own segments
-segments-parts : (parts : List (List ℕ)) → AllByRecursion IsSegment parts → segments (concat parts) ≡ parts
+segments-parts : (parts : List (List ℕ)) → AllByRecursion IsSegment parts
+    → segments (concat parts) ≡ parts
 segments-parts [] h = refl
 segments-parts (g ∷ parts) h =
     let alone = IsAlone-segment g h.0 in
-    rw (segments-append g (concat parts), alone.one, lead-parts parts h.1, append-nil g, segments-parts parts h.1) refl
+    rw (
+      segments-append g (concat parts),
+      alone.one,
+      lead-parts parts h.1,
+      append-nil g,
+      segments-parts parts h.1,
+    ) refl
 
 -- a seven-bit prefix is the lead
-lead-divided : (prefix : List ℕ) (parts : List (List ℕ)) → SevenByRecursion prefix → AllByRecursion IsSegment parts
-    → lead (prefix ++ concat parts) ≡ prefix
+lead-divided : (prefix : List ℕ) (parts : List (List ℕ)) → SevenByRecursion prefix
+    → AllByRecursion IsSegment parts → lead (prefix ++ concat parts) ≡ prefix
 lead-divided prefix parts seven h =
     search (rules, lead-append, lead-seven, segments-seven, lead-parts, append-nil)
 
@@ -49,8 +49,8 @@ pub cut_divides : (s : List ℕ) → CutsInto (lead s) (segments s) s
 cut_divides s = search (rules, are_seven, lead-is_seven, are_segments, whole)
 
 -- the cut is the only division
-pub one_cut : (s prefix : List ℕ) (parts : List (List ℕ)) → CutsInto prefix parts s → (prefix ≡ lead s)
-    × (parts ≡ segments s)
+pub one_cut : (s prefix : List ℕ) (parts : List (List ℕ)) → CutsInto prefix parts s
+    → (prefix ≡ lead s) × (parts ≡ segments s)
 one_cut s prefix parts d =
     search (rules, lead-divided, by_recursion, segments-append, segments-seven, segments-parts)
 

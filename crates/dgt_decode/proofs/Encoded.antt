@@ -1,20 +1,9 @@
 -- Messages that are encoded one after another.
-use Rattle.std.proofs.Common.{◌≡◌, ℕ, ◌+◌, ◌-◌, List, [], ◌∷◌, ◌++◌, length, drop, Ok, refl, sym, ap, ◌∙◌, append_assoc, arith}
-use Rattle.std.proofs.Common.{rules}
-use Rattle.std.specs.Prelude.{slice_index}
-use Rattle.std.specs.List.{AllByRecursion}
-use Rattle.std.proofs.lemmas.List.{append-nil}
-use Rattle.std.proofs.Math.Seq.{drop-length}
-use Rattle.dgt_message.specs.Content.{Content, IsMessage}
-use Rattle.dgt_message.specs.Reading.{reading}
-use Rattle.dgt_message.specs.Encoding.{Encodes, encoding}
-use Rattle.dgt_decode.specs.Grammar.{Message, Placed, shifted, lead, segments, message_event, cut_of, segments_events, events, unfinished_message}
-use Rattle.dgt_decode.specs.Feeding.{IsWholeMessage}
-use Rattle.dgt_decode.specs.Laws.{Sent, sent_bytes, arrivals, EncodingIsRead}
-use Rattle.dgt_decode.proofs.Places.{shifted-append, shifted-shifted, shifted-zero}
-use Rattle.dgt_decode.proofs.Cuts.{lead-append, segments-append}
-use Rattle.dgt_decode.proofs.Appending.{IsAlone, events-append, cut_before-nothing}
-use Rattle.dgt_decode.proofs.UnfinishedLemmas.{IsUnfinished, nothing, waiting, IsUnfinished-unfinished, length-unfinished, unfinished-append}
+use Rattle.std.proofs.{Common.{◌≡◌, ℕ, ◌+◌, ◌-◌, List, [], ◌∷◌, ◌++◌, length, drop, Ok, refl, sym, ap, ◌∙◌, append_assoc, arith, rules}, Math.Seq.{drop-length}, lemmas.List.{append-nil}}
+use Rattle.{std.specs.{List.{AllByRecursion}, Prelude.{slice_index}}, dgt_message.specs.{Content.{Content, IsMessage}, Encoding.{Encodes, encoding}, Reading.{reading}}}
+use Rattle.dgt_decode.specs.{Feeding.{IsWholeMessage}, Grammar.{Message, Placed, shifted, lead, segments, message_event, cut_of, segments_events, events, unfinished_message}, Laws.{Sent, sent_bytes}}
+use Rattle.dgt_decode.{specs.Laws.{arrivals, EncodingIsRead}, proofs.{Appending.{IsAlone, events-append, cut_before-nothing}, Cuts.{lead-append, segments-append}, Places.{shifted-append}}}
+use Rattle.dgt_decode.proofs.{Places.{shifted-shifted, shifted-zero}, UnfinishedLemmas.{IsUnfinished, nothing, waiting, IsUnfinished-unfinished, length-unfinished, unfinished-append}}
 use Rattle.dgt_decode.proofs.Wholes.{IsAlone-whole, verdict-of_whole, whole_unfinished}
 
 -- ---- Bytes that are read as messages
@@ -41,7 +30,8 @@ is_read reads m h = record {
 }
 
 -- messages that are encoded are read
-are_read : AreRead → (ms : List Sent) → AllByRecursion (λ m. Encodes m.said m.bytes) ms → AllByRecursion IsRead ms
+are_read : AreRead → (ms : List Sent) → AllByRecursion (λ m. Encodes m.said m.bytes) ms
+    → AllByRecursion IsRead ms
 are_read reads [] h = tt
 are_read reads (m ∷ ms) h = (is_read reads m h.0, are_read reads ms h.1)
 
@@ -66,14 +56,16 @@ lead-sent [] h = refl
 lead-sent (m ∷ ms) h = lead-before m.bytes (sent_bytes ms) (IsAlone-whole m.bytes h.0.whole)
 
 -- their segments are the encodings
-segments-sent : (ms : List Sent) → AllByRecursion IsRead ms → segments (sent_bytes ms) ≡ encodings ms
+segments-sent : (ms : List Sent) → AllByRecursion IsRead ms
+    → segments (sent_bytes ms) ≡ encodings ms
 segments-sent [] h = refl
 segments-sent (m ∷ ms) h =
     segments-before m.bytes (sent_bytes ms) (IsAlone-whole m.bytes h.0.whole) (lead-sent ms h.1)
     ∙ ap (λ (gs : List (List ℕ)). m.bytes ∷ gs) (segments-sent ms h.1)
 
 -- their events are the messages
-segments_events-encodings : (ms : List Sent) → AllByRecursion IsRead ms → segments_events (encodings ms) ≡ arrivals ms
+segments_events-encodings : (ms : List Sent) → AllByRecursion IsRead ms
+    → segments_events (encodings ms) ≡ arrivals ms
 segments_events-encodings [] h = refl
 segments_events-encodings (m ∷ ms) h = rw (
   verdict-of_whole m.bytes h.0.whole,
@@ -87,7 +79,8 @@ segments_events-encodings (m ∷ ms) h = rw (
 -- ---- After any bytes
 
 -- after unfinished bytes
-behind_unfinished : (o : List ℕ) → IsUnfinished o → (m : Sent) (ms : List Sent) → AllByRecursion IsRead (m ∷ ms)
+behind_unfinished : (o : List ℕ) → IsUnfinished o → (m : Sent) (ms : List Sent)
+    → AllByRecursion IsRead (m ∷ ms)
     → events (o ++ sent_bytes (m ∷ ms)) ≡ shifted (length o) (cut_of o ++ arrivals (m ∷ ms))
 unfolding events
 behind_unfinished o nothing m ms h =
@@ -138,12 +131,11 @@ unfinished-sent s m (k ∷ more) h =
 -- ---- The laws
 
 -- both of messages that are encoded
-pub recovery : AreRead → (s : List ℕ) (m : Sent) (more : List Sent) → AllByRecursion (λ m. Encodes m.said m.bytes)
-    (m ∷ more) →
-    (events (s ++ sent_bytes (m ∷ more))
-    ≡ events s ++ shifted (length s) (cut_of (unfinished_message s))
-    ++ shifted (length s) (arrivals (m ∷ more)))
-    × (unfinished_message (s ++ sent_bytes (m ∷ more)) ≡ [])
+pub recovery : AreRead → (s : List ℕ) (m : Sent) (more : List Sent)
+    → AllByRecursion (λ m. Encodes m.said m.bytes) (m ∷ more)
+    → (events (s ++ sent_bytes (m ∷ more))
+    ≡ events s ++ shifted (length s) (cut_of (unfinished_message s)) ++ shifted (length s)
+    (arrivals (m ∷ more))) × (unfinished_message (s ++ sent_bytes (m ∷ more)) ≡ [])
 recovery reads s m more h = search (rules, are_read, events-sent, unfinished-sent)
 
 -- one message, as it is written

@@ -1,10 +1,7 @@
 -- The derived `==` of events and of results for a chunk.
-use Rattle.std.proofs.Common.{rules}
-use Rattle.dgt_values.specs.Equality.{EqualIsSameRead}
-use Rattle.dgt_message.specs.Content.{content}
+use Rattle.{std.proofs.Common.{rules}, dgt_values.specs.Equality.{EqualIsSameRead}, dgt_message.specs.Content.{content}, dgt_decode.specs.Feeding.{event_content}}
 use Rattle.dgt_message.specs.contracts.message.MessagePartialEq.TheImpl as message
 use Rattle.dgt_decode.specs.declared.event.Event.TheVariants as code_events
-use Rattle.dgt_decode.specs.Feeding.{event_content}
 use Rattle.dgt_decode.specs.contracts.event.EventPartialEq.TheImpl as event
 
 module _ (equal_messages : EqualIsSameRead content (message.eq-value).it) where

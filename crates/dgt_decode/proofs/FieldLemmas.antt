@@ -1,20 +1,8 @@
 -- The messages that are field updates: five bytes, of which the last two are a square and a piece.
-use Rattle.std.proofs.Common.{◌≡◌, ℕ, ◌<◌, List, [], ◌∷◌, Result, Ok, ap, arith, drop, length, slice_index, rules}
-use Rattle.std.specs.Prelude.{◌↔◌, ◌-◌}
-use Rattle.std.proofs.lemmas.List.Elements.{All-drop, All-from_recursion}
-use Rattle.dgt_values.specs.Bytes.{AreSevenBit}
-use Rattle.dgt_values.specs.Board.{piece_code, square_number}
-use Rattle.dgt_values.specs.declared.pieces.Piece.{Piece}
-use Rattle.dgt_values.specs.declared.squares.Square.{Square}
-use Rattle.dgt_message.specs.Content.{Content, IsCarried}
-use Rattle.dgt_message.specs.Content.Content.{field}
-use Rattle.dgt_message.specs.Encoding.{Fits}
-use Rattle.dgt_message.specs.Reading.{reading}
-use Rattle.dgt_message.specs.declared.viewing.BodyFault.{BodyFault}
-use Rattle.dgt_message.proofs.Codes.{piece_code-below}
-use Rattle.dgt_decode.specs.Grammar.{Message, message_event, reading_event}
-use Rattle.dgt_decode.specs.Feeding.{IsWholeMessage}
-use Rattle.std.proofs.Common.{refl}
+use Rattle.std.{proofs.{Common.{◌≡◌, ℕ, ◌<◌, List, [], ◌∷◌, Result, Ok, ap, arith, drop, length, slice_index, rules, refl}, lemmas.List.Elements.{All-drop, All-from_recursion}}, specs.Prelude.{◌↔◌}}
+use Rattle.{std.specs.Prelude.{◌-◌}, dgt_values.specs.{Board.{piece_code, square_number}, Bytes.{AreSevenBit}, declared.{pieces.Piece.{Piece}, squares.Square.{Square}}}}
+use Rattle.dgt_message.{specs.{Content.{Content, IsCarried}, Encoding.{Fits}, Reading.{reading}, Content.Content.{field}, declared.viewing.BodyFault.{BodyFault}}, proofs.Codes.{piece_code-below}}
+use Rattle.dgt_decode.specs.{Feeding.{IsWholeMessage}, Grammar.{Message, message_event, reading_event}}
 
 -- a message that fits a code and a body is their reading
 abbrev pub IsRead : Type 0
@@ -22,39 +10,48 @@ IsRead = (code : ℕ) (body : List ℕ) (said : Content) → code < 128 → IsCa
     → (reading code body ≡ Ok said) ↔ Fits said code body
 
 -- the reading of a body of two bytes that are a square and the code of a piece
-field_read : IsRead → (square : Square) (piece : Piece) (s p : ℕ) → s < 64 → p < 128 → square_number square ≡ s
-    → piece_code piece ≡ p → reading 14 (s ∷ p ∷ []) ≡ Ok (field (square_number square) piece)
+field_read : IsRead → (square : Square) (piece : Piece) (s p : ℕ) → s < 64 → p < 128
+    → square_number square ≡ s → piece_code piece ≡ p
+    → reading 14 (s ∷ p ∷ []) ≡ Ok (field (square_number square) piece)
 field_read exact square piece s p small small' e f =
-    (exact 14 (s ∷ p ∷ []) (field (square_number square) piece) (omega arith)
-    (omega arith, All-from_recursion (λ byte. byte < 128) (s ∷ p ∷ []) (omega (arith, small), (small', tt)))).1 record {
+    (exact 14 (s ∷ p ∷ []) (field (square_number square) piece) (omega arith) (
+      omega arith,
+      All-from_recursion (λ byte. byte < 128) (s ∷ p ∷ [])
+          (omega (arith, small), (small', tt)),
+    )).1 record {
       is_message = rw e small;
       code_is = refl;
       encoded = rw (e, f) refl;
     }
 
-pub field_reported : IsRead → (bytes : List ℕ) (square : Square) (piece : Piece) → AreSevenBit (drop 1 bytes)
-    → length bytes ≡ 5 → slice_index bytes 0 ≡ 142
-    → slice_index bytes 3 < 64 → square_number square ≡ slice_index bytes 3 → piece_code piece ≡ slice_index bytes 4
+pub field_reported : IsRead → (bytes : List ℕ) (square : Square) (piece : Piece)
+    → AreSevenBit (drop 1 bytes) → length bytes ≡ 5 → slice_index bytes 0 ≡ 142
+    → slice_index bytes 3 < 64 → square_number square ≡ slice_index bytes 3
+    → piece_code piece ≡ slice_index bytes 4
     → message_event bytes ≡ Message (field (square_number square) piece)
 field_reported exact (a ∷ b ∷ c ∷ s ∷ p ∷ []) square piece seven five code small e f =
-    rw code (ap (reading_event 14) (field_read exact square piece s p small (seven 3 0 (omega arith)) e f))
+    rw code
+    (ap (reading_event 14) (field_read exact square piece s p small (seven 3 0 (omega arith)) e f))
 field_reported exact [] square piece seven five code small e f = absurd (omega arith)
 field_reported exact (a ∷ []) square piece seven five code small e f = absurd (omega arith)
 field_reported exact (a ∷ b ∷ []) square piece seven five code small e f = absurd (omega arith)
 field_reported exact (a ∷ b ∷ c ∷ []) square piece seven five code small e f = absurd (omega arith)
-field_reported exact (a ∷ b ∷ c ∷ s ∷ []) square piece seven five code small e f = absurd (omega arith)
-field_reported exact (a ∷ b ∷ c ∷ s ∷ p ∷ d ∷ rest) square piece seven five code small e f = absurd (omega arith)
+field_reported exact (a ∷ b ∷ c ∷ s ∷ []) square piece seven five code small e f =
+    absurd (omega arith)
+field_reported exact (a ∷ b ∷ c ∷ s ∷ p ∷ d ∷ rest) square piece seven five code small e f =
+    absurd (omega arith)
 
 -- a reading with a message as its event is this message's
-pub read_of : (code : ℕ) (read : Result Content BodyFault) (said : Content) → reading_event code read ≡ Message said
-    → read ≡ Ok said
+pub read_of : (code : ℕ) (read : Result Content BodyFault) (said : Content)
+    → reading_event code read ≡ Message said → read ≡ Ok said
 read_of code read said e = grind (arith, e)
 
 -- A message with the piece of one square has five bytes, the first of which is 142. Its square is
 -- below 64, and its piece below 16.
 pub only_field : IsRead → (bytes : List ℕ) (square : ℕ) (piece : Piece) → slice_index bytes 0 < 256
     → IsWholeMessage bytes → message_event bytes ≡ Message (field square piece)
-    → (slice_index bytes 0 ≡ 142) × (length bytes ≡ 5) × (slice_index bytes 3 < 64) × (slice_index bytes 4 < 16)
+    → (slice_index bytes 0 ≡ 142) × (length bytes ≡ 5) × (slice_index bytes 3 < 64)
+    × (slice_index bytes 4 < 16)
 only_field exact (a ∷ b ∷ c ∷ body) square piece byte w e =
     let seven : AreSevenBit body = All-drop (λ byte. byte < 128) 2 (b ∷ c ∷ body) w.later in
     let carried : IsCarried body =

@@ -1,30 +1,18 @@
 -- The states of a framer, byte by byte.
-use Rattle.std.proofs.Common.{option_map, ◌≡◌, ◌≢◌, ℕ, zero, suc, ◌+◌, ◌*◌, ◌-◌, ◌<◌, ◌≤◌, ◌⊎◌, inl, List, [], ◌∷◌, ◌++◌, length, drop, Option, Some, None, refl, sym, ap, subst, ◌∙◌, arith}
-use Rattle.std.proofs.Common.{rules}
-use Rattle.std.specs.Prelude.{◌==◌, if◌then◌else◌, slice_index}
-use Rattle.std.proofs.lemmas.Bool.{ne_eqb}
-use Rattle.std.proofs.lemmas.List.{length-append, nil_from_length}
-use Rattle.dgt_decode.specs.declared.event.Found.{Found}
+use Rattle.std.proofs.Common.{option_map, ◌≡◌, ◌≢◌, ℕ, zero, suc, ◌+◌, ◌*◌, ◌-◌, ◌<◌, ◌≤◌, ◌⊎◌, inl, List, [], ◌∷◌, ◌++◌, length, drop, Option, Some, None, refl, sym, ap, subst, ◌∙◌, arith, rules}
+use Rattle.std.{proofs.lemmas.{Bool.{ne_eqb}, Grind.{common_steps}, List.{length-append, nil_from_length}}, specs.Prelude.{◌==◌, if◌then◌else◌, slice_index}}
+use Rattle.dgt_decode.specs.{Feeding.{IsWholeMessage, at_place_if_any, event_found_in}, Grammar.{BadLength, Cut, Stray, at_place, announced_total, events, unfinished_message}, Taking.{Frames}}
+use Rattle.dgt_decode.{specs.{Taking.{FramesPrefix, IsKept}, declared.{event.Found.{Found}, framer.FramerState.{FramerState, TheVariants.{Hunting, Head, Body, Whole}}}}, proofs.Appending.{IsAlone}}
+use Rattle.dgt_decode.proofs.{Bytes.{IsAlone-parts, nothing_held, quiet_unfinished, held_begins_more, held_room}, Feeds.{first_of_run}, SevenBit.{SevenByRecursion, are_seven}, Steps.{IsHeld}}
+use Rattle.dgt_decode.proofs.Steps.{IsHeld-unfinished, IsAlone-more, alone_held, first-begins, first-stray, next-begins, next-short, next-bad, next-waits, next-whole}
+use Rattle.dgt_decode.proofs.{Verdicts.{announced_total-append}, Wholes.{whole_unfinished}}
 use Rattle.dgt_decode.specs.declared.event.Found.TheVariants as found
-use Rattle.dgt_decode.specs.declared.framer.FramerState.{FramerState}
-use Rattle.dgt_decode.specs.declared.framer.FramerState.TheVariants.{Hunting, Head, Body, Whole}
-use Rattle.dgt_decode.specs.Grammar.{BadLength, Cut, Stray, at_place, announced_total, events, unfinished_message}
-use Rattle.dgt_decode.specs.Feeding.{IsWholeMessage, at_place_if_any, event_found_in}
-use Rattle.dgt_decode.specs.Taking.{Frames, FramesPrefix, IsKept}
-use Rattle.dgt_decode.proofs.Verdicts.{announced_total-append}
-use Rattle.dgt_decode.proofs.Appending.{IsAlone}
-use Rattle.dgt_decode.proofs.Wholes.{whole_unfinished}
-use Rattle.dgt_decode.proofs.Feeds.{first_of_run}
-use Rattle.dgt_decode.proofs.Steps.{IsHeld, IsHeld-unfinished, IsAlone-more, alone_held, first-begins, first-stray, next-begins, next-short, next-bad, next-waits, next-whole}
-use Rattle.dgt_decode.proofs.Bytes.{IsAlone-parts, nothing_held, quiet_unfinished, held_begins_more, held_room}
-use Rattle.dgt_decode.proofs.SevenBit.{SevenByRecursion, are_seven}
-use Rattle.std.proofs.lemmas.Grind.{common_steps}
 
 -- ---- What is unfinished
 
 -- between messages nothing is unfinished
-pub closed : (state : FramerState) (kept : List ℕ) → IsKept state kept → (state ≡ Hunting) ⊎ (state ≡ Whole)
-    → unfinished_message kept ≡ []
+pub closed : (state : FramerState) (kept : List ℕ) → IsKept state kept
+    → (state ≡ Hunting) ⊎ (state ≡ Whole) → unfinished_message kept ≡ []
 closed state kept is here = search (rules, nothing_held, whole_unfinished)
 
 -- within a message, all bytes kept are unfinished
@@ -74,7 +62,8 @@ frames-stray kept b none seven =
     search (rules, first_of_run, quiet_unfinished, nothing_held)
 
 -- a stray byte is taken on its own
-pub prefix-stray : (kept rest : List ℕ) → unfinished_message kept ≡ [] → 0 < length rest → slice_index rest 0 < 128
+pub prefix-stray : (kept rest : List ℕ) → unfinished_message kept ≡ [] → 0 < length rest
+    → slice_index rest 0 < 128
     → FramesPrefix kept rest 1 [] (Some (found.Stray (slice_index rest 0)))
 prefix-stray kept [] none some seven = absurd (omega (arith, some))
 prefix-stray kept (b ∷ rest) none some seven = search (rules, frames-stray)
@@ -82,8 +71,9 @@ prefix-stray kept (b ∷ rest) none some seven = search (rules, frames-stray)
 -- ---- A byte of the header
 
 -- the second byte of a message reports nothing
-pub frames-short : (state : FramerState) (kept : List ℕ) (b : ℕ) → IsKept state kept → state ≡ Head → length kept ≡ 1
-    → b < 128 → Frames kept (b ∷ []) (kept ++ b ∷ []) None × IsKept Head (kept ++ b ∷ [])
+pub frames-short : (state : FramerState) (kept : List ℕ) (b : ℕ) → IsKept state kept → state ≡ Head
+    → length kept ≡ 1 → b < 128
+    → Frames kept (b ∷ []) (kept ++ b ∷ []) None × IsKept Head (kept ++ b ∷ [])
 frames-short state kept b is head one seven =
     let h = kept_unfinished state kept is (inl head) in
     let long : length (kept ++ b ∷ []) ≡ 2 = omega (arith, length-append kept (b ∷ [])) in
@@ -91,10 +81,11 @@ frames-short state kept b is head one seven =
     (search (rules, first_of_run, quiet_unfinished))
 
 -- after the first byte there are two
-two_kept : (state : FramerState) (kept : List ℕ) → IsKept state kept → state ≡ Head → length kept ≢ 1
-    → IsHeld kept × (length kept ≡ 2)
+two_kept : (state : FramerState) (kept : List ℕ) → IsKept state kept → state ≡ Head
+    → length kept ≢ 1 → IsHeld kept × (length kept ≡ 2)
 two_kept state kept is head more =
-    let two : IsKept Head kept = subst (λ s. IsKept s kept) head is in (two.0, omega (arith, two.1, two.2))
+    let two : IsKept Head kept = subst (λ s. IsKept s kept) head is in
+    (two.0, omega (arith, two.1, two.2))
 
 -- the third byte ends the total
 pub head_total : (kept : List ℕ) (b : ℕ) → length kept ≡ 2
@@ -102,12 +93,14 @@ pub head_total : (kept : List ℕ) (b : ℕ) → length kept ≡ 2
 head_total kept b two = grind (arith, common_steps)
 
 -- a total below 3 is reported as a bad length
-pub frames-bad : (state : FramerState) (kept : List ℕ) (b : ℕ) → IsKept state kept → state ≡ Head → length kept ≢ 1
-    → b < 128 → 128 * slice_index kept 1 + b < 3 → Frames kept (b ∷ []) [] (Some found.BadLength)
+pub frames-bad : (state : FramerState) (kept : List ℕ) (b : ℕ) → IsKept state kept → state ≡ Head
+    → length kept ≢ 1 → b < 128 → 128 * slice_index kept 1 + b < 3
+    → Frames kept (b ∷ []) [] (Some found.BadLength)
 frames-bad state kept b is head more seven small =
     let (h, two) = two_kept state kept is head more in
     let long : length (kept ++ b ∷ []) ≡ 3 = omega (arith, length-append kept (b ∷ [])) in
-    let g = next-bad kept (b ∷ []) h (omega arith) (seven, tt) long (omega (arith, head_total kept b two)) in
+    let g = next-bad kept (b ∷ []) h (omega arith) (seven, tt) long
+    (omega (arith, head_total kept b two)) in
     search (rules, first_of_run, quiet_unfinished, nothing_held)
 
 -- ---- A later byte
@@ -154,8 +147,10 @@ frames-after kept b left h two seven all =
     (search (rules, first_of_run, quiet_unfinished))
 
 -- a byte of the body does
-pub frames-body : (state : FramerState) (kept : List ℕ) (b left : ℕ) → IsKept state kept → state ≡ Body left → b < 128
-    → Frames kept (b ∷ []) (kept ++ b ∷ []) (after (left - 1)).1 × IsKept (after (left - 1)).0 (kept ++ b ∷ [])
+pub frames-body : (state : FramerState) (kept : List ℕ) (b left : ℕ) → IsKept state kept
+    → state ≡ Body left → b < 128
+    → Frames kept (b ∷ []) (kept ++ b ∷ []) (after (left - 1)).1
+    × IsKept (after (left - 1)).0 (kept ++ b ∷ [])
 frames-body state kept b left was body seven =
     let is : IsKept (Body left) kept = subst (λ s. IsKept s kept) body was in
     let count : length (kept ++ b ∷ []) ≡ length kept + 1 = length-append kept (b ∷ []) in
@@ -163,8 +158,9 @@ frames-body state kept b left was body seven =
     (omega (arith, announced_total-append kept (b ∷ []) is.1, is.2, is.3))
 
 -- the effect of the third byte of a header, also without a body
-pub frames-head : (state : FramerState) (kept : List ℕ) (b high low : ℕ) → IsKept state kept → state ≡ Head
-    → length kept ≢ 1 → b < 128 → high ≡ slice_index kept 1 → low ≡ b → 3 ≤ 128 * high + low
+pub frames-head : (state : FramerState) (kept : List ℕ) (b high low : ℕ) → IsKept state kept
+    → state ≡ Head → length kept ≢ 1 → b < 128 → high ≡ slice_index kept 1 → low ≡ b
+    → 3 ≤ 128 * high + low
     → let left = 128 * high + low - 3 in
     Frames kept (b ∷ []) (kept ++ b ∷ []) (after left).1 × IsKept (after left).0 (kept ++ b ∷ [])
 frames-head state kept b high low is head more seven second third large =

@@ -1,19 +1,10 @@
 -- A loop over the bytes of a chunk, which takes them one by one or run by run.
-use Rattle.std.proofs.Common.{◌≡◌, ◌≢◌, ℕ, ◌+◌, ◌-◌, ◌<◌, ◌≤◌, true, false, List, [], ◌∷◌, ◌++◌, length, take, drop, get_or, option_map, Option, Some, None, sym, ap, ◌∙◌, append_assoc, arith}
-use Rattle.std.proofs.Common.{rules}
-use Rattle.std.specs.Prelude.{is_some}
-use Rattle.std.proofs.Math.Seq.{drop-cons, take-add, take-length}
-use Rattle.dgt_decode.specs.declared.event.Found.{Found}
-use Rattle.dgt_decode.specs.declared.event.Found.TheVariants as found
-use Rattle.std.proofs.lemmas.List.{append-nil, length-append, length-drop, length-take, length-take-le, take-take}
-use Rattle.dgt_decode.specs.Grammar.{Event, at_place, shifted, events, unfinished_message}
-use Rattle.dgt_decode.specs.Feeding.{FirstEvent, IsWholeMessage, at_place_if_any, event_found_in}
-use Rattle.dgt_decode.specs.Taking.{Frames, FramesPrefix}
-use Rattle.dgt_decode.proofs.Appending.{events-append}
+use Rattle.std.proofs.Common.{◌≡◌, ◌≢◌, ℕ, ◌+◌, ◌-◌, ◌<◌, ◌≤◌, true, false, List, [], ◌∷◌, ◌++◌, length, take, drop, get_or, option_map, Option, Some, None, sym, ap, ◌∙◌, append_assoc, arith, rules}
+use Rattle.std.{proofs.{Math.Seq.{drop-cons, take-add, take-length}, lemmas.List.{append-nil, length-append, length-drop, length-take, length-take-le, take-take}}, specs.Prelude.{is_some}}
+use Rattle.dgt_decode.specs.{Feeding.{FirstEvent, IsWholeMessage, at_place_if_any, event_found_in}, Grammar.{Event, at_place, shifted, events, unfinished_message}, Taking.{Frames, FramesPrefix}}
+use Rattle.dgt_decode.{specs.declared.event.Found.{Found}, proofs.{Appending.{events-append}, Division.{quiet_held}, Feeds.{FirstEvent-some, first_of_run}, Steps.{IsHeld, IsUnfinished-held}}}
 use Rattle.dgt_decode.proofs.UnfinishedLemmas.{events-of_unfinished, unfinished-append, length-unfinished}
-use Rattle.dgt_decode.proofs.Steps.{IsHeld, IsUnfinished-held}
-use Rattle.dgt_decode.proofs.Feeds.{FirstEvent-some, first_of_run}
-use Rattle.dgt_decode.proofs.Division.{quiet_held}
+use Rattle.dgt_decode.specs.declared.event.Found.TheVariants as found
 
 -- the place of an event after bytes is the sum of the places
 pub shifted-at_place_if_any : (n m k : ℕ) (event : Option Event) → n + m ≡ k
@@ -46,31 +37,35 @@ abbrev pub IsRun : List ℕ → ℕ → List ℕ → ℕ → Type 0
 IsRun chunk i run j = take j chunk ≡ take i chunk ++ run
 
 -- after a run the unfinished bytes are those of all bytes to its end
-pub run_holds : (held chunk : List ℕ) (i j : ℕ) (now run : List ℕ) → IsRun chunk i run j → HasTaken held chunk i now
+pub run_holds : (held chunk : List ℕ) (i j : ℕ) (now run : List ℕ) → IsRun chunk i run j
+    → HasTaken held chunk i now
     → unfinished_message (now ++ run) ≡ unfinished_message (held ++ take j chunk)
 run_holds held chunk i j now run r t =
-    rw (t.holds, r, ← append_assoc held (take i chunk) run) (sym (unfinished-append (held ++ take i chunk) run))
+    rw (t.holds, r, ← append_assoc held (take i chunk) run)
+    (sym (unfinished-append (held ++ take i chunk) run))
 
 -- a run reports the same as all bytes to its end
-pub run_reported : (held chunk : List ℕ) (i j n : ℕ) (now run : List ℕ) (event : Option Event) → IsRun chunk i run j
-    → HasTaken held chunk i now
-    → events (now ++ run) ≡ at_place_if_any (length now + n) event → events (held ++ take j chunk) ≡ at_place_if_any
-    (length (held ++ take i chunk) + n) event
+pub run_reported : (held chunk : List ℕ) (i j n : ℕ) (now run : List ℕ) (event : Option Event)
+    → IsRun chunk i run j → HasTaken held chunk i now
+    → events (now ++ run) ≡ at_place_if_any (length now + n) event
+    → events (held ++ take j chunk) ≡ at_place_if_any (length (held ++ take i chunk) + n) event
 run_reported held chunk i j n now run event r t reported = search (rules, append_assoc, events-more)
 
 -- a run without an event continues
-pub run_quiet : (held chunk : List ℕ) (i j : ℕ) (now run : List ℕ) → IsRun chunk i run j → HasTaken held chunk i now
-    → events (now ++ run) ≡ [] → HasTaken held chunk j (unfinished_message (now ++ run))
+pub run_quiet : (held chunk : List ℕ) (i j : ℕ) (now run : List ℕ) → IsRun chunk i run j
+    → HasTaken held chunk i now → events (now ++ run) ≡ []
+    → HasTaken held chunk j (unfinished_message (now ++ run))
 run_quiet held chunk i j now run r t reported = record {
   holds = run_holds held chunk i j now run r t;
   quiet = run_reported held chunk i j 0 now run None r t reported;
 }
 
 -- the held bytes and a run are the earlier held bytes and all bytes to its end
-pub run_came : (held chunk : List ℕ) (i j : ℕ) (now run : List ℕ) → IsRun chunk i run j → HasTaken held chunk i now
-    → now ++ run ≡ held ++ take j chunk
+pub run_came : (held chunk : List ℕ) (i j : ℕ) (now run : List ℕ) → IsRun chunk i run j
+    → HasTaken held chunk i now → now ++ run ≡ held ++ take j chunk
 run_came held chunk i j now run r t =
-    rw (t.holds, quiet_held (held ++ take i chunk) t.quiet, r) (append_assoc held (take i chunk) run)
+    rw (t.holds, quiet_held (held ++ take i chunk) t.quiet, r)
+    (append_assoc held (take i chunk) run)
 
 -- ---- A step of a loop
 
@@ -84,7 +79,8 @@ pub prefix_of_prefix : (kept rest : List ℕ) (n used : ℕ) (new : List ℕ) (w
     → FramesPrefix kept (take n rest) used new what → FramesPrefix kept rest used new what
 prefix_of_prefix kept rest n used new what f = search (rules, length-take, take-take)
 
--- A framer that kept these bytes has taken the first ones of a chunk without an event, and takes some more.
+-- A framer that kept these bytes has taken the first ones of a chunk without an event, and takes
+-- some more.
 module _ (kept chunk : List ℕ) (at used : ℕ) (now new : List ℕ) (what : Option Found)
     (taken : HasTaken (unfinished_message kept) chunk at (unfinished_message now))
     (step : FramesPrefix now (drop at chunk) used new what) where
@@ -96,15 +92,18 @@ module _ (kept chunk : List ℕ) (at used : ℕ) (now new : List ℕ) (what : Op
   step_within within = omega (arith, step.within, length-drop at chunk, within)
 
   -- what it holds then
-  pub step_held : unfinished_message new ≡ unfinished_message (unfinished_message kept ++ take (at + used) chunk)
+  pub step_held : unfinished_message new
+      ≡ unfinished_message (unfinished_message kept ++ take (at + used) chunk)
   step_held = search (rules, run_holds, next)
 
   -- the bytes received
-  pub step_came : what ≡ Some found.Message → new ≡ unfinished_message kept ++ take (at + used) chunk
+  pub step_came : what ≡ Some found.Message
+      → new ≡ unfinished_message kept ++ take (at + used) chunk
   step_came e = search (rules, run_came, next)
 
   -- the step that makes the first event ends the call
-  event_first : (event : Event) → at ≤ length chunk → FirstEvent (unfinished_message now) (take used (drop at chunk))
+  event_first : (event : Event) → at ≤ length chunk
+      → FirstEvent (unfinished_message now) (take used (drop at chunk))
       (length (take used (drop at chunk))) (Some event)
       → FirstEvent (unfinished_message kept) chunk (at + used) (Some event)
   event_first event within first =
@@ -122,26 +121,26 @@ module _ (kept chunk : List ℕ) (at used : ℕ) (now new : List ℕ) (what : Op
       ≡ at_place (length (unfinished_message now) + used) event ∷ [] =
       search (rules, take-length) in
       FirstEvent-some held chunk (at + (used - 1)) (at + used) event last (step_within within)
-      (run_reported held chunk at (at + (used - 1)) 0 (unfinished_message now) (take (used - 1) (drop at chunk)) None
-      (next (used - 1)) taken quiet)
+      (run_reported held chunk at (at + (used - 1)) 0 (unfinished_message now)
+      (take (used - 1) (drop at chunk)) None (next (used - 1)) taken quiet)
       (run_reported held chunk at (at + used) used (unfinished_message now) run (Some event)
       (next used) taken reported ∙ ap (λ (n : ℕ). at_place n event ∷ []) place)
 
 -- with something found
 pub found_first : (kept chunk : List ℕ) (at used : ℕ) (now new : List ℕ) (what : Option Found)
     → HasTaken (unfinished_message kept) chunk at (unfinished_message now)
-    → FramesPrefix now (drop at chunk) used new what
-    → at ≤ length chunk → is_some what ≡ true → FirstEvent (unfinished_message kept) chunk (at + used)
-    (option_map (event_found_in new) what)
+    → FramesPrefix now (drop at chunk) used new what → at ≤ length chunk → is_some what ≡ true
+    → FirstEvent (unfinished_message kept) chunk (at + used) (option_map (event_found_in new) what)
 found_first kept chunk at used now new None taken step within some = absurd cc
 found_first kept chunk at used now new (Some it) taken step within some =
-    event_first kept chunk at used now new (Some it) taken step (event_found_in new it) within step.frames.first
+    event_first kept chunk at used now new (Some it) taken step (event_found_in new it) within
+    step.frames.first
 
 -- with nothing found
 pub found_none : (kept chunk : List ℕ) (at used : ℕ) (now new : List ℕ) (what : Option Found)
     → HasTaken (unfinished_message kept) chunk at (unfinished_message now)
-    → FramesPrefix now (drop at chunk) used new what
-    → is_some what ≡ false → HasTaken (unfinished_message kept) chunk (at + used) (unfinished_message new)
+    → FramesPrefix now (drop at chunk) used new what → is_some what ≡ false
+    → HasTaken (unfinished_message kept) chunk (at + used) (unfinished_message new)
 found_none kept chunk at used now new None taken step none = rw step.frames.held
     (search (rules, run_quiet, take-add))
 found_none kept chunk at used now new (Some it) taken step none = absurd cc
@@ -160,11 +159,10 @@ frames_none kept bytes now n some within taken unfinished = search rules
 
 -- something at its last byte
 pub frames_found : (kept bytes : List ℕ) (n : ℕ) (new : List ℕ) (it : Found)
-    → FirstEvent (unfinished_message kept) bytes n
-    (Some (event_found_in new it)) → 0 < n
+    → FirstEvent (unfinished_message kept) bytes n (Some (event_found_in new it)) → 0 < n
     → unfinished_message new ≡ unfinished_message (unfinished_message kept ++ take n bytes)
     → (it ≡ found.Message → IsWholeMessage new)
-    → (it ≡ found.Message → new ≡ unfinished_message kept ++ take n bytes) → (it ≢ found.Message → IsHeld new)
-    → FramesPrefix kept bytes n new (Some it)
+    → (it ≡ found.Message → new ≡ unfinished_message kept ++ take n bytes)
+    → (it ≢ found.Message → IsHeld new) → FramesPrefix kept bytes n new (Some it)
 frames_found kept bytes n new it first some held whole came unfinished =
     search (rules, length-take-le, take-take, first_of_run)

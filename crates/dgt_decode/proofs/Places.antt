@@ -1,6 +1,5 @@
 -- Laws of places: raising them, and strays in a row.
-use Rattle.std.proofs.Common.{◌≡◌, ℕ, ◌+◌, List, [], ◌∷◌, ◌++◌, length, refl, sym, ap, zero-add, rules}
-use Rattle.dgt_decode.specs.Grammar.{Placed, shifted, strays}
+use Rattle.{std.proofs.Common.{◌≡◌, ℕ, ◌+◌, List, [], ◌∷◌, ◌++◌, length, refl, sym, ap, zero-add, rules}, dgt_decode.specs.Grammar.{Placed, shifted, strays}}
 
 -- events in two parts after bytes
 pub shifted-append : (n : ℕ) (xs ys : List Placed)
@@ -20,6 +19,7 @@ shifted-zero [] = refl
 shifted-zero (x ∷ xs) = rw (shifted-zero xs, zero-add) refl
 
 -- the Strays of two parts
-pub strays-append : (xs ys : List ℕ) → strays (xs ++ ys) ≡ strays xs ++ shifted (length xs) (strays ys)
+pub strays-append : (xs ys : List ℕ)
+    → strays (xs ++ ys) ≡ strays xs ++ shifted (length xs) (strays ys)
 strays-append [] ys = sym (shifted-zero (strays ys))
 strays-append (b ∷ xs) ys = search (rules, shifted-append, shifted-shifted, strays-append xs ys)

@@ -1,8 +1,5 @@
 -- Seven-bit bytes in the form of proofs, and in the form of clauses.
-use Rattle.std.proofs.Common.{ℕ, ◌<◌, List}
-use Rattle.std.specs.List.{AllByRecursion}
-use Rattle.std.proofs.lemmas.List.Elements.{All-from_recursion, recursion_from_All}
-use Rattle.dgt_values.specs.Bytes.{AreSevenBit}
+use Rattle.{std.{proofs.{Common.{ℕ, ◌<◌, List}, lemmas.List.Elements.{All-from_recursion, recursion_from_All}}, specs.List.{AllByRecursion}}, dgt_values.specs.Bytes.{AreSevenBit}}
 
 -- the first is seven-bit, and so are the others
 abbrev pub SevenByRecursion : List ℕ → Type 0

@@ -1,16 +1,10 @@
 -- The effect of one more byte, or a run of seven-bit bytes, on the unfinished message.
-use Rattle.std.proofs.Common.{◌≡◌, ℕ, ◌+◌, ◌<◌, ◌≤◌, List, [], ◌∷◌, ◌++◌, length, drop, Option, Some, None, refl, sym, ap, subst, ◌∙◌, arith, inl, inr}
-use Rattle.std.proofs.Common.{rules}
-use Rattle.std.proofs.lemmas.List.{append-nil, length-append}
-use Rattle.std.proofs.lemmas.Bool.{le-leb, lt-leb, cases_lt}
-use Rattle.std.proofs.Math.Seq.{drop-length}
-use Rattle.dgt_decode.specs.Grammar.{Cut, BadLength, Stray, Placed, at_place, shifted, lead, segments, announced_total, message_event, verdict, segment_events, unfinished_part, cut_of, events, unfinished_message}
-use Rattle.dgt_decode.proofs.Places.{shifted-zero}
-use Rattle.dgt_decode.proofs.Cuts.{lead-append, segments-append}
-use Rattle.dgt_decode.proofs.Verdicts.{verdict-short, verdict-bad, verdict-waits, verdict-whole, verdict-full, Stage, short, waits, bad, whole, stage_of, announced_total-append}
-use Rattle.dgt_decode.proofs.Appending.{IsAlone, lead-seven, segments-seven}
-use Rattle.dgt_decode.proofs.UnfinishedLemmas.{IsUnfinished, nothing, waiting, IsUnfinished-unfinished, unfinished-of_unfinished, events-of_unfinished, events-alone, unfinished-alone}
-use Rattle.dgt_decode.proofs.SevenBit.{SevenByRecursion}
+use Rattle.std.proofs.{Common.{◌≡◌, ℕ, ◌+◌, ◌<◌, ◌≤◌, List, [], ◌∷◌, ◌++◌, length, drop, Option, Some, None, refl, sym, ap, subst, ◌∙◌, arith, inl, inr, rules}, Math.Seq.{drop-length}}
+use Rattle.{std.proofs.lemmas.{Bool.{le-leb, lt-leb, cases_lt}, List.{append-nil, length-append}}, dgt_decode.specs.Grammar.{Cut, BadLength, Stray, Placed, at_place, shifted, lead, segments}}
+use Rattle.dgt_decode.{specs.Grammar.{announced_total, message_event, verdict, segment_events, unfinished_part, cut_of, events, unfinished_message}, proofs.Appending.{IsAlone, lead-seven}}
+use Rattle.dgt_decode.proofs.{Appending.{segments-seven}, Cuts.{lead-append, segments-append}, Places.{shifted-zero}, SevenBit.{SevenByRecursion}, UnfinishedLemmas.{IsUnfinished, nothing, waiting}}
+use Rattle.dgt_decode.proofs.{UnfinishedLemmas.{IsUnfinished-unfinished, unfinished-of_unfinished, events-of_unfinished, events-alone, unfinished-alone}, Verdicts.{verdict-short, verdict-bad}}
+use Rattle.dgt_decode.proofs.Verdicts.{verdict-waits, verdict-whole, verdict-full, Stage, short, waits, bad, whole, stage_of, announced_total-append}
 
 -- a list that is held between two chunks
 abbrev pub IsHeld : List ℕ → Type 0
@@ -39,7 +33,8 @@ first-begins b top =
 -- a seven-bit byte is stray
 pub first-stray : (b : ℕ) → b < 128 → Gives (b ∷ []) (at_place 1 (Stray b) ∷ []) []
 unfolding events unfinished_message
-first-stray b seven = record { reported = rw (lt-leb 128 b seven) refl; leaves = rw (lt-leb 128 b seven) refl }
+first-stray b seven =
+    record { reported = rw (lt-leb 128 b seven) refl; leaves = rw (lt-leb 128 b seven) refl }
 
 -- ---- a message is held
 
@@ -49,10 +44,12 @@ IsAlone-more g run alone seven =
     search (rules, lead-append, segments-append, lead-seven, segments-seven)
 
 -- a held message is one unfinished segment
-pub alone_held : (held : List ℕ) → IsHeld held → 0 < length held → IsAlone held × (verdict held ≡ None)
+pub alone_held : (held : List ℕ) → IsHeld held → 0 < length held
+    → IsAlone held × (verdict held ≡ None)
 alone_held held h some = go held (IsUnfinished-held held h) some
   where
-    go : (held : List ℕ) → IsUnfinished held → 0 < length held → IsAlone held × (verdict held ≡ None)
+    go : (held : List ℕ) → IsUnfinished held → 0 < length held
+        → IsAlone held × (verdict held ≡ None)
     go held nothing some = absurd (omega arith)
     go held (waiting g alone e) some = (alone, e)
 
@@ -63,7 +60,8 @@ unfolding events unfinished_message
 next-begins held b h some top =
     let a = alone_held held h some in
     let alone = a.0 in
-    let lead-is : lead (held ++ b ∷ []) ≡ [] = rw (lead-append held (b ∷ []), alone.no_lead, alone.one) refl in
+    let lead-is : lead (held ++ b ∷ []) ≡ [] =
+    rw (lead-append held (b ∷ []), alone.no_lead, alone.one) refl in
     let segments-is : segments (held ++ b ∷ []) ≡ held ∷ (b ∷ []) ∷ [] =
     rw (segments-append held (b ∷ []), alone.one, le-leb 128 b top) (rw (append-nil held) refl) in
     let new-is : verdict (b ∷ []) ≡ None = verdict-short (b ∷ []) (omega arith) in
@@ -83,11 +81,15 @@ pub next-seven : (held run : List ℕ) → IsHeld held → 0 < length held → S
     (unfinished_part (verdict (held ++ run)) (held ++ run))
 next-seven held run h some seven =
     let alone = IsAlone-more held run (alone_held held h some).0 seven in
-    record { reported = events-alone (held ++ run) alone; leaves = unfinished-alone (held ++ run) alone }
+    record {
+      reported = events-alone (held ++ run) alone;
+      leaves =
+          unfinished-alone (held ++ run) alone;
+    }
 
 -- as long as it is shorter than the header
-pub next-short : (held run : List ℕ) → IsHeld held → 0 < length held → SevenByRecursion run → length (held ++ run) < 3
-    → Gives (held ++ run) [] (held ++ run)
+pub next-short : (held run : List ℕ) → IsHeld held → 0 < length held → SevenByRecursion run
+    → length (held ++ run) < 3 → Gives (held ++ run) [] (held ++ run)
 next-short held run h some seven few =
     let gives = next-seven held run h some seven in
     search (rules, verdict-short)
@@ -100,8 +102,9 @@ next-waits held run h some seven less =
     search (rules, verdict-waits)
 
 -- if the total in the header is too small
-pub next-bad : (held run : List ℕ) → IsHeld held → 0 < length held → SevenByRecursion run → length (held ++ run) ≡ 3
-    → announced_total (held ++ run) < 3 → Gives (held ++ run) (at_place 3 BadLength ∷ []) []
+pub next-bad : (held run : List ℕ) → IsHeld held → 0 < length held → SevenByRecursion run
+    → length (held ++ run) ≡ 3 → announced_total (held ++ run) < 3
+    → Gives (held ++ run) (at_place 3 BadLength ∷ []) []
 next-bad held run h some seven three small =
     let gives = next-seven held run h some seven in
     let long : 3 ≤ length (held ++ run) = omega arith in
@@ -110,20 +113,24 @@ next-bad held run h some seven three small =
     record { reported = gives.reported ∙ rw (e, none) refl; leaves = gives.leaves ∙ rw e refl }
 
 -- if the total is reached
-pub next-whole : (held run : List ℕ) → IsHeld held → 0 < length held → SevenByRecursion run → 3 ≤ length (held ++ run)
-    → announced_total (held ++ run) ≡ length (held ++ run)
+pub next-whole : (held run : List ℕ) → IsHeld held → 0 < length held → SevenByRecursion run
+    → 3 ≤ length (held ++ run) → announced_total (held ++ run) ≡ length (held ++ run)
     → Gives (held ++ run) (at_place (length (held ++ run)) (message_event (held ++ run)) ∷ []) []
 next-whole held run h some seven long same =
     let gives = next-seven held run h some seven in
     let g = held ++ run in
     let e = verdict-full g long same in
-    record { reported = gives.reported ∙ rw (e, drop-length g) refl; leaves = gives.leaves ∙ rw e refl }
+    record {
+      reported = gives.reported ∙ rw (e, drop-length g) refl;
+      leaves =
+          gives.leaves ∙ rw e refl;
+    }
 
 -- ---- No byte makes two events
 
 -- the verdict of a byte is at that byte
-pub verdict-new : (h : List ℕ) (b : ℕ) (x : Placed) → verdict h ≡ None → verdict (h ++ b ∷ []) ≡ Some x
-    → x.place ≡ length (h ++ b ∷ [])
+pub verdict-new : (h : List ℕ) (b : ℕ) (x : Placed) → verdict h ≡ None
+    → verdict (h ++ b ∷ []) ≡ Some x → x.place ≡ length (h ++ b ∷ [])
 verdict-new h b x e new = go (stage_of h) (stage_of (h ++ b ∷ []))
   where
     g : List ℕ
@@ -133,12 +140,15 @@ verdict-new h b x e new = go (stage_of h) (stage_of (h ++ b ∷ []))
     one_more = length-append h (b ∷ [])
 
     place_is : (y : Placed) → verdict (h ++ b ∷ []) ≡ Some y → y.place ≡ x.place
-    place_is y f = let s : (let o : Option Placed = Some y in o) ≡ Some x = sym f ∙ new in let same : y ≡ x = cc in
+    place_is y f = let s : (let o : Option Placed = Some y in o) ≡ Some x = sym f ∙ new in
+        let same : y ≡ x = cc in
         ap (λ (z : Placed). z.place) same
 
     go : Stage h → Stage (h ++ b ∷ []) → x.place ≡ length (h ++ b ∷ [])
-    go (short few) (bad long small) = omega (arith, one_more, place_is _ (verdict-bad (h ++ b ∷ []) long small))
-    go (short few) (whole large enough) = omega (arith, one_more, place_is _ (verdict-whole (h ++ b ∷ []) large enough))
+    go (short few) (bad long small) =
+        omega (arith, one_more, place_is _ (verdict-bad (h ++ b ∷ []) long small))
+    go (short few) (whole large enough) =
+        omega (arith, one_more, place_is _ (verdict-whole (h ++ b ∷ []) large enough))
     go (short few) (short few') = let no = verdict-short (h ++ b ∷ []) few' in absurd cc
     go (short few) (waits less) = let no = verdict-waits (h ++ b ∷ []) less in absurd cc
     go (waits less) (short few') = let no = verdict-short (h ++ b ∷ []) few' in absurd cc
@@ -161,12 +171,13 @@ verdict-new h b x e new = go (stage_of h) (stage_of (h ++ b ∷ []))
     go (whole large enough) s = let no = verdict-whole h large enough in absurd cc
 
 -- the byte with a verdict has no Stray after it
-segment_events-new : (h : List ℕ) (b : ℕ) → verdict h ≡ None → (v : Option Placed) → verdict (h ++ b ∷ []) ≡ v
-    → length (segment_events v (h ++ b ∷ [])) ≤ 1
+segment_events-new : (h : List ℕ) (b : ℕ) → verdict h ≡ None → (v : Option Placed)
+    → verdict (h ++ b ∷ []) ≡ v → length (segment_events v (h ++ b ∷ [])) ≤ 1
 segment_events-new h b e v f = search (rules, verdict-new, drop-length)
 
 -- one more byte after held bytes completes at most one event
-one_event_held : (held : List ℕ) (b : ℕ) → IsHeld held → IsUnfinished held → length (events (held ++ b ∷ [])) ≤ 1
+one_event_held : (held : List ℕ) (b : ℕ) → IsHeld held → IsUnfinished held
+    → length (events (held ++ b ∷ [])) ≤ 1
 one_event_held held b h nothing = elim (cases_lt b 128) [
   | inl seven ↦ rw (first-stray b seven).reported (omega arith)
   | inr top ↦ rw (first-begins b top).reported (omega arith)
@@ -182,4 +193,5 @@ one_event_held held b h (waiting (x ∷ g) alone e) =
 
 -- No byte completes two events.
 pub one_event : (s : List ℕ) (b : ℕ) → length (events (unfinished_message s ++ b ∷ [])) ≤ 1
-one_event s b = one_event_held (unfinished_message s) b (IsHeld-unfinished s) (IsUnfinished-unfinished s)
+one_event s b =
+    one_event_held (unfinished_message s) b (IsHeld-unfinished s) (IsUnfinished-unfinished s)

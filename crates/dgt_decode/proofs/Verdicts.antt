@@ -1,10 +1,6 @@
 -- The verdict of a segment, by its length and its total.
-use Rattle.std.proofs.Common.{◌≡◌, ℕ, ◌<◌, ◌≤◌, List, ◌++◌, length, take, Some, None, refl, ap}
-use Rattle.std.proofs.Common.{rules}
-use Rattle.std.proofs.lemmas.List.{length-append, get_or_append_left, take-append-le}
-use Rattle.std.proofs.Math.Seq.{take-length}
-use Rattle.std.proofs.lemmas.Bool.{lt-ltb, le-ltb, cases_lt}
-use Rattle.dgt_decode.specs.Grammar.{BadLength, Placed, at_place, announced_total, message_event, verdict}
+use Rattle.std.proofs.{Common.{◌≡◌, ℕ, ◌<◌, ◌≤◌, List, ◌++◌, length, take, Some, None, refl, ap, rules}, Math.Seq.{take-length}, lemmas.{Bool.{lt-ltb, le-ltb, cases_lt}, List.{length-append}}}
+use Rattle.{std.proofs.lemmas.List.{get_or_append_left, take-append-le}, dgt_decode.specs.Grammar.{BadLength, Placed, at_place, announced_total, message_event, verdict}}
 
 -- the event of a message that is whole
 abbrev pub whole_event : List ℕ → Placed
@@ -16,7 +12,8 @@ unfolding verdict
 verdict-short g h = rw (lt-ltb (length g) 3 h) refl
 
 -- a total below the header
-pub verdict-bad : (g : List ℕ) → 3 ≤ length g → announced_total g < 3 → verdict g ≡ Some (at_place 3 BadLength)
+pub verdict-bad : (g : List ℕ) → 3 ≤ length g → announced_total g < 3
+    → verdict g ≡ Some (at_place 3 BadLength)
 unfolding verdict
 verdict-bad g long h = rw (le-ltb (length g) 3 long, lt-ltb (announced_total g) 3 h) refl
 
@@ -48,7 +45,8 @@ pub stage_of : (g : List ℕ) → Stage g
 stage_of g = search (rules, cases_lt)
 
 -- the total is known once the header was received
-pub announced_total-append : (g p : List ℕ) → 3 ≤ length g → announced_total (g ++ p) ≡ announced_total g
+pub announced_total-append : (g p : List ℕ) → 3 ≤ length g
+    → announced_total (g ++ p) ≡ announced_total g
 announced_total-append g p long = search (rules, get_or_append_left)
 
 -- A verdict holds whatever follows, and its place is within the segment.

@@ -1,7 +1,4 @@
-use Rattle.std.proofs.Common.{arith, sym, ◌∙◌, rules}
-use Rattle.std.proofs.lemmas.List.{length-drop, take_rest}
-use Rattle.dgt_values.specs.Board.{pieces_of}
-use Rattle.dgt_decode.proofs.DumpLemmas.{dump_reported, only_dump}
+use Rattle.{std.proofs.{Common.{arith, sym, ◌∙◌, rules}, lemmas.List.{length-drop, take_rest}}, dgt_values.specs.Board.{pieces_of}, dgt_decode.proofs.DumpLemmas.{dump_reported, only_dump}}
 use Rattle.dgt_decode.proofs.dumps.dump_position.Goals as goal
 
 pub returns-then-bytes : goal.returns-then-bytes
@@ -21,6 +18,7 @@ returns-in-Err c = λ pieces e.
 pub returns-in-Ok-from_codes : goal.returns-in-Ok-from_codes
 returns-in-Ok-from_codes c =
     let body = rw (take_rest c.args.bytes.now 3) at c.in-Ok.ensures in
-    dump_reported c.reading_is_exact.ensures.message c.args.bytes.now (pieces_of c.in-Ok-from_codes.position) c.requires
+    dump_reported c.reading_is_exact.ensures.message c.args.bytes.now
+    (pieces_of c.in-Ok-from_codes.position) c.requires
     (omega (arith, body.1.long, length-drop 3 c.args.bytes.now)) c.if-bytes.false
     (sym body.1.same ∙ sym c.in-Ok-from_codes.ensures)

@@ -1,17 +1,13 @@
-use Rattle.std.proofs.Common.{◌≡◌, ◌+◌, ◌-◌, ◌++◌, ◌≤◌, drop, length, take, not, sym, ap, ◌∙◌, append_assoc, arith}
-use Rattle.std.proofs.Math.Nat.{min_comm}
-use Rattle.std.proofs.Math.Seq.{take-add}
-use Rattle.std.proofs.lemmas.List.{length-append, length-take, length-take-le, take-take, take_min, take_rest}
-use Rattle.std.proofs.lemmas.List.Sums.{prefix_len-le-length}
-use Rattle.std.specs.List.{position_or_len}
-use Rattle.dgt_decode.specs.Grammar.{has_top_bit}
-use Rattle.dgt_decode.proofs.BodyRuns.{search-after}
-use Rattle.dgt_decode.proofs.SevenBit.{by_recursion}
+use Rattle.std.proofs.{Common.{◌≡◌, ◌+◌, ◌-◌, ◌++◌, ◌≤◌, drop, length, take, not, sym, ap, ◌∙◌, append_assoc, arith}, Math.{Nat.{min_comm}, Seq.{take-add}}, lemmas.List.{length-append, length-take}}
+use Rattle.{std.{proofs.lemmas.List.{length-take-le, take-take, take_min, take_rest, Sums.{prefix_len-le-length}}, specs.List.{position_or_len}}, dgt_decode.specs.Grammar.{has_top_bit}}
+use Rattle.dgt_decode.proofs.{BodyRuns.{search-after}, SevenBit.{by_recursion}}
 use Rattle.dgt_decode.proofs.framer.append_run.Goals as goal
 
 -- the bytes that may be taken
-taken : (c : goal.After-append) → take c.min.result c.args.chunk.now ≡ take c.args.missing c.args.chunk.now
-taken c = ap (λ n. take n c.args.chunk.now) (c.min.ensures ∙ min_comm (length c.args.chunk.now) c.args.missing)
+taken : (c : goal.After-append)
+    → take c.min.result c.args.chunk.now ≡ take c.args.missing c.args.chunk.now
+taken c = ap (λ n. take n c.args.chunk.now)
+    (c.min.ensures ∙ min_comm (length c.args.chunk.now) c.args.missing)
     ∙ take_min c.args.missing c.args.chunk.now
 
 -- those before the first with a set top bit
@@ -20,9 +16,10 @@ count : (c : goal.After-append) → c.append_blocks-blocks.result + c.first_top-
 count c =
     let wanted = take c.min.result c.args.chunk.now in
     let blocks = c.append_blocks-blocks.ensures in
-    ap (λ n. c.append_blocks-blocks.result + n) (rw (take_rest wanted c.append_blocks-blocks.result) at
-    c.first_top-run.ensures)
-    ∙ search-after c.append_blocks-blocks.result wanted blocks.within (by_recursion _ blocks.seven_bit)
+    ap (λ n. c.append_blocks-blocks.result + n)
+    (rw (take_rest wanted c.append_blocks-blocks.result) at c.first_top-run.ensures)
+    ∙ search-after c.append_blocks-blocks.result wanted blocks.within
+    (by_recursion _ blocks.seven_bit)
 
 pub returns-clause-count : goal.returns-clause-count
 returns-clause-count c = count c ∙ ap (λ xs. position_or_len has_top_bit xs) (taken c)
@@ -50,5 +47,7 @@ returns-clause-appended c =
     let joined : blocks ++ take run others ≡ take (n + run) chunk =
     ap (λ xs. blocks ++ take run xs) (take_rest wanted n) ∙ sym (take-add n run wanted)
     ∙ take-take (n + run) c.min.result chunk (omega (arith, within, least)) in
-    c.append.ensures.kept room ∙ ap (λ xs. xs ++ take run others) c.append_blocks-blocks.ensures.kept
-    ∙ append_assoc c.args.kept.now blocks (take run others) ∙ ap (λ xs. c.args.kept.now ++ xs) joined
+    c.append.ensures.kept room
+    ∙ ap (λ xs. xs ++ take run others) c.append_blocks-blocks.ensures.kept
+    ∙ append_assoc c.args.kept.now blocks (take run others)
+    ∙ ap (λ xs. c.args.kept.now ++ xs) joined

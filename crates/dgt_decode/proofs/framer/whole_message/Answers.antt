@@ -1,6 +1,4 @@
-use Rattle.std.proofs.Common.{◌<◌}
-use Rattle.std.proofs.lemmas.List.{take_rest, drop-drop}
-use Rattle.std.proofs.lemmas.List.Elements.{All-drop}
+use Rattle.std.proofs.{Common.{◌<◌}, lemmas.List.{take_rest, drop-drop, Elements.{All-drop}}}
 use Rattle.dgt_decode.proofs.framer.whole_message.Goals as goal
 
 pub from_seven_bit-requires-clause-seven_bit : goal.from_seven_bit-requires-clause-seven_bit

@@ -1,5 +1,4 @@
-use Rattle.std.proofs.Common.{leb, arith}
-use Rattle.dgt_decode.proofs.Chunks.{splat_mask}
+use Rattle.{std.proofs.Common.{leb, arith}, dgt_decode.proofs.Chunks.{splat_mask}}
 use Rattle.dgt_decode.proofs.lanes.few_top_bits.Goals as goal
 
 pub returns : goal.returns

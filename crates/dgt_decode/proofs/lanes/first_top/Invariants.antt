@@ -1,6 +1,4 @@
-use Rattle.std.proofs.Common.{ℕ, List, length, drop, ◌-◌, ◌≡◌, ◌+◌, ◌≤◌}
-use Rattle.std.specs.List.{position_or_len}
-use Rattle.dgt_decode.specs.Grammar.{has_top_bit}
+use Rattle.{std.{proofs.Common.{ℕ, List, length, drop, ◌-◌, ◌≡◌, ◌+◌, ◌≤◌}, specs.List.{position_or_len}}, dgt_decode.specs.Grammar.{has_top_bit}}
 use Rattle.dgt_decode.proofs.lanes.first_top.Given as goal
 
 -- none of the first bytes is the one searched for

@@ -1,6 +1,4 @@
-use Rattle.std.proofs.Common.{map, length, ◌-◌}
-use Rattle.dgt_decode.specs.Taking.{placed_content}
-use Rattle.dgt_decode.proofs.Cutting.{HasReported}
+use Rattle.{std.proofs.Common.{map, length, ◌-◌}, dgt_decode.{specs.Taking.{placed_content}, proofs.Cutting.{HasReported}}}
 use Rattle.dgt_decode.proofs.plain.events_of.Given as goal
 
 abbrev pub invariant-loop-start : goal.invariant-loop-start

@@ -1,6 +1,4 @@
-use Rattle.std.proofs.Common.{length, ◌-◌}
-use Rattle.dgt_decode.specs.Grammar.{unfinished_message}
-use Rattle.dgt_decode.proofs.ChunkEvents.{HasHeard}
+use Rattle.{std.proofs.Common.{length, ◌-◌}, dgt_decode.{specs.Grammar.{unfinished_message}, proofs.ChunkEvents.{HasHeard}}}
 use Rattle.dgt_decode.proofs.decoder.Decoder.feed_all.Given as goal
 
 abbrev pub invariant-loop-at : goal.invariant-loop-at
