@@ -1,9 +1,6 @@
 -- The bytes of an acknowledgement have one meaning only.
-use Rattle.std.proofs.Common.{◌≡◌, ℕ, rules, sym}
-use Rattle.dgt_command.specs.declared.ids.KnownId.{KnownId}
-use Rattle.dgt_names.specs.declared.clock.Button.{Button}
+use Rattle.{std.proofs.Common.{◌≡◌, ℕ, rules, sym}, dgt_command.specs.declared.ids.KnownId.{KnownId}, dgt_names.specs.{Names.{ArePressed, IsNoButton, Says}, declared.clock.Button.{Button}}}
 use Rattle.dgt_names.specs.declared.clock.Signal.{Signal}
-use Rattle.dgt_names.specs.Names.{ArePressed, IsNoButton, Says}
 
 once : (one other : Signal) (down pressed : ℕ) → ArePressed one down pressed
     → ArePressed other down pressed → one ≡ other

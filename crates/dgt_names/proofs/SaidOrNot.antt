@@ -1,14 +1,8 @@
 -- Bytes either have a meaning or not.
 use Rattle.std.proofs.Common.{◌≡◌, ◌≢◌, ◌<◌, ◌≤◌, ◌⊎◌, ℕ, suc, inl, inr, List, [], ◌∷◌, arith, length, rules, subst, Bool, true, false, Some, None, refl, slice_index as nth}
-use Rattle.std.specs.Prelude.{IsTrue, IsBitSet, Option, bit_and, eqb, leb, ◌/◌, ◌%◌, ◌^◌, ◌↔◌}
-use Rattle.std.proofs.lemmas.Bool.{false≢true}
-use Rattle.std.proofs.lemmas.Bool.Decides.{eqb_tells, leb_tells}
-use Rattle.dgt_command.specs.declared.ids.KnownId.{KnownId}
-use Rattle.dgt_names.specs.declared.battery.BatteryState.{BatteryState}
-use Rattle.dgt_names.specs.declared.clock.Button.{Button}
-use Rattle.dgt_names.specs.declared.clock.Signal.{Signal}
-use Rattle.dgt_names.specs.Names.{ArePressed, IsBattery, IsKnownAs, IsNoButton, IsSignal, IsText, Says}
-use Rattle.dgt_names.proofs.SaidOnce.{none_said}
+use Rattle.std.{proofs.lemmas.Bool.{false≢true, Decides.{eqb_tells, leb_tells}}, specs.Prelude.{IsTrue, IsBitSet, Option, bit_and, eqb, leb, ◌/◌, ◌%◌, ◌^◌, ◌↔◌}}
+use Rattle.{dgt_command.specs.declared.ids.KnownId.{KnownId}, dgt_names.specs.Names.{ArePressed, IsBattery, IsKnownAs, IsNoButton, IsSignal, IsText, Says}}
+use Rattle.dgt_names.{specs.declared.{battery.BatteryState.{BatteryState}, clock.{Button.{Button}, Signal.{Signal}}}, proofs.SaidOnce.{none_said}}
 
 -- there is a meaning, or there is none
 abbrev pub Decided : {A : Type 0} → (A → Type 0) → Type 0
@@ -38,26 +32,29 @@ pressed_or_none s t =
     (λ d. either t 0x35 (λ e. inl (ok_pressed s t e)) (λ e. inr (no_button t a b c d e))))))
 
 -- a signal of buttons
-buttons_say : (kind s t : ℕ) → (kind ≡ 0x08) ⊎ (kind ≡ 0x88) → (signal : Signal) → ArePressed signal s t
-    → Says signal kind s t
+buttons_say : (kind s t : ℕ) → (kind ≡ 0x08) ⊎ (kind ≡ 0x88) → (signal : Signal)
+    → ArePressed signal s t → Says signal kind s t
 buttons_say kind s t k signal p = search rules
 
 answered : (kind s t : ℕ) → kind ≡ 0x08 → Decided (λ signal. Says signal kind s t)
 answered kind s t k = by (pressed_or_none s t)
   where
-    by : ((signal : Signal) × ArePressed signal s t) ⊎ IsNoButton t → Decided (λ signal. Says signal kind s t)
+    by : ((signal : Signal) × ArePressed signal s t) ⊎ IsNoButton t
+        → Decided (λ signal. Says signal kind s t)
     by (inl p) = inl (p.0, buttons_say kind s t (inl k) p.0 p.1)
     by (inr none) = inl (Signal.Done KnownId.Button, (k, none))
 
 unasked : (kind s t : ℕ) → kind ≡ 0x88 → Decided (λ signal. Says signal kind s t)
 unasked kind s t k = by (pressed_or_none s t)
   where
-    by : ((signal : Signal) × ArePressed signal s t) ⊎ IsNoButton t → Decided (λ signal. Says signal kind s t)
+    by : ((signal : Signal) × ArePressed signal s t) ⊎ IsNoButton t
+        → Decided (λ signal. Says signal kind s t)
     by (inl p) = inl (p.0, buttons_say kind s t (inr k) p.0 p.1)
     by (inr none) = inr (λ signal h. none_said signal s t none (subst (λ n. Says signal n s t) k h))
 
-other_kind : (kind s t : ℕ) → kind ≢ 0x01 → kind ≢ 0x02 → kind ≢ 0x03 → kind ≢ 0x08 → kind ≢ 0x09 → kind ≢ 0x0a
-    → kind ≢ 0x0b → kind ≢ 0x0c → kind ≢ 0x81 → kind ≢ 0x88 → (signal : Signal) → ¬ (Says signal kind s t)
+other_kind : (kind s t : ℕ) → kind ≢ 0x01 → kind ≢ 0x02 → kind ≢ 0x03 → kind ≢ 0x08 → kind ≢ 0x09
+    → kind ≢ 0x0a → kind ≢ 0x0b → kind ≢ 0x0c → kind ≢ 0x81 → kind ≢ 0x88 → (signal : Signal)
+    → ¬ (Says signal kind s t)
 other_kind kind s t a b c d e f g h i j signal = search rules
 
 says_or_not : (kind s t : ℕ) → Decided (λ signal. Says signal kind s t)
@@ -79,7 +76,8 @@ signal_or_none bytes =
     either (nth bytes 0) 0x10 (λ e. by e (says_or_not (nth bytes 1) (nth bytes 2) (nth bytes 3)))
     (λ n. inr (λ signal h. n h.0))
   where
-    by : nth bytes 0 ≡ 0x10 → Decided (λ signal. Says signal (nth bytes 1) (nth bytes 2) (nth bytes 3))
+    by : nth bytes 0 ≡ 0x10
+        → Decided (λ signal. Says signal (nth bytes 1) (nth bytes 2) (nth bytes 3))
         → Decided (IsSignal bytes)
     by e (inl said) = inl (said.0, (e, said.1))
     by e (inr none) = inr (λ signal h. none signal h.1)
@@ -91,7 +89,8 @@ known_or_none byte = either byte 0x7f (λ e. (None, e)) (λ n. (Some byte, (n, r
 
 bit_or_none : (byte bit : ℕ) → (is : Bool) × (IsTrue is ↔ IsBitSet byte bit)
 bit_or_none byte bit =
-    either (bit_and byte (2 ^ bit)) 0 (λ z. (false, ((λ e. absurd (false≢true e)), (λ n. absurd (n z)))))
+    either (bit_and byte (2 ^ bit)) 0
+    (λ z. (false, ((λ e. absurd (false≢true e)), (λ n. absurd (n z)))))
     (λ n. (true, ((λ _. n), (λ _. refl))))
 
 state_of : (bytes : List ℕ) → length bytes ≡ 9 → (state : BatteryState) × IsBattery bytes state
@@ -148,6 +147,7 @@ pub text_or_none : (bytes : List ℕ) → IsText bytes ⊎ ¬ (IsText bytes)
 text_or_none [] = inr (λ h. omega (arith, h.0))
 text_or_none (byte ∷ bytes) = by (all_or_not (byte ∷ bytes))
   where
-    by : AllPrint (byte ∷ bytes) ⊎ ¬ (AllPrint (byte ∷ bytes)) → IsText (byte ∷ bytes) ⊎ ¬ (IsText (byte ∷ bytes))
+    by : AllPrint (byte ∷ bytes) ⊎ ¬ (AllPrint (byte ∷ bytes))
+        → IsText (byte ∷ bytes) ⊎ ¬ (IsText (byte ∷ bytes))
     by (inl h) = inl (omega arith, h)
     by (inr n) = inr (λ h. n h.1)

@@ -1,5 +1,4 @@
-use Rattle.std.proofs.Common.{refl}
-use Rattle.dgt_names.specs.declared.clock.Button.{Button}
+use Rattle.{std.proofs.Common.{refl}, dgt_names.specs.declared.clock.Button.{Button}}
 use Rattle.dgt_names.proofs.laws.button_is_pressed.Goals as goal
 
 pub returns : goal.returns
