@@ -1,34 +1,15 @@
 -- The words of commands.
-use Rattle.std.proofs.Common.{◌≡◌, ◌≢◌, ◌+◌, ◌/◌, ◌<◌, ◌≤◌, ◌⊎◌, inl, inr, ℕ, false, List, [], ◌∷◌, ◌++◌, length, length-append, get_or, take, map, Bor, add-one, Option, Result, Ok, Err, None, Some, ap, arith, refl, sym, ◌∙◌, slice_index as nth}
-use Rattle.std.proofs.Common.{rules}
-use Rattle.std.specs.Prelude.{OnErr, IfNone, IfOk, IsErrAnd, IsOkAnd, MatchResult, Bool, true, not, codes, decimal, ◌==◌}
-use Rattle.std.specs.List.{list_all}
-use Rattle.std.specs.Result.{is_ok, result_ok}
-use Rattle.std.specs.Str.Parse.{ParsesUnsigned}
-use Rattle.std.proofs.lemmas.Fmt.{decimal_digit, first_decimal, parse-decimal}
-use Rattle.hex.specs.Hex.{decode_sized}
-use Rattle.hex.proofs.HexLemmas.{IsOk-decode_sized, decode_of-ok}
-use Rattle.dgt_values.specs.Segment.{IsShownBy}
-use Rattle.dgt_command.specs.declared.clock.ClockCommand.{ClockCommand}
-use Rattle.dgt_command.specs.declared.ids.KnownId.{KnownId}
-use Rattle.dgt_command.specs.Content.{ClockContent, CommandContent, ClockMessage, EventContent, Stray, clock_content, known_clock}
-use Rattle.dgt_command.specs.Display.{HasNoSegments, Shows}
-use Rattle.dgt_command.specs.Words.{BeginsNoCommand, HasForm, IsPartial, IsWord}
+use Rattle.std.proofs.Common.{◌≡◌, ◌≢◌, ◌+◌, ◌/◌, ◌<◌, ◌≤◌, ◌⊎◌, inl, inr, ℕ, false, List, [], ◌∷◌, ◌++◌, length, length-append, get_or, take, map, Bor, add-one, Option, Result, Ok, Err, None, Some}
+use Rattle.std.proofs.{Common.{ap, arith, refl, sym, ◌∙◌, slice_index as nth, rules}, Math.Seq.{take-suc}, lemmas.{Bool.{cases_lt}, Fmt.{decimal_digit, first_decimal, parse-decimal}}}
+use Rattle.std.proofs.lemmas.{Grind.{common_steps}, List.{append-nil, get_or-append-add, get_or-map, get_or_append_left, get_or_at, length-map, take_all, Folds.{concat-append}}}
+use Rattle.std.specs.{List.{list_all, concat}, Prelude.{OnErr, IfNone, IfOk, IsErrAnd, IsOkAnd, MatchResult, Bool, true, not, codes, decimal, ◌==◌}, Result.{is_ok, result_ok}}
+use Rattle.{std.specs.Str.Parse.{ParsesUnsigned}, hex.{specs.Hex.{decode_sized}, proofs.HexLemmas.{IsOk-decode_sized, decode_of-ok}}, dgt_values.specs.Segment.{IsShownBy}}
+use Rattle.dgt_command.specs.{Content.{ClockContent, CommandContent, ClockMessage, EventContent, Stray, clock_content, known_clock}, Display.{HasNoSegments, Shows}, Words.{BeginsNoCommand, HasForm}}
+use Rattle.{dgt_command.specs.{Words.{IsPartial, IsWord}, declared.{clock.ClockCommand.{ClockCommand}, ids.KnownId.{KnownId}}}, dgt_ask.specs.Asking.{Awaits, AwaitsBytes, IsAfterId}}
+use Rattle.dgt_ask.specs.{Asks.{AskInOrder, AsksBytes, AsksHelp, DetailAsks, HasBytes, IsNamed, IsRaw, LacksOperand, detail_text}, declared.asking.{Awaited.{Awaited}, BadAsk.{BadAsk}}}
+use Rattle.dgt_ask.specs.declared.{details.Detail.{Detail}, asking.{Awaited.TheVariants.{Name}, BadAsk.TheVariants.{Missing, OutOfMemory}}}
 use Rattle.dgt_ask.specs.declared.details.Detail.TheVariants as detail
-use Rattle.dgt_ask.specs.declared.details.Detail.{Detail}
-use Rattle.dgt_ask.specs.declared.asking.BadAsk.{BadAsk}
-use Rattle.dgt_ask.specs.declared.asking.BadAsk.TheVariants.{Missing, OutOfMemory}
-use Rattle.dgt_ask.specs.declared.asking.Awaited.{Awaited}
-use Rattle.dgt_ask.specs.declared.asking.Awaited.TheVariants.{Name}
 use Rattle.dgt_ask.specs.declared.asking.Awaited.TheVariants as awaited
-use Rattle.dgt_ask.specs.Asking.{Awaits, AwaitsBytes, IsAfterId}
-use Rattle.dgt_ask.specs.Asks.{AskInOrder, AsksBytes, AsksHelp, DetailAsks, HasBytes, IsNamed, IsRaw, LacksOperand, detail_text}
-use Rattle.std.specs.List.{concat}
-use Rattle.std.proofs.lemmas.List.Folds.{concat-append}
-use Rattle.std.proofs.lemmas.List.{append-nil, get_or-append-add, get_or-map, get_or_append_left, get_or_at, length-map, take_all}
-use Rattle.std.proofs.Math.Seq.{take-suc}
-use Rattle.std.proofs.lemmas.Bool.{cases_lt}
-use Rattle.std.proofs.lemmas.Grind.{common_steps}
 
 -- a number of a beep, and its command
 pub record Beeps (word : List ℕ) (asked : CommandContent) : Type 0 where
@@ -37,7 +18,8 @@ pub record Beeps (word : List ℕ) (asked : CommandContent) : Type 0 where
   pub said : word ≡ decimal number
   pub is : asked ≡ ClockMessage (known_clock KnownId.Beep (number ∷ []))
 
-pub beeps : (word : List ℕ) (asked : CommandContent) → DetailAsks detail.Beep word asked → Beeps word asked
+pub beeps : (word : List ℕ) (asked : CommandContent) → DetailAsks detail.Beep word asked
+    → Beeps word asked
 beeps word asked asks = search rules
 
 -- a decimal number begins with a digit, and only one of a single digit with a zero
@@ -53,12 +35,14 @@ pub begins_well : (number : ℕ) → number < 256 → BeginsWell (decimal number
 begins_well number small = search (rules, decimal_digit, first_decimal, some_first)
 
 -- the number of a beep is parsed
-pub parsed : {E : Type 0} (word : List ℕ) (number : ℕ) (r : Result ℕ E) → number < 256 → word ≡ decimal number
-    → ParsesUnsigned 8 10 word r → r ≡ Ok number
-parsed word number r small said parses = parse-decimal 8 number word r (omega arith) (omega arith) said parses
+pub parsed : {E : Type 0} (word : List ℕ) (number : ℕ) (r : Result ℕ E) → number < 256
+    → word ≡ decimal number → ParsesUnsigned 8 10 word r → r ≡ Ok number
+parsed word number r small said parses =
+    parse-decimal 8 number word r (omega arith) (omega arith) said parses
 
 -- the bytes of digits are half as many
-pub half : (text bytes : List ℕ) → HasBytes text bytes → text ≢ codes "-" → length text / 2 ≡ length bytes
+pub half : (text bytes : List ℕ) → HasBytes text bytes → text ≢ codes "-"
+    → length text / 2 ≡ length bytes
 half text bytes h2 other = search (rules, decode_of-ok)
 
 pub inside : {A : Type 0} (x y : A) → Some x ≡ Some y → x ≡ y
@@ -86,17 +70,18 @@ eight (a ∷ []) e = absurd (omega (arith, e))
 eight (a ∷ b ∷ xs) e = ap (λ more. a ∷ b ∷ (more ++ 0 ∷ [])) (six xs (omega (arith, e)))
 
 -- segments show one character each
-one_place : (character byte other : ℕ) → IsShownBy character byte → IsShownBy character other → byte ≡ other
+one_place : (character byte other : ℕ) → IsShownBy character byte → IsShownBy character other
+    → byte ≡ other
 one_place character byte other first second = grind arith
 
-pub no_segments : {A E : Type 0} (word text : List ℕ) (r : Result A E) (message : ClockContent) → text ≡ word
-    → OnErr r (HasNoSegments text) → false ≡ is_ok r → Shows word 0 0 message → ⊥
+pub no_segments : {A E : Type 0} (word text : List ℕ) (r : Result A E) (message : ClockContent)
+    → text ≡ word → OnErr r (HasNoSegments text) → false ≡ is_ok r → Shows word 0 0 message → ⊥
 no_segments word text (Ok _) message same none refused shows = cc
 no_segments word text (Err _) message same none refused shows =
     none.2 (shows.0 none.0) (rw same (shows.1 none.0 none.1))
 
-pub same_display : (word text : List ℕ) (message other : ClockContent) → text ≡ word → Shows text 0 0 other
-    → Shows word 0 0 message → other ≡ message
+pub same_display : (word text : List ℕ) (message other : ClockContent) → text ≡ word
+    → Shows text 0 0 other → Shows word 0 0 message → other ≡ message
 same_display word text message other same first second =
     let at : (i : ℕ) → i < 6 → first.0 i ≡ second.0 i =
     λ i small. one_place _ _ _ (rw same at (first.1 i small)) (second.1 i small) in
@@ -110,8 +95,9 @@ same_display word text message other same first second =
     ) (sym second.2)
 
 pub displayed : {E : Type 0} (word text : List ℕ) (r : Result ClockCommand E) (given : ClockCommand)
-    (message : ClockContent) → text ≡ word → IfOk r (λ command. Shows text 0 0 (clock_content command))
-    → Some given ≡ result_ok r → Shows word 0 0 message → clock_content given ≡ message
+    (message : ClockContent) → text ≡ word
+    → IfOk r (λ command. Shows text 0 0 (clock_content command)) → Some given ≡ result_ok r
+    → Shows word 0 0 message → clock_content given ≡ message
 displayed word text (Ok command) given message same shown is shows =
     ap clock_content (inside _ _ is) ∙ same_display word text message _ same shown shows
 displayed word text (Err _) given message same shown is shows = cc
@@ -119,8 +105,9 @@ displayed word text (Err _) given message same shown is shows = cc
 -- ---- where a word is split
 
 -- a hexadecimal digit is not a space
-pub digits_lack_space : (high low : ℕ) (bytes : List ℕ) → decode_sized (high ∷ low ∷ []) 1 ≡ Ok bytes
-    → (i : ℕ) → i < 2 → get_or (high ∷ low ∷ []) i 0 ≢ 32
+pub digits_lack_space : (high low : ℕ) (bytes : List ℕ)
+    → decode_sized (high ∷ low ∷ []) 1 ≡ Ok bytes → (i : ℕ) → i < 2
+    → get_or (high ∷ low ∷ []) i 0 ≢ 32
 digits_lack_space high low bytes decoded i small e =
     let digits = (IsOk-decode_sized (high ∷ low ∷ []) 1).0 (rw decoded refl) in
     let digit = rw e at (digits.1 i 0 small) in cc
@@ -130,7 +117,8 @@ abbrev pub is_unspaced : List ℕ → Bool
 is_unspaced word = list_all (λ byte. not (byte == 32)) word
 
 -- a name has no space
-named_is_unspaced : (word : List ℕ) (command : CommandContent) → IsNamed word command → is_unspaced word ≡ true
+named_is_unspaced : (word : List ℕ) (command : CommandContent) → IsNamed word command
+    → is_unspaced word ≡ true
 named_is_unspaced word command named = search rules
 
 pub not_named : (word name rest : List ℕ) (command : CommandContent) → word ≡ name ++ 32 ∷ rest
@@ -138,21 +126,24 @@ pub not_named : (word name rest : List ℕ) (command : CommandContent) → word 
 not_named word name rest command split named = grind (arith, common_steps, named_is_unspaced)
 
 -- the operands of `clockmessage` are a clock message without another word
-pub raw_name : (each : Detail) → detail_text each ≡ codes "clockmessage" → each ≡ detail.ClockMessage
+pub raw_name : (each : Detail) → detail_text each ≡ codes "clockmessage"
+    → each ≡ detail.ClockMessage
 raw_name each name = search rules
 
-pub raw_command : (text : List ℕ) (command : CommandContent) → DetailAsks detail.ClockMessage text command
+pub raw_command : (text : List ℕ) (command : CommandContent)
+    → DetailAsks detail.ClockMessage text command
     → (message : ClockContent) × (command ≡ ClockMessage message) × IsRaw text message
 raw_command text command asks = search rules
 
-pub name_lacks_space : (each : Detail) (i : ℕ) → i < length (detail_text each) → get_or (detail_text each) i 0 ≢ 32
+pub name_lacks_space : (each : Detail) (i : ℕ) → i < length (detail_text each)
+    → get_or (detail_text each) i 0 ≢ 32
 name_lacks_space each = search rules
 
 -- ---- words in a row
 
 -- a call is refused if a call in it is refused
-pub refused : {A : Type 0} (P : A → Type 0) (r : Result A BadAsk) (fault : BadAsk) → IsErrAnd r (λ e. e ≡ fault)
-    → fault ≡ OutOfMemory → MatchResult r P (λ e. e ≡ OutOfMemory)
+pub refused : {A : Type 0} (P : A → Type 0) (r : Result A BadAsk) (fault : BadAsk)
+    → IsErrAnd r (λ e. e ≡ fault) → fault ≡ OutOfMemory → MatchResult r P (λ e. e ≡ OutOfMemory)
 refused P r fault is none = search rules
 
 pub asks_at : (words : List (Bor (List ℕ))) (asked : List (List ℕ)) (i : ℕ)
@@ -167,7 +158,8 @@ next_bytes asked i small = rw (add-one, take-suc asked i [] small, concat-append
 -- ---- bytes that begin no command
 
 no_clock : (byte : ℕ) → BeginsNoCommand byte → byte ≢ 0x2b
-no_clock byte none e = none (ClockMessage (record { id = 0; payload = [] })) (3 ∷ 3 ∷ 0 ∷ 0 ∷ []) (rw e refl)
+no_clock byte none e =
+    none (ClockMessage (record { id = 0; payload = [] })) (3 ∷ 3 ∷ 0 ∷ 0 ∷ []) (rw e refl)
 
 -- a frame that begins with such a byte is that byte
 pub stray_alone : (byte : ℕ) (more : List ℕ) (event : EventContent) → BeginsNoCommand byte
@@ -176,15 +168,19 @@ stray_alone byte more event none form = search (rules, no_clock)
 
 pub no_partial : (byte : ℕ) → BeginsNoCommand byte → IsPartial (byte ∷ []) → ⊥
 no_partial byte none partial =
-    let alone = stray_alone byte (partial.next ∷ partial.more) partial.event none partial.word.form in cc
+    let alone =
+    stray_alone byte (partial.next ∷ partial.more) partial.event none partial.word.form in cc
 
-pub if_none : {A P : Type 0} (found : Option A) → IfNone found P → ((each : A) → found ≢ Some each) → P
+pub if_none : {A P : Type 0} (found : Option A) → IfNone found P → ((each : A) → found ≢ Some each)
+    → P
 if_none None holds other = holds
 if_none (Some each) holds other = absurd (other each refl)
 
 -- the frame of one byte is stray exactly if the byte begins no command
-pub only_stray : (byte used : ℕ) (event : EventContent) → used ≤ 1 → 0 < used → IsWord event (take used (byte ∷ []))
-    → (BeginsNoCommand byte → event ≡ Stray byte) × ((other : ℕ) → event ≡ Stray other → BeginsNoCommand byte)
+pub only_stray : (byte used : ℕ) (event : EventContent) → used ≤ 1 → 0 < used
+    → IsWord event (take used (byte ∷ []))
+    → (BeginsNoCommand byte → event ≡ Stray byte)
+    × ((other : ℕ) → event ≡ Stray other → BeginsNoCommand byte)
 only_stray byte used event most some word =
     let one : used ≡ 1 = omega arith in
     let form = rw one at word.form in (
@@ -211,10 +207,12 @@ stray_name each name = search rules
 -- ---- missing operands
 
 -- a word that has a space has no operand after it
-pub spaced : (each : Detail) (word name rest : List ℕ) → word ≡ name ++ 32 ∷ rest → word ≡ detail_text each → ⊥
+pub spaced : (each : Detail) (word name rest : List ℕ) → word ≡ name ++ 32 ∷ rest
+    → word ≡ detail_text each → ⊥
 spaced each word name rest split same =
     let is : detail_text each ≡ name ++ 32 ∷ rest = sym same ∙ split in
-    let small : length name < length (detail_text each) = rw (is, length-append name (32 ∷ rest)) (omega arith) in
+    let small : length name < length (detail_text each) =
+    rw (is, length-append name (32 ∷ rest)) (omega arith) in
     name_lacks_space each (length name) small (rw is (get_or_at name 32 rest 0 (length name) refl))
 
 pub no_help : (each : Detail) (word : List ℕ) → word ≡ detail_text each → ¬ AsksHelp word
@@ -249,12 +247,14 @@ next_awaited before rest asked at word was next old new is order awaits takes op
 }
 
 -- such a line is refused at its end, or for memory before
-pub ends_before : (before rest asked : List (List ℕ)) (word : Detail) (at : ℕ) (next : Awaited) (bytes : List ℕ)
-    → Awaits before rest asked at next bytes → LacksOperand word rest → at ≡ length (before ++ rest)
+pub ends_before : (before rest asked : List (List ℕ)) (word : Detail) (at : ℕ) (next : Awaited)
+    (bytes : List ℕ) → Awaits before rest asked at next bytes → LacksOperand word rest
+    → at ≡ length (before ++ rest)
     → (next ≡ awaited.Detail word) ⊎ ((word ≡ detail.ClockMessage) × IsAfterId next)
 ends_before before rest asked word at next bytes awaits lacks end = elim lacks [
   | inl alone ↦
-      inl (awaits.operand word [] (end ∙ rw alone (length-append before (detail_text word ∷ []))) alone)
+      inl
+      (awaits.operand word [] (end ∙ rw alone (length-append before (detail_text word ∷ []))) alone)
   | inr id ↦
       inr (
         id.0,
@@ -263,9 +263,10 @@ ends_before before rest asked word at next bytes awaits lacks end = elim lacks [
       )
 ]
 
-pub stopped : (before rest asked : List (List ℕ)) (lack : Detail) (at : ℕ) (word : List ℕ) (was : Awaited)
-    (old : List ℕ) (fault : BadAsk) → word ≡ get_or (before ++ rest) at [] → at < length (before ++ rest)
-    → AskInOrder before asked → Awaits before rest asked at was old → LacksOperand lack rest
+pub stopped : (before rest asked : List (List ℕ)) (lack : Detail) (at : ℕ) (word : List ℕ)
+    (was : Awaited) (old : List ℕ) (fault : BadAsk) → word ≡ get_or (before ++ rest) at []
+    → at < length (before ++ rest) → AskInOrder before asked → Awaits before rest asked at was old
+    → LacksOperand lack rest
     → ((bytes : List ℕ) → was ≡ Name → AsksBytes word bytes → fault ≡ OutOfMemory)
     → ((each : Detail) → was ≡ Name → word ≡ detail_text each → ⊥)
     → (was ≡ awaited.Detail detail.ClockMessage → ¬ AsksHelp word → ⊥) → fault ≡ OutOfMemory
@@ -281,27 +282,31 @@ stopped before rest asked lack at word was old fault is small order awaits lacks
             operand lack (awaits.name (omega (arith, here))).0
             (is ∙ rw alone (get_or_at before (detail_text lack) [] [] at here))
         | inr number ↦
-            let inside = rw (number.2, length-append before (detail_text lack ∷ number.1 ∷ [])) at small in
+            let inside =
+            rw (number.2, length-append before (detail_text lack ∷ number.1 ∷ [])) at small in
             elim (cases_lt (length before) at) [
               | inl beyond ↦
                   let here : at ≡ length before + 1 = omega (arith, beyond, inside) in
                   let same : word ≡ number.1 = is ∙ rw (here, number.2)
                   (get_or-append-add before (detail_text lack ∷ number.1 ∷ []) 1 []) in
-                  id (rw number.0 at (awaits.operand lack (number.1 ∷ []) here number.2)) (rw same number.3)
+                  id (rw number.0 at (awaits.operand lack (number.1 ∷ []) here number.2))
+                  (rw same number.3)
               | inr upto ↦
                   let here : length before ≡ at = omega (arith, past, upto) in
                   operand lack (awaits.name (omega (arith, here))).0
-                  (is ∙ rw number.2 (get_or_at before (detail_text lack) (number.1 ∷ []) [] at here))
+                  (is ∙ rw number.2
+                  (get_or_at before (detail_text lack) (number.1 ∷ []) [] at here))
             ]
       ])
     ]
 
-pub word_at : (words : List (Bor (List ℕ))) (line : List (List ℕ)) (i : ℕ) → map (λ word. word.now) words ≡ line
-    → i < length words → (get_or words i (record { ref_ptr = (0, 0); now = [] })).now ≡ get_or line i []
+pub word_at : (words : List (Bor (List ℕ))) (line : List (List ℕ)) (i : ℕ)
+    → map (λ word. word.now) words ≡ line → i < length words
+    → (get_or words i (record { ref_ptr = (0, 0); now = [] })).now ≡ get_or line i []
 word_at words line i same small = search (rules, get_or-map, length-map)
 
-pub inside_line : (words : List (Bor (List ℕ))) (line : List (List ℕ)) (i : ℕ) → map (λ word. word.now) words ≡ line
-    → i < length words → i < length line
+pub inside_line : (words : List (Bor (List ℕ))) (line : List (List ℕ)) (i : ℕ)
+    → map (λ word. word.now) words ≡ line → i < length words → i < length line
 inside_line words line i same small = search (rules, length-map)
 
 pub none_awaited : (before rest asked : List (List ℕ)) → Awaits before rest asked 0 Name []
@@ -311,18 +316,20 @@ none_awaited before rest asked = record {
   id = λ id more end follows other. absurd (omega (arith, end));
 }
 
-pub refused_or : {A : Type 0} (word : Detail) (r : Result A BadAsk) (fault : BadAsk) → IsErrAnd r (λ e. e ≡ fault)
-    → fault ≡ OutOfMemory → IsErrAnd r (λ e. (e ≡ Missing word) ⊎ (e ≡ OutOfMemory))
+pub refused_or : {A : Type 0} (word : Detail) (r : Result A BadAsk) (fault : BadAsk)
+    → IsErrAnd r (λ e. e ≡ fault) → fault ≡ OutOfMemory
+    → IsErrAnd r (λ e. (e ≡ Missing word) ⊎ (e ≡ OutOfMemory))
 refused_or word r fault is none = search rules
 
-pub all_read : (line asked : List (List ℕ)) (at : ℕ) (next : Awaited) (bytes : List ℕ) → AskInOrder line asked
-    → Awaits line [] asked at next bytes → at ≡ length line → (next ≡ Name) × (bytes ≡ concat asked)
+pub all_read : (line asked : List (List ℕ)) (at : ℕ) (next : Awaited) (bytes : List ℕ)
+    → AskInOrder line asked → Awaits line [] asked at next bytes → at ≡ length line
+    → (next ≡ Name) × (bytes ≡ concat asked)
 all_read line asked at next bytes order awaits end =
     let now = awaits.name (omega (arith, end)) in
     (now.0, now.1 ∙ ap concat (take_all at asked (rw (order.all, end) (omega arith))))
 
-pub at_end : (words : List (Bor (List ℕ))) (line : List (List ℕ)) (i : ℕ) → map (λ word. word.now) words ≡ line
-    → i ≡ length words → i ≡ length line
+pub at_end : (words : List (Bor (List ℕ))) (line : List (List ℕ)) (i : ℕ)
+    → map (λ word. word.now) words ≡ line → i ≡ length words → i ≡ length line
 at_end words line i same end = search (rules, length-map)
 
 -- a line that ends before an operand is refused for that
@@ -332,11 +339,12 @@ IsMissing word next = (next ≡ awaited.Detail word) ⊎ ((word ≡ detail.Clock
 pub name_missing : (word : Detail) (next : Awaited) → next ≡ Name → IsMissing word next → ⊥
 name_missing word next is missing = search rules
 
-pub detail_missing : (word each : Detail) (next : Awaited) → next ≡ awaited.Detail each → IsMissing word next
-    → (Missing each ≡ Missing word) ⊎ (Missing each ≡ OutOfMemory)
+pub detail_missing : (word each : Detail) (next : Awaited) → next ≡ awaited.Detail each
+    → IsMissing word next → (Missing each ≡ Missing word) ⊎ (Missing each ≡ OutOfMemory)
 detail_missing word each next is missing = search rules
 
-pub bytes_missing : (word : Detail) (id : Bor (List ℕ)) (next : Awaited) → next ≡ awaited.Bytes id → IsMissing word next
+pub bytes_missing : (word : Detail) (id : Bor (List ℕ)) (next : Awaited) → next ≡ awaited.Bytes id
+    → IsMissing word next
     → (Missing detail.ClockMessage ≡ Missing word) ⊎ (Missing detail.ClockMessage ≡ OutOfMemory)
 bytes_missing word id next is missing = search rules
 

@@ -1,6 +1,4 @@
-use Rattle.std.proofs.Common.{◌≡◌, ◌++◌, List, ℕ, map}
-use Rattle.dgt_ask.specs.Asking.{Awaits}
-use Rattle.dgt_ask.specs.Asks.{AskInOrder}
+use Rattle.{std.proofs.Common.{◌≡◌, ◌++◌, List, ℕ, map}, dgt_ask.specs.{Asking.{Awaits}, Asks.{AskInOrder}}}
 use Rattle.dgt_ask.proofs.asking.asked_bytes.Given as goal
 
 abbrev pub invariant-loop-word : goal.invariant-loop-word

@@ -1,6 +1,4 @@
-use Rattle.std.proofs.Common.{[], ◌∷◌, arith}
-use Rattle.std.proofs.lemmas.Str.Pattern.{split_after}
-use Rattle.dgt_ask.proofs.AskLemmas.{digits_lack_space}
+use Rattle.{std.proofs.{Common.{[], ◌∷◌, arith}, lemmas.Str.Pattern.{split_after}}, dgt_ask.proofs.AskLemmas.{digits_lack_space}}
 use Rattle.dgt_ask.proofs.asking.push_id_and_bytes.Goals as goal
 
 pub returns-in-Some : goal.returns-in-Some

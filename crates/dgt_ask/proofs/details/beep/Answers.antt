@@ -1,5 +1,4 @@
-use Rattle.std.proofs.Common.{rules}
-use Rattle.dgt_ask.proofs.AskLemmas.{beeps, begins_well, inside, parsed}
+use Rattle.{std.proofs.Common.{rules}, dgt_ask.proofs.AskLemmas.{beeps, begins_well, inside, parsed}}
 use Rattle.dgt_ask.proofs.details.beep.Goals as goal
 
 pub returns-in_err-first : goal.returns-in_err-first

@@ -1,5 +1,4 @@
-use Rattle.std.proofs.Common.{rules}
-use Rattle.dgt_ask.proofs.AskLemmas.{half}
+use Rattle.{std.proofs.Common.{rules}, dgt_ask.proofs.AskLemmas.{half}}
 use Rattle.dgt_ask.proofs.details.decoded.Goals as goal
 
 pub returns-in_err-bytes-clause-bytes : goal.returns-in_err-bytes-clause-bytes

@@ -1,8 +1,4 @@
-use Rattle.std.proofs.Common.{[], inl, inr, refl, rules}
-use Rattle.std.specs.Prelude.{codes}
-use Rattle.hex.specs.Hex.{decode_pairs}
-use Rattle.dgt_command.specs.Content.{Dump}
-use Rattle.dgt_command.specs.Words.{BeginsNoCommand}
+use Rattle.{std.{proofs.Common.{[], inl, inr, refl, rules}, specs.Prelude.{codes}}, hex.specs.Hex.{decode_pairs}, dgt_command.specs.{Content.{Dump}, Words.{BeginsNoCommand}}}
 use Rattle.dgt_ask.proofs.laws.bytes_are_asked.Goals as goal
 
 pub returns-clause-command : goal.returns-clause-command
@@ -26,4 +22,5 @@ returns-clause-stray c = inr (inr (codes "4f", 0x4f, refl, (refl, no_command), r
 
 pub returns-clause-no_stray : goal.returns-clause-no_stray
 unfolding decode_pairs
-returns-clause-no_stray c = (λ byte stray. stray.1 Dump [] (rw stray.0 refl), λ byte stray. absurd stray.0)
+returns-clause-no_stray c =
+    (λ byte stray. stray.1 Dump [] (rw stray.0 refl), λ byte stray. absurd stray.0)

@@ -1,8 +1,5 @@
-use Rattle.std.proofs.Common.{◌≡◌, ◌≢◌, ◌++◌, List, ℕ, [], arith, inl, inr, length, refl, suc}
-use Rattle.std.proofs.Common.{rules}
-use Rattle.std.specs.Fmt.{digits as decimal_digits}
-use Rattle.std.specs.Prelude.{codes, Ok}
-use Rattle.hex.specs.Hex.{decode_of, decode_pairs}
+use Rattle.{std.{proofs.Common.{◌≡◌, ◌≢◌, ◌++◌, List, ℕ, [], arith, inl, inr, length, refl, suc, rules}, specs.{Fmt.{digits as decimal_digits}, Prelude.{codes, Ok}}}, hex.specs.Hex.{decode_of}}
+use Rattle.hex.specs.Hex.{decode_pairs}
 use Rattle.dgt_ask.specs.declared.details.Detail.TheVariants as detail
 use Rattle.dgt_ask.proofs.laws.details_ask.Goals as goal
 
@@ -10,7 +7,8 @@ use Rattle.dgt_ask.proofs.laws.details_ask.Goals as goal
 no_hyphen : (digits bytes : List ℕ) → decode_of digits ≡ Ok bytes → digits ≢ codes "-"
 no_hyphen digits bytes read e = grind (arith, read, e)
 
-some_digits : (digits bytes : List ℕ) (n : ℕ) → decode_of digits ≡ Ok bytes → length bytes ≡ suc n → digits ≢ []
+some_digits : (digits bytes : List ℕ) (n : ℕ) → decode_of digits ≡ Ok bytes → length bytes ≡ suc n
+    → digits ≢ []
 unfolding decode_pairs
 some_digits digits bytes n read many e = grind (arith, read, many, e)
 
@@ -19,16 +17,20 @@ unfolding decimal_digits
 returns-clause-beep c = inr (detail.Beep, codes "255", refl, (255, omega arith, refl, refl))
 
 pub returns-clause-display : goal.returns-clause-display
-returns-clause-display c letters message six shows = inr (detail.Display, letters, refl, inr (six, shows))
+returns-clause-display c letters message six shows =
+    inr (detail.Display, letters, refl, inr (six, shows))
 
 pub returns-clause-display_bytes : goal.returns-clause-display_bytes
-returns-clause-display_bytes c digits bytes read = inr (detail.Display, digits, refl, inl (bytes, read, refl))
+returns-clause-display_bytes c digits bytes read =
+    inr (detail.Display, digits, refl, inl (bytes, read, refl))
 
 pub returns-clause-text : goal.returns-clause-text
-returns-clause-text c letters eight ascii = inr (detail.Text, letters, refl, inr (eight, ascii, refl))
+returns-clause-text c letters eight ascii =
+    inr (detail.Text, letters, refl, inr (eight, ascii, refl))
 
 pub returns-clause-text_bytes : goal.returns-clause-text_bytes
-returns-clause-text_bytes c digits bytes read = inr (detail.Text, digits, refl, inl (bytes, read, refl))
+returns-clause-text_bytes c digits bytes read =
+    inr (detail.Text, digits, refl, inl (bytes, read, refl))
 
 pub returns-clause-icons : goal.returns-clause-icons
 returns-clause-icons c digits bytes read many = inr (
@@ -44,7 +46,8 @@ returns-clause-icons c digits bytes read many = inr (
 )
 
 pub returns-clause-set_and_run : goal.returns-clause-set_and_run
-returns-clause-set_and_run c digits bytes read = inr (detail.SetAndRun, digits, refl, (bytes, read, refl))
+returns-clause-set_and_run c digits bytes read =
+    inr (detail.SetAndRun, digits, refl, (bytes, read, refl))
 
 pub returns-clause-clock_message : goal.returns-clause-clock_message
 unfolding decode_pairs
@@ -69,7 +72,10 @@ returns-clause-leds c digits bytes read many = inr (
   detail.Leds,
   digits,
   refl,
-  (inr (no_hyphen digits bytes read, some_digits digits bytes 254 read many, read), omega (arith, many)),
+  (
+    inr (no_hyphen digits bytes read, some_digits digits bytes 254 read many, read),
+    omega (arith, many),
+  ),
 )
 
 pub returns-clause-no_leds : goal.returns-clause-no_leds

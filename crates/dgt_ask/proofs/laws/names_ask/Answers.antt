@@ -8,4 +8,5 @@ pub returns-clause-requests : goal.returns-clause-requests
 returns-clause-requests c = (inl refl, inl refl, inl refl, inl refl, inl refl, inl refl, inl refl)
 
 pub returns-clause-clock : goal.returns-clause-clock
-returns-clause-clock c = (inl (inl (refl, refl)), inl (inr (inl (refl, refl))), inl (inr (inr (refl, refl))))
+returns-clause-clock c =
+    (inl (inl (refl, refl)), inl (inr (inl (refl, refl))), inl (inr (inr (refl, refl))))

@@ -1,6 +1,4 @@
-use Rattle.std.proofs.Common.{inl, inr, refl, rules}
-use Rattle.std.specs.Prelude.{codes}
-use Rattle.dgt_ask.specs.Asks.{AsksHelp}
+use Rattle.{std.{proofs.Common.{inl, inr, refl, rules}, specs.Prelude.{codes}}, dgt_ask.specs.Asks.{AsksHelp}}
 use Rattle.dgt_ask.proofs.laws.operands_are_missing.Goals as goal
 
 no_help : ¬ AsksHelp (codes "ff")

@@ -1,9 +1,9 @@
-use Rattle.std.proofs.Common.{◌<◌, ℕ, List, ◌∷◌, [], ap, arith, get_or, length, refl, zero, suc}
-use Rattle.dgt_ask.specs.Asks.{AskInOrder, AsksBytes}
+use Rattle.{std.proofs.Common.{◌<◌, ℕ, List, ◌∷◌, [], ap, arith, get_or, length, refl, zero, suc}, dgt_ask.specs.Asks.{AskInOrder, AsksBytes}}
 use Rattle.dgt_ask.proofs.laws.words_ask_in_order.Goals as goal
 
-each_asks : (word asked : List ℕ) (words others : List (List ℕ)) → AsksBytes word asked → AskInOrder words others
-    → (i : ℕ) → i < length (word ∷ words) → AsksBytes (get_or (word ∷ words) i []) (get_or (asked ∷ others) i [])
+each_asks : (word asked : List ℕ) (words others : List (List ℕ)) → AsksBytes word asked
+    → AskInOrder words others → (i : ℕ) → i < length (word ∷ words)
+    → AsksBytes (get_or (word ∷ words) i []) (get_or (asked ∷ others) i [])
 each_asks word asked words others asks order zero small = asks
 each_asks word asked words others asks order (suc i) small = order.each i (omega (arith, small))
 
