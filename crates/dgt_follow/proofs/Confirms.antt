@@ -1,23 +1,20 @@
 -- What a follower records of the messages that it hears.
-use Rattle.std.proofs.Common.{◌≡◌, Bool, true, not, ◌&&◌, refl, ℕ, List, [], ◌∷◌, ◌++◌, rules}
-use Rattle.dgt_values.specs.declared.pieces.Piece.{Piece}
-use Rattle.dgt_message.specs.Content.{Content}
-use Rattle.dgt_message.specs.Picture.{picture_after, picture_after_all}
-use Rattle.dgt_message.specs.declared.viewing.BodyFault.TheVariants.{WrongSize, BadPiece, BadSquare, BadReading}
-use Rattle.dgt_decode.specs.Grammar.{Event, Message, Refused, Cut, BadLength, Stray, Placed, events}
-use Rattle.dgt_host.specs.Confirmed.{confirmed_after, confirmed_after_all, message_in, messages}
-use Rattle.dgt_host.proofs.ConfirmedLemmas.{confirms_more, first_of}
-use Rattle.dgt_follow.specs.declared.asking.Asking.{Asking}
-use Rattle.dgt_follow.specs.Pace.{confirmed_by}
-use Rattle.dgt_follow.specs.Follower.{AskingsConfirmNothing, ConfirmedAsHeard, FollowerView, follower_after_event, follower_after_events}
+use Rattle.{std.proofs.Common.{◌≡◌, Bool, true, not, ◌&&◌, refl, ℕ, List, [], ◌∷◌, ◌++◌, rules}, dgt_values.specs.declared.pieces.Piece.{Piece}, dgt_message.specs.Content.{Content}}
+use Rattle.{dgt_message.specs.{Picture.{picture_after, picture_after_all}, declared.viewing.BodyFault.TheVariants.{WrongSize, BadPiece, BadSquare, BadReading}}, dgt_decode.specs.Grammar.{Event}}
+use Rattle.{dgt_decode.specs.Grammar.{Message, Refused, Cut, BadLength, Stray, Placed, events}, dgt_host.specs.Confirmed.{confirmed_after, confirmed_after_all, message_in, messages}}
+use Rattle.{dgt_host.proofs.ConfirmedLemmas.{confirms_more, first_of}, dgt_follow.specs.Follower.{AskingsConfirmNothing, ConfirmedAsHeard, FollowerView, follower_after_event, follower_after_events}}
+use Rattle.dgt_follow.specs.{Pace.{confirmed_by}, declared.asking.Asking.{Asking}}
 
 Heard : FollowerView → FollowerView → List Content → Type 0
 Heard before after said = (after.host.picture ≡ picture_after_all before.host.picture said)
-    × (after.pace.confirmed ≡ true → confirmed_after_all before.pace.confirmed before.host.picture said ≡ true)
+    × (after.pace.confirmed ≡ true
+    → confirmed_after_all before.pace.confirmed before.host.picture said ≡ true)
 
 -- an event that isn't a message confirms nothing
-kept : (f between after : FollowerView) (said : List Content) → between.host.picture ≡ f.host.picture
-    → (between.pace.confirmed ≡ true → f.pace.confirmed ≡ true) → Heard between after said → Heard f after said
+kept : (f between after : FollowerView) (said : List Content)
+    → between.host.picture ≡ f.host.picture
+    → (between.pace.confirmed ≡ true → f.pace.confirmed ≡ true) → Heard between after said
+    → Heard f after said
 unfolding Heard
 kept f between after said same less (picture, confirmed) = search (rules, confirms_more)
 
@@ -44,9 +41,11 @@ one_event f after now (Refused code WrongSize) more heard =
 one_event f after now (Refused code (BadPiece at)) more heard =
     kept f (follower_after_event f now (Refused code (BadPiece at))) after more refl (λ e. cc) heard
 one_event f after now (Refused code (BadSquare at)) more heard =
-    kept f (follower_after_event f now (Refused code (BadSquare at))) after more refl (λ e. cc) heard
+    kept f (follower_after_event f now (Refused code (BadSquare at))) after more refl (λ e. cc)
+    heard
 one_event f after now (Refused code (BadReading at)) more heard =
-    kept f (follower_after_event f now (Refused code (BadReading at))) after more refl (λ e. e) heard
+    kept f (follower_after_event f now (Refused code (BadReading at))) after more refl (λ e. e)
+    heard
 one_event f after now (Cut have) more heard =
     kept f (follower_after_event f now (Cut have)) after more refl (λ e. cc) heard
 one_event f after now BadLength more heard =

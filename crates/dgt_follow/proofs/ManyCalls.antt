@@ -1,21 +1,14 @@
 -- How consecutive calls of a follower change its picture.
-use Rattle.std.proofs.Common.{◌≡◌, Bool, true, Option, refl, ap, ℕ, List, [], ◌∷◌, ◌++◌, append_assoc, append-nil, ◌-◌}
-use Rattle.std.proofs.Common.{rules}
-use Rattle.dgt_values.specs.declared.pieces.Piece.{Piece}
-use Rattle.dgt_message.specs.Content.{Content}
-use Rattle.dgt_message.specs.Picture.{picture_after, picture_after_all}
-use Rattle.dgt_decode.specs.Grammar.{events, unfinished_message}
-use Rattle.dgt_decode.specs.Laws.{EventsAppend, UnfinishedAppend, UnfinishedIsQuiet}
-use Rattle.dgt_host.specs.Confirmed.{confirmed_after, confirmed_after_all, messages}
-use Rattle.dgt_host.proofs.ConfirmedLemmas.{confirms_more, pictures_append}
-use Rattle.dgt_host.proofs.StretchLemmas.{messages_append, messages_behind}
-use Rattle.dgt_follow.specs.declared.asking.Asking.{Asking}
-use Rattle.dgt_follow.specs.Follower.{AskingsConfirmNothing, ConfirmedAsHeard, FollowerView, asking_of, follower_after}
-use Rattle.dgt_follow.specs.Calls.{Hears, Asks, Sends, SetsMode, SetsConfirm, SetsIdentify, AsksNow, Disturbs, ConfirmedOverCalls, bytes_heard, follower_after_call, follower_after_calls, follower_asking}
+use Rattle.{std.proofs.Common.{◌≡◌, Bool, true, Option, refl, ap, ℕ, List, [], ◌∷◌, ◌++◌, append_assoc, append-nil, ◌-◌, rules}, dgt_values.specs.declared.pieces.Piece.{Piece}}
+use Rattle.{dgt_message.specs.{Content.{Content}, Picture.{picture_after, picture_after_all}}, dgt_decode.specs.{Grammar.{events, unfinished_message}, Laws.{EventsAppend, UnfinishedAppend}}}
+use Rattle.{dgt_decode.specs.Laws.{UnfinishedIsQuiet}, dgt_host.{specs.Confirmed.{confirmed_after, confirmed_after_all, messages}, proofs.ConfirmedLemmas.{confirms_more, pictures_append}}}
+use Rattle.{dgt_host.proofs.StretchLemmas.{messages_append, messages_behind}, dgt_follow.specs.Calls.{Hears, Asks, Sends, SetsMode, SetsConfirm, SetsIdentify, AsksNow, Disturbs, ConfirmedOverCalls}}
+use Rattle.dgt_follow.specs.{Calls.{bytes_heard, follower_after_call, follower_after_calls, follower_asking}, Follower.{AskingsConfirmNothing, ConfirmedAsHeard, FollowerView, asking_of}}
+use Rattle.dgt_follow.specs.{Follower.{follower_after}, declared.asking.Asking.{Asking}}
 
 confirmed_append : (confirmed : Bool) (picture : Option (List Piece)) (said more : List Content)
-    → confirmed_after_all confirmed picture (said ++ more)
-    ≡ confirmed_after_all (confirmed_after_all confirmed picture said) (picture_after_all picture said) more
+    → confirmed_after_all confirmed picture (said ++ more) ≡ confirmed_after_all
+    (confirmed_after_all confirmed picture said) (picture_after_all picture said) more
 confirmed_append confirmed picture [] more = refl
 confirmed_append confirmed picture (m ∷ said) more =
     confirmed_append (confirmed_after confirmed picture m) (picture_after picture m) said more
@@ -38,7 +31,8 @@ asking_keeps none what f now = search rules
 
 module _ (later : EventsAppend) (still : UnfinishedAppend) (quiet : UnfinishedIsQuiet)
     (heard : ConfirmedAsHeard) (none : AskingsConfirmNothing) where
-  nothing_more : (unread : List ℕ) → unfinished_message unread ≡ unread → messages (events (unread ++ [])) ≡ []
+  nothing_more : (unread : List ℕ) → unfinished_message unread ≡ unread
+      → messages (events (unread ++ [])) ≡ []
   nothing_more unread held = search (rules, append-nil)
 
   -- the messages heard after some bytes
@@ -64,14 +58,15 @@ module _ (later : EventsAppend) (still : UnfinishedAppend) (quiet : UnfinishedIs
   kept f between after bytes (picture, unread, less) next = search (rules, confirms_more)
 
   unread_after : (f : FollowerView) (now : ℕ) (bytes : List ℕ)
-      → unfinished_message (follower_after f now bytes).host.unread ≡ (follower_after f now bytes).host.unread
+      → unfinished_message (follower_after f now bytes).host.unread
+      ≡ (follower_after f now bytes).host.unread
   unread_after f now bytes = quiet.stays (f.host.unread ++ bytes)
 
   pub over_calls : ConfirmedOverCalls
   over_calls f [] held = let no = nothing_more f.host.unread held in rw no (refl, λ e. e)
   over_calls f (Hears now bytes ∷ more) held =
-      joined f (follower_after f now bytes) (follower_after_calls (follower_after f now bytes) more) bytes
-      (bytes_heard more) refl (heard f now bytes)
+      joined f (follower_after f now bytes) (follower_after_calls (follower_after f now bytes) more)
+      bytes (bytes_heard more) refl (heard f now bytes)
       (over_calls (follower_after f now bytes) more (unread_after f now bytes))
   over_calls f (Asks now ∷ more) held =
       let what = asking_of f now in

@@ -1,11 +1,7 @@
 -- An overdue answer is a doubt, and is soon requested again. A confirmed picture is not in doubt.
-use Rattle.std.proofs.Common.{◌≡◌, ◌≤◌, ◌/◌, Bool, true, false, not, ◌&&◌, ◌||◌, if◌then◌else◌, min, max, ℕ, arith}
-use Rattle.std.proofs.Common.{rules}
-use Rattle.std.proofs.lemmas.Bool.Decides.{nat_tests}
-use Rattle.dgt_follow.specs.declared.asking.Asking.{Asking}
-use Rattle.dgt_follow.specs.declared.pace.TheConstants.{OVERDUE}
-use Rattle.dgt_follow.specs.Pace.{PaceView, asking, is_calm, is_due, is_unanswered, pace_after_asking, pace_at, time_after, wait}
-use Rattle.dgt_follow.specs.Follower.{DisturbedIsAskedAnew, OverdueIsAskedAnew, OverdueIsDoubt, SureStaysSure, is_sure}
+use Rattle.std.proofs.{Common.{◌≡◌, ◌≤◌, ◌/◌, Bool, true, false, not, ◌&&◌, ◌||◌, if◌then◌else◌, min, max, ℕ, arith, rules}, lemmas.Bool.Decides.{nat_tests}}
+use Rattle.dgt_follow.specs.{Follower.{DisturbedIsAskedAnew, OverdueIsAskedAnew, OverdueIsDoubt, SureStaysSure, is_sure}, Pace.{PaceView, asking, is_calm, is_due, is_unanswered, pace_after_asking}}
+use Rattle.dgt_follow.specs.{Pace.{pace_at, time_after, wait}, declared.{asking.Asking.{Asking}, pace.TheConstants.{OVERDUE}}}
 
 -- ---- an overdue answer is a doubt
 
@@ -49,12 +45,15 @@ is_asked_anew pace full now owed late =
 pub is_asked_when_disturbed : DisturbedIsAskedAnew
 is_asked_when_disturbed pace full now disturbed late =
     let by_then = pace_at pace now in
-    due_anew by_then full now (not_calm by_then disturbed) (omega (arith, quarter by_then disturbed, late))
+    due_anew by_then full now (not_calm by_then disturbed)
+    (omega (arith, quarter by_then disturbed, late))
 
 -- ---- a confirmed picture is not in doubt
 
-other : (unasked pardons confirmed changed settling doubtful : Bool) → not (confirmed && doubtful) ≡ true
-    → not ((not unasked && ((confirmed && not changed) && (confirmed || not settling)))
+other : (unasked pardons confirmed changed settling doubtful : Bool)
+    → not (confirmed && doubtful) ≡ true
+    → not
+    ((not unasked && ((confirmed && not changed) && (confirmed || not settling)))
     && (((unasked && not pardons) || false) || (doubtful && not false))) ≡ true
 other unasked pardons confirmed changed settling doubtful e = grind arith
 

@@ -1,16 +1,8 @@
 -- A slice after a host's request, with a mode's command and the clock's request.
-use Rattle.std.proofs.Common.{◌≡◌, ◌≢◌, ◌+◌, ◌-◌, ◌<◌, ◌≤◌, ℕ, List, [], ◌∷◌, ◌++◌, Some, Ok, refl, sym, ap, ◌∙◌, append_assoc, length, drop, take, slice_set, Option, arith}
-use Rattle.std.proofs.Common.{rules}
-use Rattle.std.proofs.lemmas.List.{drop-append-le, drop-drop, length-append, length-drop, length-take, take-append-drop}
-use Rattle.std.proofs.Math.Seq.{set-append_seam}
-use Rattle.dgt_values.specs.declared.kinds.Kind.{Kind}
-use Rattle.dgt_command.specs.Content.{CommandContent}
-use Rattle.dgt_command.specs.Encoding.{command_encoding}
-use Rattle.dgt_host.specs.Host.{HostView, Sends, follow_bytes, host_awaiting, restart_bytes, without_awaited}
-use Rattle.dgt_follow.specs.declared.asking.Asking.{Asking}
-use Rattle.dgt_follow.specs.declared.asking.UpdateMode.{UpdateMode}
-use Rattle.dgt_follow.specs.Pace.{clock_request, mode_command, sent_bytes}
-use Rattle.dgt_follow.specs.Follower.{HostAsks}
+use Rattle.std.proofs.Common.{◌≡◌, ◌≢◌, ◌+◌, ◌-◌, ◌<◌, ◌≤◌, ℕ, List, [], ◌∷◌, ◌++◌, Some, Ok, refl, sym, ap, ◌∙◌, append_assoc, length, drop, take, slice_set, Option, arith, rules}
+use Rattle.{std.proofs.{Math.Seq.{set-append_seam}, lemmas.List.{drop-append-le, drop-drop, length-append, length-drop, length-take, take-append-drop}}, dgt_values.specs.declared.kinds.Kind.{Kind}}
+use Rattle.{dgt_command.specs.{Content.{CommandContent}, Encoding.{command_encoding}}, dgt_host.specs.Host.{HostView, Sends, follow_bytes, host_awaiting, restart_bytes, without_awaited}}
+use Rattle.dgt_follow.specs.{Follower.{HostAsks}, Pace.{clock_request, mode_command, sent_bytes}, declared.asking.{Asking.{Asking}, UpdateMode.{UpdateMode}}}
 
 -- a byte that is set at the end of the first bytes follows them
 set_after : (xs ys : List ℕ) (n b : ℕ) → length xs ≡ n → 0 < length ys
@@ -32,24 +24,27 @@ RequestFollows mode count written slice new =
     → new ≡ (bytes ++ clock_request mode) ++ drop written old
 
 pub heartbeat_asks : (mode : UpdateMode) (code sent written : ℕ) (before after : HostView)
-    (old followed new : List ℕ)
-    → command_encoding (mode_command mode) ≡ code ∷ [] → sent ≡ 2 → followed ≡ follow_bytes ++ drop sent old
-    → after ≡ host_awaiting before (Some Kind.Dump) → written ≡ 2 + length (clock_request mode)
-    → written ≤ length old → RequestFollows mode 2 written (slice_set followed 0 code) new
+    (old followed new : List ℕ) → command_encoding (mode_command mode) ≡ code ∷ [] → sent ≡ 2
+    → followed ≡ follow_bytes ++ drop sent old → after ≡ host_awaiting before (Some Kind.Dump)
+    → written ≡ 2 + length (clock_request mode) → written ≤ length old
+    → RequestFollows mode 2 written (slice_set followed 0 code) new
     → HostAsks Asking.Heartbeat mode before after old new (Ok written)
-heartbeat_asks mode code sent written before after old followed new encoded all e host count room follows =
+heartbeat_asks mode code sent written before after old followed new encoded all e host count room
+    follows =
     let dump : List ℕ = command_encoding CommandContent.Dump in
     let bytes : List ℕ = command_encoding (mode_command mode) ++ dump in
     let two : length bytes ≡ 2 = ap (λ (bs : List ℕ). length (bs ++ dump)) encoded in
-    let prefix : followed ≡ follow_bytes ++ drop 2 old = e ∙ ap (λ (n : ℕ). follow_bytes ++ drop n old) all in
+    let prefix : followed ≡ follow_bytes ++ drop 2 old =
+    e ∙ ap (λ (n : ℕ). follow_bytes ++ drop n old) all in
     let set : slice_set followed 0 code ≡ bytes ++ drop 2 old
     = search rules in
     let long : written ≡ length (bytes ++ clock_request mode)
     = omega (arith, count, two, length-append bytes (clock_request mode)) in
     ((long, room, follows bytes old two set), host)
 
-pub anew_asks : (mode : UpdateMode) (code sent written : ℕ) (before after : HostView) (old begun new : List ℕ)
-    → command_encoding (mode_command mode) ≡ code ∷ [] → sent ≡ 257 → begun ≡ restart_bytes ++ drop sent old
+pub anew_asks : (mode : UpdateMode) (code sent written : ℕ) (before after : HostView)
+    (old begun new : List ℕ) → command_encoding (mode_command mode) ≡ code ∷ [] → sent ≡ 257
+    → begun ≡ restart_bytes ++ drop sent old
     → after ≡ host_awaiting (without_awaited before) (Some Kind.Dump)
     → written ≡ 258 + length (clock_request mode) → written ≤ length old
     → RequestFollows mode 258 written (slice_set begun sent code) new
@@ -57,14 +52,18 @@ pub anew_asks : (mode : UpdateMode) (code sent written : ℕ) (before after : Ho
 anew_asks mode code sent written before after old begun new encoded all e host count room follows =
     let mode_bytes : List ℕ = command_encoding (mode_command mode) in
     let whole : length (restart_bytes ++ mode_bytes) ≡ 258
-    = length-append restart_bytes mode_bytes ∙ ap (λ (bs : List ℕ). length restart_bytes + length bs) encoded in
-    let prefix : begun ≡ restart_bytes ++ drop 257 old = e ∙ ap (λ (n : ℕ). restart_bytes ++ drop n old) all in
+    = length-append restart_bytes mode_bytes
+    ∙ ap (λ (bs : List ℕ). length restart_bytes + length bs) encoded in
+    let prefix : begun ≡ restart_bytes ++ drop 257 old =
+    e ∙ ap (λ (n : ℕ). restart_bytes ++ drop n old) all in
     let set : slice_set begun sent code ≡ (restart_bytes ++ mode_bytes) ++ drop 258 old
-    = ap (λ (n : ℕ). slice_set begun n code) all ∙ ap (λ (bs : List ℕ). slice_set bs 257 code) prefix
+    =
+    ap (λ (n : ℕ). slice_set begun n code) all ∙ ap (λ (bs : List ℕ). slice_set bs 257 code) prefix
     ∙ set_in_slice restart_bytes old 257 code refl (omega (arith, count, room))
     ∙ ap (λ (bs : List ℕ). (restart_bytes ++ bs) ++ drop 258 old) (sym encoded) in
     let long : written ≡ length ((restart_bytes ++ mode_bytes) ++ clock_request mode)
-    = omega (arith, count, whole, length-append (restart_bytes ++ mode_bytes) (clock_request mode)) in
+    =
+    omega (arith, count, whole, length-append (restart_bytes ++ mode_bytes) (clock_request mode)) in
     ((long, room, follows (restart_bytes ++ mode_bytes) old whole set), host)
 
 -- ---- another command
@@ -84,10 +83,12 @@ rest_after old written room within =
     ∙ ap (λ (bytes : List ℕ). drop written bytes) (take-append-drop room old)
 
 -- A frame is written into all of a slice but its last byte, and the mode's command after it.
-pub frame_sent : (mode : UpdateMode) (said : CommandContent) (kind : Option Kind) (code written room : ℕ)
-    (before after : HostView) (old front : List ℕ) → length (command_encoding said) ≢ 1
-    → command_encoding (mode_command mode) ≡ code ∷ [] → room ≡ length old - 1
-    → Sends (record { kind = kind; bytes = command_encoding said }) before after (take room old) front (Ok written)
+pub frame_sent : (mode : UpdateMode) (said : CommandContent) (kind : Option Kind)
+    (code written room : ℕ) (before after : HostView) (old front : List ℕ)
+    → length (command_encoding said) ≢ 1 → command_encoding (mode_command mode) ≡ code ∷ []
+    → room ≡ length old - 1
+    → Sends (record { kind = kind; bytes = command_encoding said }) before after (take room old)
+    front (Ok written)
     → Sends (record { kind = kind; bytes = sent_bytes mode said }) before after old
     (slice_set (front ++ drop room old) written code) (Ok (written + 1))
 frame_sent mode said kind code written room before after old front long encoded short sent =
@@ -100,7 +101,8 @@ frame_sent mode said kind code written room before after old front long encoded 
     = ap (λ (slice : List ℕ). slice ++ drop room old) sent.3
     ∙ append_assoc bytes (drop written (take room old)) (drop room old)
     ∙ ap (λ (kept : List ℕ). bytes ++ kept) (rest_after old written room sent.2) in
-    let set : slice_set (front ++ drop room old) written code ≡ (bytes ++ code ∷ []) ++ drop (written + 1) old
+    let set : slice_set (front ++ drop room old) written code
+    ≡ (bytes ++ code ∷ []) ++ drop (written + 1) old
     = ap (λ (slice : List ℕ). slice_set slice written code) whole
     ∙ set_in_slice bytes old written code (sym sent.1) within in
     let counted : written + 1 ≡ length (bytes ++ code ∷ [])

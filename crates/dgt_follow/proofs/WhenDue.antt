@@ -1,14 +1,9 @@
--- A follower writes exactly if it has a reason, and `due_at` names the first time at which it isn't idle.
-use Rattle.std.proofs.Common.{◌≡◌, ◌≢◌, ◌↔◌, ◌≤◌, ◌<◌, ◌^◌, Bool, true, false, not, ◌&&◌, ◌||◌, if◌then◌else◌, is_some, nat_le, min, Option, Some, refl, ap, ℕ, arith}
-use Rattle.std.specs.Prelude.{IfSome}
-use Rattle.std.proofs.lemmas.Bool.Decides.{nat_tests}
-use Rattle.dgt_values.specs.declared.kinds.Kind.{Kind}
-use Rattle.dgt_host.specs.Host.{awaits_too_many}
-use Rattle.dgt_follow.specs.declared.asking.Asking.{Asking}
-use Rattle.dgt_follow.specs.Pace.{PaceView, asking, counted, doubt_time, due_time, is_due, is_overdue, is_stuck, next_due, pace_at, time_after, wait}
-use Rattle.dgt_follow.specs.Follower.{FollowerView, HasReason, asking_of, is_sure}
-use Rattle.dgt_follow.specs.Calls.{DueAtIsFirst, follower_asking}
-use Rattle.std.proofs.lemmas.Grind.{common_steps}
+-- A follower writes exactly if it has a reason, and `due_at` names the first time at which it isn't
+-- idle.
+use Rattle.std.proofs.{Common.{◌≡◌, ◌≢◌, ◌↔◌, ◌≤◌, ◌<◌, ◌^◌, Bool, true, false, not, ◌&&◌, ◌||◌, if◌then◌else◌, is_some, nat_le, min, Option, Some, refl, ap, ℕ, arith}, lemmas.Grind.{common_steps}}
+use Rattle.{std.{proofs.lemmas.Bool.Decides.{nat_tests}, specs.Prelude.{IfSome}}, dgt_values.specs.declared.kinds.Kind.{Kind}, dgt_host.specs.Host.{awaits_too_many}}
+use Rattle.dgt_follow.specs.{Calls.{DueAtIsFirst, follower_asking}, Follower.{FollowerView, HasReason, asking_of, is_sure}, Pace.{PaceView, asking, counted, doubt_time, due_time, is_due, is_overdue}}
+use Rattle.dgt_follow.specs.{Pace.{is_stuck, next_due, pace_at, time_after, wait}, declared.asking.Asking.{Asking}}
 
 -- ---- its reasons
 
@@ -27,7 +22,8 @@ reason pace now due = grind (arith, nat_tests)
 due_for : (pace : PaceView) (now : ℕ) → HasReason pace now → is_due pace now ≡ true
 due_for pace now why = grind (arith, nat_tests, reached, no_later pace, waits pace)
 
-writes : (pace : PaceView) (full : Bool) (now : ℕ) → (asking pace full now ≢ Asking.Nothing) ↔ (is_due pace now ≡ true)
+writes : (pace : PaceView) (full : Bool) (now : ℕ)
+    → (asking pace full now ≢ Asking.Nothing) ↔ (is_due pace now ≡ true)
 writes pace full now = (λ asks. grind (arith, nat_tests), λ due. grind (arith, nat_tests))
 
 pub for_a_reason : (follower : FollowerView) (now : ℕ)
@@ -35,7 +31,8 @@ pub for_a_reason : (follower : FollowerView) (now : ℕ)
 for_a_reason follower now =
     let pace = pace_at follower.pace now in
     let full = awaits_too_many follower.host (Some Kind.Dump) in
-    let due = writes pace full now in (λ asks. reason pace now (due.0 asks), λ why. due.1 (due_for pace now why))
+    let due = writes pace full now in
+    (λ asks. reason pace now (due.0 asks), λ why. due.1 (due_for pace now why))
 
 -- ---- idle before that time
 
@@ -63,7 +60,8 @@ stays what follower now none same = rw (none, same) refl
 stuck : (pace : PaceView) (now : ℕ) → pace_at pace now ≡ pace → is_stuck pace now ≡ false
 stuck pace now same = grind (arith, nat_tests)
 
-overdue : (pace : PaceView) (now : ℕ) → pace_at pace now ≡ pace → (is_overdue pace now && not pace.doubtful) ≡ false
+overdue : (pace : PaceView) (now : ℕ) → pace_at pace now ≡ pace
+    → (is_overdue pace now && not pace.doubtful) ≡ false
 overdue pace now same = grind (arith, nat_tests)
 
 named : (unfinished : Option ℕ) (doubts limit now : ℕ)
@@ -71,11 +69,12 @@ named : (unfinished : Option ℕ) (doubts limit now : ℕ)
     → (is_some unfinished && nat_le limit now) ≡ false → doubts ≤ now
 named unfinished doubts limit now due free = grind (arith, nat_tests)
 
-due_by : (pace : PaceView) (now : ℕ) → doubt_time pace ≤ now → pace_at pace now ≡ pace → due_time pace ≤ now
+due_by : (pace : PaceView) (now : ℕ) → doubt_time pace ≤ now → pace_at pace now ≡ pace
+    → due_time pace ≤ now
 due_by pace now by same = grind (arith, nat_tests, overdue pace now same)
 
-not_idle : (pace : PaceView) (full : Bool) (now : ℕ) → next_due pace ≡ Some now → pace_at pace now ≡ pace
-    → asking pace full now ≢ Asking.Nothing
+not_idle : (pace : PaceView) (full : Bool) (now : ℕ) → next_due pace ≡ Some now
+    → pace_at pace now ≡ pace → asking pace full now ≢ Asking.Nothing
 not_idle pace full now due same =
     let by = due_by pace now (named pace.unfinished _ _ now due (stuck pace now same)) same in
     (writes pace full now).1 (reached (due_time pace) now _ by)

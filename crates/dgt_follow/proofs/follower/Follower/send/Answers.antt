@@ -1,5 +1,4 @@
-use Rattle.std.proofs.Common.{rules}
-use Rattle.dgt_follow.proofs.Slices.{frame_sent, short_sent}
+use Rattle.{std.proofs.Common.{rules}, dgt_follow.proofs.Slices.{frame_sent, short_sent}}
 use Rattle.dgt_follow.proofs.follower.Follower.send.Goals as goal
 
 pub returns-in-Ok-clause-sends : goal.returns-in-Ok-clause-sends
