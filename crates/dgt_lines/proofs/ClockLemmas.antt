@@ -1,27 +1,16 @@
 -- Which clocks are reported, and that the other reports are those without them.
-use Rattle.std.proofs.Common.{◌≡◌, ◌≢◌, ℕ, List, [], ◌∷◌, ◌++◌, Option, Some, None, refl, ◌∙◌, ap, append-nil, map}
-use Rattle.std.proofs.Common.{rules}
-use Rattle.std.proofs.lemmas.Bool.{false≢true}
-use Rattle.std.proofs.lemmas.Slice.Eq.{bytes_eq-Decides}
-use Rattle.std.specs.List.{last_or}
-use Rattle.std.specs.Prelude.{bytes_eq, option_map, Bool, true, false}
-use Rattle.dgt_message.specs.Clock.{ClockState}
-use Rattle.dgt_message.specs.Content.{clock_message}
-use Rattle.dgt_message.specs.Content.Content.{no_clock}
-use Rattle.dgt_decode.specs.Grammar.{Event, Message, Placed, events}
-use Rattle.dgt_lines.specs.declared.clocks.ShownClock.{ShownClock}
-use Rattle.dgt_lines.specs.declared.clocks.ShownClock.TheVariants.{Hidden, Unknown, Known}
-use Rattle.dgt_lines.specs.declared.doubts.PictureState.{PictureState}
-use Rattle.dgt_lines.specs.Clocks.{clock_text}
-use Rattle.dgt_lines.specs.Pictures.{PlacedPicture}
-use Rattle.dgt_lines.specs.Reports.{ClockLeavesReports, HiddenClockIsSilent, LastLineIsClock, OtherClocksAreReported, Report, SaysClock, Shows, ShowsClock, clock_after_event, clock_after_events, clock_reports, clocking, clocks_shown, new_state, reports, reports_at, state_after_event, state_after_events, without_clock}
-use Rattle.dgt_lines.proofs.DoubtLemmas.{always_hidden}
-use Rattle.dgt_lines.proofs.PictureLemmas.{last_or-append}
+use Rattle.std.proofs.{Common.{◌≡◌, ◌≢◌, ℕ, List, [], ◌∷◌, ◌++◌, Option, Some, None, refl, ◌∙◌, ap, append-nil, map, rules}, lemmas.{Bool.{false≢true}, Slice.Eq.{bytes_eq-Decides}}}
+use Rattle.{std.specs.{List.{last_or}, Prelude.{bytes_eq, option_map, Bool, true, false}}, dgt_message.specs.{Clock.{ClockState}, Content.{clock_message, Content.{no_clock}}}}
+use Rattle.{dgt_decode.specs.Grammar.{Event, Message, Placed, events}, dgt_lines.specs.{Clocks.{clock_text}, Pictures.{PlacedPicture}, Reports.{ClockLeavesReports, HiddenClockIsSilent}}}
+use Rattle.dgt_lines.specs.Reports.{LastLineIsClock, OtherClocksAreReported, Report, SaysClock, Shows, ShowsClock, clock_after_event, clock_after_events, clock_reports, clocking, clocks_shown}
+use Rattle.dgt_lines.specs.{Reports.{new_state, reports, reports_at, state_after_event, state_after_events, without_clock}, declared.clocks.ShownClock.{ShownClock}}
+use Rattle.dgt_lines.{specs.declared.{doubts.PictureState.{PictureState}, clocks.ShownClock.TheVariants.{Hidden, Unknown, Known}}, proofs.{DoubtLemmas.{always_hidden}, PictureLemmas.{last_or-append}}}
 use Rattle.dgt_lines.proofs.ReportLemmas.{of_clock, of_raised, reports-append}
 
 -- ---- the reports but those of the clock
 
-without-append : (xs ys : List Report) → without_clock (xs ++ ys) ≡ without_clock xs ++ without_clock ys
+without-append : (xs ys : List Report)
+    → without_clock (xs ++ ys) ≡ without_clock xs ++ without_clock ys
 without-append [] ys = refl
 without-append (ShowsClock place text ∷ xs) ys = without-append xs ys
 without-append (report ∷ xs) ys = ap (λ l. report ∷ l) (without-append xs ys)
@@ -38,7 +27,8 @@ one_hidden : (event : Event) (before : PictureState)
     → hidden (state_after_event before event) ≡ state_after_event (hidden before) event
 one_hidden event before = search rules
 
-all_stay : (before : PictureState) (xs : List Placed) → without_clock (reports before xs) ≡ reports (hidden before) xs
+all_stay : (before : PictureState) (xs : List Placed)
+    → without_clock (reports before xs) ≡ reports (hidden before) xs
 all_stay before [] = refl
 all_stay before (x ∷ xs) =
     let after = state_after_event before x.event in
@@ -68,7 +58,8 @@ one_silent : (place : ℕ) (event : Event) (before : PictureState)
     → clocks_shown (reports_at place event before) ≡ []
 one_silent place event before h = search (rules, shows_no_clock, of_raised)
 
-all_silent : (before : PictureState) (xs : List Placed) → before.clock ≡ Hidden → clocks_shown (reports before xs) ≡ []
+all_silent : (before : PictureState) (xs : List Placed) → before.clock ≡ Hidden
+    → clocks_shown (reports before xs) ≡ []
 all_silent before [] h = refl
 all_silent before (x ∷ xs) h =
     let after = state_after_event before x.event in
@@ -87,15 +78,18 @@ abbrev shown_of : Option ClockState → ShownClock
 shown_of None = Unknown
 shown_of (Some clock) = Known (clock_text clock)
 
-one_shown : (event : Event) (before : PictureState) (clock : Option ClockState) → before.clock ≡ shown_of clock
+one_shown : (event : Event) (before : PictureState) (clock : Option ClockState)
+    → before.clock ≡ shown_of clock
     → (state_after_event before event).clock ≡ shown_of (clock_after_event clock event)
 one_shown event before clock h = search rules
 
-all_shown : (xs : List Placed) (before : PictureState) (clock : Option ClockState) → before.clock ≡ shown_of clock
+all_shown : (xs : List Placed) (before : PictureState) (clock : Option ClockState)
+    → before.clock ≡ shown_of clock
     → (state_after_events before xs).clock ≡ shown_of (clock_after_events clock xs)
 all_shown [] before clock h = h
 all_shown (x ∷ xs) before clock h =
-    all_shown xs (state_after_event before x.event) (clock_after_event clock x.event) (one_shown x.event before clock h)
+    all_shown xs (state_after_event before x.event) (clock_after_event clock x.event)
+    (one_shown x.event before clock h)
 
 -- ---- the last line of the clock
 
@@ -105,7 +99,8 @@ one_last : (place : ℕ) (event : Event) (before : PictureState) (clock : Option
     ≡ option_map clock_text (clock_after_event clock event)
 one_last place event before clock h = search (rules, shows_no_clock, of_raised, bytes_eq-Decides)
 
-all_last : (xs : List Placed) (before : PictureState) (clock : Option ClockState) → before.clock ≡ shown_of clock
+all_last : (xs : List Placed) (before : PictureState) (clock : Option ClockState)
+    → before.clock ≡ shown_of clock
     → last_or (option_map clock_text clock) (clocks_shown (reports before xs))
     ≡ option_map clock_text (clock_after_events clock xs)
 all_last [] before clock h = refl
@@ -114,8 +109,10 @@ all_last (x ∷ xs) before clock h =
     let heard = clock_after_event clock x.event in
     let first = reports_at x.place x.event before in
     ap (last_or (option_map clock_text clock)) (clocks-append first (reports after xs))
-    ∙ last_or-append (option_map clock_text clock) (clocks_shown first) (clocks_shown (reports after xs))
-    ∙ ap (λ o. last_or o (clocks_shown (reports after xs))) (one_last x.place x.event before clock h)
+    ∙ last_or-append (option_map clock_text clock) (clocks_shown first)
+    (clocks_shown (reports after xs))
+    ∙ ap (λ o. last_or o (clocks_shown (reports after xs)))
+    (one_last x.place x.event before clock h)
     ∙ all_last xs after heard (one_shown x.event before clock h)
 
 pub last_line_is_clock : LastLineIsClock
@@ -132,17 +129,19 @@ one_more : (doubts : Bool) (earlier : List Placed) (x : Placed) (reported : List
     → clocking doubts (earlier ++ x ∷ []) ≡ clocking doubts earlier ++ reported
 one_more doubts earlier x reported e = search (rules, reports-append, append-nil)
 
-clock_at : (doubts : Bool) (earlier : List Placed) (x : Placed) (clock : ClockState) → SaysClock x clock
-    → reports_at x.place x.event (now doubts earlier) ≡ clock_reports x.place (clock_text clock)
-    (shown_of (clock_after_events None earlier))
+clock_at : (doubts : Bool) (earlier : List Placed) (x : Placed) (clock : ClockState)
+    → SaysClock x clock
+    → reports_at x.place x.event (now doubts earlier)
+    ≡ clock_reports x.place (clock_text clock) (shown_of (clock_after_events None earlier))
 clock_at doubts earlier x clock s = search (rules, all_shown)
 
-other_news : (place : ℕ) (text : List ℕ) (clock : Option ClockState) → option_map clock_text clock ≢ Some text
+other_news : (place : ℕ) (text : List ℕ) (clock : Option ClockState)
+    → option_map clock_text clock ≢ Some text
     → clock_reports place text (shown_of clock) ≡ ShowsClock place text ∷ []
 other_news place text clock n = search (rules, bytes_eq-Decides)
 
-same_news : (place : ℕ) (text : List ℕ) (clock : Option ClockState) → option_map clock_text clock ≡ Some text
-    → clock_reports place text (shown_of clock) ≡ []
+same_news : (place : ℕ) (text : List ℕ) (clock : Option ClockState)
+    → option_map clock_text clock ≡ Some text → clock_reports place text (shown_of clock) ≡ []
 same_news place text clock h = search (rules, false≢true, bytes_eq-Decides)
 
 pub other_clocks_are_reported : OtherClocksAreReported

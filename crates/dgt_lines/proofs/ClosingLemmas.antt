@@ -1,17 +1,13 @@
 -- Closing lines in parts.
-use Rattle.std.proofs.Common.{◌≡◌, ℕ, List, [], ◌++◌, Bool, Option, ap, append_assoc, codes}
-use Rattle.std.proofs.Common.{rules}
-use Rattle.dgt_values.specs.declared.pieces.Piece.{Piece}
-use Rattle.dgt_values.specs.Placement.{placement_text}
-use Rattle.dgt_message.specs.Clock.{ClockState}
-use Rattle.dgt_lines.specs.Closing.{clock_text, closing_text, named_line, picture_text, quiet_text}
+use Rattle.{std.proofs.Common.{◌≡◌, ℕ, List, [], ◌++◌, Bool, Option, ap, append_assoc, codes, rules}, dgt_values.specs.{Placement.{placement_text}, declared.pieces.Piece.{Piece}}}
+use Rattle.{dgt_message.specs.Clock.{ClockState}, dgt_lines.specs.Closing.{clock_text, closing_text, named_line, picture_text, quiet_text}}
 
 -- the four lines, one after another
-pub closing_text-parts : (squares : List Piece) (picture : Option (List Piece)) (clock : Option ClockState)
-    (quiet : Bool)
-    (empty one three all : List ℕ) → empty ≡ []
+pub closing_text-parts : (squares : List Piece) (picture : Option (List Piece))
+    (clock : Option ClockState) (quiet : Bool) (empty one three all : List ℕ) → empty ≡ []
     → one ≡ empty ++ named_line (codes "board") (placement_text squares)
-    → three ≡ one ++ (named_line (codes "host") (picture_text picture)
+    → three ≡ one
+    ++ (named_line (codes "host") (picture_text picture)
     ++ named_line (codes "hostclock") (clock_text clock))
     → all ≡ three ++ named_line (codes "quiet") (quiet_text quiet)
     → all ≡ closing_text squares picture clock quiet

@@ -1,17 +1,9 @@
 -- Decimal digits, from the last one to the first.
-use Rattle.std.proofs.Common.{◌≡◌, ℕ, zero, suc, ◌+◌, ◌-◌, ◌*◌, ◌/◌, ◌%◌, ◌^◌, ◌<◌, Bool, true, ◌&&◌, T, eqb, eqb→eq, eq-zero-or-pos, get_or, List, [], ◌∷◌, ◌++◌, refl, sym, ◌∙◌, ap, length, arith, replicate, append_assoc, length-append, ◌⊎◌, inl, inr, w64}
-use Rattle.std.proofs.Common.{rules}
-use lib.Ieee.Fits.{and_l, and_r}
-use Rattle.std.proofs.Math.Nat.{div-div-eq-div-mul, pow-suc}
-use Rattle.std.proofs.lemmas.List.{replicate_more}
-use Rattle.std.proofs.lemmas.Bool.{cases_lt}
-use Rattle.std.proofs.lemmas.Fmt.{decimal_digit, decimal_step}
-use Rattle.std.proofs.lemmas.Nat.{le_bytes_8}
-use Rattle.std.specs.Int.{to_le_bytes}
-use Rattle.std.specs.Prelude.{decimal}
+use Rattle.std.proofs.Common.{◌≡◌, ℕ, zero, suc, ◌+◌, ◌-◌, ◌*◌, ◌/◌, ◌%◌, ◌^◌, ◌<◌, Bool, true, ◌&&◌, T, eqb, eqb→eq, eq-zero-or-pos, get_or, List, [], ◌∷◌, ◌++◌, refl, sym, ◌∙◌, ap, length, arith}
+use Rattle.std.proofs.{Common.{replicate, append_assoc, length-append, ◌⊎◌, inl, inr, w64, rules}, Math.Nat.{div-div-eq-div-mul, pow-suc}, lemmas.{Bool.{cases_lt}, Fmt.{decimal_digit, decimal_step}}}
+use Rattle.{std.{proofs.lemmas.{Grind.{common_steps}, List.{replicate_more}, Nat.{le_bytes_8}}, specs.{Int.{to_le_bytes}, Prelude.{decimal}}}, dgt_lines.specs.Lines.{padded_decimal}}
 use Rattle.dgt_lines.specs.declared.lines.TheConstants.{PAIRS}
-use Rattle.dgt_lines.specs.Lines.{padded_decimal}
-use Rattle.std.proofs.lemmas.Grind.{common_steps}
+use lib.Ieee.Fits.{and_l, and_r}
 
 -- the digits of a number, of which 0 has none, with leading zeros to at least this many
 abbrev pub prefix : ℕ → ℕ → List ℕ
@@ -19,8 +11,8 @@ prefix width zero = replicate width 48
 prefix width (suc n) = padded_decimal width (suc n)
 
 -- one digit less
-pub prefix-last : (width n : ℕ) → n < 2 ^ 64 → (0 < n) ⊎ (0 < width) → prefix width n ≡ prefix (width - 1) (n / 10) ++
-    (48 + n % 10) ∷ []
+pub prefix-last : (width n : ℕ) → n < 2 ^ 64 → (0 < n) ⊎ (0 < width)
+    → prefix width n ≡ prefix (width - 1) (n / 10) ++ (48 + n % 10) ∷ []
 prefix-last width zero h k = search (rules, replicate_more)
 prefix-last width (suc n) h k =
     search (rules, cases_lt, decimal_digit, decimal_step, length-append, append_assoc)
@@ -45,16 +37,19 @@ prefix-last_digits (suc k) n h b =
 
 -- eight digits
 padded_eight : (n : ℕ) → n < 100000000
-    → padded_decimal 8 n ≡ (48 + n / 10000000 % 10) ∷ (48 + n / 1000000 % 10) ∷ (48 + n / 100000 % 10) ∷
-    (48 + n / 10000 % 10) ∷ (48 + n / 1000 % 10) ∷ (48 + n / 100 % 10) ∷ (48 + n / 10 % 10) ∷ (48 + n % 10) ∷ []
+    → padded_decimal 8 n
+    ≡ (48 + n / 10000000 % 10) ∷ (48 + n / 1000000 % 10) ∷ (48 + n / 100000 % 10)
+    ∷ (48 + n / 10000 % 10) ∷ (48 + n / 1000 % 10) ∷ (48 + n / 100 % 10) ∷ (48 + n / 10 % 10)
+    ∷ (48 + n % 10) ∷ []
 padded_eight n h = sym (prefix-all 8 n (omega arith)) ∙ prefix-last_digits 8 n h
     (omega arith) ∙ simp div-div-eq-div-mul refl
 
 -- eight digits, from four pairs
 pub padded_pairs : (n : ℕ) → n < 100000000
-    → padded_decimal 8 n ≡ (48 + n / 10000 / 100 / 10) ∷ (48 + n / 10000 / 100 % 10) ∷ (48 + n / 10000 % 100 / 10) ∷
-    (48 + n / 10000 % 100 % 10) ∷ (48 + n % 10000 / 100 / 10) ∷ (48 + n % 10000 / 100 % 10) ∷
-    (48 + n % 10000 % 100 / 10) ∷ (48 + n % 10000 % 100 % 10) ∷ []
+    → padded_decimal 8 n
+    ≡ (48 + n / 10000 / 100 / 10) ∷ (48 + n / 10000 / 100 % 10) ∷ (48 + n / 10000 % 100 / 10)
+    ∷ (48 + n / 10000 % 100 % 10) ∷ (48 + n % 10000 / 100 / 10) ∷ (48 + n % 10000 / 100 % 10)
+    ∷ (48 + n % 10000 % 100 / 10) ∷ (48 + n % 10000 % 100 % 10) ∷ []
 padded_pairs n small = search (rules, padded_eight)
 
 -- two digits as one number, the tens in its low byte

@@ -1,22 +1,11 @@
 -- Which faults are reported, and that the pictures are.
-use Rattle.std.proofs.Common.{◌≡◌, ◌⊎◌, true, false, ℕ, List, [], ◌∷◌, ◌++◌, Option, Some, refl, sym, ◌∙◌, ap, inl, inr, append-nil, map}
-use Rattle.std.proofs.Common.{rules}
-use Rattle.std.proofs.lemmas.Grind.{fold-append}
-use Rattle.std.proofs.lemmas.List.{map-append}
-use Rattle.std.specs.List.{AllByRecursion, flat_map}
-use Rattle.std.specs.Prelude.{option_map, ⊤}
-use Rattle.dgt_values.specs.declared.pieces.Piece.{Piece}
-use Rattle.dgt_message.specs.Content.{Content}
-use Rattle.dgt_message.specs.Content.Content.{dump, field}
-use Rattle.dgt_decode.specs.Grammar.{Event, Message, Placed, at_place, events}
-use Rattle.dgt_message.specs.Picture.{picture_after}
-use Rattle.dgt_lines.specs.declared.doubts.Doubt.{Doubt}
-use Rattle.dgt_lines.specs.declared.doubts.Doubt.TheVariants.{Ignored, Clear}
-use Rattle.dgt_lines.specs.declared.doubts.PictureState.{PictureState}
-use Rattle.dgt_lines.specs.declared.clocks.ShownClock.TheVariants.{Hidden}
-use Rattle.dgt_lines.specs.Pictures.{PlacedPicture, picture_after_event, picture_line, picture_set, pictures}
-use Rattle.dgt_lines.specs.Reports.{Report, Shows, Doubts, DoubtsKeepThePicture, DoubtsLeavePictures, FirstFaultsAreReported, IgnoredFaultsAreSilent, IsFault, IsNoFault, IsSure, doubt_after, doubt_after_fault, doubt_cleared, doubt_raised, doubting, fault_reports, message_reports, new_state, pictures_shown, report_line, reports, reports_at, state_after_event, state_after_events}
-use Rattle.dgt_lines.proofs.ReportLemmas.{of_clock, of_raised, reports-append}
+use Rattle.std.proofs.{Common.{◌≡◌, ◌⊎◌, true, false, ℕ, List, [], ◌∷◌, ◌++◌, Option, Some, refl, sym, ◌∙◌, ap, inl, inr, append-nil, map, rules}, lemmas.{Grind.{fold-append}, List.{map-append}}}
+use Rattle.{std.specs.{List.{AllByRecursion, flat_map}, Prelude.{option_map, ⊤}}, dgt_values.specs.declared.pieces.Piece.{Piece}, dgt_message.specs.{Content.{Content}, Picture.{picture_after}}}
+use Rattle.{dgt_message.specs.Content.Content.{dump, field}, dgt_decode.specs.Grammar.{Event, Message, Placed, at_place, events}, dgt_lines.specs.Pictures.{PlacedPicture, picture_after_event}}
+use Rattle.dgt_lines.specs.{Pictures.{picture_line, picture_set, pictures}, Reports.{Report, Shows, Doubts, DoubtsKeepThePicture, DoubtsLeavePictures, FirstFaultsAreReported, IgnoredFaultsAreSilent}}
+use Rattle.dgt_lines.specs.Reports.{IsFault, IsNoFault, IsSure, doubt_after, doubt_after_fault, doubt_cleared, doubt_raised, doubting, fault_reports, message_reports, new_state, pictures_shown}
+use Rattle.dgt_lines.specs.{Reports.{report_line, reports, reports_at, state_after_event, state_after_events}, declared.doubts.{Doubt.{Doubt}, PictureState.{PictureState}}}
+use Rattle.dgt_lines.{specs.declared.{clocks.ShownClock.TheVariants.{Hidden}, doubts.Doubt.TheVariants.{Ignored, Clear}}, proofs.ReportLemmas.{of_clock, of_raised, reports-append}}
 
 -- ---- the picture
 
@@ -39,19 +28,21 @@ shown_are_pictures before (x ∷ xs) =
     search (rules, one_picture, shown_are_pictures after xs, of_clock, of_raised)
 
 pub doubts_leave_pictures : DoubtsLeavePictures
-doubts_leave_pictures doubts clock bytes = shown_are_pictures (new_state doubts clock) (events bytes)
+doubts_leave_pictures doubts clock bytes =
+    shown_are_pictures (new_state doubts clock) (events bytes)
 
 -- ---- a doubt after a message is as before it, or cleared
 
-doubt_or_cleared : (P : Doubt → Type 0) (doubt : Doubt) (said : Content) → P doubt → P (doubt_cleared doubt)
-    → P (doubt_after doubt said)
+doubt_or_cleared : (P : Doubt → Type 0) (doubt : Doubt) (said : Content) → P doubt
+    → P (doubt_cleared doubt) → P (doubt_after doubt said)
 doubt_or_cleared P doubt said p q = search rules
 
 -- ---- if the clock is not shown
 
 -- what a message without the clock reports
 abbrev sets : ℕ → Event → PictureState → List Report
-sets place event before = map Shows (picture_set place event (picture_after_event before.picture event))
+sets place event before =
+    map Shows (picture_set place event (picture_after_event before.picture event))
 
 still_hidden : (before : PictureState) (event : Event) → before.clock ≡ Hidden
     → (state_after_event before event).clock ≡ Hidden
@@ -60,7 +51,8 @@ still_hidden before event h = search rules
 pub always_hidden : (before : PictureState) (xs : List Placed) → before.clock ≡ Hidden
     → (state_after_events before xs).clock ≡ Hidden
 always_hidden before [] h = h
-always_hidden before (x ∷ xs) h = always_hidden (state_after_event before x.event) xs (still_hidden before x.event h)
+always_hidden before (x ∷ xs) h =
+    always_hidden (state_after_event before x.event) xs (still_hidden before x.event h)
 
 hidden_message : (place : ℕ) (said : Content) (before : PictureState) → before.clock ≡ Hidden
     → message_reports place said before ≡ sets place (Message said) before
@@ -82,19 +74,21 @@ module _ (before : PictureState) (ignored : before.doubt ≡ Ignored) where
       → reports_at place event before ≡ sets place event before
   one_ignored place event h = search (rules, hidden_message, silent_fault)
 
-all_ignored : (before : PictureState) (xs : List Placed) → before.doubt ≡ Ignored → before.clock ≡ Hidden
-    → reports before xs ≡ map Shows (pictures before.picture xs)
+all_ignored : (before : PictureState) (xs : List Placed) → before.doubt ≡ Ignored
+    → before.clock ≡ Hidden → reports before xs ≡ map Shows (pictures before.picture xs)
 all_ignored before [] ignored hidden = refl
 all_ignored before (x ∷ xs) ignored hidden =
     let after = state_after_event before x.event in
     let set = picture_set x.place x.event (picture_after_event before.picture x.event) in
     ap (λ l. l ++ reports after xs) (one_ignored before ignored x.place x.event hidden)
     ∙ ap (λ l. map Shows set ++ l)
-    (all_ignored after xs (still_ignored before ignored x.event) (still_hidden before x.event hidden)
+    (all_ignored after xs (still_ignored before ignored x.event)
+    (still_hidden before x.event hidden)
     ∙ ap (λ p. map Shows (pictures p xs)) (one_picture before x.event))
     ∙ sym (map-append Shows set (pictures (picture_after_event before.picture x.event) xs))
 
-shown_lines : (xs : List PlacedPicture) → flat_map report_line (map Shows xs) ≡ flat_map picture_line xs
+shown_lines : (xs : List PlacedPicture)
+    → flat_map report_line (map Shows xs) ≡ flat_map picture_line xs
 shown_lines [] = refl
 shown_lines (x ∷ xs) = ap (λ l. picture_line x ++ l) (shown_lines xs)
 
@@ -114,8 +108,8 @@ settled_fault : (place : ℕ) (picture : Option (List Piece)) (doubt : Doubt) �
     → doubt_raised place picture doubt ≡ Doubts place ∷ []
 settled_fault place picture doubt h = search rules
 
-unsettled_fault : (place : ℕ) (picture : Option (List Piece)) (doubt : Doubt) → (Settled picture doubt → ⊥)
-    → doubt_raised place picture doubt ≡ []
+unsettled_fault : (place : ℕ) (picture : Option (List Piece)) (doubt : Doubt)
+    → (Settled picture doubt → ⊥) → doubt_raised place picture doubt ≡ []
 unsettled_fault place picture doubt h = search rules
 
 fault_unsettles : (picture : Option (List Piece)) (doubt : Doubt)
@@ -130,8 +124,8 @@ event_settles : (before : PictureState) (event : Event) → (IsFault event → �
     → IsSettled (state_after_event before event)
 event_settles before event m h = search rules
 
-events_settle : (before : PictureState) (xs : List Placed) → AllByRecursion IsNoFault xs → IsSettled before
-    → IsSettled (state_after_events before xs)
+events_settle : (before : PictureState) (xs : List Placed) → AllByRecursion IsNoFault xs
+    → IsSettled before → IsSettled (state_after_events before xs)
 events_settle before [] m h = h
 events_settle before (x ∷ xs) m h =
     events_settle (state_after_event before x.event) xs m.1 (event_settles before x.event m.0 h)
@@ -149,7 +143,8 @@ event_may before event h = search (rules, doubt_or_cleared)
 events_may : (before : PictureState) (xs : List Placed) → MayRaise before.doubt
     → MayRaise (state_after_events before xs).doubt
 events_may before [] h = h
-events_may before (x ∷ xs) h = events_may (state_after_event before x.event) xs (event_may before x.event h)
+events_may before (x ∷ xs) h =
+    events_may (state_after_event before x.event) xs (event_may before x.event h)
 
 -- ---- it is so after a dump, and no fault since
 
@@ -163,12 +158,14 @@ sure_settled xs s = search (rules, events_may, fold-append, events_settle)
 abbrev Since : PictureState → List Placed → Type 0
 Since before xs = (IsSettled before × AllByRecursion IsNoFault xs) ⊎ IsSure xs
 
-module _ (before : PictureState) (place : ℕ) (xs : List Placed) (m : AllByRecursion IsNoFault xs) where
+module _ (before : PictureState) (place : ℕ) (xs : List Placed)
+    (m : AllByRecursion IsNoFault xs) where
   since_message : (said : Content) → IsSettled (state_after_event before (Message said))
       → Since before (at_place place (Message said) ∷ xs)
   since_message (dump pieces) h = inr
       (record { early = []; place = place; pieces = pieces; late = xs; whole = refl; no_fault = m })
-  since_message (field square piece) h = inl (was_settled _ before.picture before.doubt h, (λ f. f, m))
+  since_message (field square piece) h =
+      inl (was_settled _ before.picture before.doubt h, (λ f. f, m))
   since_message _ h = inl (h, (λ f. f, m))
 
   since_event : (event : Event) → IsSettled (state_after_event before event)
@@ -185,7 +182,8 @@ sure_later x xs s = record {
   no_fault = s.no_fault;
 }
 
-since : (before : PictureState) (xs : List Placed) → IsSettled (state_after_events before xs) → Since before xs
+since : (before : PictureState) (xs : List Placed) → IsSettled (state_after_events before xs)
+    → Since before xs
 since before [] h = inl (h, tt)
 since before (x ∷ xs) h = elim (since (state_after_event before x.event) xs h) [
   | inl k ↦ since_event before x.place xs k.1 x.event k.0

@@ -1,16 +1,8 @@
 -- The lines of events, of all bytes that were read.
-use Rattle.std.proofs.Common.{◌≡◌, ◌+◌, List, ℕ, [], ◌++◌, Option, Some, Result, length, refl, sym, ◌∙◌, ap, append-nil, take}
-use Rattle.std.proofs.Common.{rules}
-use Rattle.std.specs.List.{flat_map}
-use Rattle.dgt_decode.specs.Feeding.{FirstEvent, at_place_if_any}
-use Rattle.dgt_decode.specs.Grammar.{Event, events, unfinished_message}
-use Rattle.dgt_decode.specs.Laws.{UnfinishedAppend, ChunksAdd}
-use Rattle.dgt_lines.specs.declared.faults.RunFault.{RunFault}
-use Rattle.dgt_lines.specs.Lines.{event_line, lines, lines_after, placed_line}
-use Rattle.dgt_lines.specs.Monitoring.{IsMonitored}
-use Rattle.dgt_lines.specs.Printing.{HasEventLines, HasPrintedEvents, IsPrinted}
-use Rattle.dgt_lines.proofs.EventLemmas.{events_found, held_then, lines-append}
-use Rattle.dgt_lines.proofs.Printed.{stands_by}
+use Rattle.{std.{proofs.Common.{◌≡◌, ◌+◌, List, ℕ, [], ◌++◌, Option, Some, Result, length, refl, sym, ◌∙◌, ap, append-nil, take, rules}, specs.List.{flat_map}}, dgt_decode.specs.Feeding.{FirstEvent}}
+use Rattle.{dgt_decode.specs.{Feeding.{at_place_if_any}, Grammar.{Event, events, unfinished_message}, Laws.{UnfinishedAppend, ChunksAdd}}, dgt_lines.specs.Lines.{event_line, lines, lines_after}}
+use Rattle.dgt_lines.specs.{Lines.{placed_line}, Monitoring.{IsMonitored}, Printing.{HasEventLines, HasPrintedEvents, IsPrinted}, declared.faults.RunFault.{RunFault}}
+use Rattle.dgt_lines.proofs.{EventLemmas.{events_found, held_then, lines-append}, Printed.{stands_by}}
 
 lines-none : lines [] ≡ []
 unfolding events
@@ -19,9 +11,12 @@ lines-none = refl
 pub heard_none : (kept : List ℕ) → kept ≡ [] → HasPrintedEvents kept [] []
 heard_none kept e = record { said = sym lines-none; held = ap unfinished_message e }
 
-module _ {kept bytes text : List ℕ} (h : HasPrintedEvents kept bytes text) (chunks : ChunksAdd) where
-  module _ (still : UnfinishedAppend) (chunk : List ℕ) (n offset : ℕ) (counted : offset ≡ length bytes) (kept' : List ℕ)
-      (held : unfinished_message kept' ≡ unfinished_message (unfinished_message kept ++ take n chunk)) where
+module _ {kept bytes text : List ℕ} (h : HasPrintedEvents kept bytes text)
+    (chunks : ChunksAdd) where
+  module _ (still : UnfinishedAppend) (chunk : List ℕ) (n offset : ℕ)
+      (counted : offset ≡ length bytes) (kept' : List ℕ)
+      (held : unfinished_message kept'
+      ≡ unfinished_message (unfinished_message kept ++ take n chunk)) where
     -- after a call of `advance`
     pub heard_more : (event : Option Event) → FirstEvent (unfinished_message kept) chunk n event
         → HasPrintedEvents kept' (bytes ++ take n chunk)
@@ -40,6 +35,6 @@ module _ {kept bytes text : List ℕ} (h : HasPrintedEvents kept bytes text) (ch
       let others = lines_after (unfinished_message bytes) (length bytes) more in
       (others, _, (ap (λ l. l ++ others) h.said ∙ sym (lines-append chunks bytes more), refl))
 
-pub monitored : {A : Type 0} (r : Result A RunFault) (bytes out : List ℕ) → IsPrinted HasEventLines r bytes out
-    → IsMonitored r bytes out
+pub monitored : {A : Type 0} (r : Result A RunFault) (bytes out : List ℕ)
+    → IsPrinted HasEventLines r bytes out → IsMonitored r bytes out
 monitored r bytes out p = stands_by r p.text _ p.last _ out p.has.0 p.has.1 p.stands

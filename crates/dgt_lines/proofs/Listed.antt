@@ -1,17 +1,8 @@
 -- The lines of a host's commands, for all bytes that were read.
-use Rattle.std.proofs.Common.{◌≡◌, ◌≤◌, ◌+◌, ◌-◌, ℕ, List, [], ◌++◌, Result, length, refl, ap, arith, length-append, take}
-use Rattle.std.proofs.Common.{rules}
-use Rattle.std.proofs.lemmas.List.{length-take-le}
-use Rattle.dgt_command.specs.Content.{EventContent}
-use Rattle.dgt_command.specs.Encoding.{AreBytes}
-use Rattle.dgt_command.specs.Words.{IsPartial, IsWord, word_bytes}
-use Rattle.dgt_lines.specs.declared.faults.RunFault.{RunFault}
-use Rattle.dgt_lines.specs.CommandLines.{Prints, command_line}
-use Rattle.dgt_lines.specs.CommandLaws.{EachIsPrinted}
-use Rattle.dgt_lines.specs.Commanding.{IsListed}
-use Rattle.dgt_lines.specs.Printing.{HasCommandLines, IsPrinted}
-use Rattle.dgt_lines.proofs.Printed.{stands_by}
-use Rattle.dgt_lines.proofs.PrintedWords.{texts_append, part_is_printed, word_is_printed}
+use Rattle.std.proofs.{Common.{◌≡◌, ◌≤◌, ◌+◌, ◌-◌, ℕ, List, [], ◌++◌, Result, length, refl, ap, arith, length-append, take, rules}, lemmas.List.{length-take-le}}
+use Rattle.{dgt_command.specs.{Content.{EventContent}, Encoding.{AreBytes}, Words.{IsPartial, IsWord, word_bytes}}, dgt_lines.specs.{CommandLaws.{EachIsPrinted}, CommandLines.{Prints, command_line}}}
+use Rattle.dgt_lines.{specs.{Commanding.{IsListed}, Printing.{HasCommandLines, IsPrinted}, declared.faults.RunFault.{RunFault}}, proofs.{Printed.{stands_by}, PrintedWords.{texts_append}}}
+use Rattle.dgt_lines.proofs.PrintedWords.{part_is_printed, word_is_printed}
 
 pub listed_none : IsPartial [] → (held : List ℕ) → held ≡ [] → Prints 0 [] held []
 listed_none none held h = rw h (part_is_printed 0 [] none)
@@ -25,8 +16,9 @@ rest_short bytes rest text h =
 
 module _ {held bytes text : List ℕ} (h : Prints 0 bytes held text) where
   -- they complete a word
-  pub listed_event : (chunk : List ℕ) (n offset : ℕ) (event : EventContent) → n ≤ length chunk → offset ≡ length bytes
-      → IsPartial [] → IsWord event (held ++ take n chunk) → (held' : List ℕ) → held' ≡ []
+  pub listed_event : (chunk : List ℕ) (n offset : ℕ) (event : EventContent) → n ≤ length chunk
+      → offset ≡ length bytes → IsPartial [] → IsWord event (held ++ take n chunk)
+      → (held' : List ℕ) → held' ≡ []
       → Prints 0 (bytes ++ take n chunk) held' (text ++ command_line (offset + n) event)
   listed_event chunk n offset event within counted none word held' e =
       let place = 0 + (length bytes - length held) in
@@ -47,6 +39,6 @@ module _ {held bytes text : List ℕ} (h : Prints 0 bytes held text) where
       let on = each (0 + (length bytes - length held)) (held ++ more) are in
       (on.1, _, (on.0, texts_append 0 bytes more held on.0 text on.1 h on.2, refl))
 
-pub listed : {A : Type 0} (r : Result A RunFault) (bytes out : List ℕ) → IsPrinted HasCommandLines r bytes out
-    → IsListed r bytes out
+pub listed : {A : Type 0} (r : Result A RunFault) (bytes out : List ℕ)
+    → IsPrinted HasCommandLines r bytes out → IsListed r bytes out
 listed r bytes out p = search (rules, stands_by)

@@ -1,21 +1,12 @@
 -- The lines of stored events, for all bytes that were read.
-use Rattle.std.proofs.Common.{◌≡◌, ◌+◌, ◌-◌, List, ℕ, [], ◌∷◌, ◌++◌, Some, Option, Result, refl, sym, ◌∙◌, ap, append_assoc, append-nil, length, take}
-use Rattle.std.proofs.Common.{rules}
-use Rattle.dgt_stored.specs.Stored.{Says, StoredContent}
-use Rattle.dgt_decode.specs.Feeding.{FirstEvent, at_place_if_any}
-use Rattle.dgt_decode.specs.Grammar.{Event, Placed, at_place, events, unfinished_message}
-use Rattle.dgt_decode.specs.Laws.{UnfinishedAppend, ChunksAdd}
-use Rattle.dgt_lines.specs.declared.faults.RunFault.{RunFault}
-use Rattle.dgt_lines.specs.Lines.{events_after}
-use Rattle.dgt_lines.specs.Logging.{IsLogged}
-use Rattle.dgt_lines.specs.Logs.{HasLog, log_body, stored_lines}
-use Rattle.dgt_lines.specs.Printing.{HasLogLines, HasPrintedLog, IsPrinted}
-use Rattle.dgt_lines.proofs.EventLemmas.{events_found, held_then}
-use Rattle.dgt_lines.proofs.Printed.{stands_by}
+use Rattle.{std.proofs.Common.{◌≡◌, ◌+◌, ◌-◌, List, ℕ, [], ◌∷◌, ◌++◌, Some, Option, Result, refl, sym, ◌∙◌, ap, append_assoc, append-nil, length, take, rules}, dgt_stored.specs.Stored.{Says}}
+use Rattle.{dgt_stored.specs.Stored.{StoredContent}, dgt_decode.specs.{Feeding.{FirstEvent, at_place_if_any}, Grammar.{Event, Placed, at_place, events, unfinished_message}, Laws.{UnfinishedAppend}}}
+use Rattle.{dgt_decode.specs.Laws.{ChunksAdd}, dgt_lines.specs.{Lines.{events_after}, Logging.{IsLogged}, Logs.{HasLog, log_body, stored_lines}, Printing.{HasLogLines, HasPrintedLog, IsPrinted}}}
+use Rattle.dgt_lines.{specs.declared.faults.RunFault.{RunFault}, proofs.{EventLemmas.{events_found, held_then}, Printed.{stands_by}}}
 
 -- events in a row
-log_append : (placed later : List Placed) (text others : List ℕ) → HasLog placed text → HasLog later others
-    → HasLog (placed ++ later) (text ++ others)
+log_append : (placed later : List Placed) (text others : List ℕ) → HasLog placed text
+    → HasLog later others → HasLog (placed ++ later) (text ++ others)
 log_append [] later text others has more = rw has more
 log_append (x ∷ placed) later text others has more =
     search (rules, append_assoc, log_append placed later has.1 others has.3 more)
@@ -44,16 +35,19 @@ some_log each (x ∷ placed) =
     (_, (things.0, more.0, things.1, more.1, refl))
 
 -- and no other
-pub one_log : ((body : List ℕ) (things others : List StoredContent) → Says body things → Says body others
-    → things ≡ others) → (placed : List Placed) (text other : List ℕ) → HasLog placed text → HasLog placed other
-    → text ≡ other
+pub one_log : ((body : List ℕ) (things others : List StoredContent) → Says body things
+    → Says body others → things ≡ others) → (placed : List Placed) (text other : List ℕ)
+    → HasLog placed text → HasLog placed other → text ≡ other
 one_log once [] text other has also = has ∙ sym also
 one_log once (x ∷ placed) text other has also =
-    has.4 ∙ rw (once _ has.0 also.0 has.2 also.2, one_log once placed has.1 also.1 has.3 also.3) (sym also.4)
+    has.4 ∙ rw (once _ has.0 also.0 has.2 also.2, one_log once placed has.1 also.1 has.3 also.3)
+    (sym also.4)
 
 module _ {kept bytes text : List ℕ} (h : HasPrintedLog kept bytes text) (chunks : ChunksAdd) where
-  module _ (still : UnfinishedAppend) (chunk : List ℕ) (n offset : ℕ) (counted : offset ≡ length bytes) (kept' : List ℕ)
-      (held : unfinished_message kept' ≡ unfinished_message (unfinished_message kept ++ take n chunk)) where
+  module _ (still : UnfinishedAppend) (chunk : List ℕ) (n offset : ℕ)
+      (counted : offset ≡ length bytes) (kept' : List ℕ)
+      (held : unfinished_message kept'
+      ≡ unfinished_message (unfinished_message kept ++ take n chunk)) where
     -- after a call of `advance` that found this, if these are the lines of it
     pub logged_more : (event : Option Event) → FirstEvent (unfinished_message kept) chunk n event
         → (more : List ℕ) → HasLog (at_place_if_any (offset + n) event) more
@@ -77,9 +71,12 @@ module _ {kept bytes text : List ℕ} (h : HasPrintedLog kept bytes text) (chunk
       let later = some_log each (events_after (unfinished_message bytes) (length bytes) more) in (
         later.0,
         [],
-        (rw (chunks.behind bytes more) (log_append (events bytes) _ text later.0 h.has later.1), refl),
+        (
+          rw (chunks.behind bytes more) (log_append (events bytes) _ text later.0 h.has later.1),
+          refl,
+        ),
       )
 
-pub logged : {A : Type 0} (r : Result A RunFault) (bytes out : List ℕ) → IsPrinted HasLogLines r bytes out
-    → IsLogged r bytes out
+pub logged : {A : Type 0} (r : Result A RunFault) (bytes out : List ℕ)
+    → IsPrinted HasLogLines r bytes out → IsLogged r bytes out
 logged r bytes out p = search (rules, append-nil, stands_by)

@@ -1,12 +1,6 @@
 -- An event has one name or none, and so events have one text.
-use Rattle.std.proofs.Common.{◌≡◌, ℕ, List, [], ◌∷◌, ◌++◌, Option, Some, ◌∙◌, ap, sym}
-use Rattle.std.proofs.Common.{rules}
-use Rattle.dgt_message.specs.declared.known.KnownCode.{KnownCode}
-use Rattle.dgt_message.specs.Content.Content.{carried}
-use Rattle.dgt_decode.specs.Grammar.{Event, Placed}
-use Rattle.dgt_names.specs.declared.battery.BatteryState.{BatteryState}
-use Rattle.dgt_names.specs.declared.clock.Signal.{Signal}
-use Rattle.dgt_names.specs.Names.{IsBattery, IsSignal}
+use Rattle.{std.proofs.Common.{◌≡◌, ℕ, List, [], ◌∷◌, ◌++◌, Option, Some, ◌∙◌, ap, sym, rules}, dgt_message.specs.{Content.Content.{carried}, declared.known.KnownCode.{KnownCode}}}
+use Rattle.{dgt_decode.specs.Grammar.{Event, Placed}, dgt_names.specs.{Names.{IsBattery, IsSignal}, declared.{battery.BatteryState.{BatteryState}, clock.Signal.{Signal}}}}
 use Rattle.dgt_lines.specs.NamedLines.{AreNamedLines, HasCarriedName, IsNamed, IsOwnText, IsTextOf, battery_text, named_line}
 
 one_text_of : {A : Type 0} (IsSaid : A → Type 0) (text : A → List ℕ)
@@ -14,14 +8,16 @@ one_text_of : {A : Type 0} (IsSaid : A → Type 0) (text : A → List ℕ)
     → IsTextOf IsSaid text one → IsTextOf IsSaid text other → one ≡ other
 one_text_of IsSaid text same one other p q = search rules
 
-one_own_text : (bytes : List ℕ) (one other : Option (List ℕ)) → IsOwnText bytes one → IsOwnText bytes other
-    → one ≡ other
+one_own_text : (bytes : List ℕ) (one other : Option (List ℕ)) → IsOwnText bytes one
+    → IsOwnText bytes other → one ≡ other
 one_own_text bytes one other p q = search rules
 
 -- signals and batteries are said once
-module _ (signals : (bytes : List ℕ) (one other : Signal) → IsSignal bytes one → IsSignal bytes other → one ≡ other)
-    (batteries : (bytes : List ℕ) (one other : BatteryState) → IsBattery bytes one → IsBattery bytes other
-    → one ≡ other) where
+module _
+    (signals : (bytes : List ℕ) (one other : Signal) → IsSignal bytes one → IsSignal bytes other
+    → one ≡ other)
+    (batteries : (bytes : List ℕ) (one other : BatteryState) → IsBattery bytes one
+    → IsBattery bytes other → one ≡ other) where
   one_carried : (code : Option KnownCode) (body : List ℕ) (one other : Option (List ℕ))
       → HasCarriedName code body one → HasCarriedName code body other → one ≡ other
   one_carried (Some KnownCode.Serial) body one other p q = one_own_text body one other p q
@@ -31,8 +27,8 @@ module _ (signals : (bytes : List ℕ) (one other : Signal) → IsSignal bytes o
       one_text_of (IsBattery body) battery_text (batteries body) one other p q
   one_carried _ body one other p q = p ∙ sym q
 
-  pub one_name : (event : Event) (one other : Option (List ℕ)) → IsNamed event one → IsNamed event other
-      → one ≡ other
+  pub one_name : (event : Event) (one other : Option (List ℕ)) → IsNamed event one
+      → IsNamed event other → one ≡ other
   one_name event one other p q = search (rules, one_text_of, one_carried)
 
   pub one_text : (placed : List Placed) (one other : List ℕ) → AreNamedLines placed one

@@ -1,25 +1,12 @@
 -- The lines of events with names, of all bytes that were read.
-use Rattle.std.proofs.Common.{◌≡◌, ◌⊎◌, ◌+◌, ℕ, List, [], ◌∷◌, ◌++◌, Option, Some, None, Result, ◌∙◌, ap, append_assoc, append-nil, IsErrAnd, Ok, Err, inl, inr, length, refl, sym, take}
-use Rattle.std.proofs.Common.{rules}
-use Rattle.std.specs.Prelude.{codes}
-use Rattle.dgt_message.specs.Code.{known_with}
-use Rattle.dgt_message.specs.Content.Content.{times, ack, carried}
-use Rattle.dgt_message.specs.declared.known.KnownCode.{KnownCode}
-use Rattle.dgt_decode.specs.Feeding.{FirstEvent, at_place_if_any}
-use Rattle.dgt_decode.specs.Grammar.{Event, Message, Placed, at_place, events, unfinished_message}
-use Rattle.dgt_decode.specs.Laws.{UnfinishedAppend, ChunksAdd}
-use Rattle.dgt_names.specs.Names.{IsBattery, IsSignal, IsText}
-use Rattle.dgt_names.proofs.SaidOrNot.{Decided, battery_or_none, signal_or_none, text_or_none}
-use Rattle.dgt_lines.specs.declared.faults.RunFault.{RunFault}
-use Rattle.dgt_lines.specs.declared.faults.RunFault.TheVariants.{WriteFailed}
-use Rattle.dgt_lines.specs.declared.streams.Sink.{Ghosts as Sink}
-use Rattle.dgt_lines.specs.Lines.{event_text, events_after, offset_text}
-use Rattle.dgt_lines.specs.NamedLines.{AreMonitored, AreNamedLines, HasCarriedName, IsNamed, IsOwnText, IsTextOf, battery_text, name_text, named_line, signal_text, times_name}
-use Rattle.dgt_lines.specs.Printing.{GathersOne, HasNamedLines, HasPrintedNames, IsNameText, IsNamedLine, IsPrinted}
-use Rattle.dgt_lines.specs.Writing.{Gathered, Gathers, Stopped}
-use Rattle.dgt_lines.proofs.EventLemmas.{events_found, held_then}
-use Rattle.dgt_lines.proofs.GatherLemmas.{gathers_first, gathers_stopped, gathers_then}
-use Rattle.dgt_lines.proofs.Printed.{stands_by}
+use Rattle.std.proofs.Common.{◌≡◌, ◌⊎◌, ◌+◌, ℕ, List, [], ◌∷◌, ◌++◌, Option, Some, None, Result, ◌∙◌, ap, append_assoc, append-nil, IsErrAnd, Ok, Err, inl, inr, length, refl, sym, take, rules}
+use Rattle.{std.specs.Prelude.{codes}, dgt_message.specs.{Code.{known_with}, Content.Content.{times, ack, carried}, declared.known.KnownCode.{KnownCode}}, dgt_decode.specs.Feeding.{FirstEvent}}
+use Rattle.{dgt_decode.specs.{Feeding.{at_place_if_any}, Grammar.{Event, Message, Placed, at_place, events, unfinished_message}, Laws.{UnfinishedAppend, ChunksAdd}}, dgt_names.specs.Names.{IsBattery}}
+use Rattle.{dgt_names.{specs.Names.{IsSignal, IsText}, proofs.SaidOrNot.{Decided, battery_or_none, signal_or_none, text_or_none}}, dgt_lines.specs.Lines.{event_text, events_after, offset_text}}
+use Rattle.dgt_lines.specs.{NamedLines.{AreMonitored, AreNamedLines, HasCarriedName, IsNamed, IsOwnText, IsTextOf, battery_text, name_text, named_line, signal_text, times_name}, Printing.{GathersOne}}
+use Rattle.dgt_lines.specs.{Printing.{HasNamedLines, HasPrintedNames, IsNameText, IsNamedLine, IsPrinted}, Writing.{Gathered, Gathers, Stopped}, declared.faults.RunFault.{RunFault}}
+use Rattle.dgt_lines.{specs.declared.{streams.Sink.{Ghosts as Sink}, faults.RunFault.TheVariants.{WriteFailed}}, proofs.{EventLemmas.{events_found, held_then}, GatherLemmas.{gathers_first}}}
+use Rattle.dgt_lines.proofs.{GatherLemmas.{gathers_stopped, gathers_then}, Printed.{stands_by}}
 
 -- ---- each event has a name or none
 
@@ -28,34 +15,40 @@ text_of_decided : {A : Type 0} (IsSaid : A → Type 0) (text : A → List ℕ) �
 text_of_decided IsSaid text (inl said) = (Some (text said.0), (said.0, said.1, refl))
 text_of_decided IsSaid text (inr none) = (None, none)
 
-own_text : (bytes : List ℕ) → IsText bytes ⊎ ¬ (IsText bytes) → (name : Option (List ℕ)) × IsOwnText bytes name
+own_text : (bytes : List ℕ) → IsText bytes ⊎ ¬ (IsText bytes)
+    → (name : Option (List ℕ)) × IsOwnText bytes name
 own_text bytes (inl is) = (Some bytes, (is, refl))
 own_text bytes (inr none) = (None, none)
 
-carried_name : (code : Option KnownCode) (body : List ℕ) → (name : Option (List ℕ)) × HasCarriedName code body name
+carried_name : (code : Option KnownCode) (body : List ℕ)
+    → (name : Option (List ℕ)) × HasCarriedName code body name
 carried_name (Some KnownCode.Serial) body = own_text body (text_or_none body)
 carried_name (Some KnownCode.LongSerial) body = own_text body (text_or_none body)
 carried_name (Some KnownCode.Trademark) body = own_text body (text_or_none body)
-carried_name (Some KnownCode.Battery) body = text_of_decided (IsBattery body) battery_text (battery_or_none body)
+carried_name (Some KnownCode.Battery) body =
+    text_of_decided (IsBattery body) battery_text (battery_or_none body)
 carried_name _ body = (None, refl)
 
 pub name_of : (event : Event) → (name : Option (List ℕ)) × IsNamed event name
 name_of (Message (times t)) = (Some (times_name t), refl)
-name_of (Message (ack answer)) = text_of_decided (IsSignal answer.ack) signal_text (signal_or_none answer.ack)
+name_of (Message (ack answer)) =
+    text_of_decided (IsSignal answer.ack) signal_text (signal_or_none answer.ack)
 name_of (Message (carried code body)) = carried_name (known_with code) body
 name_of (Message said) = (None, refl)
 name_of _ = (None, refl)
 
 -- ---- one line
 
-named_parts : (offset : ℕ) (event : Event) (name : Option (List ℕ)) (suffix : List ℕ) → suffix ≡ name_text name
+named_parts : (offset : ℕ) (event : Event) (name : Option (List ℕ)) (suffix : List ℕ)
+    → suffix ≡ name_text name
     → named_line (at_place offset event) name
     ≡ (offset_text offset ++ 32 ∷ event_text event) ++ (suffix ++ codes "\n")
 named_parts offset event name suffix e = rw e (simp append_assoc refl)
 
 module _ {S : Type 0} (W : Sink S) (offset : ℕ) (event : Event) (h : List ℕ) (a b : S) where
   -- its text was refused
-  pub text_refused : {A : Type 0} (j : List ℕ) (r : Result A RunFault) (e : RunFault) → IsErrAnd r (λ y. y ≡ e)
+  pub text_refused : {A : Type 0} (j : List ℕ) (r : Result A RunFault) (e : RunFault)
+      → IsErrAnd r (λ y. y ≡ e)
       → (e ≡ WriteFailed) × Stopped W a b (h ++ (offset_text offset ++ 32 ∷ event_text event))
       → GathersOne W (h, j) a b r (IsNamedLine offset event)
   text_refused j r e k q =
@@ -66,9 +59,11 @@ module _ {S : Type 0} (W : Sink S) (offset : ℕ) (event : Event) (h : List ℕ)
         gathers = search (rules, gathers_first, named_parts);
       }
 
-  module _ (i : List ℕ) (text : Gathered W h i a b (offset_text offset ++ 32 ∷ event_text event)) (c : S) where
+  module _ (i : List ℕ) (text : Gathered W h i a b (offset_text offset ++ 32 ∷ event_text event))
+      (c : S) where
     -- its name was refused
-    pub name_refused : {A : Type 0} (j : List ℕ) (r : Result A RunFault) (e : RunFault) → IsErrAnd r (λ y. y ≡ e)
+    pub name_refused : {A : Type 0} (j : List ℕ) (r : Result A RunFault) (e : RunFault)
+        → IsErrAnd r (λ y. y ≡ e)
         → GathersOne {A = Unit {0}} W (i, j) b c (Err e) (IsNameText event)
         → GathersOne W (h, j) a c r (IsNamedLine offset event)
     name_refused j r e k p = record {
@@ -80,13 +75,14 @@ module _ {S : Type 0} (W : Sink S) (offset : ℕ) (event : Event) (h : List ℕ)
 
     -- and then comes its end
     pub gathers_named : (j k : List ℕ) (d : S) (r : Result (Unit {0}) RunFault)
-        → GathersOne {A = Unit {0}} W (i, j) b c (Ok tt) (IsNameText event) → Gathers W (j, k) c d r (codes "\n")
-        → GathersOne W (h, k) a d r (IsNamedLine offset event)
+        → GathersOne {A = Unit {0}} W (i, j) b c (Ok tt) (IsNameText event)
+        → Gathers W (j, k) c d r (codes "\n") → GathersOne W (h, k) a d r (IsNamedLine offset event)
     gathers_named j k d r p q = record {
       text = named_line (at_place offset event) p.is.0;
       is = (p.is.0, p.is.1, refl);
       gathers = rw (named_parts offset event p.is.0 p.text p.is.2)
-          (gathers_then W h i k a b d _ _ r text (gathers_then W i j k b c d p.text (codes "\n") r p.gathers q));
+          (gathers_then W h i k a b d _ _ r text
+          (gathers_then W i j k b c d p.text (codes "\n") r p.gathers q));
     }
 
 -- ---- lines in a row
@@ -103,7 +99,8 @@ each_is_named (x ∷ xs) =
     let more = each_is_named xs in
     (named_line x first.0 ++ more.0, (first.0, more.0, first.1, refl, more.1))
 
-one_line : (x : Placed) (text : List ℕ) → IsNamedLine x.place x.event text → AreNamedLines (x ∷ []) text
+one_line : (x : Placed) (text : List ℕ) → IsNamedLine x.place x.event text
+    → AreNamedLines (x ∷ []) text
 one_line x text h = (h.0, [], h.1, h.2 ∙ sym (append-nil _), refl)
 
 -- ---- the lines of bytes
@@ -119,18 +116,24 @@ module _ {kept bytes text : List ℕ} (h : HasPrintedNames kept bytes text) (chu
       → AreNamedLines (events (bytes ++ chunk)) (text ++ more)
   named_behind chunk more p = search (rules, named-append)
 
-  module _ (still : UnfinishedAppend) (chunk : List ℕ) (n offset : ℕ) (counted : offset ≡ length bytes) (kept' : List ℕ)
-      (held : unfinished_message kept' ≡ unfinished_message (unfinished_message kept ++ take n chunk)) where
+  module _ (still : UnfinishedAppend) (chunk : List ℕ) (n offset : ℕ)
+      (counted : offset ≡ length bytes) (kept' : List ℕ)
+      (held : unfinished_message kept'
+      ≡ unfinished_message (unfinished_message kept ++ take n chunk)) where
     -- after a call of `advance`
-    named_more : (event : Option Event) (more : List ℕ) → FirstEvent (unfinished_message kept) chunk n event
+    named_more : (event : Option Event) (more : List ℕ)
+        → FirstEvent (unfinished_message kept) chunk n event
         → AreNamedLines (at_place_if_any (offset + n) event) more
         → HasPrintedNames kept' (bytes ++ take n chunk) (text ++ more)
     named_more event more found p = search (rules, events_found, named_behind, held_then)
 
     -- one that found an event
-    pub named_event : (event : Event) (more : List ℕ) → FirstEvent (unfinished_message kept) chunk n (Some event)
-        → IsNamedLine (offset + n) event more → HasPrintedNames kept' (bytes ++ take n chunk) (text ++ more)
-    named_event event more found p = named_more (Some event) more found (one_line (at_place (offset + n) event) more p)
+    pub named_event : (event : Event) (more : List ℕ)
+        → FirstEvent (unfinished_message kept) chunk n (Some event)
+        → IsNamedLine (offset + n) event more
+        → HasPrintedNames kept' (bytes ++ take n chunk) (text ++ more)
+    named_event event more found p =
+        named_more (Some event) more found (one_line (at_place (offset + n) event) more p)
 
     -- one that found none
     pub named_part : FirstEvent (unfinished_message kept) chunk n None
@@ -144,6 +147,6 @@ module _ {kept bytes text : List ℕ} (h : HasPrintedNames kept bytes text) (chu
       let others = each_is_named (events_after (unfinished_message bytes) (length bytes) more) in
       (others.0, _, (named_behind more others.0 others.1, refl))
 
-pub monitored_names : {A : Type 0} (r : Result A RunFault) (bytes out : List ℕ) → IsPrinted HasNamedLines r bytes out
-    → AreMonitored r bytes out
+pub monitored_names : {A : Type 0} (r : Result A RunFault) (bytes out : List ℕ)
+    → IsPrinted HasNamedLines r bytes out → AreMonitored r bytes out
 monitored_names r bytes out p = search (rules, stands_by)

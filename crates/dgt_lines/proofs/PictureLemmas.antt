@@ -1,19 +1,13 @@
 -- Pictures that events set, one event after another.
-use Rattle.std.proofs.Common.{◌≡◌, ℕ, List, [], ◌∷◌, ◌++◌, Option, Some, None, refl, ap, append_assoc, length, map}
-use Rattle.std.proofs.Common.{rules}
-use Rattle.std.proofs.lemmas.Grind.{flat_map-append, fold-append}
-use Rattle.std.proofs.lemmas.List.{map-append}
-use Rattle.std.specs.List.{flat_map, last_or}
-use Rattle.std.specs.Prelude.{fold}
-use Rattle.dgt_values.specs.declared.pieces.Piece.{Piece}
-use Rattle.dgt_decode.specs.Grammar.{Event, Placed, events, unfinished_message}
-use Rattle.dgt_decode.specs.Laws.{ChunksAdd}
-use Rattle.dgt_lines.specs.Lines.{events_after}
-use Rattle.dgt_lines.specs.Pictures.{LastLineIsPicture, PlacedPicture, made_by, picture_after_event, picture_after_events, picture_line, picture_lines, picture_reported, pictures, pictures_text}
+use Rattle.std.proofs.{Common.{◌≡◌, ℕ, List, [], ◌∷◌, ◌++◌, Option, Some, None, refl, ap, append_assoc, length, map, rules}, lemmas.{Grind.{flat_map-append, fold-append}, List.{map-append}}}
+use Rattle.{std.specs.{List.{flat_map, last_or}, Prelude.{fold}}, dgt_values.specs.declared.pieces.Piece.{Piece}, dgt_decode.specs.Grammar.{Event, Placed, events, unfinished_message}}
+use Rattle.{dgt_decode.specs.Laws.{ChunksAdd}, dgt_lines.specs.{Lines.{events_after}, Pictures.{LastLineIsPicture, PlacedPicture, made_by, picture_after_event, picture_after_events, picture_line}}}
+use Rattle.dgt_lines.specs.Pictures.{picture_lines, picture_reported, pictures, pictures_text}
 
 -- what more events make
-pub made_by-append : {S A : Type 0} (after : S → Event → S) (made : ℕ → Event → S → List A) (before : S)
-    (xs ys : List Placed) → made_by after made before (xs ++ ys) ≡ made_by after made before xs
+pub made_by-append : {S A : Type 0} (after : S → Event → S) (made : ℕ → Event → S → List A)
+    (before : S) (xs ys : List Placed)
+    → made_by after made before (xs ++ ys) ≡ made_by after made before xs
     ++ made_by after made (fold (λ state x. after state x.event) before xs) ys
 made_by-append after made before [] ys = refl
 made_by-append after made before (x ∷ xs) ys =
@@ -21,7 +15,8 @@ made_by-append after made before (x ∷ xs) ys =
 
 -- the lines of more events
 pub picture_lines-append : (before : Option (List Piece)) (xs ys : List Placed)
-    → picture_lines before (xs ++ ys) ≡ picture_lines before xs ++ picture_lines (picture_after_events before xs) ys
+    → picture_lines before (xs ++ ys)
+    ≡ picture_lines before xs ++ picture_lines (picture_after_events before xs) ys
 picture_lines-append before xs ys = search (rules, made_by-append, flat_map-append)
 
 -- ---- bytes, and a chunk after them
@@ -38,7 +33,8 @@ picture_reported-append chunks bytes chunk = search (rules, fold-append)
 
 -- ---- the last line
 
-pub last_or-append : {A : Type 0} (o : Option A) (xs ys : List A) → last_or o (xs ++ ys) ≡ last_or (last_or o xs) ys
+pub last_or-append : {A : Type 0} (o : Option A) (xs ys : List A)
+    → last_or o (xs ++ ys) ≡ last_or (last_or o xs) ys
 last_or-append o [] ys = refl
 last_or-append o (x ∷ xs) ys = last_or-append (Some x) xs ys
 

@@ -1,13 +1,7 @@
 -- The text of bytes that come in chunks.
-use Rattle.std.proofs.Common.{◌≡◌, ℕ, ◌+◌, ◌-◌, List, [], ◌∷◌, ◌++◌, refl, sym, ◌∙◌, ap, length, arith, append_assoc, append-nil, length-append}
-use Rattle.std.proofs.Common.{rules}
-use Rattle.std.proofs.lemmas.Grind.{flat_map-append, common_steps}
-use Rattle.std.specs.List.{AllByRecursion}
-use Rattle.dgt_command.specs.Content.{EventContent}
-use Rattle.dgt_command.specs.Words.{IsWord, IsPartial, Word, word_bytes}
-use Rattle.dgt_command.specs.Laws.{EachHasItsWords}
-use Rattle.dgt_lines.specs.CommandLines.{Prints, command_line, word_lines}
-use Rattle.dgt_lines.specs.CommandLaws.{EachIsPrinted, EachIsPrintedOnce, TextsAppend}
+use Rattle.std.proofs.{Common.{◌≡◌, ℕ, ◌+◌, ◌-◌, List, [], ◌∷◌, ◌++◌, refl, sym, ◌∙◌, ap, length, arith, append_assoc, append-nil, length-append, rules}, lemmas.Grind.{flat_map-append, common_steps}}
+use Rattle.{std.specs.List.{AllByRecursion}, dgt_command.specs.{Content.{EventContent}, Laws.{EachHasItsWords}, Words.{IsWord, IsPartial, Word, word_bytes}}}
+use Rattle.dgt_lines.specs.{CommandLaws.{EachIsPrinted, EachIsPrintedOnce, TextsAppend}, CommandLines.{Prints, command_line, word_lines}}
 
 -- each is the word that it is said to be
 abbrev pub AllWords : List Word → Type 0
@@ -47,8 +41,8 @@ texts_append k s t r q text others h g = record {
 }
 
 -- one word
-pub word_is_printed : IsPartial [] → (k : ℕ) (word : List ℕ) (event : EventContent) → IsWord event word
-    → Prints k word [] (command_line (k + length word) event)
+pub word_is_printed : IsPartial [] → (k : ℕ) (word : List ℕ) (event : EventContent)
+    → IsWord event word → Prints k word [] (command_line (k + length word) event)
 word_is_printed none k word event h = record {
   words = record { event = event; bytes = word } ∷ [];
   are_words = search (rules, append-nil);

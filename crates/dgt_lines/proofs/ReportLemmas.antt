@@ -1,20 +1,12 @@
 -- Reports of events, one event after another.
-use Rattle.std.proofs.Common.{◌≡◌, ℕ, List, [], ◌∷◌, ◌++◌, Option, ap, length, rules}
-use Rattle.std.proofs.lemmas.Grind.{flat_map-append, fold-append}
-use Rattle.std.specs.List.{flat_map}
-use Rattle.dgt_values.specs.declared.pieces.Piece.{Piece}
-use Rattle.dgt_decode.specs.Grammar.{Placed, events, unfinished_message}
-use Rattle.dgt_decode.specs.Laws.{ChunksAdd}
-use Rattle.dgt_lines.specs.declared.clocks.ShownClock.{ShownClock}
-use Rattle.dgt_lines.specs.declared.doubts.Doubt.{Doubt}
-use Rattle.dgt_lines.specs.declared.doubts.PictureState.{PictureState}
-use Rattle.dgt_lines.specs.Lines.{events_after}
-use Rattle.dgt_lines.proofs.PictureLemmas.{made_by-append}
-use Rattle.dgt_lines.specs.Reports.{Report, Doubts, ShowsClock, clock_reports, doubt_raised, report_line, report_lines, reports, reports_at, state_after_event, state_after_events, state_from, text_from}
+use Rattle.std.{proofs.{Common.{◌≡◌, ℕ, List, [], ◌∷◌, ◌++◌, Option, ap, length, rules}, lemmas.Grind.{flat_map-append, fold-append}}, specs.List.{flat_map}}
+use Rattle.{dgt_values.specs.declared.pieces.Piece.{Piece}, dgt_decode.specs.{Grammar.{Placed, events, unfinished_message}, Laws.{ChunksAdd}}, dgt_lines.specs.{Lines.{events_after}, Reports.{Report}}}
+use Rattle.dgt_lines.specs.Reports.{Doubts, ShowsClock, clock_reports, doubt_raised, report_line, report_lines, reports, reports_at, state_after_event, state_after_events, state_from, text_from}
+use Rattle.dgt_lines.{specs.declared.{clocks.ShownClock.{ShownClock}, doubts.{Doubt.{Doubt}, PictureState.{PictureState}}}, proofs.PictureLemmas.{made_by-append}}
 
 -- what a fault reports is nothing or a doubt
-pub of_raised : (P : List Report → Type 0) (place : ℕ) (picture : Option (List Piece)) (doubt : Doubt) → P []
-    → P (Doubts place ∷ []) → P (doubt_raised place picture doubt)
+pub of_raised : (P : List Report → Type 0) (place : ℕ) (picture : Option (List Piece))
+    (doubt : Doubt) → P [] → P (Doubts place ∷ []) → P (doubt_raised place picture doubt)
 of_raised P place picture doubt none one = search rules
 
 -- what a text of the clock reports is nothing or the text
@@ -28,14 +20,15 @@ reports-append before xs ys = made_by-append state_after_event reports_at before
 
 -- the lines of more events
 pub report_lines-append : (before : PictureState) (xs ys : List Placed)
-    → report_lines before (xs ++ ys) ≡ report_lines before xs ++ report_lines (state_after_events before xs) ys
+    → report_lines before (xs ++ ys)
+    ≡ report_lines before xs ++ report_lines (state_after_events before xs) ys
 report_lines-append before xs ys = search (rules, reports-append, flat_map-append)
 
 -- ---- bytes, and a chunk after them
 
 pub text_from-append : ChunksAdd → (before : PictureState) (bytes chunk : List ℕ)
-    → text_from before (bytes ++ chunk) ≡ text_from before bytes ++ report_lines (state_from before bytes)
-    (events_after (unfinished_message bytes) (length bytes) chunk)
+    → text_from before (bytes ++ chunk) ≡ text_from before bytes ++ report_lines
+    (state_from before bytes) (events_after (unfinished_message bytes) (length bytes) chunk)
 text_from-append chunks before bytes chunk = search (rules, report_lines-append)
 
 pub state_from-append : ChunksAdd → (before : PictureState) (bytes chunk : List ℕ)

@@ -1,18 +1,8 @@
 -- The lines of the stored events of a body, one after another.
 use Rattle.std.proofs.Common.{◌≡◌, ◌+◌, ◌-◌, ◌<◌, ◌≤◌, ℕ, List, [], ◌∷◌, ◌++◌, Result, Ok, Err, IsErrAnd, refl, sym, ◌∙◌, ap, subst, arith, length, take, drop, append_assoc, append-nil, length-drop}
-use Rattle.std.proofs.Common.{rules}
-use Rattle.std.proofs.lemmas.List.{drop-drop, take_rest}
-use Rattle.std.proofs.Math.Seq.{drop-append_seam}
-use Rattle.dgt_stored.specs.Stored.{IsFirst, Says, StoredContent, stored_bytes}
-use Rattle.dgt_stored.proofs.Bodies.{shorter}
-use Rattle.dgt_lines.specs.declared.faults.RunFault.{RunFault}
-use Rattle.dgt_lines.specs.declared.streams.Sink.{Ghosts as Sink}
-use Rattle.dgt_lines.specs.Lines.{line}
-use Rattle.dgt_lines.specs.Logs.{stored_lines, stored_text}
-use Rattle.dgt_lines.specs.Printing.{Puts}
-use Rattle.dgt_lines.proofs.ChunkLemmas.{waits_then}
-use Rattle.dgt_lines.proofs.GatherLemmas.{gathers_then, puts_none, stopped_longer}
-use Rattle.dgt_lines.proofs.Printed.{on_ok}
+use Rattle.{std.proofs.{Common.{rules}, Math.Seq.{drop-append_seam}, lemmas.List.{drop-drop, take_rest}}, dgt_stored.specs.Stored.{IsFirst, Says, StoredContent, stored_bytes}}
+use Rattle.{dgt_stored.proofs.Bodies.{shorter}, dgt_lines.specs.{Lines.{line}, Logs.{stored_lines, stored_text}, Printing.{Puts}, declared.{faults.RunFault.{RunFault}, streams.Sink.{Ghosts as Sink}}}}
+use Rattle.dgt_lines.proofs.{ChunkLemmas.{waits_then}, GatherLemmas.{gathers_then, puts_none, stopped_longer}, Printed.{on_ok}}
 
 -- ---- calls that gather, one after another
 
@@ -27,7 +17,8 @@ module _ {S : Type 0} {W : Sink S} where
   stops_as e r k p = search rules
 
   pub puts_then : {A : Type 0} (h i j : List ℕ) (a b c : S) (s t : List ℕ) (r : Result A RunFault)
-      → Puts {A = Unit {0}} W (h, i) a b (Ok tt) s → Puts W (i, j) b c r t → Puts W (h, j) a c r (s ++ t)
+      → Puts {A = Unit {0}} W (h, i) a b (Ok tt) s → Puts W (i, j) b c r t
+      → Puts W (h, j) a c r (s ++ t)
   puts_then h i j a b c s t r p q = record {
     output = gathers_then W h i j a b c s t r p.output q.output;
     dropped = q.dropped;
@@ -61,12 +52,14 @@ module _ {S : Type 0} (W : Sink S) where
     puts = puts_none W held a;
   }
 
-  module _ (h i j : List ℕ) (a b c : S) (before at : ℕ) (body : List ℕ) (things : List StoredContent)
+  module _ (h i j : List ℕ) (a b c : S) (before at : ℕ) (body : List ℕ)
+      (things : List StoredContent)
       (some : PutSome h i a b before at body things) (within : at < length body) where
     pub put_more : (used : ℕ)
-        → ((stored : StoredContent) (later : List ℕ) → IsFirst (take (length body - at) (drop at body)) stored later
-        → (used ≡ length (stored_bytes stored))
-        × Puts {A = ℕ} W (i, j) b c (Ok used) (line (before + at + length (stored_bytes stored)) (stored_text stored)))
+        → ((stored : StoredContent) (later : List ℕ)
+        → IsFirst (take (length body - at) (drop at body)) stored later
+        → (used ≡ length (stored_bytes stored)) × Puts {A = ℕ} W (i, j) b c (Ok used)
+        (line (before + at + length (stored_bytes stored)) (stored_text stored)))
         → PutSome h j a c before (at + used) body things
     put_more used puts = go some.left some.says some.whole
       where
@@ -95,9 +88,9 @@ module _ {S : Type 0} (W : Sink S) where
             }
 
     pub put_stopped : (e : RunFault) (r : Result (Unit {0}) RunFault) → IsErrAnd r (λ y. y ≡ e)
-        → ((stored : StoredContent) (later : List ℕ) → IsFirst (take (length body - at) (drop at body)) stored later
-        → Unit {0}
-        × Puts {A = ℕ} W (i, j) b c (Err e) (line (before + at + length (stored_bytes stored)) (stored_text stored)))
+        → ((stored : StoredContent) (later : List ℕ)
+        → IsFirst (take (length body - at) (drop at body)) stored later → Unit {0} × Puts {A = ℕ} W
+        (i, j) b c (Err e) (line (before + at + length (stored_bytes stored)) (stored_text stored)))
         → Puts W (h, j) a c r (stored_lines before things)
     put_stopped e r is puts = stops_as {A = Unit {0}} e r is (go some.left some.says some.whole)
       where
@@ -113,7 +106,8 @@ module _ {S : Type 0} (W : Sink S) where
             (puts_longer h j a c (some.said ++ text) _ e
             (puts_then h i j a b c some.said text stop some.puts (stops_as e stop refl put.1))))
 
-  pub put_all : (h i : List ℕ) (a b : S) (before at : ℕ) (body : List ℕ) (things : List StoredContent)
+  pub put_all : (h i : List ℕ) (a b : S) (before at : ℕ) (body : List ℕ)
+      (things : List StoredContent)
       → length body ≤ at → PutSome h i a b before at body things
       → Puts {A = Unit {0}} W (h, i) a b (Ok tt) (stored_lines before things)
   put_all h i a b before at body things all some = go some.left some.says some.whole
@@ -123,4 +117,5 @@ module _ {S : Type 0} (W : Sink S) where
           → Puts {A = Unit {0}} W (h, i) a b (Ok tt) (stored_lines before things)
       go [] none whole = rw (whole, append-nil) some.puts
       go (stored ∷ more) says whole =
-          absurd (omega (arith, all, length-drop at body, shorter (drop at body) says.0 stored says.1))
+          absurd
+          (omega (arith, all, length-drop at body, shorter (drop at body) says.0 stored says.1))

@@ -1,18 +1,12 @@
-use Rattle.std.proofs.Common.{◌≡◌, ℕ, List, arith, take}
-use Rattle.std.proofs.lemmas.List.{nil_from_length}
-use Rattle.dgt_values.specs.Board.{square_number}
-use Rattle.dgt_values.specs.declared.pieces.Piece.{Piece}
-use Rattle.dgt_values.specs.declared.squares.Square.{Square}
-use Rattle.dgt_message.specs.Content.Content.{field}
-use Rattle.dgt_decode.specs.Grammar.{Message, message_event}
-use Rattle.dgt_decode.specs.Feeding.{IsWholeMessage}
-use Rattle.dgt_lines.proofs.EventLemmas.{first_whole, held_whole, some_of}
+use Rattle.{std.proofs.{Common.{◌≡◌, ℕ, List, arith, take}, lemmas.List.{nil_from_length}}, dgt_values.specs.{Board.{square_number}, declared.{pieces.Piece.{Piece}, squares.Square.{Square}}}}
+use Rattle.{dgt_message.specs.Content.Content.{field}, dgt_decode.specs.{Feeding.{IsWholeMessage}, Grammar.{Message, message_event}}, dgt_lines.proofs.EventLemmas.{first_whole, held_whole, some_of}}
 use Rattle.dgt_lines.proofs.chunks.next_field.Goals as goal
 
 -- the bytes are a field update that says this
 abbrev IsField : List ℕ → Square × Piece → Type 0
 IsField bytes reported =
-    IsWholeMessage bytes × (message_event bytes ≡ Message (field (square_number reported.0) reported.1))
+    IsWholeMessage bytes
+    × (message_event bytes ≡ Message (field (square_number reported.0) reported.1))
 
 pub returns-clause-first : goal.returns-clause-first
 returns-clause-first c = some_of _ (IsField (take 5 c.args.rest.now)) _ _

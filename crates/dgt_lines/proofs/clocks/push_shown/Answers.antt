@@ -1,6 +1,4 @@
-use Rattle.std.proofs.Common.{append_assoc, refl}
-use Rattle.dgt_message.specs.Content.{times_seen}
-use Rattle.dgt_lines.proofs.TextLemmas.{clock_in_parts}
+use Rattle.{std.proofs.Common.{append_assoc, refl}, dgt_message.specs.Content.{times_seen}, dgt_lines.proofs.TextLemmas.{clock_in_parts}}
 use Rattle.dgt_lines.proofs.clocks.push_shown.Goals as goal
 
 pub returns-clause-text : goal.returns-clause-text

@@ -1,7 +1,4 @@
-use Rattle.std.proofs.Common.{rules}
-use Rattle.std.proofs.lemmas.Fmt.{decimal_digit}
-use Rattle.dgt_lines.specs.Lines.{shown_time}
-use Rattle.dgt_lines.proofs.TextLemmas.{padded_two}
+use Rattle.{std.proofs.{Common.{rules}, lemmas.Fmt.{decimal_digit}}, dgt_lines.{specs.Lines.{shown_time}, proofs.TextLemmas.{padded_two}}}
 use Rattle.dgt_lines.proofs.clocks.time_text.Goals as goal
 
 pub returns : goal.returns

@@ -1,5 +1,4 @@
-use Rattle.std.proofs.Common.{rules}
-use Rattle.dgt_lines.proofs.TextLemmas.{list_all_behind}
+use Rattle.{std.proofs.Common.{rules}, dgt_lines.proofs.TextLemmas.{list_all_behind}}
 use Rattle.dgt_lines.proofs.command_wording.are_printable.Goals as goal
 
 pub returns-then-four_are_printable : goal.returns-then-four_are_printable

@@ -1,6 +1,4 @@
-use Rattle.std.proofs.Common.{rules}
-use Rattle.dgt_lines.proofs.Listed.{listed, listed_none}
-use Rattle.dgt_lines.proofs.Printed.{ran_with}
+use Rattle.{std.proofs.Common.{rules}, dgt_lines.proofs.{Listed.{listed, listed_none}, Printed.{ran_with}}}
 use Rattle.dgt_lines.proofs.engines.commands.Goals as goal
 
 pub print_input-requires : goal.print_input-requires

@@ -1,6 +1,4 @@
-use Rattle.std.proofs.Common.{arith}
-use Rattle.dgt_lines.proofs.Logged.{logged, logged_none}
-use Rattle.dgt_lines.proofs.Printed.{ran_with}
+use Rattle.{std.proofs.Common.{arith}, dgt_lines.proofs.{Logged.{logged, logged_none}, Printed.{ran_with}}}
 use Rattle.dgt_lines.proofs.engines.log.Goals as goal
 
 pub print_input-requires : goal.print_input-requires

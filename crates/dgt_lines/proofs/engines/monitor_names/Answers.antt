@@ -1,6 +1,4 @@
-use Rattle.std.proofs.Common.{arith}
-use Rattle.dgt_lines.proofs.NamedLemmas.{monitored_names, named_none}
-use Rattle.dgt_lines.proofs.Printed.{ran_with}
+use Rattle.{std.proofs.Common.{arith}, dgt_lines.proofs.{NamedLemmas.{monitored_names, named_none}, Printed.{ran_with}}}
 use Rattle.dgt_lines.proofs.engines.monitor_names.Goals as goal
 
 pub print_input-requires : goal.print_input-requires
@@ -8,4 +6,5 @@ print_input-requires g c = (omega arith, (named_none _ c.new.ensures, c.new-outg
 
 pub returns-clause-output : goal.returns-clause-output
 returns-clause-output g c =
-    ran_with g.R.Source g.W.Sink _ _ _ _ c.args.limit _ _ _ (monitored_names _) c.print_input.ensures.output
+    ran_with g.R.Source g.W.Sink _ _ _ _ c.args.limit _ _ _ (monitored_names _)
+    c.print_input.ensures.output

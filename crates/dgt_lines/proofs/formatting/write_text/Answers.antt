@@ -1,5 +1,4 @@
-use Rattle.std.proofs.Common.{length-append, rules}
-use Rattle.hex.proofs.HexLemmas.{length-encode_with}
+use Rattle.{std.proofs.Common.{length-append, rules}, hex.proofs.HexLemmas.{length-encode_with}}
 use Rattle.dgt_lines.proofs.formatting.write_text.Goals as goal
 
 pub returns-then-out-need-clause-text : goal.returns-then-out-need-clause-text

@@ -1,9 +1,6 @@
-use Rattle.std.proofs.Common.{arith, ◌∙◌, drop, refl, rules, sym, take}
-use Rattle.std.proofs.KnownBytes.{Appends-kept}
-use Rattle.std.proofs.Math.Seq.{take-add}
-use Rattle.std.proofs.lemmas.List.{places, take-append-drop, take_all, take_rest}
+use Rattle.std.proofs.{Common.{arith, ◌∙◌, drop, refl, rules, sym, take}, KnownBytes.{Appends-kept}, Math.Seq.{take-add}, lemmas.{Grind.{common_steps}, List.{places, take-append-drop, take_all}}}
+use Rattle.std.proofs.lemmas.List.{take_rest}
 use Rattle.dgt_lines.proofs.gathering.put.Goals as goal
-use Rattle.std.proofs.lemmas.Grind.{common_steps}
 
 pub loop-at-preserved : goal.loop-at-preserved
 loop-at-preserved g c = grind (arith, common_steps, places, take-add, take_rest)

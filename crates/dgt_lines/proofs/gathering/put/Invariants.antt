@@ -1,5 +1,4 @@
-use Rattle.std.proofs.Common.{◌≡◌, ◌<◌, ◌≤◌, ◌-◌, false, length, take}
-use Rattle.dgt_lines.specs.Writing.{Wrote}
+use Rattle.{std.proofs.Common.{◌≡◌, ◌<◌, ◌≤◌, ◌-◌, false, length, take}, dgt_lines.specs.Writing.{Wrote}}
 use Rattle.dgt_lines.proofs.gathering.put.Given as goal
 
 abbrev pub invariant-loop-at : goal.invariant-loop-at

@@ -1,6 +1,4 @@
-use Rattle.std.proofs.Common.{rules}
-use Rattle.std.proofs.lemmas.Fmt.{decimal_digit}
-use Rattle.dgt_lines.specs.NamedLines.{battery_text}
+use Rattle.{std.proofs.{Common.{rules}, lemmas.Fmt.{decimal_digit}}, dgt_lines.specs.NamedLines.{battery_text}}
 use Rattle.dgt_lines.proofs.laws.batteries_by_example.Goals as goal
 
 pub returns-clause-known : goal.returns-clause-known

@@ -31,7 +31,8 @@ returns-clause-source_in_time g c a b d e r run =
     run.in_turns.source_in_time run.source_stands run.goes_on ∙ run.source_in_time
 
 pub returns-clause-sink_in_time : goal.returns-clause-sink_in_time
-returns-clause-sink_in_time g c a b d e r run = run.in_turns.sink_in_time run.sink_stands ∙ run.sink_in_time
+returns-clause-sink_in_time g c a b d e r run =
+    run.in_turns.sink_in_time run.sink_stands ∙ run.sink_in_time
 
 pub returns-clause-reads : goal.returns-clause-reads
 returns-clause-reads g c a b d e r run = search (rules, few)

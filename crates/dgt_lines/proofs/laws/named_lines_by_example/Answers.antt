@@ -1,7 +1,4 @@
-use Rattle.std.proofs.Common.{append-nil, arith, refl, rules}
-use Rattle.std.proofs.lemmas.Fmt.{decimal_digit}
-use Rattle.hex.specs.Hex.{encode_with}
-use Rattle.dgt_lines.specs.Lines.{event_text, message_text}
+use Rattle.{std.proofs.{Common.{append-nil, arith, refl, rules}, lemmas.Fmt.{decimal_digit}}, hex.specs.Hex.{encode_with}, dgt_lines.specs.Lines.{event_text, message_text}}
 use Rattle.dgt_lines.proofs.laws.named_lines_by_example.Goals as goal
 
 pub returns-clause-two : goal.returns-clause-two

@@ -1,6 +1,4 @@
-use Rattle.std.proofs.Common.{append-nil, refl}
-use Rattle.dgt_lines.proofs.NameLaws.{one_name, one_text}
-use Rattle.dgt_lines.proofs.NamedLemmas.{each_is_named}
+use Rattle.{std.proofs.Common.{append-nil, refl}, dgt_lines.proofs.{NameLaws.{one_name, one_text}, NamedLemmas.{each_is_named}}}
 use Rattle.dgt_lines.proofs.laws.one_name.Goals as goal
 
 pub returns-clause-name : goal.returns-clause-name

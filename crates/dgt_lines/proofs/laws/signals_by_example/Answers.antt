@@ -1,6 +1,4 @@
-use Rattle.std.proofs.Common.{arith, refl}
-use Rattle.std.proofs.lemmas.Fmt.{decimal_digit}
-use Rattle.dgt_lines.specs.NamedLines.{signal_text}
+use Rattle.{std.proofs.{Common.{arith, refl}, lemmas.Fmt.{decimal_digit}}, dgt_lines.specs.NamedLines.{signal_text}}
 use Rattle.dgt_lines.proofs.laws.signals_by_example.Goals as goal
 
 pub returns-clause-version : goal.returns-clause-version

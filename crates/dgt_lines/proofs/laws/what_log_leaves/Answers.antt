@@ -1,5 +1,4 @@
-use Rattle.std.proofs.Common.{rules}
-use Rattle.dgt_lines.proofs.Logged.{one_log}
+use Rattle.{std.proofs.Common.{rules}, dgt_lines.proofs.Logged.{one_log}}
 use Rattle.dgt_lines.proofs.laws.what_log_leaves.Goals as goal
 
 pub returns : goal.returns

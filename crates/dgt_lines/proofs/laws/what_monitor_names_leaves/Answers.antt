@@ -1,5 +1,4 @@
-use Rattle.std.proofs.Common.{rules}
-use Rattle.dgt_lines.proofs.Printed.{stands_by}
+use Rattle.{std.proofs.Common.{rules}, dgt_lines.proofs.Printed.{stands_by}}
 use Rattle.dgt_lines.proofs.laws.what_monitor_names_leaves.Goals as goal
 
 pub returns : goal.returns

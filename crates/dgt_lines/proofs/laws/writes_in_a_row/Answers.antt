@@ -1,5 +1,4 @@
-use Rattle.std.proofs.Common.{refl}
-use Rattle.dgt_lines.proofs.GatherLemmas.{wrote_none, writes_then, stopped_longer, gathered_none, gathered_pushed, gathers_then}
+use Rattle.{std.proofs.Common.{refl}, dgt_lines.proofs.GatherLemmas.{wrote_none, writes_then, stopped_longer, gathered_none, gathered_pushed, gathers_then}}
 use Rattle.dgt_lines.proofs.laws.writes_in_a_row.Goals as goal
 
 pub returns : goal.returns

@@ -1,5 +1,4 @@
-use Rattle.std.proofs.Common.{rules}
-use Rattle.dgt_lines.proofs.DecimalLemmas.{padded_word}
+use Rattle.{std.proofs.Common.{rules}, dgt_lines.proofs.DecimalLemmas.{padded_word}}
 use Rattle.dgt_lines.proofs.lines.eight_digits.Goals as goal
 
 pub returns : goal.returns

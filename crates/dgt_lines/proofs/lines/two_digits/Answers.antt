@@ -1,5 +1,4 @@
-use Rattle.std.proofs.Common.{◌∙◌}
-use Rattle.dgt_lines.proofs.DecimalLemmas.{pair_at}
+use Rattle.{std.proofs.Common.{◌∙◌}, dgt_lines.proofs.DecimalLemmas.{pair_at}}
 use Rattle.dgt_lines.proofs.lines.two_digits.Goals as goal
 
 pub returns : goal.returns

@@ -1,5 +1,4 @@
-use Rattle.std.proofs.Common.{rules}
-use Rattle.dgt_lines.proofs.GatherLemmas.{gathered_out}
+use Rattle.{std.proofs.Common.{rules}, dgt_lines.proofs.GatherLemmas.{gathered_out}}
 use Rattle.dgt_lines.proofs.lines.write_event.Goals as goal
 
 pub returns-in_err-put_event-clause-output : goal.returns-in_err-put_event-clause-output

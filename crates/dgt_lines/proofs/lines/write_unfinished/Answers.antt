@@ -1,6 +1,4 @@
-use Rattle.std.proofs.Common.{◌≡◌, append_assoc, arith, refl}
-use Rattle.dgt_lines.specs.Lines.{line, unfinished_text}
-use Rattle.dgt_lines.proofs.TextLemmas.{padded_one}
+use Rattle.{std.proofs.Common.{◌≡◌, append_assoc, arith, refl}, dgt_lines.{specs.Lines.{line, unfinished_text}, proofs.TextLemmas.{padded_one}}}
 use Rattle.dgt_lines.proofs.lines.write_unfinished.Goals as goal
 
 pub returns-clause-output : goal.returns-clause-output

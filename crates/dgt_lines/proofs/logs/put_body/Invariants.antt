@@ -1,6 +1,4 @@
-use Rattle.std.proofs.Common.{◌≤◌, ◌-◌, List, length}
-use Rattle.dgt_stored.specs.Stored.{Says, StoredContent}
-use Rattle.dgt_lines.proofs.StoredLines.{PutSome}
+use Rattle.{std.proofs.Common.{◌≤◌, ◌-◌, List, length}, dgt_stored.specs.Stored.{Says, StoredContent}, dgt_lines.proofs.StoredLines.{PutSome}}
 use Rattle.dgt_lines.proofs.logs.put_body.Given as goal
 
 abbrev pub invariant-loop-at : goal.invariant-loop-at

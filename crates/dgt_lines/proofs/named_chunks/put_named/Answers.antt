@@ -1,6 +1,5 @@
-use Rattle.dgt_lines.proofs.NamedLemmas.{gathers_named, name_refused, text_refused}
+use Rattle.{std.proofs.Common.{rules}, dgt_lines.proofs.NamedLemmas.{gathers_named, name_refused, text_refused}}
 use Rattle.dgt_lines.proofs.named_chunks.put_named.Goals as goal
-use Rattle.std.proofs.Common.{rules}
 
 pub returns-in_err-put_text-clause-output : goal.returns-in_err-put_text-clause-output
 returns-in_err-put_text-clause-output g c =

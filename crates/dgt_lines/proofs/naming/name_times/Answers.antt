@@ -1,5 +1,4 @@
-use Rattle.std.proofs.Common.{ap, append_assoc, refl}
-use Rattle.dgt_lines.specs.NamedLines.{times_name}
+use Rattle.{std.proofs.Common.{ap, append_assoc, refl}, dgt_lines.specs.NamedLines.{times_name}}
 use Rattle.dgt_lines.proofs.naming.name_times.Goals as goal
 
 pub returns : goal.returns

@@ -1,6 +1,4 @@
-use Rattle.std.proofs.Common.{Some, rules}
-use Rattle.dgt_message.specs.Content.{times_seen}
-use Rattle.dgt_lines.specs.NamedLines.{times_name}
+use Rattle.{std.proofs.Common.{Some, rules}, dgt_message.specs.Content.{times_seen}, dgt_lines.specs.NamedLines.{times_name}}
 use Rattle.dgt_lines.proofs.naming.put_message_name.Goals as goal
 
 pub returns-in-Times-clause-output : goal.returns-in-Times-clause-output

@@ -1,6 +1,4 @@
-use Rattle.std.proofs.Common.{[], Err, append-nil, arith, rules}
-use Rattle.std.proofs.lemmas.List.{length-take-le}
-use Rattle.dgt_lines.proofs.Printed.{printed_end, printed_more, printed_none, printed_stopped}
+use Rattle.{std.proofs.{Common.{[], Err, append-nil, arith, rules}, lemmas.List.{length-take-le}}, dgt_lines.proofs.Printed.{printed_end, printed_more, printed_none, printed_stopped}}
 use Rattle.dgt_lines.proofs.TurnLemmas.{no_read, next_read}
 use Rattle.dgt_lines.proofs.printers.print_input.Goals as goal
 
@@ -32,7 +30,8 @@ returns-in_err-flush-clause-output g c =
     let chunk = c.in_ok-print_chunk.ensures.output _ _ _ printed.has printed.counted in
     printed_stopped c.writes_in_a_row.ensures _ _ _ _ _ _ _ c.loop.invariant.in_turns printed
     c.in-Ok.ensures.bytes.0 chunk.has c.from_residual-in_err-flush.ensures.1
-    (rw append-nil at (c.writes_in_a_row.ensures.writes _ _ _ _ [] (Err _) chunk.writes c.in_err-flush.ensures.output))
+    (rw append-nil at (c.writes_in_a_row.ensures.writes _ _ _ _ [] (Err _) chunk.writes
+    c.in_err-flush.ensures.output))
 
 pub loop-preserved : goal.loop-preserved
 loop-preserved g c =
@@ -42,7 +41,8 @@ loop-preserved g c =
     let flushed = c.in_ok-flush.ensures in record {
       in_turns = search (rules, next_read);
       printed = printed_more c.writes_in_a_row.ensures _ _ _ _ _ _ _ _ _ printed
-          (length-take-le c.in-Ok.given c.read_some.new.buffer read.bound) chunk.writes flushed.output chunk.keeps;
+          (length-take-le c.in-Ok.given c.read_some.new.buffer read.bound) chunk.writes
+          flushed.output chunk.keeps;
       empty = c.in_ok-print_chunk.ensures.empty;
       short = omega (arith, read.bound, c.read_some.auto.buffer);
     }

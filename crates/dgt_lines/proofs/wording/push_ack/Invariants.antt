@@ -1,5 +1,4 @@
-use Rattle.std.proofs.Common.{◌≡◌, ◌+◌, ◌*◌, ◌++◌, codes, length, take}
-use Rattle.dgt_lines.proofs.TextLemmas.{spaced_text}
+use Rattle.{std.proofs.Common.{◌≡◌, ◌+◌, ◌*◌, ◌++◌, codes, length, take}, dgt_lines.proofs.TextLemmas.{spaced_text}}
 use Rattle.dgt_lines.proofs.wording.push_ack.Given as goal
 
 abbrev pub invariant-loop-byte : goal.invariant-loop-byte

@@ -1,5 +1,4 @@
-use Rattle.std.proofs.Common.{append_assoc, rules}
-use Rattle.dgt_lines.specs.Lines.{message_text}
+use Rattle.{std.proofs.Common.{append_assoc, rules}, dgt_lines.specs.Lines.{message_text}}
 use Rattle.dgt_lines.proofs.wording.push_message.Goals as goal
 
 pub returns-in-Other-clause-text : goal.returns-in-Other-clause-text

@@ -1,6 +1,4 @@
-use Rattle.std.proofs.Common.{append_assoc, rules}
-use Rattle.std.proofs.lemmas.Fmt.{decimal_digit}
-use Rattle.dgt_lines.specs.Lines.{reading_text}
+use Rattle.{std.proofs.{Common.{append_assoc, rules}, lemmas.Fmt.{decimal_digit}}, dgt_lines.specs.Lines.{reading_text}}
 use Rattle.dgt_lines.proofs.wording.push_reading.Goals as goal
 
 pub returns-clause-text : goal.returns-clause-text

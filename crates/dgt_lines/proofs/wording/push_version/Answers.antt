@@ -1,6 +1,4 @@
-use Rattle.std.proofs.Common.{append_assoc, rules}
-use Rattle.dgt_lines.specs.Lines.{message_text}
-use Rattle.dgt_lines.proofs.TextLemmas.{padded_one}
+use Rattle.{std.proofs.Common.{append_assoc, rules}, dgt_lines.{specs.Lines.{message_text}, proofs.TextLemmas.{padded_one}}}
 use Rattle.dgt_lines.proofs.wording.push_version.Goals as goal
 
 pub returns-clause-text : goal.returns-clause-text

@@ -1,6 +1,4 @@
-use Rattle.std.proofs.Common.{None}
-use Rattle.dgt_lines.proofs.ChunkLemmas.{gathers_none, gathers_refused, gathers_some}
-use Rattle.dgt_lines.proofs.Heard.{heard_event, heard_more}
+use Rattle.{std.proofs.Common.{None}, dgt_lines.proofs.{ChunkLemmas.{gathers_none, gathers_refused, gathers_some}, Heard.{heard_event, heard_more}}}
 use Rattle.dgt_lines.proofs.chunks.FramerPrinterLINES_ROOM.gather.Goals as goal
 
 pub returns-in_err-put_field-clause-output : goal.returns-in_err-put_field-clause-output
@@ -35,4 +33,5 @@ pub returns-in_default-found-clause-output : goal.returns-in_default-found-claus
 returns-in_default-found-clause-output g c = λ first bytes text printed counted.
     gathers_none bytes _ text c.advance-advanced.result.used
     (heard_more printed c.chunks_in_a_row.ensures.add c.unfinished_append.ensures _ _ _ counted _
-    c.advance-advanced.ensures.held None (rw c.in_default-found.is at c.advance-advanced.ensures.first))
+    c.advance-advanced.ensures.held None
+    (rw c.in_default-found.is at c.advance-advanced.ensures.first))

@@ -1,5 +1,4 @@
-use Rattle.dgt_command.specs.Framing.{rest_of}
-use Rattle.dgt_lines.proofs.Listed.{listed_on}
+use Rattle.{dgt_command.specs.Framing.{rest_of}, dgt_lines.proofs.Listed.{listed_on}}
 use Rattle.dgt_lines.proofs.command_chunks.WordFramerPrinterCOMMANDS_ROOM.lines_go_on.Goals as goal
 
 pub returns : goal.returns

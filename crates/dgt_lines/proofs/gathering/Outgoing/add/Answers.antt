@@ -1,5 +1,4 @@
-use Rattle.std.proofs.Common.{rules}
-use Rattle.dgt_lines.proofs.GatherLemmas.{gathers_through, stopped_longer}
+use Rattle.{std.proofs.Common.{rules}, dgt_lines.proofs.GatherLemmas.{gathers_through, stopped_longer}}
 use Rattle.dgt_lines.proofs.gathering.Outgoing.add.Goals as goal
 
 pub returns-in_err-write_out-clause-output : goal.returns-in_err-write_out-clause-output

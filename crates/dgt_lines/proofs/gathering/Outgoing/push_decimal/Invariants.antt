@@ -1,5 +1,4 @@
-use Rattle.std.proofs.Common.{◌≡◌, ◌-◌, ◌^◌, ◌<◌, ◌≤◌, ◌++◌, drop, length}
-use Rattle.dgt_lines.proofs.DecimalLemmas.{prefix}
+use Rattle.{std.proofs.Common.{◌≡◌, ◌-◌, ◌^◌, ◌<◌, ◌≤◌, ◌++◌, drop, length}, dgt_lines.proofs.DecimalLemmas.{prefix}}
 use Rattle.dgt_lines.proofs.gathering.Outgoing.push_decimal.Given as goal
 
 abbrev pub invariant-loop-rest : goal.invariant-loop-rest

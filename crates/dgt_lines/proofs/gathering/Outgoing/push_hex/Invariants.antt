@@ -1,5 +1,4 @@
-use Rattle.std.proofs.Common.{◌≡◌, ◌+◌, ◌*◌, ◌++◌, length, take}
-use Rattle.hex.specs.Hex.{encode_lower}
+use Rattle.{std.proofs.Common.{◌≡◌, ◌+◌, ◌*◌, ◌++◌, length, take}, hex.specs.Hex.{encode_lower}}
 use Rattle.dgt_lines.proofs.gathering.Outgoing.push_hex.Given as goal
 
 abbrev pub invariant-loop-byte : goal.invariant-loop-byte

@@ -1,6 +1,4 @@
-use Rattle.std.proofs.Common.{rules}
-use Rattle.dgt_lines.proofs.ChunkLemmas.{gathers_none, gathers_refused, gathers_some}
-use Rattle.dgt_lines.proofs.Logged.{logged_event, logged_more}
+use Rattle.{std.proofs.Common.{rules}, dgt_lines.proofs.{ChunkLemmas.{gathers_none, gathers_refused, gathers_some}, Logged.{logged_event, logged_more}}}
 use Rattle.dgt_lines.proofs.log_chunks.LogPrinterLOG_ROOM.gather.Goals as goal
 
 pub returns-in_err-put_found-clause-output : goal.returns-in_err-put_found-clause-output

@@ -1,5 +1,4 @@
-use Rattle.dgt_values.specs.Board.{pieces_of}
-use Rattle.dgt_lines.proofs.RankLemmas.{ranks_text-eight}
+use Rattle.{dgt_values.specs.Board.{pieces_of}, dgt_lines.proofs.RankLemmas.{ranks_text-eight}}
 use Rattle.dgt_lines.proofs.pictures.Picture.new.Goals as goal
 
 pub invariant_of-result : goal.invariant_of-result

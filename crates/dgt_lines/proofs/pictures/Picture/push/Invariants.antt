@@ -1,5 +1,4 @@
-use Rattle.std.proofs.Common.{◌≡◌, ◌+◌, ◌*◌, ◌++◌, ◌≤◌, length, take}
-use Rattle.dgt_lines.proofs.RankLemmas.{ended_ranks}
+use Rattle.{std.proofs.Common.{◌≡◌, ◌+◌, ◌*◌, ◌++◌, ◌≤◌, length, take}, dgt_lines.proofs.RankLemmas.{ended_ranks}}
 use Rattle.dgt_lines.proofs.pictures.Picture.push.Given as goal
 
 abbrev pub invariant-loop-rank : goal.invariant-loop-rank
