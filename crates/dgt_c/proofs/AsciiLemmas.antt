@@ -1,18 +1,9 @@
 -- Placements are ASCII, so a text is wrong from its first other byte on.
 use Prim.Native.Char.{code as ascii}
-use Rattle.std.proofs.Common.{◌≡◌, ℕ, ◌+◌, ◌<◌, ◌≤◌, List, [], ◌∷◌, length, take, lit<, arith}
-use Rattle.std.proofs.Common.{rules}
-use Rattle.std.proofs.lemmas.Bool.{cases_lt}
-use Rattle.std.proofs.lemmas.List.{append-nil, get_or-take, get_or_append_left, get_or_past, length-take, length-take-le, take-take, take_all}
-use Rattle.std.proofs.lemmas.Str.{IsAscii-append}
-use Rattle.std.proofs.lemmas.Str.Ascii.{IsAscii-cons, IsAscii-nil}
-use Rattle.std.specs.List.{join_with_byte}
-use Rattle.std.specs.Prelude.{slice_index}
-use Rattle.std.specs.Str.{IsAscii}
-use Rattle.dgt_values.specs.declared.pieces.Piece.{Piece}
+use Rattle.std.proofs.{Common.{◌≡◌, ℕ, ◌+◌, ◌<◌, ◌≤◌, List, [], ◌∷◌, length, take, lit<, arith, rules}, lemmas.{Bool.{cases_lt}, List.{append-nil, get_or-take, get_or_append_left, get_or_past}}}
+use Rattle.std.{proofs.lemmas.{List.{length-take, length-take-le, take-take, take_all}, Str.{IsAscii-append, Ascii.{IsAscii-cons, IsAscii-nil}}}, specs.{List.{join_with_byte}, Prelude.{slice_index}}}
+use Rattle.{std.specs.Str.{IsAscii}, dgt_values.specs.{Board.{piece_letter}, Placement.{AreRanks, BeginsPlacement, IsFirstBadOffset, IsPlacement, IsRank, MeansSquares}, declared.pieces.Piece.{Piece}}}
 use Rattle.dgt_values.specs.declared.pieces.Piece.TheVariants.{Empty}
-use Rattle.dgt_values.specs.Board.{piece_letter}
-use Rattle.dgt_values.specs.Placement.{AreRanks, BeginsPlacement, IsFirstBadOffset, IsPlacement, IsRank, MeansSquares}
 
 letter-ascii : (piece : Piece) → piece_letter piece < 128
 letter-ascii Empty = lit< tt
@@ -29,10 +20,12 @@ rank-ascii (byte ∷ bytes) squares (first, rest, means, is_rank, same) =
 ranks-ascii : (ranks : List (List ℕ)) (pieces : List Piece) → AreRanks ranks pieces →
     IsAscii (join_with_byte (ascii "/") ranks)
 ranks-ascii [] pieces h = IsAscii-nil
-ranks-ascii (rank ∷ []) pieces (squares, rest, eight, is_rank, others, same) = rank-ascii rank squares is_rank
+ranks-ascii (rank ∷ []) pieces (squares, rest, eight, is_rank, others, same) =
+    rank-ascii rank squares is_rank
 ranks-ascii (rank ∷ next ∷ ranks) pieces (squares, rest, eight, is_rank, others, same) =
     let behind = ranks-ascii (next ∷ ranks) rest others in
-    IsAscii-append rank (ascii "/" ∷ join_with_byte (ascii "/") (next ∷ ranks)) (rank-ascii rank squares is_rank)
+    IsAscii-append rank (ascii "/" ∷ join_with_byte (ascii "/") (next ∷ ranks))
+    (rank-ascii rank squares is_rank)
     (IsAscii-cons (ascii "/") (join_with_byte (ascii "/") (next ∷ ranks)) (lit< tt) behind)
 
 -- bytes up to the first that isn't ASCII
@@ -48,8 +41,8 @@ no_longer text at h top (more, pieces, placed) =
     search (rules, length-take, get_or_append_left, get_or-take, ranks-ascii)
 
 -- a placement and then a byte that isn't ASCII
-pub bad_behind : (text : List ℕ) (end : ℕ) (pieces : List Piece) → end < length text → 128 ≤ slice_index text end
-    → IsPlacement (take end text) pieces → IsFirstBadOffset text end
+pub bad_behind : (text : List ℕ) (end : ℕ) (pieces : List Piece) → end < length text
+    → 128 ≤ slice_index text end → IsPlacement (take end text) pieces → IsFirstBadOffset text end
 bad_behind text end pieces h top placed = record {
   within = omega (arith, h);
   begins = ([], pieces, rw (append-nil (take end text)) placed);
@@ -59,7 +52,8 @@ bad_behind text end pieces h top placed = record {
 
 -- a part up to a byte that isn't ASCII, or up to the end, that is wrong makes the whole wrong
 pub bad_in_prefix : (text : List ℕ) (end at : ℕ) → end ≤ length text
-    → (end < length text → 128 ≤ slice_index text end) → IsFirstBadOffset (take end text) at → IsFirstBadOffset text at
+    → (end < length text → 128 ≤ slice_index text end) → IsFirstBadOffset (take end text) at
+    → IsFirstBadOffset text at
 bad_in_prefix text end at h top bad =
     let long : length (take end text) ≡ end = length-take-le end text h in
     let within : at ≤ end = omega (arith, bad.within, long) in

@@ -1,27 +1,21 @@
 -- The events of a chunk, reported one after another.
-use Rattle.std.proofs.Common.{◌≡◌, ◌↔◌, refl, sym, ap, ◌∙◌, ℕ, ◌+◌, ◌-◌, ◌<◌, ◌≤◌, List, [], ◌∷◌, ◌++◌, append_assoc, append-nil, length, take, drop, set, Some, None, Option, is_some, Bool, true, false, IsTrue, arith, inl, inr}
-use Rattle.std.proofs.Common.{rules}
-use Rattle.std.proofs.Math.Seq.{take-add}
-use Rattle.std.proofs.lemmas.Bool.{cases_lt}
-use Rattle.std.proofs.lemmas.Grind.{flat_map-append, common_steps}
-use Rattle.std.proofs.lemmas.List.{drop-drop, drop-set-lt, length-append, length-drop, length-set, length-take, map-append, nil_from_length, take-append-drop, take_all, take_more_set}
-use Rattle.dgt_decode.specs.Grammar.{Event, Placed, at_place, events, shifted, unfinished_message}
-use Rattle.dgt_decode.specs.Feeding.{FirstEvent, event_content, event_content_if_any}
-use Rattle.dgt_decode.specs.declared.event.Event as code
-use Rattle.dgt_decode.specs.Laws.{EventsAppend, UnfinishedAppend, UnfinishedIsPart, UnfinishedIsQuiet}
-use Rattle.dgt_host.specs.Host.{HostView, IsUnasked, host_after, host_after_event, host_after_events}
-use Rattle.dgt_c.specs.Chunks.{GoesOn, Reports, ReportsEach, UsesUpTo, bodies, each_reported, events_up_to}
-use Rattle.dgt_c.specs.Hearing.{flag}
-use Rattle.dgt_c.specs.Slices.{overwritten}
-use Rattle.dgt_c.specs.Reported.{body_said, reported_at}
+use Rattle.std.proofs.Common.{◌≡◌, ◌↔◌, refl, sym, ap, ◌∙◌, ℕ, ◌+◌, ◌-◌, ◌<◌, ◌≤◌, List, [], ◌∷◌, ◌++◌, append_assoc, append-nil, length, take, drop, set, Some, None, Option, is_some, Bool, true}
+use Rattle.std.proofs.{Common.{false, IsTrue, arith, inl, inr, rules}, Math.Seq.{take-add}, lemmas.{Bool.{cases_lt}, Grind.{flat_map-append, common_steps}, List.{drop-drop, drop-set-lt}}}
+use Rattle.{std.proofs.lemmas.List.{length-append, length-drop, length-set, length-take, map-append, nil_from_length, take-append-drop, take_all, take_more_set}, dgt_decode.specs.Feeding.{FirstEvent}}
+use Rattle.dgt_decode.specs.{Feeding.{event_content, event_content_if_any}, Grammar.{Event, Placed, at_place, events, shifted, unfinished_message}, Laws.{EventsAppend, UnfinishedAppend}}
+use Rattle.{dgt_decode.specs.Laws.{UnfinishedIsPart, UnfinishedIsQuiet}, dgt_host.specs.Host.{HostView, IsUnasked, host_after, host_after_event, host_after_events}, dgt_c.specs.Chunks.{GoesOn}}
+use Rattle.dgt_c.specs.{Chunks.{Reports, ReportsEach, UsesUpTo, bodies, each_reported, events_up_to}, Hearing.{flag}, Reported.{body_said, reported_at}, Slices.{overwritten}}
 use Rattle.dgt_c.specs.declared.header.DgtEvent.{DgtEvent}
+use Rattle.dgt_decode.specs.declared.event.Event as code
 
 -- ---- More bytes
 
 -- the events of more bytes follow the earlier events
-events_more : EventsAppend → (held chunk : List ℕ) (i n : ℕ) → let s = held ++ take i chunk in
-    events_up_to held chunk (i + n) ≡ events_up_to held chunk i
-    ++ shifted (length s - length (unfinished_message s)) (events (unfinished_message s ++ take n (drop i chunk)))
+events_more : EventsAppend → (held chunk : List ℕ) (i n : ℕ)
+    → let s = held ++ take i chunk in
+    events_up_to held chunk (i + n)
+    ≡ events_up_to held chunk i ++ shifted (length s - length (unfinished_message s))
+    (events (unfinished_message s ++ take n (drop i chunk)))
 events_more later held chunk i n = search (rules, take-add, append_assoc)
 
 -- bytes that complete no event
@@ -41,14 +35,15 @@ quiet_prefix later s p none = prefix_nil (events s) _ (sym (later s p) ∙ none)
 -- ---- The first event of the remaining bytes
 
 -- the first k of some bytes, and the others of them
-pub prefix_and_rest : (k n : ℕ) (xs : List ℕ) → k ≤ n → take n xs ≡ take k xs ++ take (n - k) (drop k xs)
+pub prefix_and_rest : (k n : ℕ) (xs : List ℕ) → k ≤ n
+    → take n xs ≡ take k xs ++ take (n - k) (drop k xs)
 prefix_and_rest k n xs h =
     let whole : k + (n - k) ≡ n = omega arith in
     ap (λ (m : ℕ). take m xs) (sym whole) ∙ take-add k (n - k) xs
 
 -- before its last byte no used byte completes an event
-quiet_before : EventsAppend → (held rest : List ℕ) (n k : ℕ) (event : Option Event) → FirstEvent held rest n event
-    → k < n → events (held ++ take k rest) ≡ []
+quiet_before : EventsAppend → (held rest : List ℕ) (n k : ℕ) (event : Option Event)
+    → FirstEvent held rest n event → k < n → events (held ++ take k rest) ≡ []
 quiet_before later held rest n k None (all, none) h =
     quiet_prefix later (held ++ take k rest) (drop k rest)
     (search (rules, append_assoc, take-append-drop))
@@ -70,7 +65,13 @@ next_place held chunk i n =
 place_in_chunk : UnfinishedIsPart → (held chunk : List ℕ) (i n : ℕ) → i ≤ length chunk
     → next_place held chunk i n - length held ≡ i + n
 place_in_chunk part held chunk i n h =
-    omega (arith, h, part (held ++ take i chunk), length-append held (take i chunk), length-take i chunk)
+    omega (
+      arith,
+      h,
+      part (held ++ take i chunk),
+      length-append held (take i chunk),
+      length-take i chunk,
+    )
 
 one_used : EventsAppend → (held chunk : List ℕ) (i n : ℕ) (event : Event)
     → FirstEvent (unfinished_message (held ++ take i chunk)) (drop i chunk) n (Some event)
@@ -94,14 +95,15 @@ pub record HasRead (held chunk : List ℕ) (used count : ℕ) (old now : List Dg
 pub overwritten_nothing : (old : List ℕ) → overwritten old [] ≡ old
 overwritten_nothing old = search rules
 
-module _ (later : EventsAppend) (held chunk : List ℕ) (old : List DgtEvent) (old_body : List ℕ) where
+module _ (later : EventsAppend) (held chunk : List ℕ) (old : List DgtEvent)
+    (old_body : List ℕ) where
   pub nothing_read : events (held ++ []) ≡ [] → HasRead held chunk 0 0 old old 0 old_body old_body
   nothing_read none = search (rules, overwritten_nothing)
 
   -- while the loop goes on
   goes_on : (used count body_len : ℕ) (now : List DgtEvent) (body : List ℕ)
-      → HasRead held chunk used count old now body_len old_body body → count < length now → body_len ≡ 0
-      → GoesOn (length old) (events_up_to held chunk used)
+      → HasRead held chunk used count old now body_len old_body body → count < length now
+      → body_len ≡ 0 → GoesOn (length old) (events_up_to held chunk used)
   goes_on used count body_len now body before room no_body = search (rules, nil_from_length)
 
   least_more : (used n : ℕ) (event : Option Event)
@@ -117,8 +119,8 @@ module _ (later : EventsAppend) (held chunk : List ℕ) (old : List DgtEvent) (o
   ]
 
   pub none_read : (used n count body_len : ℕ) (now : List DgtEvent) (body : List ℕ)
-      → HasRead held chunk used count old now body_len old_body body → count < length now → body_len ≡ 0
-      → used < length chunk
+      → HasRead held chunk used count old now body_len old_body body → count < length now
+      → body_len ≡ 0 → used < length chunk
       → FirstEvent (unfinished_message (held ++ take used chunk)) (drop used chunk) n None
       → HasRead held chunk (used + n) count old now body_len old_body body
   none_read used n count body_len now body before room no_body more first =
@@ -134,13 +136,12 @@ module _ (later : EventsAppend) (held chunk : List ℕ) (old : List DgtEvent) (o
         least = least_more used n None before.least on first;
       }
 
-  pub one_read : (used n count body_len : ℕ) (now : List DgtEvent) (body : List ℕ) (event : Event) (reported : DgtEvent)
-      → HasRead held chunk used count old now body_len old_body body → count < length now → body_len ≡ 0
-      → used < length chunk
+  pub one_read : (used n count body_len : ℕ) (now : List DgtEvent) (body : List ℕ) (event : Event)
+      (reported : DgtEvent) → HasRead held chunk used count old now body_len old_body body
+      → count < length now → body_len ≡ 0 → used < length chunk
       → FirstEvent (unfinished_message (held ++ take used chunk)) (drop used chunk) n (Some event)
       → HasRead held chunk (used + n) (count + 1) old (set now count reported)
-      (length (body_said (Some event))) old_body
-      (overwritten body (body_said (Some event)))
+      (length (body_said (Some event))) old_body (overwritten body (body_said (Some event)))
   one_read used n count body_len now body event reported before room no_body more first =
       let x : Placed = at_place (next_place held chunk used n) event in
       let made = one_used later held chunk used n event first in
@@ -162,11 +163,12 @@ module _ (later : EventsAppend) (held chunk : List ℕ) (old : List DgtEvent) (o
   -- at the end of the loop
   uses_up_to : (used count body_len : ℕ) (now : List DgtEvent) (body : List ℕ)
       → HasRead held chunk used count old now body_len old_body body
-      → ((used < length chunk) × (count < length now) × (body_len ≡ 0) → ⊥) → UsesUpTo held chunk (length old) used
+      → ((used < length chunk) × (count < length now) × (body_len ≡ 0) → ⊥)
+      → UsesUpTo held chunk (length old) used
   uses_up_to used count body_len now body before ended = search rules
 
-  progress : (used : ℕ) → events (held ++ []) ≡ [] → UsesUpTo held chunk (length old) used → 0 < length chunk
-      → 0 < length old → 0 < used
+  progress : (used : ℕ) → events (held ++ []) ≡ [] → UsesUpTo held chunk (length old) used
+      → 0 < length chunk → 0 < length old → 0 < used
   progress used none uses some room = search (rules, cases_lt)
 
 -- ---- A reader of a chunk: a host, or a decoder
@@ -179,16 +181,18 @@ pub record Hearer : Type 1 where
   pub after : S → List ℕ → S
   pub Reports : S → ℕ → Option Event → DgtEvent → Type 0
   pub ReportsAll : S → List Placed → List DgtEvent → Type 0
-  pub held_after : (x : S) (bytes : List ℕ) → held (after x bytes) ≡ unfinished_message (held x ++ bytes)
+  pub held_after : (x : S) (bytes : List ℕ)
+      → held (after x bytes) ≡ unfinished_message (held x ++ bytes)
   pub none_reported : (x : S) → ReportsAll x [] []
-  pub one_reported : (x : S) (bytes : List ℕ) (reported : List DgtEvent) (y : Placed) (one : DgtEvent)
+  pub one_reported : (x : S) (bytes : List ℕ) (reported : List DgtEvent) (y : Placed)
+      (one : DgtEvent)
       → ReportsAll x (events (held x ++ bytes)) reported
       → Reports (after x bytes) (y.place - length (held x)) (Some y.event) one
       → ReportsAll x (events (held x ++ bytes) ++ y ∷ []) (reported ++ one ∷ [])
 
-pub reports_more : (before : ℕ) (host : HostView) (made : List Placed) (reported : List DgtEvent) (x : Placed)
-    (one : DgtEvent)
-    → ReportsEach before host made reported → Reports before (host_after_events host made).awaited x one
+pub reports_more : (before : ℕ) (host : HostView) (made : List Placed) (reported : List DgtEvent)
+    (x : Placed) (one : DgtEvent) → ReportsEach before host made reported
+    → Reports before (host_after_events host made).awaited x one
     → ReportsEach before host (made ++ x ∷ []) (reported ++ one ∷ [])
 reports_more before host [] [] x one are is = (is, tt)
 reports_more before host (y ∷ made) (t ∷ reported) x one are is =
@@ -201,7 +205,8 @@ host = record {
   S = HostView;
   held = λ x. x.unread;
   after = host_after;
-  Reports = λ x place event reported. (unasked : Bool) × (IsTrue unasked ↔ IsUnasked x.awaited event)
+  Reports =
+      λ x place event reported. (unasked : Bool) × (IsTrue unasked ↔ IsUnasked x.awaited event)
       × (reported ≡ record (reported_at place event) { unasked = flag unasked });
   ReportsAll = λ x. ReportsEach (length x.unread) x;
   held_after = λ x bytes. refl;
@@ -229,32 +234,38 @@ decoder = record {
 
 -- hearing bytes in two chunks is the same as hearing them in one
 abbrev pub InChunks : Hearer → Type 0
-InChunks K = (x : K.S) (bytes more : List ℕ) → K.after (K.after x bytes) more ≡ K.after x (bytes ++ more)
+InChunks K =
+    (x : K.S) (bytes more : List ℕ) → K.after (K.after x bytes) more ≡ K.after x (bytes ++ more)
 
 pub fed_in_chunks : UnfinishedAppend → InChunks decoder
-fed_in_chunks still x bytes more = sym (still (x ++ bytes) more) ∙ ap unfinished_message (append_assoc x bytes more)
+fed_in_chunks still x bytes more =
+    sym (still (x ++ bytes) more) ∙ ap unfinished_message (append_assoc x bytes more)
 
 -- It has heard `used` bytes and reported `count` events.
-pub record HasHeard (K : Hearer) (x now : K.S) (chunk : List ℕ) (used count : ℕ) (old reported : List DgtEvent)
+pub record HasHeard (K : Hearer) (x now : K.S) (chunk : List ℕ) (used count : ℕ)
+    (old reported : List DgtEvent)
     (body_len : ℕ) (old_body body : List ℕ) : Type 0 where
   pub read : HasRead (K.held x) chunk used count old reported body_len old_body body
   pub heard : now ≡ K.after x (take used chunk)
   pub reports : K.ReportsAll x (events_up_to (K.held x) chunk used) (take count reported)
 
-module _ (K : Hearer) (later : EventsAppend) (x : K.S) (chunk : List ℕ) (old : List DgtEvent) (old_body : List ℕ) where
+module _ (K : Hearer) (later : EventsAppend) (x : K.S) (chunk : List ℕ) (old : List DgtEvent)
+    (old_body : List ℕ) where
   -- Unfinished bytes complete no event.
-  no_event : UnfinishedIsQuiet → unfinished_message (K.held x) ≡ K.held x → events (K.held x ++ []) ≡ []
+  no_event : UnfinishedIsQuiet → unfinished_message (K.held x) ≡ K.held x
+      → events (K.held x ++ []) ≡ []
   no_event quiet same = ap events (append-nil (K.held x) ∙ sym same) ∙ quiet.no_event (K.held x)
 
-  pub heard_nothing : UnfinishedIsQuiet → unfinished_message (K.held x) ≡ K.held x → K.after x [] ≡ x
-      → HasHeard K x x chunk 0 0 old old 0 old_body old_body
+  pub heard_nothing : UnfinishedIsQuiet → unfinished_message (K.held x) ≡ K.held x
+      → K.after x [] ≡ x → HasHeard K x x chunk 0 0 old old 0 old_body old_body
   heard_nothing quiet same still = search (rules, no_event, quiet, nothing_read)
 
   heard_more : InChunks K → (before after : K.S) (i n : ℕ) → before ≡ K.after x (take i chunk)
       → after ≡ K.after before (take n (drop i chunk)) → after ≡ K.after x (take (i + n) chunk)
   heard_more in_chunks before after i n e f = search (rules, take-add)
 
-  pub one_heard : UnfinishedIsPart → InChunks K → (before after : K.S) (used n count body_len : ℕ) (now : List DgtEvent)
+  pub one_heard : UnfinishedIsPart → InChunks K
+      → (before after : K.S) (used n count body_len : ℕ) (now : List DgtEvent)
       (body said new_body : List ℕ) (event : Option code.Event) (reported : DgtEvent)
       → HasHeard K x before chunk used count old now body_len old_body body
       → (used < length chunk) × (count < length now) × (body_len ≡ 0)
@@ -262,8 +273,10 @@ module _ (K : Hearer) (later : EventsAppend) (x : K.S) (chunk : List ℕ) (old :
       → after ≡ K.after before (take n (drop used chunk)) → is_some event ≡ true
       → K.Reports before (used + n) (event_content_if_any event) reported
       → said ≡ body_said (event_content_if_any event) → new_body ≡ overwritten body said
-      → HasHeard K x after chunk (used + n) (count + 1) old (set now count reported) (length said) old_body new_body
-  one_heard part in_chunks before after used n count body_len now body said new_body None reported has on first hears
+      → HasHeard K x after chunk (used + n) (count + 1) old (set now count reported) (length said)
+      old_body new_body
+  one_heard part in_chunks before after used n count body_len now body said new_body None reported
+      has on first hears
       some
       is_reported is_said is_body = absurd cc
   one_heard part in_chunks before after used n count body_len now body said new_body
@@ -286,14 +299,16 @@ module _ (K : Hearer) (later : EventsAppend) (x : K.S) (chunk : List ℕ) (old :
         reports = search (rules, take_more_set);
       }
 
-  pub none_heard : InChunks K → (before after : K.S) (used n count body_len : ℕ) (now : List DgtEvent)
-      (body : List ℕ) (event : Option code.Event)
+  pub none_heard : InChunks K
+      → (before after : K.S) (used n count body_len : ℕ) (now : List DgtEvent) (body : List ℕ)
+      (event : Option code.Event)
       → HasHeard K x before chunk used count old now body_len old_body body
       → (used < length chunk) × (count < length now) × (body_len ≡ 0)
       → FirstEvent (K.held before) (drop used chunk) n (event_content_if_any event)
       → after ≡ K.after before (take n (drop used chunk)) → is_some event ≡ false
       → HasHeard K x after chunk (used + n) count old now body_len old_body body
-  none_heard in_chunks before after used n count body_len now body (Some e) has on first hears none =
+  none_heard in_chunks before after used n count body_len now body (Some e) has on first hears
+      none =
       absurd cc
   none_heard in_chunks before after used n count body_len now body None has on first hears none =
       let held : K.held before ≡ unfinished_message (K.held x ++ take used chunk) =
@@ -309,4 +324,5 @@ module _ (K : Hearer) (later : EventsAppend) (x : K.S) (chunk : List ℕ) (old :
 
   pub uses_some : UnfinishedIsQuiet → unfinished_message (K.held x) ≡ K.held x → (used : ℕ)
       → UsesUpTo (K.held x) chunk (length old) used → 0 < length chunk → 0 < length old → 0 < used
-  uses_some quiet same used = progress later (K.held x) chunk old old_body used (no_event quiet same)
+  uses_some quiet same used =
+      progress later (K.held x) chunk old old_body used (no_event quiet same)

@@ -1,40 +1,18 @@
 -- The code of each handle's `get` borrows the value that the handle points to, and the handle
 -- follows it.
-use Rattle.std.proofs.Common.{◌≡◌, ℕ, List, [], ◌∷◌, refl, sym, ap, ◌∙◌}
-use Rattle.std.proofs.raw_atomic.Walks.{proved}
-use Rattle.std.proofs.VecSteps.Shapes.{after}
+use Rattle.{std.proofs.{Common.{◌≡◌, ℕ, List, [], ◌∷◌, refl, sym, ap, ◌∙◌}, VecSteps.Shapes.{after}, raw_atomic.Walks.{proved}}, dgt_c.proofs.HandleRow.{Handle, code_of, handle_row, handle_type}}
+use Rattle.dgt_c.proofs.HandleRow.{with_inside}
 use seplogic.Ra.Ura.{Ura}
-use base.Fraction.{full_share}
-use base.Logic.{ent, sep, emp, id⊢}
-use base.Fml.{GName, Fml, ftrue, flft, fsep}
-use mir.Syntax.{Fn, Callee, named, erased, mut, ty_ptr, ty_ref, local, value_local, place, deref, field, copy, rv_opd, addr_of, seq, assign, block, return}
-use mir.Val.{Val, vptr, vstruct, vcons, vnil}
-use prog.Model.{Model}
-use prog.Wp.{Closed}
-use contract.Monad.{fact}
-use contract.Running.{Running, tables}
-use types.Logic.{Logic, sem}
-use types.Kit.{‵, raw, ◌⊛◌, some, later, at_ret, ◌$◌, ◌∵◌, !, qed, done, move, keep, drop, use1, split, join, fsplit, fsplit3, fjoin, fpack, pick, await, rewrite, suffices, frame, group}
-use types.Part.{whole, sub, look_in}
-use types.Run.{enter, of_opd, addr, load, stop, fld, first, blocks, exec, returns}
-use types.ByLocal.{alloc_all, pass_all, free_all, look_at, get, through, sets, sets_last, env}
-use denote.Exit.{no}
-use denote.Follow.{follows, Part, lends_Part}
-use denote.Laws.{shows}
-use denote.Memory.{mem, cell_at, part_at, part_of, lone, pointee}
-use denote.RattleType.{RattleType}
-use denote.RawPtr.{Ptr, block_ptr, ptr_val, lies_at, in_a_block}
-use denote.Ref.{MutBor, MutRef, mut_vals, mut_Tells}
-use denote.Signature.{plain, mut_ref_to}
-use denote.Steps.{nothing, opens, peeks}
-use denote.Struct.Laws.{RawPtr-laws}
-use denote.Struct.Owning.{shape}
-use denote.Struct.OwningLaws.{Tells-lowered}
-use denote.Struct.Struct.{Struct}
-use denote.Triple.Clauses.{Clauses, Ended, closing}
-use denote.Triple.Spec.{Meets}
-use denote.Triple.Walked.{Stays, walk_of, says, stay_dropped, Goes-spent_ref, ends_at}
-use Rattle.dgt_c.proofs.HandleRow.{Handle, code_of, handle_row, handle_type, with_inside}
+use base.{Fraction.{full_share}, Logic.{ent, sep, emp, id⊢}, Fml.{GName, Fml, ftrue, flft, fsep}}
+use mir.{Syntax.{Fn, Callee, named, erased, mut, ty_ptr, ty_ref, local, value_local, place, deref, field, copy, rv_opd, addr_of, seq, assign, block, return}, Val.{Val, vptr, vstruct, vcons, vnil}}
+use prog.{Model.{Model}, Wp.{Closed}}
+use contract.{Monad.{fact}, Running.{Running, tables}}
+use types.{Logic.{Logic, sem}, Kit.{‵, raw, ◌⊛◌, some, later, at_ret, ◌$◌, ◌∵◌, !, qed, done, move, keep, drop, use1, split, join, fsplit, fsplit3, fjoin, fpack, pick, await, rewrite, suffices}}
+use types.{Kit.{frame, group}, Part.{whole, sub, look_in}, Run.{enter, of_opd, addr, load, stop, fld, first, blocks, exec, returns}, ByLocal.{alloc_all, pass_all, free_all, look_at, get, through}}
+use types.ByLocal.{sets, sets_last, env}
+use denote.{Exit.{no}, Follow.{follows, Part, lends_Part}, Laws.{shows}, Memory.{mem, cell_at, part_at, part_of, lone, pointee}, RattleType.{RattleType}, RawPtr.{Ptr, block_ptr, ptr_val, lies_at}}
+use denote.{RawPtr.{in_a_block}, Ref.{MutBor, MutRef, mut_vals, mut_Tells}, Signature.{plain, mut_ref_to}, Steps.{nothing, opens, peeks}, Struct.{Laws.{RawPtr-laws}, Owning.{shape}}}
+use denote.{Struct.{OwningLaws.{Tells-lowered}, Struct.{Struct}}, Triple.{Clauses.{Clauses, Ended, closing}, Spec.{Meets}, Walked.{Stays, walk_of, says, stay_dropped, Goes-spent_ref, ends_at}}}
 
 module _ (K : Handle) where
   abbrev T : RattleType
@@ -49,7 +27,9 @@ module _ (K : Handle) where
       ∷ local (ty_ref (named 0) mut (pointee R.written)) value_local
       ∷ local (ty_ref erased mut (pointee T.written)) value_local
       ∷ local ty_ptr value_local ∷ local ty_ptr value_local ∷ [])
-      (seq (block (seq (assign (place 3 []) (rv_opd (copy (place 1 (deref (lone R.mir) ∷ field 0 ∷ [])))))
+      (seq
+      (block
+      (seq (assign (place 3 []) (rv_opd (copy (place 1 (deref (lone R.mir) ∷ field 0 ∷ [])))))
       (seq (assign (place 4 []) (rv_opd (copy (place 3 []))))
       (assign (place 2 []) (addr_of (place 4 (deref (lone T.mir) ∷ [])))))))
       (seq (assign (place 0 []) (rv_opd (copy (place 2 [])))) return))
@@ -79,7 +59,8 @@ module _ (K : Handle) where
 
   -- what the handle owns in addition to the value
   abbrev Rest : K.D → List Val → ℕ → ℕ → Fml
-  Rest h us rb ro = fsep ((Struct (shape (handle_type K))).own_val (K.at h, tt) us) (cell_at full_share R.mir us rb ro)
+  Rest h us rb ro = fsep ((Struct (shape (handle_type K))).own_val (K.at h, tt) us)
+      (cell_at full_share R.mir us rb ro)
 
   -- the handle's machine value
   abbrev lowered : Ptr → Val
@@ -95,18 +76,21 @@ module _ (K : Handle) where
         let Words = λ (p : Ptr). ‵ ((Struct (shape (handle_type K))).own_val (p, tt) us) in
         qed 𝓛 (‵ (part_at T full_share w b o) ∷ ‵ (Rest h us rb ro) ∷ []) ∵
         rewrite ! 0 (λ (p : Ptr). ‵ (lies_at T full_share p w)) (sym e ∙ sym at_is) refl $
-        rewrite ! 0 (λ (x : T.Denot). ‵ (lies_at T full_share (K.at h') x)) (sym (K.inside_is p w)) refl $
-        move ! (1 ∷ []) $ fsplit ! $ rewrite ! 0 Words (sym at_is) refl $
+        rewrite ! 0 (λ (x : T.Denot). ‵ (lies_at T full_share (K.at h') x)) (sym (K.inside_is p w))
+        refl $ move ! (1 ∷ []) $ fsplit ! $ rewrite ! 0 Words (sym at_is) refl $
         move ! (0 ∷ 2 ∷ []) $ fjoin ! $ move ! (1 ∷ 0 ∷ []) $ fjoin ! $
-        fpack ! (List Val) (λ ws. fsep (cell_at full_share R.mir ws rb ro) (R.own_val h' ws)) us $ done !
+        fpack ! (List Val) (λ ws. fsep (cell_at full_share R.mir ws rb ro) (R.own_val h' ws)) us $
+        done !
 
-  pub lends : {M : Type 1} (𝓤 : Ura M) (𝓛 : Logic 𝓤) (𝓜 : Model 𝓤 𝓛.H) (𝓡 : Running 𝓤 𝓛.H 𝓜) (k : Callee)
+  pub lends : {M : Type 1} (𝓤 : Ura M) (𝓛 : Logic 𝓤) (𝓜 : Model 𝓤 𝓛.H) (𝓡 : Running 𝓤 𝓛.H 𝓜)
+      (k : Callee)
       → let 𝓣 = tables 𝓤 𝓛.H 𝓜 𝓡 𝓡.env in Closed 𝓤 𝓛.H 𝓣.C 𝓣.Λ k lending
       → Meets 𝓛 ended.signature (𝓣.C k) (closing 𝓛 ended (clauses 𝓛))
   lends 𝓤 𝓛 𝓜 𝓡 k closed =
       let c = clauses 𝓛 in let W = walk_of 𝓛 ended stayed c in
       let 𝓣 = tables 𝓤 𝓛.H 𝓜 𝓡 𝓡.env in
-      proved 𝓛 ended stayed c 𝓜 𝓡 (Goes-spent_ref 𝓛 1 (0 ∷ []) tt (plain (λ _. R)), tt) k lending closed
+      proved 𝓛 ended stayed c 𝓜 𝓡 (Goes-spent_ref 𝓛 1 (0 ∷ []) tt (plain (λ _. R)), tt) k lending
+      closed
       (λ κs. (mut_vals, tt)) (λ κs. (mut_Tells (named 0) κs.0 R, tt)) (λ κs qs bounds a _ are.
       let κ = κs.0 in let q = qs.0 in let rb = a.0.ref_ptr.0 in let ro = a.0.ref_ptr.1 in
       let γ = a.0.ghost_name in let h = a.0.now in let vs = mut_vals a.0 in
@@ -119,7 +103,8 @@ module _ (K : Handle) where
       fsplit3 ! $ drop ! $ move ! (0 ∷ 1 ∷ 2 ∷ []) $ opens ! tt R rb ro (λ us.
       move ! (1 ∷ []) $ peeks ! R _ (shows 𝓛 R) h us (λ is. fsplit ! $ move ! (1 ∷ []) $
       in_a_block ! (K.at h) (λ p. lies_at T full_share p (K.inside h)) (id⊢ 𝓤 _) (λ b o e.
-      let word = Tells-lowered (handle_type K) (RawPtr-laws, tt) h us is ∙ ap (λ (p : Ptr). lowered p ∷ []) e in
+      let word = Tells-lowered (handle_type K) (RawPtr-laws, tt) h us is
+      ∙ ap (λ (p : Ptr). lowered p ∷ []) e in
       let Cell = λ (ws : List Val). ‵ (cell_at full_share R.mir ws rb ro) in
       rewrite ! 2 Cell word refl $
       -- [what is inside; what the fields own; the handle's cell; the open borrow, in three entries]

@@ -1,17 +1,9 @@
 -- A handle of C's as a row: a struct of one pointer, which owns the value there.
 use Rattle.std.proofs.Common.{◌≡◌, ℕ, List, [], ◌∷◌, rules}
-use base.Fraction.{full_share}
-use base.Shift.{Keyless}
-use base.Stored.{Coded}
+use base.{Fraction.{full_share}, Shift.{Keyless}, Stored.{Coded}}
 use mir.Syntax.{Sym, Fn, Local, Body}
-use denote.Param.Laws.{Laws}
-use denote.Param.Send.{IsSend, part_keyless}
-use denote.RattleType.{RattleType}
-use denote.RawPtr.{Ptr, block_ptr, null_ptr, lies_at}
-use denote.Struct.Field.{RawPtr-field}
-use denote.Struct.Owning.{Owning, owning, row}
-use denote.Struct.Record.{Record, Also, Done}
-use denote.Struct.Values.{Values}
+use denote.{Param.{Laws.{Laws}, Send.{IsSend, part_keyless}}, RattleType.{RattleType}, RawPtr.{Ptr, block_ptr, null_ptr, lies_at}, Struct.{Field.{RawPtr-field}, Owning.{Owning, owning, row}}}
+use denote.Struct.{Record.{Record, Also, Done}, Values.{Values}}
 
 lies : (R : RattleType) → IsSend R → (p : Ptr) (x : R.Denot) → Keyless (lies_at R full_share p x)
 lies R s (block_ptr b o) x = part_keyless R s full_share x b o
@@ -34,8 +26,9 @@ pub record Handle : Type 2 where
 -- that of a struct, as contracts see it
 abbrev pub handle : (R : RattleType) → Laws R → (N : Record)
     → ((v : Values (RawPtr-field ∷ [])) → Coded (Also R.Denot (λ _. Done))) → (at : N.D → Ptr)
-    → (inside : N.D → R.Denot) → (make : Ptr → R.Denot → N.D) → ((d : N.D) → make (at d) (inside d) ≡ d)
-    → ((p : Ptr) (x : R.Denot) → at (make p x) ≡ p) → ((p : Ptr) (x : R.Denot) → inside (make p x) ≡ x) → Handle
+    → (inside : N.D → R.Denot) → (make : Ptr → R.Denot → N.D)
+    → ((d : N.D) → make (at d) (inside d) ≡ d) → ((p : Ptr) (x : R.Denot) → at (make p x) ≡ p)
+    → ((p : Ptr) (x : R.Denot) → inside (make p x) ≡ x) → Handle
 handle R laws N codes at inside make made at_is inside_is = record {
   inside_row = R;
   laws = laws;

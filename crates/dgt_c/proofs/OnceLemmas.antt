@@ -1,51 +1,39 @@
 -- Two reports of one chunk or of one struct are the same.
-use Rattle.std.proofs.Common.{◌≡◌, ◌↔◌, refl, sym, ap, ◌∙◌, subst, ℕ, ◌-◌, ◌≤◌, List, [], ◌∷◌, ◌++◌, append_assoc, length, map, take, drop, Some, None, Option, Bool, IsTrue, arith, inl, inr, min, length-drop, length-take, take-append-drop}
-use Rattle.std.proofs.Common.{rules}
-use Rattle.std.proofs.lemmas.Bool.{cases_lt}
-use Rattle.dgt_values.specs.declared.pieces.Piece.{Piece}
-use Rattle.dgt_values.specs.Board.{piece_code}
-use Rattle.dgt_decode.specs.Feeding.{FirstEvent}
-use Rattle.dgt_decode.specs.Grammar.{Event, Placed}
-use Rattle.dgt_command.specs.Content.{EventContent}
-use Rattle.dgt_command.specs.Laws.{NoWordBeginsAPart, NoWordBeginsAnother}
-use Rattle.dgt_command.specs.Words.{IsPartial, IsWord}
-use Rattle.dgt_host.specs.Host.{HostView, host_after_event}
-use Rattle.dgt_c.specs.Chunks.{Reports}
-use Rattle.dgt_c.specs.Commands.{CommandReporting, ReportsCommand}
-use Rattle.dgt_c.specs.Hearing.{Reporting, ReportsEvent, flag}
-use Rattle.dgt_c.specs.Once.{AreSameCommands, AreSameReports, BusyBoardsStay, ClocksAreInRange, IdentitiesAreInRange, MessagesAreEncoded, MessagesAreRead, NothingIsEncoded, OneClock, OneEncoding, OneFeed, OneHearing, OneReportEach, OneStart, OneTaking, OneUse, OneWord, RefusedCommandsStay, RoomIsLeft, TextsAreShown}
-use Rattle.dgt_c.specs.Reading.{ReadsWord}
-use Rattle.dgt_c.specs.Reported.{reported_at}
-use Rattle.dgt_c.specs.Slices.{overwritten}
-use Rattle.dgt_c.specs.declared.header.DgtEvent.{DgtEvent}
+use Rattle.std.proofs.Common.{◌≡◌, ◌↔◌, refl, sym, ap, ◌∙◌, subst, ℕ, ◌-◌, ◌≤◌, List, [], ◌∷◌, ◌++◌, append_assoc, length, map, take, drop, Some, None, Option, Bool, IsTrue, arith, inl, inr, min}
+use Rattle.{std.proofs.{Common.{length-drop, length-take, take-append-drop, rules}, lemmas.{Bool.{cases_lt}, Grind.{common_steps}}}, dgt_values.specs.Board.{piece_code}}
+use Rattle.{dgt_values.specs.declared.pieces.Piece.{Piece}, dgt_decode.specs.{Feeding.{FirstEvent}, Grammar.{Event, Placed}}, dgt_command.specs.{Content.{EventContent}, Laws.{NoWordBeginsAPart}}}
+use Rattle.{dgt_command.specs.{Laws.{NoWordBeginsAnother}, Words.{IsPartial, IsWord}}, dgt_host.specs.Host.{HostView, host_after_event}, dgt_c.specs.{Chunks.{Reports}, Commands.{CommandReporting}}}
+use Rattle.dgt_c.specs.{Commands.{ReportsCommand}, Hearing.{Reporting, ReportsEvent, flag}, Once.{AreSameCommands, AreSameReports, BusyBoardsStay, ClocksAreInRange, IdentitiesAreInRange}}
+use Rattle.dgt_c.specs.Once.{MessagesAreEncoded, MessagesAreRead, NothingIsEncoded, OneClock, OneEncoding, OneFeed, OneHearing, OneReportEach, OneStart, OneTaking, OneUse, OneWord}
+use Rattle.dgt_c.specs.{Once.{RefusedCommandsStay, RoomIsLeft, TextsAreShown}, Reading.{ReadsWord}, Reported.{reported_at}, Slices.{overwritten}, declared.header.DgtEvent.{DgtEvent}}
 use Rattle.dgt_c.proofs.ChunkLemmas.{overwritten_nothing, prefix_and_rest}
-use Rattle.std.proofs.lemmas.Grind.{common_steps}
 
 -- ---- events
 
 -- the properties required of a reader of messages
 abbrev pub OneFirstEvent : Type 0
 OneFirstEvent =
-    (held chunk : List ℕ) (j k : ℕ) (x y : Option Event) → FirstEvent held chunk j x → FirstEvent held chunk k y
-    → (j ≡ k) × (x ≡ y)
+    (held chunk : List ℕ) (j k : ℕ) (x y : Option Event) → FirstEvent held chunk j x
+    → FirstEvent held chunk k y → (j ≡ k) × (x ≡ y)
 
 -- the struct of an event with its place, and whether it is unasked
 abbrev struct_of : ℕ → Option Event → Bool → DgtEvent
 struct_of place event unasked = record (reported_at place event) { unasked = flag unasked }
 
-same_struct : (j k : ℕ) (x y : Option Event) (a b : Bool) → j ≡ k → x ≡ y → a ≡ b → struct_of j x a ≡ struct_of k y b
+same_struct : (j k : ℕ) (x y : Option Event) (a b : Bool) → j ≡ k → x ≡ y → a ≡ b
+    → struct_of j x a ≡ struct_of k y b
 same_struct j k x y a b e f g = search rules
 
-same_reports : (j k : ℕ) (x y : Option Event) (a b : Bool) (first second : Reporting) → first.old ≡ second.old
-    → j ≡ k → x ≡ y → a ≡ b → ReportsEvent j x a first → ReportsEvent k y b second
-    → AreSameReports first second
+same_reports : (j k : ℕ) (x y : Option Event) (a b : Bool) (first second : Reporting)
+    → first.old ≡ second.old → j ≡ k → x ≡ y → a ≡ b → ReportsEvent j x a first
+    → ReportsEvent k y b second → AreSameReports first second
 same_reports j k x y a b first second old e f g p q = search (rules, same_struct)
 
 pub one_feed : OneFirstEvent → OneFeed
 one_feed once held chunk used other first second old p q = search (rules, same_reports)
 
-same_unasked : {A : Type 0} (P : A → Type 0) (x y : A) (a b : Bool) → x ≡ y → (IsTrue a ↔ P x) → (IsTrue b ↔ P y)
-    → a ≡ b
+same_unasked : {A : Type 0} (P : A → Type 0) (x y : A) (a b : Bool) → x ≡ y → (IsTrue a ↔ P x)
+    → (IsTrue b ↔ P y) → a ≡ b
 same_unasked P x y a b e p q = search rules
 
 pub one_hearing : OneFirstEvent → OneHearing
@@ -94,20 +82,22 @@ module _ (begins : NoWordBeginsAnother) (parts : NoWordBeginsAPart) where
       = search (rules, append_assoc, take-append-drop) in
       parts y (held ++ take k chunk) (drop k chunk) q (subst IsPartial whole p)
 
-  one_read : (held chunk : List ℕ) (j k : ℕ) (x y : Option EventContent) → j ≤ length chunk → k ≤ length chunk
-      → ReadsWord held chunk j x → ReadsWord held chunk k y → (j ≡ k) × (x ≡ y)
+  one_read : (held chunk : List ℕ) (j k : ℕ) (x y : Option EventContent) → j ≤ length chunk
+      → k ≤ length chunk → ReadsWord held chunk j x → ReadsWord held chunk k y → (j ≡ k) × (x ≡ y)
   one_read held chunk j k None None f g p q = (p.0 ∙ sym q.0, refl)
   one_read held chunk j k None (Some y) f g p q = absurd (no_part held chunk k y p.1 q)
   one_read held chunk j k (Some x) None f g p q = absurd (no_part held chunk j x q.1 p)
   one_read held chunk j k (Some x) (Some y) f g p q = elim (cases_lt j k) [
     | inl less ↦
-        let same = one_event held chunk j k x y (omega (arith, less)) g p q in (same.0, ap Some same.1)
+        let same = one_event held chunk j k x y (omega (arith, less)) g p q in
+        (same.0, ap Some same.1)
     | inr late ↦
         let same = one_event held chunk k j y x late f q p in (sym same.0, ap Some (sym same.1))
   ]
 
-  same_commands : (x y : Option EventContent) (first second : CommandReporting) → first.old ≡ second.old → x ≡ y
-      → ReportsCommand x first → ReportsCommand y second → AreSameCommands first second
+  same_commands : (x y : Option EventContent) (first second : CommandReporting)
+      → first.old ≡ second.old → x ≡ y → ReportsCommand x first → ReportsCommand y second
+      → AreSameCommands first second
   same_commands x y first second old e p q = search rules
 
   pub one_word : OneWord
@@ -137,7 +127,8 @@ pieces_once one (x ∷ xs) [] e = absurd (cc)
 pieces_once one (x ∷ xs) (y ∷ ys) e =
     let first : piece_code x ≡ piece_code y = cc in
     let rest : map piece_code xs ≡ map piece_code ys = cc in
-    ap (λ (p : Piece). p ∷ xs) (one x y first) ∙ ap (λ (l : List Piece). y ∷ l) (pieces_once one xs ys rest)
+    ap (λ (p : Piece). p ∷ xs) (one x y first)
+    ∙ ap (λ (l : List Piece). y ∷ l) (pieces_once one xs ys rest)
 
 pub one_start : ((a b : Piece) → piece_code a ≡ piece_code b → a ≡ b) → OneStart
 one_start one codes clock identity board other p q =

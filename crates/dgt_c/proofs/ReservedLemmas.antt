@@ -1,16 +1,12 @@
 -- The reserved members of reports are 0.
-use Rattle.std.proofs.Common.{◌≡◌, ◌∙◌, ap, ℕ, ◌-◌, List, Option, Some, rules}
-use Rattle.std.specs.Prelude.{replicate}
-use Rattle.dgt_message.specs.Reading.{reading}
-use Rattle.dgt_decode.specs.Grammar.{Event, reading_event}
-use Rattle.dgt_c.specs.Once.{CommandsReserveZeros, ReportsReserveZeros, ViewsReserveZeros}
-use Rattle.dgt_c.specs.Reported.{event_reported, reported_at}
-use Rattle.dgt_c.specs.declared.header.DgtEvent.{DgtEvent}
+use Rattle.{std.{proofs.Common.{◌≡◌, ◌∙◌, ap, ℕ, ◌-◌, List, Option, Some, rules}, specs.Prelude.{replicate}}, dgt_message.specs.Reading.{reading}, dgt_decode.specs.Grammar.{Event, reading_event}}
+use Rattle.dgt_c.specs.{Once.{CommandsReserveZeros, ReportsReserveZeros, ViewsReserveZeros}, Reported.{event_reported, reported_at}, declared.header.DgtEvent.{DgtEvent}}
 
 event_zeros : (event : Option Event) → (event_reported event).reserved ≡ replicate 29 0
 event_zeros event = search rules
 
-place_zeros : (place : ℕ) (event : Option Event) → (reported_at place event).reserved ≡ replicate 29 0
+place_zeros : (place : ℕ) (event : Option Event)
+    → (reported_at place event).reserved ≡ replicate 29 0
 place_zeros place event = search (rules, event_zeros)
 
 abbrev reserved : DgtEvent → List ℕ

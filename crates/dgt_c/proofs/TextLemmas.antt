@@ -1,13 +1,9 @@
 -- The struct and the body that report an event describe it, and its text is written.
-use Rattle.std.proofs.Common.{ℕ, Some, rules}
-use Rattle.dgt_message.specs.declared.viewing.BodyFault.{BodyFault}
-use Rattle.dgt_decode.specs.Grammar.{Refused}
-use Rattle.dgt_c.specs.Once.{EventsAreRead, EventsHaveTexts, NothingHasNoText, ReportsAreSaid}
-use Rattle.dgt_c.proofs.EncodingLemmas.{carried_bytes, other_code}
-use Rattle.dgt_c.specs.Reported.{reported_at}
-use Rattle.dgt_c.specs.Texts.{SaysFault}
+use Rattle.{std.proofs.Common.{ℕ, Some, rules}, dgt_message.specs.declared.viewing.BodyFault.{BodyFault}, dgt_decode.specs.Grammar.{Refused}, dgt_c.specs.Once.{EventsAreRead, EventsHaveTexts}}
+use Rattle.dgt_c.{specs.{Once.{NothingHasNoText, ReportsAreSaid}, Reported.{reported_at}, Texts.{SaysFault}}, proofs.EncodingLemmas.{carried_bytes, other_code}}
 
-fault_said : (place code : ℕ) (fault : BodyFault) → SaysFault (reported_at place (Some (Refused code fault))) fault
+fault_said : (place code : ℕ) (fault : BodyFault)
+    → SaysFault (reported_at place (Some (Refused code fault))) fault
 fault_said place code fault = search rules
 
 pub reports_are_said : ReportsAreSaid

@@ -1,5 +1,4 @@
-use Rattle.std.proofs.Common.{◌≡◌, length, map, take}
-use Rattle.dgt_values.specs.Bytes.{number}
+use Rattle.{std.proofs.Common.{◌≡◌, length, map, take}, dgt_values.specs.Bytes.{number}}
 use Rattle.dgt_c.proofs.checking.read_seven_bits.Given as goal
 
 abbrev pub invariant-loop-index : goal.invariant-loop-index

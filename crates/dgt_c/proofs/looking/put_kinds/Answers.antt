@@ -1,7 +1,4 @@
-use Rattle.std.proofs.Common.{arith, ◌<◌, length}
-use Rattle.dgt_values.specs.declared.kinds.Kind.TheVariants.{Dump}
-use Rattle.dgt_c.specs.Kinds.{asking_code}
-use Rattle.dgt_c.proofs.Codes.{one_more_in_prefix}
+use Rattle.{std.proofs.Common.{arith, ◌<◌, length}, dgt_values.specs.declared.kinds.Kind.TheVariants.{Dump}, dgt_c.{specs.Kinds.{asking_code}, proofs.Codes.{one_more_in_prefix}}}
 use Rattle.dgt_c.proofs.looking.put_kinds.Goals as goal
 
 pub loop-index-preserved : goal.loop-index-preserved

@@ -1,5 +1,4 @@
-use Rattle.std.proofs.Common.{◌≡◌, ◌++◌, drop, map, take}
-use Rattle.dgt_c.specs.Kinds.{asking_code}
+use Rattle.{std.proofs.Common.{◌≡◌, ◌++◌, drop, map, take}, dgt_c.specs.Kinds.{asking_code}}
 use Rattle.dgt_c.proofs.looking.put_kinds.Given as goal
 
 abbrev pub invariant-loop-index : goal.invariant-loop-index

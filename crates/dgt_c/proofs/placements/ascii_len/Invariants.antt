@@ -1,5 +1,4 @@
-use Rattle.std.proofs.Common.{ℕ, ◌<◌}
-use Rattle.std.specs.Prelude.{slice_index}
+use Rattle.std.{proofs.Common.{ℕ, ◌<◌}, specs.Prelude.{slice_index}}
 use Rattle.dgt_c.proofs.placements.ascii_len.Given as goal
 
 abbrev pub invariant-loop-index : goal.invariant-loop-index

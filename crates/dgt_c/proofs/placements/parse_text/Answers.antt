@@ -1,7 +1,5 @@
-use Rattle.std.proofs.lemmas.Str.{IsUtf8-from_ascii}
-use Rattle.dgt_c.proofs.AsciiLemmas.{ascii_prefix, bad_behind, bad_in_prefix}
+use Rattle.{std.proofs.{Common.{rules}, lemmas.Str.{IsUtf8-from_ascii}}, dgt_c.proofs.AsciiLemmas.{ascii_prefix, bad_behind, bad_in_prefix}}
 use Rattle.dgt_c.proofs.placements.parse_text.Goals as goal
-use Rattle.std.proofs.Common.{rules}
 
 pub unreachable-requires : goal.unreachable-requires
 unreachable-requires c =

@@ -1,12 +1,6 @@
 -- `dgt_board_init` makes the handle and its value.
-use Rattle.dgt_c.specs.PlainBoard.{plain_board}
-use Rattle.dgt_c.proofs.plain_board.board_of_program.Symbol.{name as new}
-use Rattle.dgt_c.proofs.plain_board.board_of_program.Met.{met}
-use Rattle.dgt_c.specs.contracts.places.BoardPlace.{struct}
-use Rattle.dgt_c.specs.contracts.places.dgt_board_init.Key.{name}
-use Rattle.dgt_c.proofs.EachHandle.{board}
-use Rattle.dgt_c.proofs.HandleMaking.{makes}
-use Rattle.dgt_c.proofs.places.dgt_board_init.Statement.{statement}
+use Rattle.dgt_c.{specs.{PlainBoard.{plain_board}, contracts.places.{BoardPlace.{struct}, dgt_board_init.Key.{name}}}, proofs.{EachHandle.{board}, HandleMaking.{makes}}}
+use Rattle.dgt_c.proofs.{places.dgt_board_init.Statement.{statement}, plain_board.board_of_program.{Met.{met}, Symbol.{name as new}}}
 use Rattle.dgt_c.proofs.places.dgt_board_init.Code as code
 
 pub dgt_board_init_spec : {M : Type 1} → statement M

@@ -1,12 +1,6 @@
 -- `dgt_command_decoder_init` makes the handle and its value.
-use Rattle.std.proofs.Common.{[]}
-use Rattle.dgt_command.proofs.decoder.CommandDecoder.new.Symbol.{name as new}
-use Rattle.dgt_command.proofs.decoder.CommandDecoder.new.Met.{met}
-use Rattle.dgt_c.specs.contracts.places.CommandDecoderPlace.{struct}
-use Rattle.dgt_c.specs.contracts.places.dgt_command_decoder_init.Key.{name}
-use Rattle.dgt_c.proofs.EachHandle.{command_decoder}
-use Rattle.dgt_c.proofs.HandleMaking.{makes}
-use Rattle.dgt_c.proofs.places.dgt_command_decoder_init.Statement.{statement}
+use Rattle.{std.proofs.Common.{[]}, dgt_command.proofs.decoder.CommandDecoder.new.{Met.{met}, Symbol.{name as new}}, dgt_c.specs.contracts.places.CommandDecoderPlace.{struct}}
+use Rattle.dgt_c.{specs.contracts.places.dgt_command_decoder_init.Key.{name}, proofs.{EachHandle.{command_decoder}, HandleMaking.{makes}, places.dgt_command_decoder_init.Statement.{statement}}}
 use Rattle.dgt_c.proofs.places.dgt_command_decoder_init.Code as code
 
 pub dgt_command_decoder_init_spec : {M : Type 1} → statement M

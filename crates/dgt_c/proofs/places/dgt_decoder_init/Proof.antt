@@ -1,12 +1,6 @@
 -- `dgt_decoder_init` makes the handle and its value.
-use Rattle.std.proofs.Common.{[]}
-use Rattle.dgt_decode.proofs.decoder.Decoder.new.Symbol.{name as new}
-use Rattle.dgt_decode.proofs.decoder.Decoder.new.Met.{met}
-use Rattle.dgt_c.specs.contracts.places.DecoderPlace.{struct}
-use Rattle.dgt_c.specs.contracts.places.dgt_decoder_init.Key.{name}
-use Rattle.dgt_c.proofs.EachHandle.{decoder}
-use Rattle.dgt_c.proofs.HandleMaking.{makes}
-use Rattle.dgt_c.proofs.places.dgt_decoder_init.Statement.{statement}
+use Rattle.{std.proofs.Common.{[]}, dgt_decode.proofs.decoder.Decoder.new.{Met.{met}, Symbol.{name as new}}, dgt_c.specs.contracts.places.{DecoderPlace.{struct}, dgt_decoder_init.Key.{name}}}
+use Rattle.dgt_c.proofs.{EachHandle.{decoder}, HandleMaking.{makes}, places.dgt_decoder_init.Statement.{statement}}
 use Rattle.dgt_c.proofs.places.dgt_decoder_init.Code as code
 
 pub dgt_decoder_init_spec : {M : Type 1} → statement M

@@ -1,12 +1,6 @@
 -- `dgt_follower_init` makes the handle and its value.
-use Rattle.dgt_c.specs.PlainFollower.{plain_follower}
-use Rattle.dgt_c.proofs.plain_follower.default_follower.Symbol.{name as new}
-use Rattle.dgt_c.proofs.plain_follower.default_follower.Met.{met}
-use Rattle.dgt_c.specs.contracts.places.FollowerPlace.{struct}
-use Rattle.dgt_c.specs.contracts.places.dgt_follower_init.Key.{name}
-use Rattle.dgt_c.proofs.EachHandle.{follower}
-use Rattle.dgt_c.proofs.HandleMaking.{makes}
-use Rattle.dgt_c.proofs.places.dgt_follower_init.Statement.{statement}
+use Rattle.dgt_c.{specs.{PlainFollower.{plain_follower}, contracts.places.{FollowerPlace.{struct}, dgt_follower_init.Key.{name}}}, proofs.{EachHandle.{follower}, HandleMaking.{makes}}}
+use Rattle.dgt_c.proofs.{places.dgt_follower_init.Statement.{statement}, plain_follower.default_follower.{Met.{met}, Symbol.{name as new}}}
 use Rattle.dgt_c.proofs.places.dgt_follower_init.Code as code
 
 pub dgt_follower_init_spec : {M : Type 1} → statement M

@@ -1,12 +1,6 @@
 -- `dgt_host_init` makes the handle and its value.
-use Rattle.dgt_host.specs.Host.{new_host}
-use Rattle.dgt_host.proofs.host.Host.new.Symbol.{name as new}
-use Rattle.dgt_host.proofs.host.Host.new.Met.{met}
-use Rattle.dgt_c.specs.contracts.places.HostPlace.{struct}
-use Rattle.dgt_c.specs.contracts.places.dgt_host_init.Key.{name}
-use Rattle.dgt_c.proofs.EachHandle.{host}
-use Rattle.dgt_c.proofs.HandleMaking.{makes}
-use Rattle.dgt_c.proofs.places.dgt_host_init.Statement.{statement}
+use Rattle.{dgt_host.{specs.Host.{new_host}, proofs.host.Host.new.{Met.{met}, Symbol.{name as new}}}, dgt_c.specs.contracts.places.{HostPlace.{struct}, dgt_host_init.Key.{name}}}
+use Rattle.dgt_c.proofs.{EachHandle.{host}, HandleMaking.{makes}, places.dgt_host_init.Statement.{statement}}
 use Rattle.dgt_c.proofs.places.dgt_host_init.Code as code
 
 pub dgt_host_init_spec : {M : Type 1} → statement M

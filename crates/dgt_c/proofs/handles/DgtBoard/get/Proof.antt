@@ -1,8 +1,5 @@
 -- `get` borrows the value that the handle owns.
-use Rattle.dgt_c.specs.contracts.handles.DgtBoard.get.Key.{name}
-use Rattle.dgt_c.proofs.EachHandle.{board}
-use Rattle.dgt_c.proofs.HandleLending.{lends}
-use Rattle.dgt_c.proofs.handles.DgtBoard.get.Statement.{statement}
+use Rattle.dgt_c.{specs.contracts.handles.DgtBoard.get.Key.{name}, proofs.{EachHandle.{board}, HandleLending.{lends}, handles.DgtBoard.get.Statement.{statement}}}
 use Rattle.dgt_c.proofs.handles.DgtBoard.get.Code as code
 
 pub get_spec : {M : Type 1} → statement M

@@ -1,8 +1,5 @@
 -- `get` borrows the value that the handle owns.
-use Rattle.dgt_c.specs.contracts.handles.DgtCommandDecoder.get.Key.{name}
-use Rattle.dgt_c.proofs.EachHandle.{command_decoder}
-use Rattle.dgt_c.proofs.HandleLending.{lends}
-use Rattle.dgt_c.proofs.handles.DgtCommandDecoder.get.Statement.{statement}
+use Rattle.dgt_c.{specs.contracts.handles.DgtCommandDecoder.get.Key.{name}, proofs.{EachHandle.{command_decoder}, HandleLending.{lends}, handles.DgtCommandDecoder.get.Statement.{statement}}}
 use Rattle.dgt_c.proofs.handles.DgtCommandDecoder.get.Code as code
 
 pub get_spec : {M : Type 1} → statement M

@@ -1,8 +1,5 @@
 -- `get` borrows the value that the handle owns.
-use Rattle.dgt_c.specs.contracts.handles.DgtDecoder.get.Key.{name}
-use Rattle.dgt_c.proofs.EachHandle.{decoder}
-use Rattle.dgt_c.proofs.HandleLending.{lends}
-use Rattle.dgt_c.proofs.handles.DgtDecoder.get.Statement.{statement}
+use Rattle.dgt_c.{specs.contracts.handles.DgtDecoder.get.Key.{name}, proofs.{EachHandle.{decoder}, HandleLending.{lends}, handles.DgtDecoder.get.Statement.{statement}}}
 use Rattle.dgt_c.proofs.handles.DgtDecoder.get.Code as code
 
 pub get_spec : {M : Type 1} → statement M

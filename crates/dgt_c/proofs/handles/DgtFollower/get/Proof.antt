@@ -1,8 +1,5 @@
 -- `get` borrows the value that the handle owns.
-use Rattle.dgt_c.specs.contracts.handles.DgtFollower.get.Key.{name}
-use Rattle.dgt_c.proofs.EachHandle.{follower}
-use Rattle.dgt_c.proofs.HandleLending.{lends}
-use Rattle.dgt_c.proofs.handles.DgtFollower.get.Statement.{statement}
+use Rattle.dgt_c.{specs.contracts.handles.DgtFollower.get.Key.{name}, proofs.{EachHandle.{follower}, HandleLending.{lends}, handles.DgtFollower.get.Statement.{statement}}}
 use Rattle.dgt_c.proofs.handles.DgtFollower.get.Code as code
 
 pub get_spec : {M : Type 1} → statement M

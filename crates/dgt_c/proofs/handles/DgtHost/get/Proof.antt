@@ -1,8 +1,5 @@
 -- `get` borrows the value that the handle owns.
-use Rattle.dgt_c.specs.contracts.handles.DgtHost.get.Key.{name}
-use Rattle.dgt_c.proofs.EachHandle.{host}
-use Rattle.dgt_c.proofs.HandleLending.{lends}
-use Rattle.dgt_c.proofs.handles.DgtHost.get.Statement.{statement}
+use Rattle.dgt_c.{specs.contracts.handles.DgtHost.get.Key.{name}, proofs.{EachHandle.{host}, HandleLending.{lends}, handles.DgtHost.get.Statement.{statement}}}
 use Rattle.dgt_c.proofs.handles.DgtHost.get.Code as code
 
 pub get_spec : {M : Type 1} → statement M
