@@ -1,9 +1,6 @@
 -- Facts about a board's backlog.
-use Rattle.std.proofs.Common.{◌≡◌, ◌+◌, ◌<◌, ◌≤◌, List, Some, length}
-use Rattle.dgt_message.specs.Content.{Content}
-use Rattle.dgt_command.specs.Content.{EventContent}
-use Rattle.dgt_board.specs.Sending.{backlog, after_sending, next_message}
-use Rattle.dgt_board.specs.State.{BoardState, effects}
+use Rattle.{std.proofs.Common.{◌≡◌, ◌+◌, ◌<◌, ◌≤◌, List, Some, length}, dgt_message.specs.Content.{Content}, dgt_command.specs.Content.{EventContent}, dgt_board.specs.Sending.{backlog, after_sending}}
+use Rattle.dgt_board.specs.{Sending.{next_message}, State.{BoardState, effects}}
 
 -- it falls by each message
 abbrev pub BacklogFalls : Type 0

@@ -1,38 +1,14 @@
 -- The effect of an act on a world that stands for a state after garbage.
-use Rattle.std.proofs.Common.{◌≡◌, refl, sym, ap, ◌∙◌, ◌⊎◌, inl, inr, ℕ, ◌≤◌, List, [], ◌∷◌, ◌++◌, length, take, drop, replicate}
-use Rattle.std.proofs.Common.{Option, Some, None, false, append_assoc, rules}
-use Rattle.std.proofs.lemmas.List.{append-nil}
-use Rattle.std.proofs.lemmas.Grind.{flat_map-append}
-use Rattle.std.specs.List.{flat_map}
-use Rattle.dgt_values.specs.declared.pieces.Piece.{Piece}
-use Rattle.dgt_values.specs.declared.kinds.Kind.{Kind}
-use Rattle.dgt_message.specs.Content.{Content, IsMessage, answered_kind}
-use Rattle.dgt_message.specs.Clock.{ClockState}
-use Rattle.dgt_message.specs.Encoding.{Encodes, encoding}
-use Rattle.dgt_command.specs.Content.{CommandContent}
-use Rattle.dgt_board.specs.State.{BoardState, after_change, after_hand_clock}
-use Rattle.dgt_board.specs.Sending.{after_sending, next_message}
-use Rattle.dgt_decode.specs.Grammar.{Event, Message, Placed, events, shifted, unfinished_message}
-use Rattle.dgt_decode.specs.Laws.{BeginsAnew}
-use Rattle.dgt_message.specs.Picture.{clock_after, picture_after}
-use Rattle.dgt_host.specs.Host.{HostView, awaited_after, host_after, host_after_event, host_after_events, host_after_message}
-use Rattle.dgt_link.specs.Faults.{is_break}
-use Rattle.dgt_link.specs.Act.{ActContent}
-use Rattle.dgt_link.specs.declared.acts.Outcome.{Outcome}
-use Rattle.dgt_link.specs.Machine.{MachineState, Move, after_moves}
-use Rattle.dgt_link.specs.Sound.{IsSound, IsSubsequence, IsUnknownOr, coming_kinds}
-use Rattle.dgt_link.specs.Step.{Becomes, Step, with_state}
-use Rattle.dgt_link.specs.View.{WorldView, with_bytes, without_first}
-use Rattle.dgt_link.specs.Healing.{AwaitsWhatComes, StandsBehind, StandsBehindAfter}
-use Rattle.dgt_link.proofs.Dividing.{divides_command}
-use Rattle.dgt_link.proofs.Hearing.{heard_of, heard_prefix, host_after_messages}
-use Rattle.dgt_link.proofs.Lists.{IsShorter, Reaches, all_append, prefixes, not_empty}
-use Rattle.dgt_link.proofs.AfterMoves.{moves_sound}
-use Rattle.dgt_link.proofs.Sending.{next_is_sent}
-use Rattle.dgt_link.proofs.Soundness.{ask-kinds, asked_sound, move_sound}
-use Rattle.dgt_link.proofs.Subsequences.{awaited_after-subsequence, subsequence_append, subsequence_later}
-use Rattle.dgt_link.specs.Readers.{Grammars}
-use Rattle.dgt_link.proofs.Standing.{prefix_of, hears, taken_state, takes, with_host, taken_as}
+use Rattle.std.proofs.Common.{◌≡◌, refl, sym, ap, ◌∙◌, ◌⊎◌, inl, inr, ℕ, ◌≤◌, List, [], ◌∷◌, ◌++◌, length, take, drop, replicate, Option, Some, None, false, append_assoc, rules}
+use Rattle.{std.{proofs.lemmas.{Grind.{flat_map-append}, List.{append-nil}}, specs.List.{flat_map}}, dgt_values.specs.declared.{kinds.Kind.{Kind}, pieces.Piece.{Piece}}}
+use Rattle.dgt_message.specs.{Clock.{ClockState}, Content.{Content, IsMessage, answered_kind}, Encoding.{Encodes, encoding}, Picture.{clock_after, picture_after}}
+use Rattle.{dgt_command.specs.Content.{CommandContent}, dgt_board.specs.{Sending.{after_sending, next_message}, State.{BoardState, after_change, after_hand_clock}}, dgt_decode.specs.Grammar.{Event}}
+use Rattle.{dgt_decode.specs.{Grammar.{Message, Placed, events, shifted, unfinished_message}, Laws.{BeginsAnew}}, dgt_host.specs.Host.{HostView, awaited_after, host_after, host_after_event}}
+use Rattle.{dgt_host.specs.Host.{host_after_events, host_after_message}, dgt_link.specs.{Act.{ActContent}, Faults.{is_break}, Healing.{AwaitsWhatComes, StandsBehind, StandsBehindAfter}}}
+use Rattle.dgt_link.specs.{Machine.{MachineState, Move, after_moves}, Readers.{Grammars}, Sound.{IsSound, IsSubsequence, IsUnknownOr, coming_kinds}, Step.{Becomes, Step, with_state}, View.{WorldView}}
+use Rattle.dgt_link.{specs.{View.{with_bytes, without_first}, declared.acts.Outcome.{Outcome}}, proofs.{AfterMoves.{moves_sound}, Dividing.{divides_command}, Hearing.{heard_of, heard_prefix}}}
+use Rattle.dgt_link.proofs.{Hearing.{host_after_messages}, Lists.{IsShorter, Reaches, all_append, prefixes, not_empty}, Sending.{next_is_sent}, Soundness.{ask-kinds, asked_sound, move_sound}}
+use Rattle.dgt_link.proofs.{Standing.{prefix_of, hears, taken_state, takes, with_host, taken_as}, Subsequences.{awaited_after-subsequence, subsequence_append, subsequence_later}}
 
 -- a message is sent
 abbrev pub Sends : Content → WorldView → WorldView → Type 0
@@ -64,18 +40,20 @@ knows_no_more : (known host : HostView) (messages : List Content) → KnowsNoMor
     → KnowsNoMore (host_after_messages known messages) (host_after_messages host messages)
 knows_no_more known host [] less = less
 knows_no_more known host (message ∷ messages) less =
-    knows_no_more (host_after_message known message) (host_after_message host message) messages (record {
+    knows_no_more (host_after_message known message) (host_after_message host message) messages
+    (record {
       picture = picture_no_more known.picture host.picture message less.picture;
       clock = clock_no_more known.clock host.clock message less.clock;
     })
 
 -- ---- what is awaited
 
-event_awaits : (host : HostView) (event : Event) (kinds : List Kind) → IsSubsequence host.awaited kinds
-    → IsSubsequence (host_after_event host event).awaited kinds
+event_awaits : (host : HostView) (event : Event) (kinds : List Kind)
+    → IsSubsequence host.awaited kinds → IsSubsequence (host_after_event host event).awaited kinds
 event_awaits host event kinds h = search (rules, awaited_after-subsequence, subsequence_later)
 
-events_await : (host : HostView) (reported : List Placed) (kinds : List Kind) → IsSubsequence host.awaited kinds
+events_await : (host : HostView) (reported : List Placed) (kinds : List Kind)
+    → IsSubsequence host.awaited kinds
     → IsSubsequence (host_after_events host reported).awaited kinds
 events_await host [] kinds h = h
 events_await host (x ∷ reported) kinds h =
@@ -96,16 +74,19 @@ awaiting x awaited = record x { awaited = awaited }
 -- ---- garbage, and what begins after it
 
 events_in_a_row : (host : HostView) (reported more : List Placed)
-    → host_after_events host (reported ++ more) ≡ host_after_events (host_after_events host reported) more
+    → host_after_events host (reported ++ more)
+    ≡ host_after_events (host_after_events host reported) more
 events_in_a_row host [] more = refl
-events_in_a_row host (x ∷ reported) more = events_in_a_row (host_after_event host x.event) reported more
+events_in_a_row host (x ∷ reported) more =
+    events_in_a_row (host_after_event host x.event) reported more
 
 same_behind : (prefix xs ys : List ℕ) → prefix ++ xs ≡ prefix ++ ys → xs ≡ ys
 same_behind [] xs ys e = e
 same_behind (b ∷ prefix) xs ys e = same_behind prefix xs ys cc
 
 -- encoded messages begin with a byte with a set top bit
-first_has_top_bit : (messages : List Content) (b : ℕ) (rest : List ℕ) → flat_map encoding messages ≡ b ∷ rest → 128 ≤ b
+first_has_top_bit : (messages : List Content) (b : ℕ) (rest : List ℕ)
+    → flat_map encoding messages ≡ b ∷ rest → 128 ≤ b
 first_has_top_bit [] b rest e = cc
 first_has_top_bit (message ∷ messages) b rest e = search rules
 
@@ -135,16 +116,18 @@ all_heard world count = world.host.unread ++ take count world.up.bytes
 -- an act that isn't a break leads a state after garbage by its moves
 abbrev pub ActsBehind : Type 0
 ActsBehind =
-    (act : ActContent) (garbage : List ℕ) (world : WorldView) (answer : Outcome) (after : WorldView) (x : MachineState)
+    (act : ActContent) (garbage : List ℕ) (world : WorldView) (answer : Outcome) (after : WorldView)
+    (x : MachineState)
     → is_break act ≡ false → StandsBehind garbage world x → Step act world answer after
     → StandsBehindAfter act answer world x after
 
 module _ (laws : Grammars) where
   -- the host hears the beginning of a message, and knew at least what the state's host knows
-  hear_true : (garbage more : List ℕ) (world : WorldView) (count : ℕ) (x : MachineState) (host : HostView)
-      → StandsBehind garbage world x → KnowsNoMore (host_of x) host
+  hear_true : (garbage more : List ℕ) (world : WorldView) (count : ℕ) (x : MachineState)
+      (host : HostView) → StandsBehind garbage world x → KnowsNoMore (host_of x) host
       → (AwaitsWhatComes world x → IsSubsequence host.awaited (coming_kinds x))
-      → host_after_events world.host (events (all_heard world count)) ≡ host_after_events host (events more)
+      → host_after_events world.host (events (all_heard world count))
+      ≡ host_after_events host (events more)
       → unfinished_message (all_heard world count) ≡ unfinished_message more
       → flat_map encoding x.up ≡ more ++ drop count world.up.bytes
       → StandsBehindAfter (ActContent.ToHost count) Outcome.Done world x (heard_world world count)
@@ -152,7 +135,8 @@ module _ (laws : Grammars) where
       let prefix = heard_prefix laws.reads more (drop count world.up.bytes) x.up
       (record { are_messages = stands.are_messages; in_a_row = sym f }) in
       let moves : List Move = replicate (length prefix.heard) Move.Hear in
-      let led : after_moves x moves ≡ with_host x (host_after_messages (host_of x) prefix.heard) prefix.left =
+      let led : after_moves x moves
+      ≡ with_host x (host_after_messages (host_of x) prefix.heard) prefix.left =
       hears prefix.heard prefix.left x (host_of x) prefix.all
       (record { picture = refl; clock = refl; awaited = refl }) in
       let known = knows_no_more (host_of x) host prefix.heard less in
@@ -177,10 +161,12 @@ module _ (laws : Grammars) where
         rw (led, same) (λ a.
             let state_host : HostView = host_of (awaiting x host.awaited) in
             let ran : after_moves (awaiting x host.awaited) moves
-            ≡ with_host (awaiting x host.awaited) (host_after_messages state_host prefix.heard) prefix.left =
+            ≡ with_host (awaiting x host.awaited) (host_after_messages state_host prefix.heard)
+            prefix.left =
             hears prefix.heard prefix.left (awaiting x host.awaited) state_host prefix.all
             (record { picture = refl; clock = refl; awaited = refl }) in
-            let sound : IsSound (with_host (awaiting x host.awaited) (host_after_messages state_host prefix.heard)
+            let sound : IsSound
+            (with_host (awaiting x host.awaited) (host_after_messages state_host prefix.heard)
             prefix.left)
             = rw ran at (moves_sound (awaiting x host.awaited) moves
             (asked_sound x x.down host.awaited stands.sound (awaits a))) in
@@ -200,8 +186,9 @@ module _ (laws : Grammars) where
     λ a. events_await world.host (events (all_heard world count)) (coming_kinds x) a,
   )
 
-  hear_behind : (garbage : List ℕ) (world : WorldView) (count : ℕ) (after : WorldView) (x : MachineState)
-      → StandsBehind garbage world x → Becomes (ActContent.ToHost count) world after
+  hear_behind : (garbage : List ℕ) (world : WorldView) (count : ℕ) (after : WorldView)
+      (x : MachineState) → StandsBehind garbage world x
+      → Becomes (ActContent.ToHost count) world after
       → StandsBehindAfter (ActContent.ToHost count) Outcome.Done world x after
   hear_behind garbage world count after x stands same =
       rw same (go (prefixes (all_heard world count) rest garbage said whole) stands.unheard)
@@ -216,13 +203,16 @@ module _ (laws : Grammars) where
       whole = sym (prefix_of world.host.unread world.up.bytes count) ∙ stands.up
 
       go : IsShorter (all_heard world count) garbage
-          ⊎ Reaches (all_heard world count) (drop count world.up.bytes) garbage (flat_map encoding x.up)
-          → (garbage ≡ []) ⊎ ((x.picture ≡ None) × (x.host_clock ≡ None))
-          → StandsBehindAfter (ActContent.ToHost count) Outcome.Done world x (heard_world world count)
-      go (inl (next, more, e)) (inl none) = absurd (not_empty (all_heard world count) next more (sym e ∙ none))
+          ⊎ Reaches (all_heard world count) (drop count world.up.bytes) garbage
+          (flat_map encoding x.up) → (garbage ≡ []) ⊎ ((x.picture ≡ None) × (x.host_clock ≡ None))
+          → StandsBehindAfter (ActContent.ToHost count) Outcome.Done world x
+          (heard_world world count)
+      go (inl (next, more, e)) (inl none) =
+          absurd (not_empty (all_heard world count) next more (sym e ∙ none))
       go (inl (next, more, e)) (inr unknown) =
           hear_garbage garbage (next ∷ more) world count x stands unknown
-          (same_behind (all_heard world count) (drop count world.up.bytes) (next ∷ more ++ flat_map encoding x.up)
+          (same_behind (all_heard world count) (drop count world.up.bytes)
+          (next ∷ more ++ flat_map encoding x.up)
           (whole ∙ ap (λ (g : List ℕ). g ++ flat_map encoding x.up) e
           ∙ append_assoc (all_heard world count) (next ∷ more) (flat_map encoding x.up)))
       go (inr (more, e, f)) (inl none) =
@@ -231,35 +221,38 @@ module _ (laws : Grammars) where
           (record { picture = stands.picture; clock = stands.clock }) (λ a. a)
           (ap (λ (bytes : List ℕ). host_after_events world.host (events bytes)) is)
           (ap unfinished_message is) f
-      go (inr ([], e, f)) (inr unknown) = hear_garbage garbage [] world count x stands unknown (sym f)
+      go (inr ([], e, f)) (inr unknown) =
+          hear_garbage garbage [] world count x stands unknown (sym f)
       go (inr (b ∷ more, e, f)) (inr unknown) =
           let top = first_has_top_bit x.up b (more ++ drop count world.up.bytes) f in
-          hear_true garbage (b ∷ more) world count x (host_after_events world.host (events garbage)) stands
-          (record { picture = inl unknown.0; clock = inl unknown.1 })
+          hear_true garbage (b ∷ more) world count x (host_after_events world.host (events garbage))
+          stands (record { picture = inl unknown.0; clock = inl unknown.1 })
           (λ a. events_await world.host (events garbage) (coming_kinds x) a)
           (ap (λ (bytes : List ℕ). host_after_events world.host (events bytes)) e
           ∙ behind_garbage laws.begins_anew laws.reads.places world.host garbage more b top)
           (ap unfinished_message e ∙ (laws.begins_anew garbage more b top).1) f
 
-  change_behind : (garbage : List ℕ) (world : WorldView) (square : ℕ) (piece : Piece) (after : WorldView)
-      (x : MachineState)
-      → StandsBehind garbage world x → Becomes (ActContent.Change square piece) world after
+  change_behind : (garbage : List ℕ) (world : WorldView) (square : ℕ) (piece : Piece)
+      (after : WorldView) (x : MachineState) → StandsBehind garbage world x
+      → Becomes (ActContent.Change square piece) world after
       → StandsBehindAfter (ActContent.Change square piece) Outcome.Done world x after
   change_behind garbage world square piece after x stands same =
       let sound = move_sound x (Move.Change square piece) stands.sound in
       let board = ap (λ (state : BoardState). after_change state square piece) stands.board in
       (garbage, Move.Change square piece ∷ [], refl, rw same assumption, rw same (λ a. a))
 
-  clock_behind : (garbage : List ℕ) (world : WorldView) (clock : ClockState) (after : WorldView) (x : MachineState)
-      → StandsBehind garbage world x → Becomes (ActContent.ClockRead clock) world after
+  clock_behind : (garbage : List ℕ) (world : WorldView) (clock : ClockState) (after : WorldView)
+      (x : MachineState) → StandsBehind garbage world x
+      → Becomes (ActContent.ClockRead clock) world after
       → StandsBehindAfter (ActContent.ClockRead clock) Outcome.Done world x after
   clock_behind garbage world clock after x stands same =
       let sound = move_sound x (Move.HandClock clock) stands.sound in
       let board = ap (λ (state : BoardState). after_hand_clock state clock) stands.board in
       (garbage, Move.HandClock clock ∷ [], refl, rw same assumption, rw same (λ a. a))
 
-  ask_behind : (garbage : List ℕ) (world : WorldView) (command : CommandContent) (after : WorldView) (x : MachineState)
-      → StandsBehind garbage world x → Becomes (ActContent.Host command) world after
+  ask_behind : (garbage : List ℕ) (world : WorldView) (command : CommandContent) (after : WorldView)
+      (x : MachineState) → StandsBehind garbage world x
+      → Becomes (ActContent.Host command) world after
       → StandsBehindAfter (ActContent.Host command) Outcome.Done world x after
   ask_behind garbage world command after x stands (encodes, same) = (
     garbage,
@@ -271,8 +264,8 @@ module _ (laws : Grammars) where
   )
 
   -- the board sends this message
-  pub sent_behind : (garbage : List ℕ) (world after : WorldView) (x : MachineState) (message : Content)
-      → StandsBehind garbage world x → Sends message world after
+  pub sent_behind : (garbage : List ℕ) (world after : WorldView) (x : MachineState)
+      (message : Content) → StandsBehind garbage world x → Sends message world after
       → StandsBehind garbage after (after_sent x message)
   sent_behind garbage world after x message stands (is_next, encodes, same) =
       let by = next_is_sent x message (ap next_message (sym stands.board) ∙ is_next) in
@@ -286,11 +279,13 @@ module _ (laws : Grammars) where
             ∙ append_assoc garbage (flat_map encoding x.up) (encoding message)
             ∙ ap (λ (behind : List ℕ). garbage ++ behind)
             (sym (flat_map-append encoding x.up (message ∷ [])
-            ∙ ap (λ (last : List ℕ). flat_map encoding x.up ++ last) (append-nil (encoding message)))),
+            ∙ ap (λ (last : List ℕ). flat_map encoding x.up ++ last)
+            (append-nil (encoding message)))),
       ))
 
-  send_behind : (garbage : List ℕ) (world after : WorldView) (x : MachineState) → StandsBehind garbage world x
-      → Becomes ActContent.BoardSend world after → StandsBehindAfter ActContent.BoardSend Outcome.Done world x after
+  send_behind : (garbage : List ℕ) (world after : WorldView) (x : MachineState)
+      → StandsBehind garbage world x → Becomes ActContent.BoardSend world after
+      → StandsBehindAfter ActContent.BoardSend Outcome.Done world x after
   send_behind garbage world after x stands (message, is_next, encodes, same) =
       let by = next_is_sent x message (ap next_message (sym stands.board) ∙ is_next) in (
         garbage,
@@ -309,29 +304,33 @@ module _ (laws : Grammars) where
             sound.awaited),
       )
 
-  take_behind : (garbage : List ℕ) (world : WorldView) (count : ℕ) (after : WorldView) (x : MachineState)
-      → StandsBehind garbage world x → Becomes (ActContent.ToBoard count) world after
+  take_behind : (garbage : List ℕ) (world : WorldView) (count : ℕ) (after : WorldView)
+      (x : MachineState) → StandsBehind garbage world x
+      → Becomes (ActContent.ToBoard count) world after
       → StandsBehindAfter (ActContent.ToBoard count) Outcome.Done world x after
   take_behind garbage world count after x stands delivers =
-      let taken = taken_as laws world delivers.moved delivers.board x delivers.taken stands.board stands.down in
+      let taken =
+      taken_as laws world delivers.moved delivers.board x delivers.taken stands.board stands.down in
       let moves : List Move = replicate (length taken.events) Move.Take in (
         garbage,
         moves,
         (length taken.events, refl),
-        rw (delivers.leaves, taken.led) (assumption (rw taken.led at (moves_sound x moves stands.sound))),
+        rw (delivers.leaves, taken.led)
+            (assumption (rw taken.led at (moves_sound x moves stands.sound))),
         rw (delivers.leaves, taken.led) (λ a.
             let ran : after_moves (awaiting x world.host.awaited) moves
             ≡ taken_state (awaiting x world.host.awaited) taken.events taken.left
             = takes taken.events taken.left (awaiting x world.host.awaited) taken.all in
-            let sound : IsSound (taken_state (awaiting x world.host.awaited) taken.events taken.left)
+            let sound : IsSound
+            (taken_state (awaiting x world.host.awaited) taken.events taken.left)
             = rw ran at (moves_sound (awaiting x world.host.awaited) moves
             (asked_sound x x.down world.host.awaited stands.sound a)) in
             sound.awaited),
       )
 
-  becomes_behind : (act : ActContent) (garbage : List ℕ) (world after : WorldView) (x : MachineState)
-      → is_break act ≡ false → StandsBehind garbage world x → Becomes act world after
-      → StandsBehindAfter act Outcome.Done world x after
+  becomes_behind : (act : ActContent) (garbage : List ℕ) (world after : WorldView)
+      (x : MachineState) → is_break act ≡ false → StandsBehind garbage world x
+      → Becomes act world after → StandsBehindAfter act Outcome.Done world x after
   becomes_behind (ActContent.Change square piece) garbage world after x other stands becomes =
       change_behind garbage world square piece after x stands becomes
   becomes_behind (ActContent.ClockRead clock) garbage world after x other stands becomes =
@@ -347,10 +346,9 @@ module _ (laws : Grammars) where
   becomes_behind ActContent.Break garbage world after x other stands becomes = cc
   becomes_behind ActContent.HostBreak garbage world after x other stands becomes = cc
 
-  pub step_behind : (act : ActContent) (garbage : List ℕ) (world : WorldView) (answer : Outcome) (after : WorldView)
-      (x : MachineState)
-      → is_break act ≡ false → StandsBehind garbage world x → Step act world answer after
-      → StandsBehindAfter act answer world x after
+  pub step_behind : (act : ActContent) (garbage : List ℕ) (world : WorldView) (answer : Outcome)
+      (after : WorldView) (x : MachineState) → is_break act ≡ false → StandsBehind garbage world x
+      → Step act world answer after → StandsBehindAfter act answer world x after
   step_behind act garbage world Outcome.Done after x other stands step =
       becomes_behind act garbage world after x other stands step.leaves
   step_behind act garbage world _ after x other stands step =

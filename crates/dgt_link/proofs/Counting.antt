@@ -1,49 +1,19 @@
--- What a world at fault keeps, and how a host that starts over, or requests a dump, knows the board again.
-use Rattle.std.proofs.Common.{◌≡◌, ◌≢◌, ◌⊎◌, refl, sym, ap, subst, ◌∙◌, inl, inr, ℕ, zero, suc, List, [], ◌∷◌, ◌++◌, length, drop, replicate, map}
-use Rattle.std.proofs.Common.{Option, Some, false, true, Bool, append_assoc, arith, rules}
-use Rattle.std.proofs.lemmas.Bool.{false≢true}
-use Rattle.std.proofs.lemmas.List.{append-nil}
-use Rattle.std.proofs.lemmas.List.Elements.{filter_map-append, Contains-append_right, Contains-push_cases}
-use Rattle.std.specs.List.{cons_option, flat_map}
-use Rattle.std.specs.Prelude.{IsTrue, Contains, filter, filter_map}
-use Rattle.dgt_values.specs.declared.kinds.Kind.{Kind}
-use Rattle.dgt_message.specs.Content.{Content}
-use Rattle.dgt_message.specs.Encoding.{encoding}
-use Rattle.dgt_command.specs.Content.{CommandContent, EventContent}
-use Rattle.dgt_command.specs.Laws.{EachDividesOnce}
-use Rattle.dgt_command.specs.Encoding.{AreBytes, command_encoding}
-use Rattle.dgt_command.specs.Words.{Divides, IsNoiseList, IsPartial}
-use Rattle.dgt_board.specs.declared.modes.Mode.{Mode}
-use Rattle.dgt_board.specs.State.{BoardState, after_line_lost, command_mode, effects, follows_clock}
-use Rattle.dgt_board.specs.Sending.{pending_messages}
-use Rattle.dgt_host.specs.Host.{follow_bytes, restart_bytes}
-use Rattle.dgt_link.specs.Act.{ActContent}
-use Rattle.dgt_link.specs.declared.acts.Outcome.{Outcome}
-use Rattle.dgt_link.specs.Faults.{FaultyBecomes, FaultyContent, FaultyRuns, FaultyStep, is_break}
-use Rattle.dgt_link.specs.Healing.{AwaitsWhatComes, Counted, IsFaultyWorld, IsInStep, IsInTurn, IsInTurnWorld, IsSane, StandsBehind, StandsWith, counted_after, counted_after_all, counted_by, nothing_counted, sets_mode}
-use Rattle.dgt_link.specs.Machine.{MachineState, Move, after_move, after_moves, commands_anew, state_of_board}
-use Rattle.dgt_link.specs.Promise.{IsQuiet, act_requests, commands_after, event_mode, last_mode}
-use Rattle.dgt_link.specs.Sound.{IsSound, IsSubsequence, IsUnknownOr, coming_kinds, kind_of_event, kind_of_reply}
-use Rattle.dgt_link.specs.Stands.{AreMovesOfStep, IsWorld, StandsFor}
-use Rattle.dgt_link.specs.Step.{Becomes, Runs, Step}
-use Rattle.dgt_link.specs.View.{IsQuietWorld, LineContents, WorldView, line_holding}
-use Rattle.dgt_link.proofs.Asking.{requests-step}
-use Rattle.dgt_link.specs.Clocks.{ClockIsComing}
-use Rattle.dgt_link.proofs.Clocks.{clock_is_asked, step_keeps_clock}
-use Rattle.dgt_link.proofs.Behind.{awaiting, step_behind}
-use Rattle.dgt_link.proofs.Dividing.{anew_divides}
-use Rattle.dgt_link.proofs.Lists.{nothing_contained, right_empty}
-use Rattle.dgt_link.proofs.Promises.{IsComing, last_mode-append, noise-modes, nothing_asked}
-use Rattle.dgt_link.proofs.Quiet.{quiet_awaited}
-use Rattle.dgt_link.proofs.WorldsByState.{nothing_first}
-use Rattle.dgt_link.proofs.AfterMoves.{moves_come, moves_sound}
-use Rattle.dgt_link.proofs.Sending.{next_is_sent}
-use Rattle.dgt_link.proofs.Soundness.{asked_sound, board_sound, move_sound, new_sound, noise-kinds}
-use Rattle.dgt_link.proofs.Subsequences.{subsequence_at_end}
-use Rattle.dgt_link.specs.Readers.{Grammars}
-use Rattle.dgt_link.proofs.Standing.{becomes_rooms, same_rooms, taken_state, takes}
-use Rattle.dgt_command.proofs.DivisionLemmas.{bytes_append, bytes_left, bytes_right}
-use Rattle.std.proofs.lemmas.Grind.{common_steps}
+-- What a world at fault keeps, and how a host that starts over, or requests a dump, knows the board
+-- again.
+use Rattle.std.proofs.Common.{◌≡◌, ◌≢◌, ◌⊎◌, refl, sym, ap, subst, ◌∙◌, inl, inr, ℕ, zero, suc, List, [], ◌∷◌, ◌++◌, length, drop, replicate, map, Option, Some, false, true, Bool, append_assoc, arith}
+use Rattle.std.proofs.{Common.{rules}, lemmas.{Bool.{false≢true}, Grind.{common_steps}, List.{append-nil, Elements.{filter_map-append, Contains-append_right, Contains-push_cases}}}}
+use Rattle.{std.specs.{List.{cons_option, flat_map}, Prelude.{IsTrue, Contains, filter, filter_map}}, dgt_values.specs.declared.kinds.Kind.{Kind}, dgt_message.specs.Content.{Content}}
+use Rattle.{dgt_message.specs.Encoding.{encoding}, dgt_command.specs.{Content.{CommandContent, EventContent}, Encoding.{AreBytes, command_encoding}, Laws.{EachDividesOnce}, Words.{Divides}}}
+use Rattle.{dgt_command.{specs.Words.{IsNoiseList, IsPartial}, proofs.DivisionLemmas.{bytes_append, bytes_left, bytes_right}}, dgt_board.specs.{Sending.{pending_messages}, State.{BoardState}}}
+use Rattle.{dgt_board.specs.{State.{after_line_lost, command_mode, effects, follows_clock}, declared.modes.Mode.{Mode}}, dgt_host.specs.Host.{follow_bytes, restart_bytes}}
+use Rattle.dgt_link.specs.{Act.{ActContent}, Clocks.{ClockIsComing}, Faults.{FaultyBecomes, FaultyContent, FaultyRuns, FaultyStep, is_break}, Healing.{AwaitsWhatComes, Counted, IsFaultyWorld}}
+use Rattle.dgt_link.specs.Healing.{IsInStep, IsInTurn, IsInTurnWorld, IsSane, StandsBehind, StandsWith, counted_after, counted_after_all, counted_by, nothing_counted, sets_mode}
+use Rattle.dgt_link.specs.{Machine.{MachineState, Move, after_move, after_moves, commands_anew, state_of_board}, Promise.{IsQuiet, act_requests, commands_after, event_mode, last_mode}}
+use Rattle.dgt_link.specs.{Readers.{Grammars}, Sound.{IsSound, IsSubsequence, IsUnknownOr, coming_kinds, kind_of_event, kind_of_reply}, Stands.{AreMovesOfStep, IsWorld, StandsFor}, Step.{Becomes}}
+use Rattle.dgt_link.{specs.{Step.{Runs, Step}, View.{IsQuietWorld, LineContents, WorldView, line_holding}, declared.acts.Outcome.{Outcome}}, proofs.AfterMoves.{moves_come, moves_sound}}
+use Rattle.dgt_link.proofs.{Asking.{requests-step}, Behind.{awaiting, step_behind}, Clocks.{clock_is_asked, step_keeps_clock}, Dividing.{anew_divides}, Lists.{nothing_contained, right_empty}}
+use Rattle.dgt_link.proofs.{Promises.{IsComing, last_mode-append, noise-modes, nothing_asked}, Quiet.{quiet_awaited}, Sending.{next_is_sent}, Soundness.{asked_sound, board_sound, move_sound}}
+use Rattle.dgt_link.proofs.{Soundness.{new_sound, noise-kinds}, Standing.{becomes_rooms, same_rooms, taken_state, takes}, Subsequences.{subsequence_at_end}, WorldsByState.{nothing_first}}
 
 -- ---- bytes
 
@@ -70,9 +40,11 @@ commanded_state board events = record (state_of_board board) { down = events }
 
 commanded_sound : (x : MachineState) (events : List EventContent) → IsSound x
     → IsSound (commanded_state x.board events)
-commanded_sound x events sound = asked_sound (state_of_board x.board) events [] (board_sound x sound) tt
+commanded_sound x events sound =
+    asked_sound (state_of_board x.board) events [] (board_sound x sound) tt
 
-lost_sound : (board : BoardState) → IsSound (state_of_board board) → IsSound (state_of_board (after_line_lost board))
+lost_sound : (board : BoardState) → IsSound (state_of_board board)
+    → IsSound (state_of_board (after_line_lost board))
 lost_sound board sound = new_sound board.squares board.clock board.identity sound.squares
 
 effects_sound : (board : BoardState) (events : List EventContent) → IsSound (state_of_board board)
@@ -80,18 +52,25 @@ effects_sound : (board : BoardState) (events : List EventContent) → IsSound (s
 effects_sound board events sound =
     let x = commanded_state board events in
     let moves : List Move = replicate (length events) Move.Take in
-    let led : after_moves x moves ≡ taken_state x events [] = takes events [] x (sym (append-nil events)) in
+    let led : after_moves x moves ≡ taken_state x events [] =
+    takes events [] x (sym (append-nil events)) in
     commanded_sound (taken_state x events []) []
     (rw led at (moves_sound x moves (commanded_sound (state_of_board board) events sound)))
 
 module _ (laws : Grammars) where
-  becomes_sane : (act : ActContent) (world after : WorldView) → IsSane world → Becomes act world after → IsSane after
+  becomes_sane : (act : ActContent) (world after : WorldView) → IsSane world
+      → Becomes act world after → IsSane after
   becomes_sane (ActContent.Change square piece) world after sane same =
-      rw same (assumption (move_sound (state_of_board world.board.state) (Move.Change square piece) sane.board))
+      rw same
+      (assumption
+      (move_sound (state_of_board world.board.state) (Move.Change square piece) sane.board))
   becomes_sane (ActContent.ClockRead clock) world after sane same =
-      rw same (assumption (move_sound (state_of_board world.board.state) (Move.HandClock clock) sane.board))
+      rw same
+      (assumption (move_sound (state_of_board world.board.state) (Move.HandClock clock) sane.board))
   becomes_sane (ActContent.Host command) world after sane (encodes, same) =
-      rw same (assumption (bytes_append world.down.bytes (command_encoding command) sane.down encodes.are_bytes))
+      rw same
+      (assumption
+      (bytes_append world.down.bytes (command_encoding command) sane.down encodes.are_bytes))
   becomes_sane ActContent.BoardSend world after sane (message, is_next, encodes, same) =
       let x = state_of_board world.board.state in
       let by = next_is_sent x message is_next in
@@ -113,9 +92,10 @@ module _ (laws : Grammars) where
   becomes_sane ActContent.HostBreak world after sane same =
       rw same (record { board = sane.board; partial = sane.partial; down = bytes_restart })
 
-  faulty_sane : (act : FaultyContent) (world after : WorldView) → IsSane world → FaultyBecomes act world after
-      → IsSane after
-  faulty_sane (FaultyContent.Plain act) world after sane becomes = becomes_sane act world after sane becomes
+  faulty_sane : (act : FaultyContent) (world after : WorldView) → IsSane world
+      → FaultyBecomes act world after → IsSane after
+  faulty_sane (FaultyContent.Plain act) world after sane becomes =
+      becomes_sane act world after sane becomes
   faulty_sane (FaultyContent.GarbleUp bytes) world after sane same =
       rw same (record { board = sane.board; partial = sane.partial; down = sane.down })
   faulty_sane (FaultyContent.GarbleDown bytes) world after sane (are, same) =
@@ -126,8 +106,8 @@ module _ (laws : Grammars) where
   faulty_sane FaultyContent.Restart world after sane same =
       rw same (assumption (bytes_append world.down.bytes restart_bytes sane.down bytes_restart))
 
-  pub step_sane : (act : FaultyContent) (world : WorldView) (answer : Outcome) (after : WorldView) → IsSane world
-      → FaultyStep act world answer after → IsSane after
+  pub step_sane : (act : FaultyContent) (world : WorldView) (answer : Outcome) (after : WorldView)
+      → IsSane world → FaultyStep act world answer after → IsSane after
   step_sane act world answer after sane step = search (rules, faulty_sane)
 
 -- ---- what counts, and the state of the world after it
@@ -147,9 +127,10 @@ pub record Holds (c : Counted) (world : WorldView) : Type 0 where
   pub follows : IsTrue c.in_step → Follows c.in_turn c.asked world
 
 -- facts of that state
-pub follows_with : {in_turn : Bool} {asked : List CommandContent} {world : WorldView} (Q : MachineState → Type 0)
-    (f : Follows in_turn asked world) → Q f.state → StandsWith Q world
-follows_with Q f holds = record { garbage = f.garbage; state = f.state; stands = f.stands; holds = holds }
+pub follows_with : {in_turn : Bool} {asked : List CommandContent} {world : WorldView}
+    (Q : MachineState → Type 0) (f : Follows in_turn asked world) → Q f.state → StandsWith Q world
+follows_with Q f holds =
+    record { garbage = f.garbage; state = f.state; stands = f.stands; holds = holds }
 
 pub follows_in_step : (in_turn : Bool) (asked : List CommandContent) (world : WorldView)
     → Follows in_turn asked world → IsInStep world
@@ -160,8 +141,8 @@ pub in_step_follows : (world : WorldView) → IsInStep world → Follows false [
 in_step_follows world is = search (rules, nothing_asked, nothing_contained, false≢true)
 
 -- a requested reading arrives, even if it was just requested
-asked_clock : (asked : List CommandContent) (command : CommandContent) (x : MachineState) (moves : List Move)
-    → AreMovesOfStep (ActContent.Host command) Outcome.Done moves
+asked_clock : (asked : List CommandContent) (command : CommandContent) (x : MachineState)
+    (moves : List Move) → AreMovesOfStep (ActContent.Host command) Outcome.Done moves
     → (Contains asked CommandContent.Clock → ClockIsComing x)
     → Contains (asked ++ command ∷ []) CommandContent.Clock → ClockIsComing (after_moves x moves)
 asked_clock asked command x moves are clock has =
@@ -186,9 +167,10 @@ clock_comes act answer x moves asked other are clock has =
     step_keeps_clock x act answer moves other are (clock has)
 
 -- an act that isn't a break
-plain_follows : Grammars → (act : ActContent) (world : WorldView) (answer : Outcome) (after : WorldView)
-    (in_turn : Bool) (asked : List CommandContent)
-    → is_break act ≡ false → Follows in_turn asked world → Step act world answer after
+plain_follows : Grammars
+    → (act : ActContent) (world : WorldView) (answer : Outcome) (after : WorldView) (in_turn : Bool)
+    (asked : List CommandContent) → is_break act ≡ false → Follows in_turn asked world
+    → Step act world answer after
     → Follows in_turn (commands_after asked (act_requests answer act)) after
 plain_follows laws act world answer after in_turn asked other f step =
     let reached = step_behind laws act f.garbage world answer after f.state other f.stands step in
@@ -196,7 +178,9 @@ plain_follows laws act world answer after in_turn asked other f step =
       garbage = reached.0;
       state = after_moves f.state reached.1;
       stands = reached.3;
-      comes = rw (requests-step act answer reached.1 reached.2) at (moves_come asked f.state reached.1 f.comes);
+      comes =
+          rw (requests-step act answer reached.1 reached.2) at (moves_come asked f.state reached.1
+          f.comes);
       clock = clock_comes act answer f.state reached.1 asked other reached.2 f.clock;
       awaits = λ turn. reached.4 (f.awaits turn);
     }
@@ -204,8 +188,9 @@ plain_follows laws act world answer after in_turn asked other f step =
 -- ---- the up line is at fault
 
 -- a command that sets no mode is not among those that do
-first_is_out : (other command : CommandContent) (commands : List CommandContent) → sets_mode other ≡ false
-    → sets_mode command ≡ true → (Contains (filter sets_mode commands) other → ⊥)
+first_is_out : (other command : CommandContent) (commands : List CommandContent)
+    → sets_mode other ≡ false → sets_mode command ≡ true
+    → (Contains (filter sets_mode commands) other → ⊥)
     → Contains (command ∷ filter sets_mode commands) other → ⊥
 first_is_out other command commands none sets later has = search (rules, false≢true)
 
@@ -213,22 +198,30 @@ other_is_out : (other : CommandContent) → sets_mode other ≡ false → (comma
     → Contains (filter sets_mode commands) other → ⊥
 other_is_out other none [] has = nothing_contained other has
 other_is_out other none (CommandContent.Reset ∷ commands) has =
-    first_is_out other CommandContent.Reset commands none refl (other_is_out other none commands) has
+    first_is_out other CommandContent.Reset commands none refl (other_is_out other none commands)
+    has
 other_is_out other none (CommandContent.Update ∷ commands) has =
-    first_is_out other CommandContent.Update commands none refl (other_is_out other none commands) has
+    first_is_out other CommandContent.Update commands none refl (other_is_out other none commands)
+    has
 other_is_out other none (CommandContent.UpdateBoard ∷ commands) has =
-    first_is_out other CommandContent.UpdateBoard commands none refl (other_is_out other none commands) has
+    first_is_out other CommandContent.UpdateBoard commands none refl
+    (other_is_out other none commands) has
 other_is_out other none (CommandContent.UpdateNice ∷ commands) has =
-    first_is_out other CommandContent.UpdateNice commands none refl (other_is_out other none commands) has
+    first_is_out other CommandContent.UpdateNice commands none refl
+    (other_is_out other none commands) has
 other_is_out other none (_ ∷ commands) has = other_is_out other none commands has
 
 modes_stay : (commands : List CommandContent)
     → filter_map command_mode (filter sets_mode commands) ≡ filter_map command_mode commands
 modes_stay [] = refl
-modes_stay (CommandContent.Reset ∷ commands) = ap (cons_option (Some Mode.Idle)) (modes_stay commands)
-modes_stay (CommandContent.Update ∷ commands) = ap (cons_option (Some Mode.Update)) (modes_stay commands)
-modes_stay (CommandContent.UpdateBoard ∷ commands) = ap (cons_option (Some Mode.UpdateBoard)) (modes_stay commands)
-modes_stay (CommandContent.UpdateNice ∷ commands) = ap (cons_option (Some Mode.UpdateNice)) (modes_stay commands)
+modes_stay (CommandContent.Reset ∷ commands) =
+    ap (cons_option (Some Mode.Idle)) (modes_stay commands)
+modes_stay (CommandContent.Update ∷ commands) =
+    ap (cons_option (Some Mode.Update)) (modes_stay commands)
+modes_stay (CommandContent.UpdateBoard ∷ commands) =
+    ap (cons_option (Some Mode.UpdateBoard)) (modes_stay commands)
+modes_stay (CommandContent.UpdateNice ∷ commands) =
+    ap (cons_option (Some Mode.UpdateNice)) (modes_stay commands)
 modes_stay (_ ∷ commands) = modes_stay commands
 
 -- the state that knows nothing of what its board has sent
@@ -242,15 +235,17 @@ pub forgotten_stands : (garbage : List ℕ) (world : WorldView) (up : LineConten
 forgotten_stands garbage world up x stands = search (rules, commanded_sound, append-nil)
 
 -- garbage replaces what is under way to the host
-pub garbled_stands : (bytes : List ℕ) (world after : WorldView) (garbage : List ℕ) (x : MachineState)
-    → StandsBehind garbage world x → FaultyBecomes (FaultyContent.GarbleUp bytes) world after
+pub garbled_stands : (bytes : List ℕ) (world after : WorldView) (garbage : List ℕ)
+    (x : MachineState) → StandsBehind garbage world x
+    → FaultyBecomes (FaultyContent.GarbleUp bytes) world after
     → StandsBehind (world.host.unread ++ bytes) after (forgotten x)
 garbled_stands bytes world after garbage x stands same =
     rw same (forgotten_stands garbage world (line_holding bytes world.up.capacity) x stands)
 
-garbled_follows : (in_turn : Bool) (asked : List CommandContent) (bytes : List ℕ) (world after : WorldView)
-    → Follows in_turn asked world
-    → FaultyBecomes (FaultyContent.GarbleUp bytes) world after → Follows false (filter sets_mode asked) after
+garbled_follows : (in_turn : Bool) (asked : List CommandContent) (bytes : List ℕ)
+    (world after : WorldView) → Follows in_turn asked world
+    → FaultyBecomes (FaultyContent.GarbleUp bytes) world after
+    → Follows false (filter sets_mode asked) after
 garbled_follows in_turn asked bytes world after f same = record {
   garbage = world.host.unread ++ bytes;
   state = forgotten f.state;
@@ -266,11 +261,13 @@ garbled_follows in_turn asked bytes world after f same = record {
 
 -- the awaited replies of the host don't affect the state of its world
 pub given_up_stands : (world after : WorldView) (garbage : List ℕ) (x : MachineState)
-    → StandsBehind garbage world x → FaultyBecomes FaultyContent.GiveUp world after → StandsBehind garbage after x
+    → StandsBehind garbage world x → FaultyBecomes FaultyContent.GiveUp world after
+    → StandsBehind garbage after x
 given_up_stands world after garbage x stands same = search rules
 
 given_up_follows : (in_turn : Bool) (asked : List CommandContent) (world after : WorldView)
-    → Follows in_turn asked world → FaultyBecomes FaultyContent.GiveUp world after → Follows true asked after
+    → Follows in_turn asked world → FaultyBecomes FaultyContent.GiveUp world after
+    → Follows true asked after
 given_up_follows in_turn asked world after f same = record {
   garbage = f.garbage;
   state = f.state;
@@ -283,8 +280,8 @@ given_up_follows in_turn asked world after f same = record {
 -- ---- a break, and a host that starts over
 
 module _ (laws : Grammars) where
-  pub break_follows : (world after : WorldView) → IsSane world → Becomes ActContent.Break world after
-      → Follows true [] after
+  pub break_follows : (world after : WorldView) → IsSane world
+      → Becomes ActContent.Break world after → Follows true [] after
   break_follows world after sane same = rw same
       (record {
         garbage = [];
@@ -297,13 +294,15 @@ module _ (laws : Grammars) where
 
   -- the requests of a host that starts over, after other commands
   anew_mode : (before : Mode) (events noise : List EventContent) → IsNoiseList noise
-      → last_mode before (filter_map event_mode (events ++ (noise ++ map EventContent.Read commands_anew)))
+      → last_mode before
+      (filter_map event_mode (events ++ (noise ++ map EventContent.Read commands_anew)))
       ≡ Mode.UpdateBoard
   anew_mode before events noise is_noise =
       search (rules, filter_map-append, last_mode-append, noise-modes)
 
   anew_comes : (board : BoardState) (events noise : List EventContent) → IsNoiseList noise
-      → IsComing commands_anew (commanded_state board (events ++ (noise ++ map EventContent.Read commands_anew)))
+      → IsComing commands_anew
+      (commanded_state board (events ++ (noise ++ map EventContent.Read commands_anew)))
   anew_comes board events noise is_noise = record {
     picture = λ has. inr (inr
         (Contains-append_right events (noise ++ map EventContent.Read commands_anew)
@@ -317,7 +316,8 @@ module _ (laws : Grammars) where
   -- the dump that such a host awaits is the last
   anew_awaits : (board : BoardState) (events noise : List EventContent) → IsNoiseList noise
       → IsSubsequence (Kind.Dump ∷ [])
-      (coming_kinds (commanded_state board (events ++ (noise ++ map EventContent.Read commands_anew))))
+      (coming_kinds
+      (commanded_state board (events ++ (noise ++ map EventContent.Read commands_anew))))
   anew_awaits board events noise is_noise =
       let anew = map EventContent.Read commands_anew in
       let owed : List Kind = filter_map kind_of_reply board.owed in
@@ -331,14 +331,16 @@ module _ (laws : Grammars) where
       (subsequence_at_end (Kind.Dump ∷ []) (owed ++ filter_map kind_of_event events))
 
   -- the restart bytes after what leaves this rest
-  anew_divides_behind : (bytes : List ℕ) (events : List EventContent) (rest : List ℕ) → Divides bytes events rest
-      → (noise : List EventContent) × IsNoiseList noise
-      × Divides (bytes ++ restart_bytes) (events ++ (noise ++ map EventContent.Read commands_anew)) []
+  anew_divides_behind : (bytes : List ℕ) (events : List EventContent) (rest : List ℕ)
+      → Divides bytes events rest
+      → (noise : List EventContent) × IsNoiseList noise × Divides (bytes ++ restart_bytes)
+      (events ++ (noise ++ map EventContent.Read commands_anew)) []
   anew_divides_behind bytes events rest divides =
       let noise = laws.zeros_settle rest (laws.left bytes rest events divides) in (
         noise.0,
         noise.1,
-        laws.divisions_append bytes restart_bytes events (noise.0 ++ map EventContent.Read commands_anew) rest []
+        laws.divisions_append bytes restart_bytes events
+            (noise.0 ++ map EventContent.Read commands_anew) rest []
             divides
             (rw (append_assoc rest (replicate 255 0) follow_bytes) at
             (laws.divisions_append (rest ++ replicate 255 0) follow_bytes noise.0
@@ -358,7 +360,8 @@ module _ (laws : Grammars) where
       let divided = laws.once.0 (world.board.partial ++ bytes)
       (laws.bytes world.board.partial bytes sane.partial are) in
       let anew = anew_divides_behind (world.board.partial ++ bytes) divided.0 divided.1 divided.2 in
-      let events : List EventContent = divided.0 ++ (anew.0 ++ map EventContent.Read commands_anew) in
+      let events : List EventContent =
+      divided.0 ++ (anew.0 ++ map EventContent.Read commands_anew) in
       record {
         garbage = up;
         state = commanded_state world.board.state
@@ -381,8 +384,8 @@ module _ (laws : Grammars) where
 -- ---- each act, and acts in order
 
 -- an act that isn't done
-unchanged : (c : Counted) (world after : WorldView) → after ≡ world → Holds c world → IsTrue c.in_step
-    → Follows c.in_turn c.asked after
+unchanged : (c : Counted) (world after : WorldView) → after ≡ world → Holds c world
+    → IsTrue c.in_step → Follows c.in_turn c.asked after
 unchanged c world after same holds in_step = rw same (holds.follows in_step)
 
 pub undone : (act : FaultyContent) (world : WorldView) (answer : Outcome) (after : WorldView)
@@ -400,8 +403,11 @@ faulty_step act world answer after step = record { answers = step.answers; leave
 pub faulty_runs : (acts : List ActContent) (world after : WorldView) (answers : List Outcome)
     → Runs acts world answers after → FaultyRuns (map FaultyContent.Plain acts) world answers after
 faulty_runs [] world after [] same = same
-faulty_runs (act ∷ acts) world after (answer ∷ answers) (between, step, runs) =
-    (between, faulty_step act world answer between step, faulty_runs acts between after answers runs)
+faulty_runs (act ∷ acts) world after (answer ∷ answers) (between, step, runs) = (
+  between,
+  faulty_step act world answer between step,
+  faulty_runs acts between after answers runs,
+)
 faulty_runs _ world after _ none = absurd none
 
 pub plain_runs : (acts : List ActContent) (world after : WorldView) (answers : List Outcome)
@@ -412,8 +418,8 @@ plain_runs (act ∷ acts) world after (answer ∷ answers) (between, step, runs)
 plain_runs _ world after _ none = absurd none
 
 module _ (laws : Grammars) where
-  breaks_after : (c : Counted) (world : WorldView) (answer : Outcome) (after : WorldView) → IsSane world
-      → Step ActContent.Break world answer after
+  breaks_after : (c : Counted) (world : WorldView) (answer : Outcome) (after : WorldView)
+      → IsSane world → Step ActContent.Break world answer after
       → Follows true (commands_after c.asked (act_requests answer ActContent.Break)) after
   breaks_after c world answer after sane step = search (rules, break_follows)
 
@@ -421,8 +427,8 @@ module _ (laws : Grammars) where
       → Step ActContent.HostBreak world answer after → Follows true commands_anew after
   host_breaks_after world answer after sane step = search (rules, host_break_follows)
 
-  plain_after : (c : Counted) (act : ActContent) (world : WorldView) (answer : Outcome) (after : WorldView)
-      → Holds c world → Step act world answer after
+  plain_after : (c : Counted) (act : ActContent) (world : WorldView) (answer : Outcome)
+      (after : WorldView) → Holds c world → Step act world answer after
       → IsTrue (counted_after c (FaultyContent.Plain act) answer).in_step
       → Follows (counted_after c (FaultyContent.Plain act) answer).in_turn
       (counted_after c (FaultyContent.Plain act) answer).asked after
@@ -433,8 +439,9 @@ module _ (laws : Grammars) where
   plain_after c act world answer after holds step in_step =
       plain_follows laws act world answer after c.in_turn c.asked refl (holds.follows in_step) step
 
-  follows_after : (c : Counted) (act : FaultyContent) (world : WorldView) (answer : Outcome) (after : WorldView)
-      → Holds c world → FaultyStep act world answer after → IsTrue (counted_after c act answer).in_step
+  follows_after : (c : Counted) (act : FaultyContent) (world : WorldView) (answer : Outcome)
+      (after : WorldView) → Holds c world → FaultyStep act world answer after
+      → IsTrue (counted_after c act answer).in_step
       → Follows (counted_after c act answer).in_turn (counted_after c act answer).asked after
   follows_after c (FaultyContent.Plain act) world answer after holds step in_step =
       plain_after c act world answer after holds (plain_step act world answer after step) in_step
@@ -446,7 +453,8 @@ module _ (laws : Grammars) where
       absurd (false≢true in_step)
   follows_after c (FaultyContent.GarbleDown bytes) world _ after holds step in_step =
       unchanged c world after step.leaves holds in_step
-  follows_after c FaultyContent.BoardLost world answer after holds step in_step = absurd (false≢true in_step)
+  follows_after c FaultyContent.BoardLost world answer after holds step in_step =
+      absurd (false≢true in_step)
   follows_after c FaultyContent.GiveUp world Outcome.Done after holds step in_step =
       given_up_follows c.in_turn c.asked world after (holds.follows in_step) step.leaves
   follows_after c FaultyContent.GiveUp world _ after holds step in_step = let a = step.answers in cc
@@ -455,13 +463,14 @@ module _ (laws : Grammars) where
   follows_after c FaultyContent.Restart world _ after holds step in_step =
       unchanged c world after step.leaves holds in_step
 
-  step_holds : (c : Counted) (act : FaultyContent) (world : WorldView) (answer : Outcome) (after : WorldView)
-      → Holds c world → FaultyStep act world answer after → Holds (counted_after c act answer) after
+  step_holds : (c : Counted) (act : FaultyContent) (world : WorldView) (answer : Outcome)
+      (after : WorldView) → Holds c world → FaultyStep act world answer after
+      → Holds (counted_after c act answer) after
   step_holds c act world answer after holds step = search (rules, step_sane, follows_after)
 
-  run_holds : (acts : List FaultyContent) (world : WorldView) (answers : List Outcome) (after : WorldView)
-      (c : Counted)
-      → Holds c world → FaultyRuns acts world answers after → Holds (counted_after_all c acts answers) after
+  run_holds : (acts : List FaultyContent) (world : WorldView) (answers : List Outcome)
+      (after : WorldView) (c : Counted) → Holds c world → FaultyRuns acts world answers after
+      → Holds (counted_after_all c acts answers) after
   run_holds [] world [] after c holds same = rw same holds
   run_holds (act ∷ acts) world (answer ∷ answers) after c holds (between, step, runs) =
       run_holds acts between answers after (counted_after c act answer)
@@ -473,17 +482,21 @@ module _ (laws : Grammars) where
 sane_holds : (world : WorldView) → IsSane world → Holds (nothing_counted false) world
 sane_holds world sane = record { sane = sane; follows = λ none. absurd (false≢true none) }
 
-in_step_holds : (world : WorldView) → IsSane world → IsInStep world → Holds (nothing_counted true) world
+in_step_holds : (world : WorldView) → IsSane world → IsInStep world
+    → Holds (nothing_counted true) world
 in_step_holds world sane is = record { sane = sane; follows = λ in_step. in_step_follows world is }
 
-module _ (laws : Grammars) (acts : List FaultyContent) (world after : WorldView) (answers : List Outcome)
+module _ (laws : Grammars) (acts : List FaultyContent) (world after : WorldView)
+    (answers : List Outcome)
     (sane : IsSane world) (runs : FaultyRuns acts world answers after) where
   pub counted_holds : Holds (counted_by false acts answers) after
-  counted_holds = run_holds laws acts world answers after (nothing_counted false) (sane_holds world sane) runs
+  counted_holds =
+      run_holds laws acts world answers after (nothing_counted false) (sane_holds world sane) runs
 
   pub in_step_counted_holds : IsInStep world → Holds (counted_by true acts answers) after
   in_step_counted_holds is =
-      run_holds laws acts world answers after (nothing_counted true) (in_step_holds world sane is) runs
+      run_holds laws acts world answers after (nothing_counted true) (in_step_holds world sane is)
+      runs
 
 -- ---- when everything is quiet
 
@@ -495,7 +508,8 @@ pub quiet_behind : EachDividesOnce → (garbage : List ℕ) (world : WorldView) 
     → StandsBehind garbage world x → IsQuietWorld world → IsQuiet x
 quiet_behind once garbage world x stands quiet =
     let up = nothing_said x.up
-    (right_empty garbage (flat_map encoding x.up) (sym (rw (quiet.unread, quiet.up) at stands.up))) in
+    (right_empty garbage (flat_map encoding x.up)
+    (sym (rw (quiet.unread, quiet.up) at stands.up))) in
     record {
       up = up;
       down = (once.1 [] x.down [] [] [] (rw (quiet.partial, quiet.down) at stands.down)
@@ -509,24 +523,26 @@ pub host_knows : {X : Type 0} {known seen : Option X} {x : X} → IsUnknownOr kn
 host_knows h0 is = search rules
 
 -- each awaited reply was yet to be heard, and nothing is under way any more
-pub awaited_has_come : (world : WorldView) (is : IsInTurnWorld world) → IsQuiet is.state → world.host.awaited ≡ []
+pub awaited_has_come : (world : WorldView) (is : IsInTurnWorld world) → IsQuiet is.state
+    → world.host.awaited ≡ []
 awaited_has_come world is still = quiet_awaited (awaiting is.state world.host.awaited)
     (asked_sound is.state is.state.down world.host.awaited is.stands.sound is.holds)
     (record { up = still.up; down = still.down; pending = still.pending })
 
-pub in_turn_at_quiet : EachDividesOnce → (world : WorldView) → IsInTurnWorld world → IsQuietWorld world
-    → world.host.awaited ≡ []
+pub in_turn_at_quiet : EachDividesOnce → (world : WorldView) → IsInTurnWorld world
+    → IsQuietWorld world → world.host.awaited ≡ []
 in_turn_at_quiet once world is quiet =
     awaited_has_come world is (quiet_behind once is.garbage world is.state is.stands quiet)
 
-pub counted_in_turn : (c : Counted) (world : WorldView) → Holds c world → IsInTurn c → IsInTurnWorld world
+pub counted_in_turn : (c : Counted) (world : WorldView) → Holds c world → IsInTurn c
+    → IsInTurnWorld world
 counted_in_turn c world holds turn = search rules
 
 -- ---- a world without a fault
 
 -- bytes that divide are bytes
-divided_bytes : (bytes : List ℕ) (events : List EventContent) (rest : List ℕ) → Divides bytes events rest
-    → AreBytes bytes
+divided_bytes : (bytes : List ℕ) (events : List EventContent) (rest : List ℕ)
+    → Divides bytes events rest → AreBytes bytes
 divided_bytes bytes [] rest (same, partial) =
     rw same (bytes_left rest (partial.next ∷ partial.more) partial.word.are_bytes)
 divided_bytes bytes (event ∷ events) rest (word, after, is, same, divides) =
@@ -537,14 +553,20 @@ stands_behind world x stands = search rules
 
 pub world_in_step : (world : WorldView) → IsWorld world → IsInStep world
 world_in_step world is =
-    record { garbage = []; state = is.state; stands = stands_behind world is.state is.stands; holds = tt }
+    record {
+      garbage = [];
+      state = is.state;
+      stands =
+          stands_behind world is.state is.stands;
+      holds = tt;
+    }
 
 pub world_in_turn : (world : WorldView) → IsWorld world → IsInTurnWorld world
 world_in_turn world is = search (rules, stands_behind)
 
 -- nothing is under way to the board
-pub empty_in_step : (world : WorldView) → IsSane world → world.down.bytes ≡ [] → world.board.partial ≡ []
-    → IsInStep world
+pub empty_in_step : (world : WorldView) → IsSane world → world.down.bytes ≡ []
+    → world.board.partial ≡ [] → IsInStep world
 empty_in_step world sane down partial = record {
   garbage = world.host.unread ++ world.up.bytes;
   state = state_of_board world.board.state;
@@ -554,8 +576,8 @@ empty_in_step world sane down partial = record {
 
 pub sane_if : (world : WorldView) → length world.board.state.squares ≡ 64
     → length world.board.state.reported_squares ≡ 64
-    → (IsTrue (follows_clock world.board.state.mode)
-    → IsTrue world.board.state.times_owed ⊎ (world.board.state.reported_clock ≡ Some world.board.state.clock))
+    → (IsTrue (follows_clock world.board.state.mode) → IsTrue world.board.state.times_owed
+    ⊎ (world.board.state.reported_clock ≡ Some world.board.state.clock))
     → IsPartial world.board.partial → AreBytes world.down.bytes → IsSane world
 sane_if world squares reported followed partial down = search rules
 

@@ -1,18 +1,13 @@
 -- The derived `==` of acts.
-use Rattle.std.proofs.Common.{ℕ, refl, rules}
-use Rattle.dgt_values.specs.Equality.{EqualIsSameRead, EqualIsSameReadOf}
-use Rattle.dgt_message.specs.Content.{clock_seen}
+use Rattle.{std.proofs.Common.{ℕ, refl, rules}, dgt_values.specs.Equality.{EqualIsSameRead, EqualIsSameReadOf}, dgt_message.specs.Content.{clock_seen}, dgt_command.specs.Content.{command_content}}
+use Rattle.{dgt_command.{specs.Equality.{CommandHasArrays}, proofs.Equal.{differ, equal_bytes}}, dgt_link.specs.{Act.{ActContent, ActHasArrays, act_content}, Faults.{FaultyActHasArrays}}}
+use Rattle.dgt_link.specs.Faults.{FaultyContent, faulty_content}
 use Rattle.dgt_message.specs.contracts.clock.ClockPartialEq.TheImpl as derived_clock
-use Rattle.dgt_command.specs.Content.{command_content}
-use Rattle.dgt_command.specs.Equality.{CommandHasArrays}
 use Rattle.dgt_command.specs.contracts.command.CommandPartialEq.TheImpl as derived_command
-use Rattle.dgt_link.specs.Act.{ActContent, ActHasArrays, act_content}
 use Rattle.dgt_link.specs.declared.acts.Act.TheVariants as act
 use Rattle.dgt_link.specs.contracts.acts.ActPartialEq.TheImpl as derived
 use Rattle.dgt_link.specs.contracts.faulty.FaultyActPartialEq.TheImpl as derived_faulty
 use Rattle.dgt_link.specs.declared.faulty.FaultyAct.TheVariants as faulty
-use Rattle.dgt_link.specs.Faults.{FaultyActHasArrays, FaultyContent, faulty_content}
-use Rattle.dgt_command.proofs.Equal.{differ, equal_bytes}
 
 -- the number of an act's case
 abbrev case_of : ActContent → ℕ
@@ -26,7 +21,8 @@ case_of ActContent.Break = 6
 case_of ActContent.HostBreak = 7
 
 module _ (equal_clocks : EqualIsSameRead clock_seen (derived_clock.eq-value).it)
-    (equal_commands : EqualIsSameReadOf CommandHasArrays command_content (derived_command.eq-value).it) where
+    (equal_commands : EqualIsSameReadOf CommandHasArrays command_content
+    (derived_command.eq-value).it) where
   -- two acts are equal exactly if they do the same
   pub equal_acts : EqualIsSameReadOf ActHasArrays act_content (derived.eq-value).it
   equal_acts (act.Change square piece) (act.Change other second) h k = search rules
@@ -51,7 +47,8 @@ faulty_case_of FaultyContent.Restart = 4
 faulty_case_of FaultyContent.GiveUp = 5
 
 module _ (equal : EqualIsSameReadOf ActHasArrays act_content (derived.eq-value).it) where
-  pub equal_faulty_acts : EqualIsSameReadOf FaultyActHasArrays faulty_content (derived_faulty.eq-value).it
+  pub equal_faulty_acts : EqualIsSameReadOf FaultyActHasArrays faulty_content
+      (derived_faulty.eq-value).it
   equal_faulty_acts (faulty.Plain a) (faulty.Plain b) h k = search rules
   equal_faulty_acts (faulty.GarbleUp a) (faulty.GarbleUp b) h k = search (rules, equal_bytes)
   equal_faulty_acts (faulty.GarbleDown a) (faulty.GarbleDown b) h k = search (rules, equal_bytes)

@@ -1,31 +1,12 @@
 -- Whatever the schedule, a world comes to rest if each side moves again and again.
-use Rattle.std.proofs.Common.{arith, ◌≡◌, refl, sym, ap, subst, ◌∙◌, ◌⊎◌, inl, inr, ℕ, ◌+◌, ◌<◌, ◌≤◌, zero, suc, List, [], ◌∷◌, ◌++◌, Some, None, Bool, true, cond, length, if◌then◌else◌}
-use Rattle.std.proofs.Common.{rules}
-use Rattle.std.proofs.lemmas.Bool.{eqb-true, ltb-true}
-use Rattle.std.proofs.lemmas.List.{length-append, length-map}
-use Rattle.std.proofs.lemmas.Option.{same_Some}
-use Rattle.std.specs.Prelude.{Contains, slice_get, map}
-use Rattle.std.specs.List.{AllByRecursion}
-use Rattle.dgt_message.specs.Clock.{ClockState}
-use Rattle.dgt_message.specs.Content.{Content, clock_message}
-use Rattle.dgt_message.specs.Encoding.{encoding}
-use Rattle.dgt_command.specs.Content.{EventContent}
-use Rattle.dgt_command.specs.Laws.{NoWordBeginsAPart, WordsAreShort}
-use Rattle.dgt_board.specs.declared.replies.Reply.{Reply}
-use Rattle.dgt_board.specs.State.{BoardState, IsShortClock, IsShortIdentity, effect, effects}
-use Rattle.dgt_board.specs.Sending.{clock_news, field_of, next_message, reply_message, unreported_squares}
-use Rattle.dgt_link.specs.Act.{ActContent}
-use Rattle.dgt_link.specs.declared.acts.Outcome.{Outcome}
-use Rattle.dgt_link.specs.Healing.{IsRestedWorld}
-use Rattle.dgt_link.specs.Settling.{HasRounds, IsRound, IsSettling, steps_left}
-use Rattle.dgt_link.specs.Stands.{IsWorld}
-use Rattle.dgt_link.specs.Step.{Runs, Step, done_count, moves_nothing, outcome}
-use Rattle.dgt_link.specs.View.{LineContents, WorldView}
-use Rattle.dgt_link.proofs.Backlogs.{BacklogFalls, BacklogRises}
-use Rattle.dgt_link.proofs.Lists.{Contains-cons, all_append, nothing_contained}
-use Rattle.dgt_link.proofs.Settling.{by_settling, count_first, no_bytes, run_steps}
-use Rattle.dgt_link.proofs.Taking.{HasSameGame, effects_same_game}
-use Rattle.dgt_link.specs.Step.{Becomes}
+use Rattle.std.proofs.Common.{arith, ◌≡◌, refl, sym, ap, subst, ◌∙◌, ◌⊎◌, inl, inr, ℕ, ◌+◌, ◌<◌, ◌≤◌, zero, suc, List, [], ◌∷◌, ◌++◌, Some, None, Bool, true, cond, length, if◌then◌else◌, rules}
+use Rattle.std.{proofs.lemmas.{Bool.{eqb-true, ltb-true}, List.{length-append, length-map}, Option.{same_Some}}, specs.{List.{AllByRecursion}, Prelude.{Contains, slice_get, map}}}
+use Rattle.{dgt_message.specs.{Clock.{ClockState}, Content.{Content, clock_message}, Encoding.{encoding}}, dgt_command.specs.{Content.{EventContent}, Laws.{NoWordBeginsAPart, WordsAreShort}}}
+use Rattle.dgt_board.specs.{Sending.{clock_news, field_of, next_message, reply_message, unreported_squares}, State.{BoardState, IsShortClock, IsShortIdentity, effect, effects}}
+use Rattle.{dgt_board.specs.declared.replies.Reply.{Reply}, dgt_link.specs.{Act.{ActContent}, Healing.{IsRestedWorld}, Settling.{HasRounds, IsRound, IsSettling, steps_left}, Stands.{IsWorld}}}
+use Rattle.dgt_link.{specs.{Step.{Runs, Step, done_count, moves_nothing, outcome, Becomes}, View.{LineContents, WorldView}, declared.acts.Outcome.{Outcome}}, proofs.Backlogs.{BacklogFalls}}
+use Rattle.dgt_link.proofs.{Backlogs.{BacklogRises}, Lists.{Contains-cons, all_append, nothing_contained}, Settling.{by_settling, count_first, no_bytes, run_steps}, Taking.{HasSameGame}}
+use Rattle.dgt_link.proofs.Taking.{effects_same_game}
 
 -- each message that the board sends fits into the empty up line, whatever it owes and has reported
 abbrev SendsFit : WorldView → Type 0
@@ -39,10 +20,12 @@ SendsFit world =
 field_is_short : (board : BoardState) (square : ℕ) → length (encoding (field_of board square)) ≤ 67
 field_is_short board square = omega arith
 
-clock_is_short : (clock : ClockState) → IsShortClock clock → length (encoding (clock_message clock)) ≤ 67
+clock_is_short : (clock : ClockState) → IsShortClock clock
+    → length (encoding (clock_message clock)) ≤ 67
 clock_is_short clock is = search (rules, length-append)
 
-module _ (board : BoardState) (squares : length board.squares ≡ 64) (is : IsShortIdentity board.identity)
+module _ (board : BoardState) (squares : length board.squares ≡ 64)
+    (is : IsShortIdentity board.identity)
     (clock : IsShortClock board.clock) where
   news_is_short : (owed : Bool) (message : Content)
       → slice_get (if owed then clock_message board.clock ∷ [] else []) 0 ≡ Some message
@@ -50,19 +33,23 @@ module _ (board : BoardState) (squares : length board.squares ≡ 64) (is : IsSh
   news_is_short owed message e = search (rules, same_Some, clock_is_short)
 
   fields_are_short : (fields : List ℕ) (message : Content)
-      → slice_get (map (field_of board) fields ++ clock_news board) 0 ≡ Some message → length (encoding message) ≤ 67
+      → slice_get (map (field_of board) fields ++ clock_news board) 0 ≡ Some message
+      → length (encoding message) ≤ 67
   fields_are_short [] message e = news_is_short board.times_owed message e
   fields_are_short (square ∷ fields) message e = search (rules, same_Some, field_is_short)
 
   all_are_short : (owed : List Reply) (message : Content)
-      → slice_get (map (reply_message board) owed ++ (map (field_of board) (unreported_squares board)
-      ++ clock_news board)) 0 ≡ Some message → length (encoding message) ≤ 67
+      → slice_get
+      (map (reply_message board) owed
+      ++ (map (field_of board) (unreported_squares board) ++ clock_news board)) 0 ≡ Some message
+      → length (encoding message) ≤ 67
   all_are_short [] message e = fields_are_short (unreported_squares board) message e
   all_are_short (reply ∷ owed) message e = search (rules, same_Some, length-map, clock_is_short)
 
 -- ---- runs in two parts
 
-pub record Split (first later : List ActContent) (world after : WorldView) (answers : List Outcome) : Type 0 where
+pub record Split (first later : List ActContent) (world after : WorldView)
+    (answers : List Outcome) : Type 0 where
   pub between : WorldView
   pub ones : List Outcome
   pub others : List Outcome
@@ -86,14 +73,15 @@ run_split (act ∷ first) later world after (answer ∷ answers) (next, step, ru
     }
 run_split (act ∷ first) later world after [] none = absurd none
 
-count_both : (ones others : List Outcome) → done_count (ones ++ others) ≡ done_count ones + done_count others
+count_both : (ones others : List Outcome)
+    → done_count (ones ++ others) ≡ done_count ones + done_count others
 count_both [] others = omega arith
 count_both (one ∷ ones) others = search (rules, count_first, count_both ones others)
 
 -- ---- acts of which none is done
 
-same_if_none : (act : ActContent) (world after : WorldView) (answer : Outcome) → Step act world answer after
-    → done_count (answer ∷ []) ≡ 0 → after ≡ world
+same_if_none : (act : ActContent) (world after : WorldView) (answer : Outcome)
+    → Step act world answer after → done_count (answer ∷ []) ≡ 0 → after ≡ world
 same_if_none act world after answer step none = search rules
 
 none_done : (acts : List ActContent) (world after : WorldView) (answers : List Outcome)
@@ -106,12 +94,13 @@ none_done (act ∷ acts) world after (answer ∷ answers) (between, step, runs) 
 none_done _ world after _ never none = absurd never
 
 -- each of them can't be done
-none_can : (act : ActContent) (acts : List ActContent) (world after : WorldView) (answers : List Outcome)
-    → Contains acts act → Runs acts world answers after → done_count answers ≡ 0
-    → done_count (outcome act world ∷ []) ≡ 0
+none_can : (act : ActContent) (acts : List ActContent) (world after : WorldView)
+    (answers : List Outcome) → Contains acts act → Runs acts world answers after
+    → done_count answers ≡ 0 → done_count (outcome act world ∷ []) ≡ 0
 none_can act [] world after [] found same none = absurd (nothing_contained act found)
 none_can act (first ∷ acts) world after (answer ∷ answers) found (between, step, runs) none =
-    go (λ later none'. none_can act acts between after answers later runs none') (Contains-cons act first acts found)
+    go (λ later none'. none_can act acts between after answers later runs none')
+    (Contains-cons act first acts found)
   where
     both : done_count (answer ∷ answers) ≡ done_count (answer ∷ []) + done_count answers
     both = count_first answer answers
@@ -127,19 +116,23 @@ none_can act (first ∷ acts) world after (answer ∷ answers) found (between, s
     go rest (inl e) = ap (λ (other : ActContent). done_count (outcome other world ∷ [])) (sym e)
         ∙ ap (λ (one : Outcome). done_count (one ∷ [])) (sym step.answers) ∙ here
     go rest (inr later) =
-        subst (λ (w : WorldView). done_count (outcome act w ∷ []) ≡ 0) same (rest later (omega (arith, none, both)))
+        subst (λ (w : WorldView). done_count (outcome act w ∷ []) ≡ 0) same
+        (rest later (omega (arith, none, both)))
 none_can act _ world after _ found never none = absurd never
 
 -- ---- a world in which no side can move
 
-nothing_if : (nothing : Bool) → done_count (cond nothing Outcome.Nothing Outcome.Done ∷ []) ≡ 0 → nothing ≡ true
+nothing_if : (nothing : Bool) → done_count (cond nothing Outcome.Nothing Outcome.Done ∷ []) ≡ 0
+    → nothing ≡ true
 nothing_if nothing h = search rules
 
-line_empty : (count : ℕ) (line : LineContents) → 0 < count → moves_nothing count line ≡ true → line.bytes ≡ []
+line_empty : (count : ℕ) (line : LineContents) → 0 < count → moves_nothing count line ≡ true
+    → line.bytes ≡ []
 line_empty count line some none = search (rules, eqb-true, no_bytes)
 
 none_sent : (world : WorldView) → SendsFit world → world.up.bytes ≡ []
-    → done_count (outcome ActContent.BoardSend world ∷ []) ≡ 0 → next_message world.board.state ≡ None
+    → done_count (outcome ActContent.BoardSend world ∷ []) ≡ 0
+    → next_message world.board.state ≡ None
 none_sent world fits empty h = search (rules, ltb-true)
 
 none_taken : (count : ℕ) (world : WorldView) → 0 < count → world.board.state.owed ≡ []
@@ -149,16 +142,18 @@ none_taken count world some owed h =
 
 -- no act of a round can be done in a world only if it rests
 stuck : ((board : BoardState) → next_message board ≡ None → board.owed ≡ [])
-    → (round : List ActContent) (world after : WorldView) (answers : List Outcome) → SendsFit world → IsRound round
-    → Runs round world answers after → done_count answers ≡ 0 → IsRestedWorld world
+    → (round : List ActContent) (world after : WorldView) (answers : List Outcome) → SendsFit world
+    → IsRound round → Runs round world answers after → done_count answers ≡ 0 → IsRestedWorld world
 stuck none_owed round world after answers fits is runs none =
-    let hears = none_can (ActContent.ToHost is.hears.0) round world after answers is.hears.2 runs none in
+    let hears =
+    none_can (ActContent.ToHost is.hears.0) round world after answers is.hears.2 runs none in
     search (rules, none_can, line_empty, nothing_if, none_sent, none_taken)
 
 -- ---- a world that rests
 
 rests_on : (acts : List ActContent) (world after : WorldView) (answers : List Outcome)
-    → AllByRecursion IsSettling acts → IsRestedWorld world → Runs acts world answers after → after ≡ world
+    → AllByRecursion IsSettling acts → IsRestedWorld world → Runs acts world answers after
+    → after ≡ world
 rests_on [] world after [] all rested same = same
 rests_on (act ∷ acts) world after (answer ∷ answers) all rested (between, step, runs) =
     let same : between ≡ world
@@ -170,7 +165,8 @@ rests_on _ world after _ all rested never = absurd never
 
 abbrev KeepsFit : WorldView → WorldView → Type 0
 KeepsFit world after = HasSameGame world.board.state after.board.state
-    × (after.board.state.identity ≡ world.board.state.identity) × (after.up.capacity ≡ world.up.capacity)
+    × (after.board.state.identity ≡ world.board.state.identity)
+    × (after.up.capacity ≡ world.up.capacity)
 
 effects_identity : (board : BoardState) (events : List EventContent)
     → (effects board events).identity ≡ board.identity
@@ -179,8 +175,8 @@ effects_identity board (EventContent.Read command ∷ events) =
     effects_identity (effect board (EventContent.Read command)) events
 effects_identity board (event ∷ events) = effects_identity board events
 
-becomes_fit : (act : ActContent) (world after : WorldView) → IsSettling act → Becomes act world after
-    → KeepsFit world after
+becomes_fit : (act : ActContent) (world after : WorldView) → IsSettling act
+    → Becomes act world after → KeepsFit world after
 becomes_fit ActContent.BoardSend world after is (message, is_next, encodes, same) =
     rw same (record { squares = refl; clock = refl }, refl, refl)
 becomes_fit (ActContent.ToBoard count) world after is delivers =
@@ -196,7 +192,8 @@ becomes_fit _ world after none same = absurd none
 step_fit : (act : ActContent) (world after : WorldView) (answer : Outcome) → IsSettling act
     → Step act world answer after → KeepsFit world after
 step_fit act world after Outcome.Done is step = becomes_fit act world after is step.leaves
-step_fit act world after _ is step = rw step.leaves (record { squares = refl; clock = refl }, refl, refl)
+step_fit act world after _ is step =
+    rw step.leaves (record { squares = refl; clock = refl }, refl, refl)
 
 run_fit : (acts : List ActContent) (world after : WorldView) (answers : List Outcome)
     → AllByRecursion IsSettling acts → Runs acts world answers after → KeepsFit world after
@@ -215,16 +212,17 @@ still_fits world after kept fits = search rules
 
 -- ---- rounds
 
-rounds_settle : (rounds : ℕ) (acts : List ActContent) → HasRounds rounds acts → AllByRecursion IsSettling acts
+rounds_settle : (rounds : ℕ) (acts : List ActContent) → HasRounds rounds acts
+    → AllByRecursion IsSettling acts
 rounds_settle zero acts all = all
 rounds_settle (suc rounds) acts (round, later, both, is, more) =
     search (rules, all_append, rounds_settle rounds later more)
 
 module _ (none_owed : (board : BoardState) → next_message board ≡ None → board.owed ≡ []) where
   -- each round does something, or the world rests
-  pub rounds_do : (rounds : ℕ) (acts : List ActContent) (world after : WorldView) (answers : List Outcome)
-      → SendsFit world → HasRounds rounds acts → Runs acts world answers after
-      → (rounds ≤ done_count answers) ⊎ IsRestedWorld after
+  pub rounds_do : (rounds : ℕ) (acts : List ActContent) (world after : WorldView)
+      (answers : List Outcome) → SendsFit world → HasRounds rounds acts
+      → Runs acts world answers after → (rounds ≤ done_count answers) ⊎ IsRestedWorld after
   rounds_do zero acts world after answers fits has runs = inl (omega arith)
   rounds_do (suc rounds) acts world after answers fits (round, later, both, is, more) runs =
       go (rounds_do rounds later parts.between after parts.others fits_between more parts.more)
@@ -241,14 +239,16 @@ module _ (none_owed : (board : BoardState) → next_message board ≡ None → b
       fits_between = still_fits world parts.between
           (run_fit round world parts.between parts.ones is.settling parts.runs) fits
 
-      go : (rounds ≤ done_count parts.others) ⊎ IsRestedWorld after → (done : ℕ) → done_count parts.ones ≡ done
+      go : (rounds ≤ done_count parts.others) ⊎ IsRestedWorld after → (done : ℕ)
+          → done_count parts.ones ≡ done
           → (suc rounds ≤ done_count answers) ⊎ IsRestedWorld after
       go rest zero e =
           let rested = stuck none_owed round world parts.between parts.ones fits is parts.runs e in
-          let same : parts.between ≡ world = none_done round world parts.between parts.ones parts.runs e in
+          let same : parts.between ≡ world =
+          none_done round world parts.between parts.ones parts.runs e in
           let last : after ≡ parts.between
-          = rests_on later parts.between after parts.others (rounds_settle rounds later more) (rw same rested)
-          parts.more in
+          = rests_on later parts.between after parts.others (rounds_settle rounds later more)
+          (rw same rested) parts.more in
           inr (rw (last, same) rested)
       go (inl enough) (suc done) e = inl (omega (arith, enough, counted, e))
       go (inr rested) (suc done) e = inr rested
@@ -258,17 +258,21 @@ module _ (none_owed : (board : BoardState) → next_message board ≡ None → b
   real_fits world is identity clock = λ board message squares' clock' identity' next.
       let sixty_four : length board.squares ≡ 64
       = search rules in
-      let short = all_are_short board sixty_four (rw identity' identity) (rw clock' clock) board.owed message next in
+      let short = all_are_short board sixty_four (rw identity' identity) (rw clock' clock)
+      board.owed message next in
       omega (arith, short, is.up_room)
 
   module _ (keeps : (act : ActContent) (world after : WorldView) (answer : Outcome) → IsWorld world
       → Step act world answer after → IsWorld after)
-      (falls : BacklogFalls) (short : WordsAreShort) (within : NoWordBeginsAPart) (rises : BacklogRises) where
-    pub rounds_rest : (rounds : ℕ) (acts : List ActContent) (world after : WorldView) (answers : List Outcome)
-        → IsWorld world → IsShortIdentity world.board.state.identity → IsShortClock world.board.state.clock
-        → HasRounds rounds acts → steps_left world < rounds → Runs acts world answers after → IsRestedWorld after
+      (falls : BacklogFalls) (short : WordsAreShort) (within : NoWordBeginsAPart)
+      (rises : BacklogRises) where
+    pub rounds_rest : (rounds : ℕ) (acts : List ActContent) (world after : WorldView)
+        (answers : List Outcome) → IsWorld world → IsShortIdentity world.board.state.identity
+        → IsShortClock world.board.state.clock → HasRounds rounds acts → steps_left world < rounds
+        → Runs acts world answers after → IsRestedWorld after
     rounds_rest rounds acts world after answers is identity clock has enough runs =
-        elim (rounds_do rounds acts world after answers (real_fits world is identity clock) has runs) [
+        elim (rounds_do rounds acts world after answers (real_fits world is identity clock) has
+        runs) [
           | inl all ↦ search (rules, run_steps, rounds_settle)
           | inr rested ↦ rested
         ]

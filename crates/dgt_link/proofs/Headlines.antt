@@ -1,27 +1,12 @@
 -- Acts that were all done: their effect on the board, and their requests.
-use Rattle.std.proofs.Common.{◌≡◌, ◌≢◌, subst, ◌⊎◌, inl, inr, refl, sym, ap, ◌∙◌, ◌≤◌, List, [], ◌∷◌, ◌++◌, length, map, true, arith, false}
-use Rattle.std.proofs.Common.{rules}
-use Rattle.std.proofs.lemmas.Bool.{false≢true}
-use Rattle.std.proofs.lemmas.List.Elements.{Contains-push_cases, filter_map-append, Contains-append_left, Contains-push}
-use Rattle.std.specs.Prelude.{◌↔◌, Contains, IsTrue, filter_map}
-use Rattle.dgt_link.proofs.Lists.{nothing_contained}
-use Rattle.dgt_values.specs.declared.pieces.Piece.{Piece}
-use Rattle.dgt_command.specs.Content.{CommandContent, command_content}
-use Rattle.dgt_command.specs.declared.command.Command.{Command}
+use Rattle.std.proofs.{Common.{◌≡◌, ◌≢◌, subst, ◌⊎◌, inl, inr, refl, sym, ap, ◌∙◌, ◌≤◌, List, [], ◌∷◌, ◌++◌, length, map, true, arith, false, rules}, lemmas.Bool.{false≢true}}
+use Rattle.std.{proofs.lemmas.List.Elements.{Contains-push_cases, filter_map-append, Contains-append_left, Contains-push}, specs.Prelude.{◌↔◌, Contains, IsTrue, filter_map}}
+use Rattle.dgt_link.{proofs.{Lists.{nothing_contained}, Promises.{last_mode-append}, Taking.{effects_same_game}}, specs.{Act.{act_content}, Faults.{AreCalm, FaultyContent, sends, stops}}}
+use Rattle.dgt_link.specs.{Headline.{AskForPicture, Asking, asking_after, asking_with, nothing_asked, squares_after}, Promise.{IsAskedBy, commands_after, last_mode, run_requests}, Step.{Becomes}}
+use Rattle.{dgt_link.specs.{Step.{Runs, done_count}, View.{WorldView}, declared.acts.{Act.{Act}, Outcome.{Outcome}}}, dgt_values.specs.declared.pieces.Piece.{Piece}}
+use Rattle.{dgt_command.specs.{Content.{CommandContent, command_content}, declared.command.Command.{Command}}, dgt_board.specs.{State.{command_mode, updates}, declared.modes.Mode.{Mode}}}
 use Rattle.dgt_command.specs.declared.command.Command.TheVariants as command
-use Rattle.dgt_board.specs.declared.modes.Mode.{Mode}
-use Rattle.dgt_board.specs.State.{command_mode, updates}
-use Rattle.dgt_link.specs.declared.acts.Act.{Act}
 use Rattle.dgt_link.specs.declared.acts.Act.TheVariants as act
-use Rattle.dgt_link.specs.declared.acts.Outcome.{Outcome}
-use Rattle.dgt_link.specs.Act.{act_content}
-use Rattle.dgt_link.specs.Faults.{AreCalm, FaultyContent, sends, stops}
-use Rattle.dgt_link.specs.Headline.{AskForPicture, Asking, asking_after, asking_with, nothing_asked, squares_after}
-use Rattle.dgt_link.specs.Promise.{IsAskedBy, commands_after, last_mode, run_requests}
-use Rattle.dgt_link.specs.Step.{Becomes, Runs, done_count}
-use Rattle.dgt_link.specs.View.{WorldView}
-use Rattle.dgt_link.proofs.Promises.{last_mode-append}
-use Rattle.dgt_link.proofs.Taking.{effects_same_game}
 
 -- each act was done
 abbrev pub all_done : List Act → List Outcome
@@ -48,7 +33,8 @@ few_done (one ∷ acts) world after (_ ∷ answers) (between, step, runs) =
 few_done _ world after _ none = absurd none
 
 -- acts that were all done
-pub record RanAll (acts : List Act) (world after : WorldView) (answers : List Outcome) : Type 0 where
+pub record RanAll (acts : List Act) (world after : WorldView) (answers : List Outcome) : Type
+    0 where
   pub all : answers ≡ all_done acts
   pub squares : after.board.state.squares ≡ squares_after world.board.state.squares acts
 
@@ -76,22 +62,26 @@ record IsAskedFor (commands : List CommandContent) (asking : Asking) : Type 0 wh
   mode : updates (last_mode Mode.Idle (filter_map command_mode commands)) ≡ asking.updates
 
 last-push : (commands : List CommandContent) (said : CommandContent)
-    → last_mode Mode.Idle (filter_map command_mode (commands ++ said ∷ []))
-    ≡ last_mode (last_mode Mode.Idle (filter_map command_mode commands)) (filter_map command_mode (said ∷ []))
+    → last_mode Mode.Idle (filter_map command_mode (commands ++ said ∷ [])) ≡ last_mode
+    (last_mode Mode.Idle (filter_map command_mode commands)) (filter_map command_mode (said ∷ []))
 last-push commands said = search (rules, filter_map-append, last_mode-append)
 
-dump_more : (commands : List CommandContent) (asking : Asking) (one : Command) → IsAskedFor commands asking
-    → IsTrue (asking_with asking one).dump → Contains (commands ++ command_content one ∷ []) CommandContent.Dump
+dump_more : (commands : List CommandContent) (asking : Asking) (one : Command)
+    → IsAskedFor commands asking → IsTrue (asking_with asking one).dump
+    → Contains (commands ++ command_content one ∷ []) CommandContent.Dump
 dump_more commands asking command.Dump is h = Contains-push commands CommandContent.Dump
 dump_more commands asking one is h =
     Contains-append_left commands (command_content one ∷ []) CommandContent.Dump (is.dump h)
 
-mode_more : (commands : List CommandContent) (asking : Asking) (one : Command) → IsAskedFor commands asking
-    → updates (last_mode (last_mode Mode.Idle (filter_map command_mode commands))
+mode_more : (commands : List CommandContent) (asking : Asking) (one : Command)
+    → IsAskedFor commands asking
+    → updates
+    (last_mode (last_mode Mode.Idle (filter_map command_mode commands))
     (filter_map command_mode (command_content one ∷ []))) ≡ (asking_with asking one).updates
 mode_more commands asking one is = search rules
 
-command_more : (commands : List CommandContent) (asking : Asking) (one : Command) → IsAskedFor commands asking
+command_more : (commands : List CommandContent) (asking : Asking) (one : Command)
+    → IsAskedFor commands asking
     → IsAskedFor (commands ++ command_content one ∷ []) (asking_with asking one)
 command_more commands asking one is = search (rules, dump_more, last-push, mode_more)
 
@@ -107,7 +97,8 @@ anew_more commands = record {
   mode = search (rules, last-push);
 }
 
-acts_more : (commands : List CommandContent) (asking : Asking) (acts : List Act) → IsAskedFor commands asking
+acts_more : (commands : List CommandContent) (asking : Asking) (acts : List Act)
+    → IsAskedFor commands asking
     → IsAskedFor (commands_after commands (run_requests (map act_content acts) (all_done acts)))
     (asking_after asking acts)
 acts_more commands asking [] is = is
@@ -121,7 +112,8 @@ acts_more commands asking (act.HostBreak ∷ acts) is =
 acts_more commands asking (_ ∷ acts) is = acts_more commands asking acts is
 
 -- acts that request the picture do so once all are done
-pub asked_if_done : (acts : List Act) → AskForPicture acts → IsAskedBy (map act_content acts) (all_done acts)
+pub asked_if_done : (acts : List Act) → AskForPicture acts
+    → IsAskedBy (map act_content acts) (all_done acts)
 asked_if_done acts ask =
     let is = acts_more [] nothing_asked acts none_asked_for in
     record { dump = is.dump ask.dump; mode = is.mode ∙ ask.updates }
@@ -130,9 +122,11 @@ asked_if_done acts ask =
 
 earlier_dump : (commands : List CommandContent) (said : CommandContent) → said ≢ CommandContent.Dump
     → Contains (commands ++ said ∷ []) CommandContent.Dump → Contains commands CommandContent.Dump
-earlier_dump commands said other has = go (Contains-push_cases commands said CommandContent.Dump has)
+earlier_dump commands said other has =
+    go (Contains-push_cases commands said CommandContent.Dump has)
   where
-    go : Contains commands CommandContent.Dump ⊎ (said ≡ CommandContent.Dump) → Contains commands CommandContent.Dump
+    go : Contains commands CommandContent.Dump ⊎ (said ≡ CommandContent.Dump)
+        → Contains commands CommandContent.Dump
     go (inl before) = before
     go (inr same) = absurd (other same)
 
@@ -168,8 +162,8 @@ dump_back commands asking (command.Leds leds) back has =
 
 acts_back : (commands : List CommandContent) (asking : Asking) (acts : List Act)
     → (Contains commands CommandContent.Dump → IsTrue asking.dump)
-    → Contains (commands_after commands (run_requests (map act_content acts) (all_done acts))) CommandContent.Dump
-    → IsTrue (asking_after asking acts).dump
+    → Contains (commands_after commands (run_requests (map act_content acts) (all_done acts)))
+    CommandContent.Dump → IsTrue (asking_after asking acts).dump
 acts_back commands asking [] back has = back has
 acts_back commands asking (act.Host said ∷ acts) back has =
     acts_back (commands ++ command_content said ∷ []) (asking_with asking said) acts
@@ -181,21 +175,25 @@ acts_back commands asking (act.HostBreak ∷ acts) back has =
     (record { dump = true; updates = true }) acts (λ h. refl) has
 acts_back commands asking (_ ∷ acts) back has = acts_back commands asking acts back has
 
-asked_back : (acts : List Act) → IsAskedBy (map act_content acts) (all_done acts) → AskForPicture acts
+asked_back : (acts : List Act) → IsAskedBy (map act_content acts) (all_done acts)
+    → AskForPicture acts
 asked_back acts asked =
     record {
-      dump = acts_back [] nothing_asked acts (λ h. absurd (nothing_contained CommandContent.Dump h)) asked.dump;
+      dump = acts_back [] nothing_asked acts (λ h. absurd (nothing_contained CommandContent.Dump h))
+          asked.dump;
       updates = sym (acts_more [] nothing_asked acts none_asked_for).mode ∙ asked.mode;
     }
 
 all_done-map : (acts : List Act) → all_done acts ≡ map (λ one. Outcome.Done) acts
 all_done-map [] = refl
-all_done-map (one ∷ acts) = ap (λ (others : List Outcome). Outcome.Done ∷ others) (all_done-map acts)
+all_done-map (one ∷ acts) =
+    ap (λ (others : List Outcome). Outcome.Done ∷ others) (all_done-map acts)
 
 pub asking_is_asked : (acts : List Act)
     → AskForPicture acts ↔ IsAskedBy (map act_content acts) (map (λ one. Outcome.Done) acts)
 asking_is_asked acts =
-    subst (λ (answers : List Outcome). AskForPicture acts ↔ IsAskedBy (map act_content acts) answers)
+    subst
+    (λ (answers : List Outcome). AskForPicture acts ↔ IsAskedBy (map act_content acts) answers)
     (all_done-map acts) (asked_if_done acts, asked_back acts)
 
 -- ---- acts that request the picture, and calm ones after them
@@ -206,8 +204,8 @@ plain_of one = FaultyContent.Plain (act_content one)
 abbrev AsksForBoth : Asking → Type 0
 AsksForBoth asking = IsTrue asking.dump × IsTrue asking.updates
 
-both_with : (asking : Asking) (one : Command) → stops (sends (command_content one)) ≡ false → AsksForBoth asking
-    → AsksForBoth (asking_with asking one)
+both_with : (asking : Asking) (one : Command) → stops (sends (command_content one)) ≡ false
+    → AsksForBoth asking → AsksForBoth (asking_with asking one)
 both_with asking one calm both = search (rules, false≢true)
 
 still_both : (asking : Asking) (acts : List Act) → AreCalm (map plain_of acts) → AsksForBoth asking
@@ -220,8 +218,8 @@ still_both asking (act.HostBreak ∷ acts) calm both =
     still_both (record { dump = true; updates = true }) acts calm.1 (refl, refl)
 still_both asking (_ ∷ acts) calm both = still_both asking acts calm.1 both
 
-both_after_any : (more : List Act) → ((asking : Asking) → AsksForBoth (asking_after asking more)) → (asking : Asking)
-    → (acts : List Act) → AsksForBoth (asking_after asking (acts ++ more))
+both_after_any : (more : List Act) → ((asking : Asking) → AsksForBoth (asking_after asking more))
+    → (asking : Asking) → (acts : List Act) → AsksForBoth (asking_after asking (acts ++ more))
 both_after_any more always asking [] = always asking
 both_after_any more always asking (act.Host said ∷ acts) =
     both_after_any more always (asking_with asking said) acts
@@ -232,5 +230,6 @@ both_after_any more always asking (_ ∷ acts) = both_after_any more always aski
 
 pub asks_for_picture : (acts later : List Act) (mode : Command)
     → (mode ≡ command.Update) ⊎ ((mode ≡ command.UpdateBoard) ⊎ (mode ≡ command.UpdateNice))
-    → AreCalm (map plain_of later) → AskForPicture (acts ++ act.Host mode ∷ act.Host command.Dump ∷ later)
+    → AreCalm (map plain_of later)
+    → AskForPicture (acts ++ act.Host mode ∷ act.Host command.Dump ∷ later)
 asks_for_picture acts later mode asks calm = search (rules, both_after_any, still_both)

@@ -1,15 +1,8 @@
 -- What a host hears of consecutive messages, in whatever parts.
-use Rattle.std.proofs.Common.{◌≡◌, refl, sym, ap, ◌∙◌, ◌⊎◌, inl, inr, ℕ, ◌+◌, ◌-◌, List, [], ◌∷◌, ◌++◌, length, rules}
-use Rattle.std.specs.List.{flat_map}
-use Rattle.std.specs.Prelude.{map}
-use Rattle.dgt_message.specs.Content.{Content, IsMessage}
-use Rattle.dgt_message.specs.Encoding.{encoding}
-use Rattle.dgt_decode.specs.Grammar.{Event, Message, Placed, at_place, events, shifted, unfinished_message}
-use Rattle.dgt_host.specs.Host.{HostView, host_after_events, host_after_message}
-use Rattle.dgt_link.specs.Readers.{Reads}
-use Rattle.dgt_link.specs.Stands.{AreEncoded}
+use Rattle.{std.{proofs.Common.{◌≡◌, refl, sym, ap, ◌∙◌, ◌⊎◌, inl, inr, ℕ, ◌+◌, ◌-◌, List, [], ◌∷◌, ◌++◌, length, rules}, specs.{List.{flat_map}, Prelude.{map}}}, dgt_message.specs.Content.{Content}}
+use Rattle.{dgt_message.specs.{Content.{IsMessage}, Encoding.{encoding}}, dgt_decode.specs.Grammar.{Event, Message, Placed, at_place, events, shifted, unfinished_message}}
+use Rattle.{dgt_decode.proofs.Division.{nil_raised}, dgt_host.specs.Host.{HostView, host_after_events, host_after_message}, dgt_link.specs.{Readers.{Reads}, Stands.{AreEncoded}}}
 use Rattle.dgt_link.proofs.Lists.{IsShorter, Reaches, prefixes, left_empty, not_empty, right_empty}
-use Rattle.dgt_decode.proofs.Division.{nil_raised}
 
 -- no bytes complete no event, and hold nothing
 no_events : events [] ≡ []
@@ -23,7 +16,8 @@ nothing_unfinished = refl
 -- the host after messages
 abbrev pub host_after_messages : HostView → List Content → HostView
 host_after_messages host [] = host
-host_after_messages host (message ∷ messages) = host_after_messages (host_after_message host message) messages
+host_after_messages host (message ∷ messages) =
+    host_after_messages (host_after_message host message) messages
 
 tail_same : {X : Type 0} (x y : X) (xs ys : List X) → x ∷ xs ≡ y ∷ ys → xs ≡ ys
 tail_same x y xs ys h = cc
@@ -37,8 +31,8 @@ known_behind n [] = refl
 known_behind n (x ∷ xs) = ap (λ (more : List Event). x.event ∷ more) (known_behind n xs)
 
 -- the effect of events that are messages on a host
-pub heard_of : (xs : List Placed) (messages : List Content) → known xs ≡ map Message messages → (host : HostView)
-    → host_after_events host xs ≡ host_after_messages host messages
+pub heard_of : (xs : List Placed) (messages : List Content) → known xs ≡ map Message messages
+    → (host : HostView) → host_after_events host xs ≡ host_after_messages host messages
 heard_of [] [] e host = refl
 heard_of (x ∷ xs) (message ∷ messages) e host =
     search (rules, heard_of xs messages (cc e) (host_after_message host message))
@@ -51,7 +45,8 @@ module _ (reads : Reads) where
       → events (encoding message) ≡ at_place (0 + length (encoding message)) (Message message) ∷ []
   read_alone message is = rw (no_events, nothing_unfinished) at (reads.encoding [] message is).0
 
-  pub held_alone : (message : Content) → IsMessage message → unfinished_message (encoding message) ≡ []
+  pub held_alone : (message : Content) → IsMessage message
+      → unfinished_message (encoding message) ≡ []
   held_alone message is = (reads.encoding [] message is).1
 
   -- after bytes with an event, the rest of a message completes none
@@ -65,14 +60,15 @@ module _ (reads : Reads) where
       → word ≡ prefix ++ next ∷ more → (events prefix ≡ []) × (unfinished_message prefix ≡ prefix)
   prefix_waits word prefix more next y read held e = go (events prefix) refl
     where
-      go : (es : List Placed) → events prefix ≡ es → (events prefix ≡ []) × (unfinished_message prefix ≡ prefix)
+      go : (es : List Placed) → events prefix ≡ es
+          → (events prefix ≡ []) × (unfinished_message prefix ≡ prefix)
       go [] f = (f, reads.quiet_held prefix f)
       go (x ∷ xs) f =
           let rest : List ℕ = next ∷ more in
           let none = nothing_more prefix rest x y xs f (rw e at read) in
           let all : unfinished_message prefix ++ next ∷ more ≡ []
-          = sym (reads.quiet_held (unfinished_message prefix ++ rest) none) ∙ sym (reads.unfinished_append prefix rest)
-          ∙ rw e at held in
+          = sym (reads.quiet_held (unfinished_message prefix ++ rest) none)
+          ∙ sym (reads.unfinished_append prefix rest) ∙ rw e at held in
           absurd (not_empty (unfinished_message prefix) next more all)
 
   -- the messages in a prefix of messages in a row, and the rest of them
@@ -85,12 +81,13 @@ module _ (reads : Reads) where
 
   -- one message, and a prefix of those after it
   after_message : (word prefix others : List ℕ) (n : ℕ) (message : Content) (heard : List Content)
-      → events word ≡ at_place n (Message message) ∷ [] → unfinished_message word ≡ [] → prefix ≡ word ++ others
-      → known (events others) ≡ map Message heard → known (events prefix) ≡ Message message ∷ map Message heard
+      → events word ≡ at_place n (Message message) ∷ [] → unfinished_message word ≡ []
+      → prefix ≡ word ++ others → known (events others) ≡ map Message heard
+      → known (events prefix) ≡ Message message ∷ map Message heard
   after_message word prefix others n message heard read held e more = search (rules, known_behind)
 
-  pub heard_prefix : (prefix more : List ℕ) (messages : List Content) → AreEncoded messages (prefix ++ more)
-      → IsPrefix prefix more messages
+  pub heard_prefix : (prefix more : List ℕ) (messages : List Content)
+      → AreEncoded messages (prefix ++ more) → IsPrefix prefix more messages
   heard_prefix prefix more [] encoded =
       search (rules, left_empty, no_events, right_empty, nothing_unfinished)
   heard_prefix prefix more (message ∷ messages) encoded =
@@ -98,14 +95,17 @@ module _ (reads : Reads) where
       (record { are_messages = encoded.are_messages.1; in_a_row = sym f }))
       (prefixes prefix more (encoding message) (flat_map encoding messages) encoded.in_a_row)
     where
-      read : events (encoding message) ≡ at_place (0 + length (encoding message)) (Message message) ∷ []
+      read : events (encoding message)
+          ≡ at_place (0 + length (encoding message)) (Message message) ∷ []
       read = read_alone message encoded.are_messages.0
 
       held : unfinished_message (encoding message) ≡ []
       held = held_alone message encoded.are_messages.0
 
-      go : ((others : List ℕ) → flat_map encoding messages ≡ others ++ more → IsPrefix others more messages)
-          → IsShorter prefix (encoding message) ⊎ Reaches prefix more (encoding message) (flat_map encoding messages)
+      go : ((others : List ℕ) → flat_map encoding messages ≡ others ++ more
+          → IsPrefix others more messages)
+          → IsShorter prefix (encoding message)
+          ⊎ Reaches prefix more (encoding message) (flat_map encoding messages)
           → IsPrefix prefix more (message ∷ messages)
       go on (inl (next, others, e)) =
           let waits = prefix_waits (encoding message) prefix others next _ read held e in
@@ -122,6 +122,7 @@ module _ (reads : Reads) where
             heard = message ∷ rest.heard;
             left = rest.left;
             all = ap (λ (list : List Content). message ∷ list) rest.all;
-            known = after_message (encoding message) prefix others _ message rest.heard read held e rest.known;
+            known = after_message (encoding message) prefix others _ message rest.heard read held e
+                rest.known;
             encoded = rw (e, reads.unfinished_append (encoding message) others, held) rest.encoded;
           }

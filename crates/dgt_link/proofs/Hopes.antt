@@ -1,37 +1,24 @@
 -- How each act changes what is promised of a world's picture or its clock.
-use Rattle.std.proofs.Common.{◌≡◌, refl, sym, ◌∙◌, ℕ, List, [], ◌∷◌, ◌++◌, Bool, Some, true, false, replicate, rules}
-use Rattle.std.proofs.lemmas.Bool.{false≢true}
-use Rattle.std.specs.Prelude.{IsTrue}
-use Rattle.dgt_command.specs.Content.{CommandContent}
-use Rattle.dgt_board.specs.declared.modes.Mode.{Mode}
-use Rattle.dgt_board.specs.State.{command_mode}
-use Rattle.dgt_link.specs.Act.{ActContent}
-use Rattle.dgt_link.specs.declared.acts.Outcome.{Outcome}
-use Rattle.dgt_link.specs.Faults.{FaultyBecomes, FaultyContent, FaultyStep, begins_anew, is_break, sends}
-use Rattle.dgt_link.specs.Healing.{IsInStep, StandsWith}
-use Rattle.dgt_link.specs.Machine.{MachineState, Move, after_moves}
-use Rattle.dgt_link.specs.Promise.{IsPromisedBy, act_requests, coming_mode, mode_after}
-use Rattle.dgt_link.specs.Settling.{IsSettling, SettlesIn}
-use Rattle.dgt_link.specs.Stands.{AreMovesOfStep}
-use Rattle.dgt_link.specs.Step.{Step}
-use Rattle.dgt_link.specs.View.{WorldView}
-use Rattle.dgt_link.proofs.Asking.{mode-step}
-use Rattle.dgt_link.proofs.Behind.{ActsBehind}
-use Rattle.dgt_link.proofs.Counting.{forgotten, garbled_stands, given_up_stands, plain_step}
-use Rattle.dgt_link.proofs.ActRuns.{run_keeps}
-use Rattle.dgt_link.proofs.Settling.{by_settling}
+use Rattle.std.{proofs.{Common.{◌≡◌, refl, sym, ◌∙◌, ℕ, List, [], ◌∷◌, ◌++◌, Bool, Some, true, false, replicate, rules}, lemmas.Bool.{false≢true}}, specs.Prelude.{IsTrue}}
+use Rattle.{dgt_command.specs.Content.{CommandContent}, dgt_board.specs.{State.{command_mode}, declared.modes.Mode.{Mode}}, dgt_link.specs.{Act.{ActContent}, Faults.{FaultyBecomes, FaultyContent}}}
+use Rattle.dgt_link.specs.{Faults.{FaultyStep, begins_anew, is_break, sends}, Healing.{IsInStep, StandsWith}, Machine.{MachineState, Move, after_moves}, Promise.{IsPromisedBy, act_requests}}
+use Rattle.dgt_link.specs.{Promise.{coming_mode, mode_after}, Settling.{IsSettling, SettlesIn}, Stands.{AreMovesOfStep}, Step.{Step}, View.{WorldView}, declared.acts.Outcome.{Outcome}}
+use Rattle.dgt_link.proofs.{ActRuns.{run_keeps}, Asking.{mode-step}, Behind.{ActsBehind}, Counting.{forgotten, garbled_stands, given_up_stands, plain_step}, Settling.{by_settling}}
 
 -- the mode to come asks for changes
 abbrev pub Follows : (Mode → Bool) → MachineState → Type 0
 Follows asks x = IsTrue (asks (coming_mode x))
 
 -- the property of the mode to come, what ends that, and what is to come
-pub record Hope (asks : Mode → Bool) (ends : FaultyContent → Bool) (Comes : MachineState → Type 0) : Type 0 where
+pub record Hope (asks : Mode → Bool) (ends : FaultyContent → Bool)
+    (Comes : MachineState → Type 0) : Type 0 where
   pub command : (before : Mode) (command : CommandContent)
-      → ends (sends command) ≡ false → IsTrue (asks before) → IsTrue (asks (mode_after before (Some command ∷ [])))
+      → ends (sends command) ≡ false → IsTrue (asks before)
+      → IsTrue (asks (mode_after before (Some command ∷ [])))
   pub breaks : ends (FaultyContent.Plain ActContent.Break) ≡ true
   pub settling : (act : ActContent) → IsSettling act → ends (FaultyContent.Plain act) ≡ false
-  pub comes : (x : MachineState) (act : ActContent) (answer : Outcome) (moves : List Move) → is_break act ≡ false
+  pub comes : (x : MachineState) (act : ActContent) (answer : Outcome) (moves : List Move)
+      → is_break act ≡ false
       → AreMovesOfStep act answer moves → Comes x → Comes (after_moves x moves)
 
 pub settling_is_plain : (act : ActContent) → IsSettling act → is_break act ≡ false
@@ -39,18 +26,19 @@ settling_is_plain = by_settling (λ act. is_break act ≡ false) refl (λ count.
 
 -- an act that isn't a break leads the state after the garbage by its moves
 module _ (behind : ActsBehind) where
-  pub led : (Q R : MachineState → Type 0) (act : ActContent) (world : WorldView) (answer : Outcome) (after : WorldView)
-      → is_break act ≡ false
-      → ((x : MachineState) (moves : List Move) → AreMovesOfStep act answer moves → Q x → R (after_moves x moves))
-      → StandsWith Q world → Step act world answer after → StandsWith R after
+  pub led : (Q R : MachineState → Type 0) (act : ActContent) (world : WorldView) (answer : Outcome)
+      (after : WorldView) → is_break act ≡ false
+      → ((x : MachineState) (moves : List Move) → AreMovesOfStep act answer moves → Q x
+      → R (after_moves x moves)) → StandsWith Q world → Step act world answer after
+      → StandsWith R after
   led Q R act world answer after other leads is step =
       let reached = behind act is.garbage world answer after is.state other is.stands step in
       search rules
 
 -- the bytes under way to the host are garbled, and the state knows nothing
-pub garbled : (Q : MachineState → Type 0) → ((x : MachineState) → Q x → Q (forgotten x)) → (bytes : List ℕ)
-    (world after : WorldView) → StandsWith Q world → FaultyBecomes (FaultyContent.GarbleUp bytes) world after
-    → StandsWith Q after
+pub garbled : (Q : MachineState → Type 0) → ((x : MachineState) → Q x → Q (forgotten x))
+    → (bytes : List ℕ) (world after : WorldView) → StandsWith Q world
+    → FaultyBecomes (FaultyContent.GarbleUp bytes) world after → StandsWith Q after
 garbled Q keeps bytes world after is same = record {
   garbage = world.host.unread ++ bytes;
   state = forgotten is.state;
@@ -59,8 +47,8 @@ garbled Q keeps bytes world after is same = record {
 }
 
 -- the host gives up what it awaits
-pub given_up : (Q : MachineState → Type 0) (world after : WorldView) (answer : Outcome) → StandsWith Q world
-    → FaultyStep FaultyContent.GiveUp world answer after → StandsWith Q after
+pub given_up : (Q : MachineState → Type 0) (world after : WorldView) (answer : Outcome)
+    → StandsWith Q world → FaultyStep FaultyContent.GiveUp world answer after → StandsWith Q after
 given_up Q world after answer is step = search (rules, given_up_stands)
 
 module _ (asks : Mode → Bool) (ends : FaultyContent → Bool) (Comes : MachineState → Type 0)
@@ -71,36 +59,44 @@ module _ (asks : Mode → Bool) (ends : FaultyContent → Bool) (Comes : Machine
       → IsTrue (asks (mode_after before (act_requests answer act)))
   mode_stays before act answer other going asked = search rules
 
-  still_follows : (act : ActContent) (answer : Outcome) (x : MachineState) (moves : List Move) → is_break act ≡ false
-      → ends (FaultyContent.Plain act) ≡ false → AreMovesOfStep act answer moves → Follows asks x
-      → Follows asks (after_moves x moves)
+  still_follows : (act : ActContent) (answer : Outcome) (x : MachineState) (moves : List Move)
+      → is_break act ≡ false → ends (FaultyContent.Plain act) ≡ false
+      → AreMovesOfStep act answer moves → Follows asks x → Follows asks (after_moves x moves)
   still_follows act answer x moves other going are asked =
-      rw (mode-step x act answer moves are) (mode_stays (coming_mode x) act answer other going asked)
+      rw (mode-step x act answer moves are)
+      (mode_stays (coming_mode x) act answer other going asked)
 
   pub stays_promised : (act : ActContent) (answer : Outcome) (x : MachineState) (moves : List Move)
-      → is_break act ≡ false → ends (FaultyContent.Plain act) ≡ false → AreMovesOfStep act answer moves
-      → IsPromisedBy Comes asks x → IsPromisedBy Comes asks (after_moves x moves)
+      → is_break act ≡ false → ends (FaultyContent.Plain act) ≡ false
+      → AreMovesOfStep act answer moves → IsPromisedBy Comes asks x
+      → IsPromisedBy Comes asks (after_moves x moves)
   stays_promised act answer x moves other going are promised = search (rules, still_follows)
 
-module _ (behind : ActsBehind) (asks : Mode → Bool) (ends : FaultyContent → Bool) (Comes : MachineState → Type 0)
+module _ (behind : ActsBehind) (asks : Mode → Bool) (ends : FaultyContent → Bool)
+    (Comes : MachineState → Type 0)
     (hope : Hope asks ends Comes) where
-  pub other_following : (act : ActContent) (world : WorldView) (answer : Outcome) (after : WorldView)
-      → is_break act ≡ false → ends (FaultyContent.Plain act) ≡ false → StandsWith (Follows asks) world
-      → Step act world answer after → StandsWith (Follows asks) after
+  pub other_following : (act : ActContent) (world : WorldView) (answer : Outcome)
+      (after : WorldView) → is_break act ≡ false → ends (FaultyContent.Plain act) ≡ false
+      → StandsWith (Follows asks) world → Step act world answer after
+      → StandsWith (Follows asks) after
   other_following act world answer after other going is step =
       led behind (Follows asks) (Follows asks) act world answer after other
-      (λ x moves are asked. still_follows asks ends Comes hope act answer x moves other going are asked) is step
+      (λ x moves are asked.
+      still_follows asks ends Comes hope act answer x moves other going are asked) is step
 
   pub other_promised : (act : ActContent) (world : WorldView) (answer : Outcome) (after : WorldView)
-      → is_break act ≡ false → ends (FaultyContent.Plain act) ≡ false → StandsWith (IsPromisedBy Comes asks) world
-      → Step act world answer after → StandsWith (IsPromisedBy Comes asks) after
+      → is_break act ≡ false → ends (FaultyContent.Plain act) ≡ false
+      → StandsWith (IsPromisedBy Comes asks) world → Step act world answer after
+      → StandsWith (IsPromisedBy Comes asks) after
   other_promised act world answer after other going is step =
       led behind (IsPromisedBy Comes asks) (IsPromisedBy Comes asks) act world answer after other
-      (λ x moves are promised. stays_promised asks ends Comes hope act answer x moves other going are promised) is step
+      (λ x moves are promised.
+      stays_promised asks ends Comes hope act answer x moves other going are promised) is step
 
   mode_is_set : (mode : Mode) (command : CommandContent) (x : MachineState) (moves : List Move)
       → command_mode command ≡ Some mode → IsTrue (asks mode)
-      → AreMovesOfStep (ActContent.Host command) Outcome.Done moves → Follows asks (after_moves x moves)
+      → AreMovesOfStep (ActContent.Host command) Outcome.Done moves
+      → Follows asks (after_moves x moves)
   mode_is_set mode command x moves sets asked are =
       rw (mode-step x (ActContent.Host command) Outcome.Done moves are, sets) asked
 
@@ -111,38 +107,49 @@ module _ (behind : ActsBehind) (asks : Mode → Bool) (ends : FaultyContent → 
       search (rules, led, mode_is_set, plain_step)
 
   -- a mode that asks is set, and that makes it come
-  pub set_promises : (Q : MachineState → Type 0) (command : CommandContent) (mode : Mode) (world after : WorldView)
-      → ((x : MachineState) (moves : List Move) → AreMovesOfStep (ActContent.Host command) Outcome.Done moves → Q x
-      → Comes (after_moves x moves))
-      → command_mode command ≡ Some mode → IsTrue (asks mode) → StandsWith Q world
-      → FaultyStep (sends command) world Outcome.Done after → StandsWith (IsPromisedBy Comes asks) after
+  pub set_promises : (Q : MachineState → Type 0) (command : CommandContent) (mode : Mode)
+      (world after : WorldView)
+      → ((x : MachineState) (moves : List Move) → AreMovesOfStep (ActContent.Host command)
+      Outcome.Done moves → Q x → Comes (after_moves x moves)) → command_mode command ≡ Some mode
+      → IsTrue (asks mode) → StandsWith Q world
+      → FaultyStep (sends command) world Outcome.Done after
+      → StandsWith (IsPromisedBy Comes asks) after
   set_promises Q command mode world after comes sets asked is step =
       search (rules, led, mode_is_set, plain_step)
 
   -- it is requested, while the mode to come asks for changes
   pub asked_promises : (command : CommandContent) → ends (sends command) ≡ false
-      → ((x : MachineState) (moves : List Move) → AreMovesOfStep (ActContent.Host command) Outcome.Done moves
-      → Comes (after_moves x moves)) → (world after : WorldView) → StandsWith (Follows asks) world
-      → FaultyStep (sends command) world Outcome.Done after → StandsWith (IsPromisedBy Comes asks) after
+      → ((x : MachineState) (moves : List Move)
+      → AreMovesOfStep (ActContent.Host command) Outcome.Done moves → Comes (after_moves x moves))
+      → (world after : WorldView) → StandsWith (Follows asks) world
+      → FaultyStep (sends command) world Outcome.Done after
+      → StandsWith (IsPromisedBy Comes asks) after
   asked_promises command going comes world after is step =
-      led behind (Follows asks) (IsPromisedBy Comes asks) (ActContent.Host command) world Outcome.Done after refl
-      (λ x moves are asked.
+      led behind (Follows asks) (IsPromisedBy Comes asks) (ActContent.Host command) world
+      Outcome.Done after refl (λ x moves are asked.
       record {
         coming = comes x moves are;
-        mode = still_follows asks ends Comes hope (ActContent.Host command) Outcome.Done x moves refl going are asked;
+        mode = still_follows asks ends Comes hope (ActContent.Host command) Outcome.Done x moves
+            refl going are asked;
       }) is
       (plain_step (ActContent.Host command) world Outcome.Done after step)
 
   -- ---- every act but those that fail (by this test) and those that end it
 
-  module _ (fails : FaultyContent → Bool) (down : (bytes : List ℕ) → fails (FaultyContent.GarbleDown bytes) ≡ true)
-      (lost : fails FaultyContent.BoardLost ≡ true) (Q : MachineState → Type 0) (Given : WorldView → Type 0)
-      (others : (act : ActContent) (world : WorldView) (answer : Outcome) (after : WorldView) → is_break act ≡ false
+  module _ (fails : FaultyContent → Bool)
+      (down : (bytes : List ℕ) → fails (FaultyContent.GarbleDown bytes) ≡ true)
+      (lost : fails FaultyContent.BoardLost ≡ true) (Q : MachineState → Type 0)
+      (Given : WorldView → Type 0)
+      (others : (act : ActContent) (world : WorldView) (answer : Outcome) (after : WorldView)
+      → is_break act ≡ false
       → ends (FaultyContent.Plain act) ≡ false → StandsWith Q world → Step act world answer after
       → StandsWith Q after)
-      (up : (bytes : List ℕ) (world after : WorldView) → fails (FaultyContent.GarbleUp bytes) ≡ false
-      → StandsWith Q world → FaultyBecomes (FaultyContent.GarbleUp bytes) world after → StandsWith Q after)
-      (anew : (act : FaultyContent) (world after : WorldView) → begins_anew act ≡ true → ends act ≡ false → Given world
+      (up : (bytes : List ℕ) (world after : WorldView)
+      → fails (FaultyContent.GarbleUp bytes) ≡ false
+      → StandsWith Q world → FaultyBecomes (FaultyContent.GarbleUp bytes) world after
+      → StandsWith Q after)
+      (anew : (act : FaultyContent) (world after : WorldView) → begins_anew act ≡ true
+      → ends act ≡ false → Given world
       → FaultyStep act world Outcome.Done after → StandsWith Q after) where
     plain_kept : (act : ActContent) (world after : WorldView) (answer : Outcome)
         → ends (FaultyContent.Plain act) ≡ false → Given world → StandsWith Q world
@@ -155,9 +162,9 @@ module _ (behind : ActsBehind) (asks : Mode → Bool) (ends : FaultyContent → 
     plain_kept act world after answer going given is step =
         others act world answer after refl going is (plain_step act world answer after step)
 
-    pub kept : (act : FaultyContent) (world after : WorldView) (answer : Outcome) → fails act ≡ false
-        → ends act ≡ false → Given world → StandsWith Q world → FaultyStep act world answer after
-        → StandsWith Q after
+    pub kept : (act : FaultyContent) (world after : WorldView) (answer : Outcome)
+        → fails act ≡ false → ends act ≡ false → Given world → StandsWith Q world
+        → FaultyStep act world answer after → StandsWith Q after
     kept (FaultyContent.Plain act) world after answer none going given is step =
         plain_kept act world after answer going given is step
     kept (FaultyContent.GarbleUp bytes) world after Outcome.Done none going given is step =
@@ -165,8 +172,10 @@ module _ (behind : ActsBehind) (asks : Mode → Bool) (ends : FaultyContent → 
     kept (FaultyContent.GarbleUp bytes) world after _ none going given is step = rw step.leaves is
     kept (FaultyContent.GarbleDown bytes) world after answer none going given is step =
         absurd (false≢true (sym none ∙ down bytes))
-    kept FaultyContent.BoardLost world after answer none going given is step = absurd (false≢true (sym none ∙ lost))
-    kept FaultyContent.GiveUp world after answer none going given is step = given_up Q world after answer is step
+    kept FaultyContent.BoardLost world after answer none going given is step =
+        absurd (false≢true (sym none ∙ lost))
+    kept FaultyContent.GiveUp world after answer none going given is step =
+        given_up Q world after answer is step
     kept FaultyContent.Restart world after Outcome.Done none going given is step =
         anew FaultyContent.Restart world after refl going given step
     kept FaultyContent.Restart world after _ none going given is step = rw step.leaves is
@@ -178,5 +187,6 @@ module _ (behind : ActsBehind) (asks : Mode → Bool) (ends : FaultyContent → 
   settled_promised count old new settled is =
       run_keeps Step IsSettling (StandsWith (IsPromisedBy Comes asks))
       (λ act world after answer settling is step.
-      other_promised act world answer after (settling_is_plain act settling) (hope.settling act settling) is step)
+      other_promised act world answer after (settling_is_plain act settling)
+      (hope.settling act settling) is step)
       settled.acts old new (replicate count Outcome.Done) settled.settling is settled.run

@@ -1,32 +1,12 @@
 -- A known picture is what the board had reported when it sent the last message that was heard.
 use Rattle.std.proofs.Common.{◌≡◌, ◌≢◌, refl, sym, ap, subst, ◌∙◌, ◌⊎◌, inl, inr, rules, ℕ, List, [], ◌∷◌, ◌++◌, Bool, true, false, Option, Some, append_assoc, if◌then◌else◌}
-use Rattle.std.proofs.lemmas.List.{append-nil}
-use Rattle.std.proofs.lemmas.Bool.{false≢true}
-use Rattle.std.specs.Prelude.{IsSome}
-use Rattle.std.specs.List.{AllByRecursion}
-use Rattle.dgt_values.specs.declared.pieces.Piece.{Piece}
-use Rattle.dgt_message.specs.Content.{Content}
-use Rattle.dgt_board.specs.declared.replies.Reply.{Reply}
-use Rattle.dgt_message.specs.Picture.{picture_after, picture_after_all}
-use Rattle.dgt_link.specs.Act.{ActContent}
-use Rattle.dgt_link.specs.declared.acts.Outcome.{Outcome}
-use Rattle.dgt_link.specs.Faults.{is_break}
-use Rattle.dgt_link.specs.Healing.{IsInStep, StandsBehind}
-use Rattle.dgt_link.specs.Machine.{IsHostBreak, IsSending, MachineState, Move, after_hear, after_move, after_moves, after_reply, after_reported}
-use Rattle.dgt_link.specs.Reported.{IsReportedBy, ReportedBefore, WasReported, first_reply, sent_by, sent_by_all}
-use Rattle.dgt_link.specs.Sound.{IsSound, IsUnknownOr, coming_picture}
-use Rattle.dgt_link.specs.Stands.{AreMovesOfRun, AreMovesOfStep}
-use Rattle.dgt_link.specs.Step.{Runs}
-use Rattle.dgt_link.specs.View.{WorldView}
-use Rattle.dgt_link.proofs.Clocks.{no_break, step_is_no_break}
-use Rattle.dgt_link.proofs.Behind.{ActsBehind}
-use Rattle.dgt_link.proofs.Asking.{step_is_other}
-use Rattle.dgt_link.proofs.Counting.{forgotten, forgotten_stands}
-use Rattle.dgt_link.proofs.Promises.{picture_after_known, picture_stays_known}
-use Rattle.dgt_link.proofs.Lists.{all_append, left_empty, right_empty}
-use Rattle.dgt_link.proofs.History.{in_order}
-use Rattle.dgt_link.proofs.AfterMoves.{moves_sound}
-use Rattle.dgt_link.proofs.Standing.{moves-append}
+use Rattle.{std.{proofs.lemmas.{Bool.{false≢true}, List.{append-nil}}, specs.{List.{AllByRecursion}, Prelude.{IsSome}}}, dgt_values.specs.declared.pieces.Piece.{Piece}}
+use Rattle.{dgt_message.specs.{Content.{Content}, Picture.{picture_after, picture_after_all}}, dgt_board.specs.declared.replies.Reply.{Reply}, dgt_link.specs.{Act.{ActContent}, Faults.{is_break}}}
+use Rattle.dgt_link.specs.{Healing.{IsInStep, StandsBehind}, Machine.{IsHostBreak, IsSending, MachineState, Move, after_hear, after_move, after_moves, after_reply, after_reported}}
+use Rattle.dgt_link.specs.{Reported.{IsReportedBy, ReportedBefore, WasReported, first_reply, sent_by, sent_by_all}, Sound.{IsSound, IsUnknownOr, coming_picture}, Stands.{AreMovesOfRun}}
+use Rattle.dgt_link.{specs.{Stands.{AreMovesOfStep}, Step.{Runs}, View.{WorldView}, declared.acts.Outcome.{Outcome}}, proofs.{AfterMoves.{moves_sound}, Asking.{step_is_other}, Behind.{ActsBehind}}}
+use Rattle.dgt_link.proofs.{Clocks.{no_break, step_is_no_break}, Counting.{forgotten, forgotten_stands}, History.{in_order}, Lists.{all_append, left_empty, right_empty}}
+use Rattle.dgt_link.proofs.{Promises.{picture_after_known, picture_stays_known}, Standing.{moves-append}}
 
 -- ---- lists
 
@@ -51,20 +31,25 @@ record Sends (x : MachineState) (move : Move) : Type 0 where
   pub picture : (after_move x move).picture ≡ x.picture
 
 reported_if : (x : MachineState) (asked : Bool) (message : Content)
-    → ((if asked then after_reported x message else x).up ≡ x.up ++ (if asked then message ∷ [] else []))
+    → ((if asked then after_reported x message else x).up
+    ≡ x.up ++ (if asked then message ∷ [] else []))
     × ((if asked then after_reported x message else x).picture ≡ x.picture)
 reported_if x asked message = search (rules, append-nil)
 
 reply_sends : (x : MachineState) (owed : List Reply)
-    → ((after_reply x owed).up ≡ x.up ++ first_reply x.board owed) × ((after_reply x owed).picture ≡ x.picture)
+    → ((after_reply x owed).up ≡ x.up ++ first_reply x.board owed)
+    × ((after_reply x owed).picture ≡ x.picture)
 reply_sends x owed = search (rules, append-nil)
 
-take_sends : (x : MachineState) → ((after_move x Move.Take).up ≡ x.up) × ((after_move x Move.Take).picture ≡ x.picture)
+take_sends : (x : MachineState)
+    → ((after_move x Move.Take).up ≡ x.up) × ((after_move x Move.Take).picture ≡ x.picture)
 take_sends x = search rules
 
 move_sends : (x : MachineState) (move : Move) → IsPlain move → move ≢ Move.Hear → Sends x move
-move_sends x (Move.Change square piece) plain other = record { up = sym (append-nil x.up); picture = refl }
-move_sends x (Move.HandClock clock) plain other = record { up = sym (append-nil x.up); picture = refl }
+move_sends x (Move.Change square piece) plain other =
+    record { up = sym (append-nil x.up); picture = refl }
+move_sends x (Move.HandClock clock) plain other =
+    record { up = sym (append-nil x.up); picture = refl }
 move_sends x (Move.Ask command) plain other = record { up = sym (append-nil x.up); picture = refl }
 move_sends x Move.Take plain other =
     record { up = (take_sends x).0 ∙ sym (append-nil x.up); picture = (take_sends x).1 }
@@ -92,18 +77,20 @@ reported_at_once x report = go report.earlier report.later report.split report.s
     go [] (move ∷ later) split sent picture = cc
     go (move ∷ earlier) later split sent picture = cc
 
-seen_stays : (x : MachineState) (move : Move) → IsPlain move → IsSome x.picture → IsSome (after_move x move).picture
+seen_stays : (x : MachineState) (move : Move) → IsPlain move → IsSome x.picture
+    → IsSome (after_move x move).picture
 seen_stays x move plain some =
     search (rules, take_sends, reply_sends, reported_if, picture_after_known)
 
-pub seen_by_all : (x : MachineState) (moves : List Move) → AllByRecursion IsPlain moves → IsSome x.picture
-    → IsSome (after_moves x moves).picture
+pub seen_by_all : (x : MachineState) (moves : List Move) → AllByRecursion IsPlain moves
+    → IsSome x.picture → IsSome (after_moves x moves).picture
 seen_by_all x [] all some = some
-seen_by_all x (move ∷ moves) all some = seen_by_all (after_move x move) moves all.1 (seen_stays x move all.0 some)
+seen_by_all x (move ∷ moves) all some =
+    seen_by_all (after_move x move) moves all.1 (seen_stays x move all.0 some)
 
 -- a picture that is known once all messages under way are heard stays so
-pub comes_by_all : (x : MachineState) (moves : List Move) → AllByRecursion IsPlain moves → IsSome (coming_picture x)
-    → IsSome (coming_picture (after_moves x moves))
+pub comes_by_all : (x : MachineState) (moves : List Move) → AllByRecursion IsPlain moves
+    → IsSome (coming_picture x) → IsSome (coming_picture (after_moves x moves))
 comes_by_all x [] all some = some
 comes_by_all x (move ∷ moves) all some =
     comes_by_all (after_move x move) moves all.1 (picture_stays_known x move all.0.0 all.0.1 some)
@@ -120,7 +107,8 @@ one_at_most x move = search rules
 -- once the messages of this prefix are heard too, the picture is unknown or what was reported when
 -- the last of them was sent
 abbrev Since : MachineState → List Move → List Content → List Content → Type 0
-Since x moves prefix back = ReportedBefore x moves (picture_after_all (after_moves x moves).picture prefix) back
+Since x moves prefix back =
+    ReportedBefore x moves (picture_after_all (after_moves x moves).picture prefix) back
 
 abbrev SinceEach : MachineState → List Move → Type 0
 SinceEach x moves = (prefix back : List Content) → (after_moves x moves).up ≡ prefix ++ back
@@ -144,8 +132,9 @@ since_now x moves prefix sound all = record {
 }
 
 -- one more move, after the same moment
-since_later : (x : MachineState) (moves : List Move) (move : Move) (prefix back before sent : List Content)
-    → (since : Since x moves before back) → sent_by (after_moves x moves) move ≡ sent
+since_later : (x : MachineState) (moves : List Move) (move : Move)
+    (prefix back before sent : List Content) → (since : Since x moves before back)
+    → sent_by (after_moves x moves) move ≡ sent
     → picture_after_all (after_moves x (moves ++ move ∷ [])).picture prefix
     ≡ picture_after_all (after_moves x moves).picture before
     → Since x (moves ++ move ∷ []) prefix (back ++ sent)
@@ -172,9 +161,10 @@ module _ (x : MachineState) (sound : IsSound x) (moves : List Move) (each : Sinc
       same : (after_moves x (moves ++ move ∷ [])).picture ≡ (after_moves x moves).picture
       same = ap (λ (z : MachineState). z.picture) led ∙ sends.picture
 
-      go : IsOneAtMost (sent_by (after_moves x moves) move) → Since x (moves ++ move ∷ []) prefix back
-      go (inl none) = subst (λ (rest : List Content). Since x (moves ++ move ∷ []) prefix rest) (append-nil back)
-          (since_later x moves move prefix back prefix []
+      go : IsOneAtMost (sent_by (after_moves x moves) move)
+          → Since x (moves ++ move ∷ []) prefix back
+      go (inl none) = subst (λ (rest : List Content). Since x (moves ++ move ∷ []) prefix rest)
+          (append-nil back) (since_later x moves move prefix back prefix []
           (each prefix back (sym (append-nil (after_moves x moves).up)
           ∙ ap (λ (sent : List Content). (after_moves x moves).up ++ sent) (sym none) ∙ under_way))
           none (ap (λ (picture : Option (List Piece)). picture_after_all picture prefix) same))
@@ -184,7 +174,8 @@ module _ (x : MachineState) (sound : IsSound x) (moves : List Move) (each : Sinc
                 (since_now x (moves ++ move ∷ []) prefix sound
                 (up ∙ ap (λ (rest : List Content). prefix ++ rest) none ∙ append-nil prefix))
             | inr (rest, ends, before) ↦ rw ends
-                (since_later x moves move prefix rest prefix (message ∷ []) (each prefix rest before) is
+                (since_later x moves move prefix rest prefix (message ∷ [])
+                (each prefix rest before) is
                 (ap (λ (picture : Option (List Piece)). picture_after_all picture prefix) same))
           ]
 
@@ -192,29 +183,33 @@ module _ (x : MachineState) (sound : IsSound x) (moves : List Move) (each : Sinc
   hear_since : SinceEach x (moves ++ Move.Hear ∷ [])
   hear_since prefix back up = go (after_moves x moves).up refl
     where
-      led : after_moves x (moves ++ Move.Hear ∷ []) ≡ after_hear (after_moves x moves) (after_moves x moves).up
+      led : after_moves x (moves ++ Move.Hear ∷ [])
+          ≡ after_hear (after_moves x moves) (after_moves x moves).up
       led = moves-append x moves (Move.Hear ∷ [])
 
-      go : (said : List Content) → (after_moves x moves).up ≡ said → Since x (moves ++ Move.Hear ∷ []) prefix back
+      go : (said : List Content) → (after_moves x moves).up ≡ said
+          → Since x (moves ++ Move.Hear ∷ []) prefix back
       go [] none =
           let still : after_moves x (moves ++ Move.Hear ∷ []) ≡ after_moves x moves
           = led ∙ ap (λ (said : List Content). after_hear (after_moves x moves) said) none in
-          subst (λ (rest : List Content). Since x (moves ++ Move.Hear ∷ []) prefix rest) (append-nil back)
-          (since_later x moves Move.Hear prefix back prefix []
+          subst (λ (rest : List Content). Since x (moves ++ Move.Hear ∷ []) prefix rest)
+          (append-nil back) (since_later x moves Move.Hear prefix back prefix []
           (each prefix back (ap (λ (z : MachineState). z.up) (sym still) ∙ up)) refl
           (ap (λ (z : MachineState). picture_after_all z.picture prefix) still))
       go (message ∷ rest) is =
-          let heard : after_moves x (moves ++ Move.Hear ∷ []) ≡ after_hear (after_moves x moves) (message ∷ rest)
+          let heard : after_moves x (moves ++ Move.Hear ∷ [])
+          ≡ after_hear (after_moves x moves) (message ∷ rest)
           = led ∙ ap (λ (said : List Content). after_hear (after_moves x moves) said) is in
           let left : rest ≡ prefix ++ back = ap (λ (z : MachineState). z.up) (sym heard) ∙ up in
-          subst (λ (rest : List Content). Since x (moves ++ Move.Hear ∷ []) prefix rest) (append-nil back)
-          (since_later x moves Move.Hear prefix back (message ∷ prefix) []
-          (each (message ∷ prefix) back (is ∙ ap (λ (more : List Content). message ∷ more) left)) refl
-          (ap (λ (z : MachineState). picture_after_all z.picture prefix) heard))
+          subst (λ (rest : List Content). Since x (moves ++ Move.Hear ∷ []) prefix rest)
+          (append-nil back) (since_later x moves Move.Hear prefix back (message ∷ prefix) []
+          (each (message ∷ prefix) back (is ∙ ap (λ (more : List Content). message ∷ more) left))
+          refl (ap (λ (z : MachineState). picture_after_all z.picture prefix) heard))
 
   move_since : (move : Move) → IsPlain move → SinceEach x (moves ++ move ∷ [])
   move_since Move.Hear plain = hear_since
-  move_since (Move.Change square piece) plain = other_since (Move.Change square piece) plain (λ e. cc)
+  move_since (Move.Change square piece) plain =
+      other_since (Move.Change square piece) plain (λ e. cc)
   move_since (Move.HandClock clock) plain = other_since (Move.HandClock clock) plain (λ e. cc)
   move_since (Move.Ask command) plain = other_since (Move.Ask command) plain (λ e. cc)
   move_since Move.Take plain = other_since Move.Take plain (λ e. cc)
@@ -253,7 +248,8 @@ step_is_plain act answer moves other are =
     search (rules, both_all, step_is_no_break, no_break, step_is_other)
 
 -- acts in a row, after garbage
-record Reached (acts : List ActContent) (answers : List Outcome) (x : MachineState) (after : WorldView) : Type 0 where
+record Reached (acts : List ActContent) (answers : List Outcome) (x : MachineState)
+    (after : WorldView) : Type 0 where
   pub garbage : List ℕ
   pub moves : List Move
   pub are_moves : AreMovesOfRun acts answers moves
@@ -261,35 +257,47 @@ record Reached (acts : List ActContent) (answers : List Outcome) (x : MachineSta
   pub stands : StandsBehind garbage after (after_moves x moves)
 
 module _ (behind : ActsBehind) where
-  run_behind : (acts : List ActContent) (garbage : List ℕ) (world after : WorldView) (answers : List Outcome)
-      (x : MachineState) → AllByRecursion (λ act. is_break act ≡ false) acts
-      → StandsBehind garbage world x → Runs acts world answers after → Reached acts answers x after
+  run_behind : (acts : List ActContent) (garbage : List ℕ) (world after : WorldView)
+      (answers : List Outcome) (x : MachineState)
+      → AllByRecursion (λ act. is_break act ≡ false) acts → StandsBehind garbage world x
+      → Runs acts world answers after → Reached acts answers x after
   run_behind [] garbage world after [] x all stands same =
-      record { garbage = garbage; moves = []; are_moves = refl; plain = tt; stands = rw same stands }
-  run_behind (act ∷ acts) garbage world after (answer ∷ answers) x all stands (between, step, runs) =
+      record {
+        garbage = garbage;
+        moves = [];
+        are_moves = refl;
+        plain = tt;
+        stands =
+            rw same stands;
+      }
+  run_behind (act ∷ acts) garbage world after (answer ∷ answers) x all stands
+      (between, step, runs) =
       let first = behind act garbage world answer between x all.0 stands step in
-      let rest = run_behind acts first.0 between after answers (after_moves x first.1) all.1 first.3 runs in
+      let rest =
+      run_behind acts first.0 between after answers (after_moves x first.1) all.1 first.3 runs in
       record {
         garbage = rest.garbage;
         moves = first.1 ++ rest.moves;
         are_moves = (first.1, rest.moves, first.2, rest.are_moves, refl);
-        plain = all_append IsPlain first.1 rest.moves (step_is_plain act answer first.1 all.0 first.2) rest.plain;
+        plain = all_append IsPlain first.1 rest.moves
+            (step_is_plain act answer first.1 all.0 first.2) rest.plain;
         stands = rw (moves-append x first.1 rest.moves) rest.stands;
       }
   run_behind _ garbage world after _ x all stands none = absurd none
 
   pub reported_by : (acts : List ActContent) (world after : WorldView) (answers : List Outcome)
-      → AllByRecursion (λ act. is_break act ≡ false) acts → IsInStep world → Runs acts world answers after
-      → IsReportedBy acts answers world after
+      → AllByRecursion (λ act. is_break act ≡ false) acts → IsInStep world
+      → Runs acts world answers after → IsReportedBy acts answers world after
   reported_by acts world after answers all is runs =
       let stands = forgotten_stands is.garbage world world.up is.state is.stands in
-      let reached = run_behind acts (world.host.unread ++ world.up.bytes) world after answers (forgotten is.state) all
-      stands runs in
+      let reached = run_behind acts (world.host.unread ++ world.up.bytes) world after answers
+      (forgotten is.state) all stands runs in
       search (rules, forgotten, was_reported, in_order)
 
 -- ---- facts of the state
 
-both_known : (known seen : Option (List Piece)) → IsSome known → IsUnknownOr known seen → seen ≡ known
+both_known : (known seen : Option (List Piece)) → IsSome known → IsUnknownOr known seen
+    → seen ≡ known
 both_known known seen some h3 = search (rules, false≢true)
 
 still_known : (picture : Option (List Piece)) (up : List Content) → IsSome picture
@@ -298,7 +306,8 @@ still_known picture [] some = some
 still_known picture (message ∷ up) some =
     still_known (picture_after picture message) up (picture_after_known picture message some)
 
-pub known_behind : (garbage : List ℕ) (world : WorldView) (x : MachineState) → StandsBehind garbage world x
-    → IsSome x.picture → (world.host.picture ≡ x.picture)
+pub known_behind : (garbage : List ℕ) (world : WorldView) (x : MachineState)
+    → StandsBehind garbage world x → IsSome x.picture
+    → (world.host.picture ≡ x.picture)
     × (picture_after_all world.host.picture x.up ≡ Some world.board.state.reported_squares)
 known_behind garbage world x stands some = search (rules, both_known, still_known)

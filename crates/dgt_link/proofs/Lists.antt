@@ -1,8 +1,6 @@
 -- Lists in two parts, facts of each element, and prefixes of one list.
-use Rattle.std.proofs.Common.{◌≡◌, refl, sym, ◌⊎◌, inl, inr, ℕ, zero, suc, List, [], ◌∷◌, ◌++◌, replicate, arith, rules}
+use Rattle.std.{proofs.{Common.{◌≡◌, refl, sym, ◌⊎◌, inl, inr, ℕ, zero, suc, List, [], ◌∷◌, ◌++◌, replicate, arith, rules}, lemmas.Grind.{common_steps}}, specs.List.{AllByRecursion}}
 use Rattle.std.specs.Prelude.{Contains}
-use Rattle.std.specs.List.{AllByRecursion}
-use Rattle.std.proofs.lemmas.Grind.{common_steps}
 
 pub not_empty : {X : Type 0} (xs : List X) (y : X) (ys : List X) → xs ++ y ∷ ys ≡ [] → ⊥
 not_empty [] y ys h = cc
@@ -18,7 +16,8 @@ right_empty (x ∷ xs) ys h = cc
 
 -- ---- elements
 
-pub Contains-cons : {X : Type 0} (x y : X) (ys : List X) → Contains (y ∷ ys) x → (y ≡ x) ⊎ Contains ys x
+pub Contains-cons : {X : Type 0} (x y : X) (ys : List X) → Contains (y ∷ ys) x
+    → (y ≡ x) ⊎ Contains ys x
 Contains-cons x y ys h3 = search rules
 
 pub nothing_contained : {X : Type 0} (x : X) → Contains [] x → ⊥
@@ -28,7 +27,8 @@ pub all_append : {X : Type 0} (P : X → Type 0) (xs ys : List X)
     → AllByRecursion P xs → AllByRecursion P ys → AllByRecursion P (xs ++ ys)
 all_append P xs ys first later = grind (arith, common_steps)
 
-pub all_replicate : {X : Type 0} (P : X → Type 0) (count : ℕ) (x : X) → P x → AllByRecursion P (replicate count x)
+pub all_replicate : {X : Type 0} (P : X → Type 0) (count : ℕ) (x : X) → P x
+    → AllByRecursion P (replicate count x)
 all_replicate P zero x is = tt
 all_replicate P (suc count) x is = (is, all_replicate P count x is)
 

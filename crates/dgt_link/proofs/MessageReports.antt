@@ -1,22 +1,14 @@
 -- What a message from the board reports of its squares and of its clock.
-use Rattle.std.proofs.Common.{◌≡◌, refl, ap, ◌⊎◌, ℕ, List, [], ◌∷◌, ◌++◌, Option, Some, None}
-use Rattle.std.proofs.Common.{true, false, length, rules}
-use Rattle.std.proofs.lemmas.Bool.{and_parts, eqb-true, false≢true}
-use Rattle.std.proofs.lemmas.Slice.Eq.{bytes_eq-Decides}
-use Rattle.std.specs.Prelude.{IsTrue, bytes_eq, not}
-use Rattle.std.proofs.lemmas.List.{length-set}
-use Rattle.dgt_values.specs.declared.pieces.Piece.{Piece}
-use Rattle.dgt_message.specs.Clock.{ClockState}
-use Rattle.dgt_message.specs.Content.{Content, clock_message, answered_kind}
-use Rattle.dgt_board.specs.declared.modes.Mode.{Mode}
-use Rattle.dgt_board.specs.declared.replies.Reply.{Reply}
-use Rattle.dgt_board.specs.State.{BoardState, is_reported, owed_when_handed, follows_clock}
-use Rattle.dgt_board.specs.Sending.{field_of, reply_message, reported_squares_after, reported_clock_after, times_owed_after}
-use Rattle.dgt_message.specs.Picture.{clock_after, clock_after_all, picture_after, picture_after_all}
-use Rattle.dgt_link.specs.Sound.{IsUnknownOr, kind_of_reply}
+use Rattle.std.proofs.{Common.{◌≡◌, refl, ap, ◌⊎◌, ℕ, List, [], ◌∷◌, ◌++◌, Option, Some, None, true, false, length, rules}, lemmas.{Bool.{and_parts, eqb-true, false≢true}, List.{length-set}}}
+use Rattle.{std.{proofs.lemmas.Slice.Eq.{bytes_eq-Decides}, specs.Prelude.{IsTrue, bytes_eq, not}}, dgt_values.specs.declared.pieces.Piece.{Piece}, dgt_message.specs.Clock.{ClockState}}
+use Rattle.{dgt_message.specs.{Content.{Content, clock_message, answered_kind}, Picture.{clock_after, clock_after_all, picture_after, picture_after_all}}, dgt_board.specs.Sending.{field_of}}
+use Rattle.dgt_board.specs.{Sending.{reply_message, reported_squares_after, reported_clock_after, times_owed_after}, State.{BoardState, is_reported, owed_when_handed, follows_clock}}
+use Rattle.{dgt_board.specs.declared.{modes.Mode.{Mode}, replies.Reply.{Reply}}, dgt_link.specs.Sound.{IsUnknownOr, kind_of_reply}}
 
-pub picture_after_all-append : (picture : Option (List Piece)) (up : List Content) (message : Content)
-    → picture_after_all picture (up ++ message ∷ []) ≡ picture_after (picture_after_all picture up) message
+pub picture_after_all-append : (picture : Option (List Piece)) (up : List Content)
+    (message : Content)
+    → picture_after_all picture (up ++ message ∷ [])
+    ≡ picture_after (picture_after_all picture up) message
 picture_after_all-append picture [] message = refl
 picture_after_all-append picture (first ∷ up) message =
     picture_after_all-append (picture_after picture first) up message
@@ -24,7 +16,8 @@ picture_after_all-append picture (first ∷ up) message =
 pub clock_after_all-append : (clock : Option ClockState) (up : List Content) (message : Content)
     → clock_after_all clock (up ++ message ∷ []) ≡ clock_after (clock_after_all clock up) message
 clock_after_all-append clock [] message = refl
-clock_after_all-append clock (first ∷ up) message = clock_after_all-append (clock_after clock first) up message
+clock_after_all-append clock (first ∷ up) message =
+    clock_after_all-append (clock_after clock first) up message
 
 absent : (raw raw' : List ℕ) (status status' : ℕ) → raw ≡ raw' → status ≡ status'
     → ClockState.no_clock (record { raw = raw; status = status }) ≡ ClockState.no_clock
@@ -36,7 +29,8 @@ pub owed_or_reported : (reported : Option ClockState) (clock : ClockState)
 owed_or_reported reported clock =
     search (rules, and_parts, eqb-true, absent, bytes_eq-Decides, false≢true)
 
-pub handed_or_reported : (mode : Mode) (reported : Option ClockState) (clock : ClockState) → IsTrue (follows_clock mode)
+pub handed_or_reported : (mode : Mode) (reported : Option ClockState) (clock : ClockState)
+    → IsTrue (follows_clock mode)
     → IsTrue (owed_when_handed mode (is_reported reported clock)) ⊎ (reported ≡ Some clock)
 handed_or_reported mode reported clock h = search (rules, false≢true, owed_or_reported)
 
@@ -44,15 +38,18 @@ handed_or_reported mode reported clock h = search (rules, false≢true, owed_or_
 pub record ReportedIsHeard (board : BoardState) (message : Content) : Type 0 where
   pub squares : length board.squares ≡ 64 → length board.reported_squares ≡ 64
       → length (reported_squares_after board message) ≡ 64
-  pub picture : picture_after (Some board.reported_squares) message ≡ Some (reported_squares_after board message)
-  pub first_picture : IsUnknownOr (picture_after None message) (Some (reported_squares_after board message))
+  pub picture : picture_after (Some board.reported_squares) message
+      ≡ Some (reported_squares_after board message)
+  pub first_picture : IsUnknownOr (picture_after None message)
+      (Some (reported_squares_after board message))
   pub clock : clock_after board.reported_clock message ≡ reported_clock_after board message
   pub first_clock : IsUnknownOr (clock_after None message) (reported_clock_after board message)
   pub followed : (reported_clock_after board message ≡ Some board.clock) ⊎
       ((reported_clock_after board message ≡ board.reported_clock)
       × (times_owed_after board message ≡ board.times_owed))
 
-pub field_reports : (board : BoardState) (square : ℕ) → ReportedIsHeard board (field_of board square)
+pub field_reports : (board : BoardState) (square : ℕ)
+    → ReportedIsHeard board (field_of board square)
 field_reports board square = search (rules, length-set)
 
 pub clock_reports : (board : BoardState) → ReportedIsHeard board (clock_message board.clock)
@@ -66,7 +63,8 @@ pub record IsPlain (board : BoardState) (message : Content) : Type 0 where
   pub clock : (seen : Option ClockState) → clock_after seen message ≡ seen
   pub times_owed : times_owed_after board message ≡ board.times_owed
 
-pub reply_reports : (board : BoardState) (reply : Reply) → ReportedIsHeard board (reply_message board reply)
+pub reply_reports : (board : BoardState) (reply : Reply)
+    → ReportedIsHeard board (reply_message board reply)
 reply_reports board reply = search (rules, clock_reports)
 
 -- the message of an owed reply is of its kind, and therefore the clock's message has none
@@ -80,16 +78,19 @@ reply_message-kind board reply = search (rules, clock_message-kind)
 pub picture_reported : (board : BoardState) (message : Content) → ReportedIsHeard board message
     → (picture : Option (List Piece)) (up : List Content)
     → IsUnknownOr (picture_after_all picture up) (Some board.reported_squares)
-    → IsUnknownOr (picture_after_all picture (up ++ message ∷ [])) (Some (reported_squares_after board message))
+    → IsUnknownOr (picture_after_all picture (up ++ message ∷ []))
+    (Some (reported_squares_after board message))
 picture_reported board message reports picture up h = search (rules, picture_after_all-append)
 
 pub clock_reported_of : (board : BoardState) (message : Content) → ReportedIsHeard board message
-    → (clock : Option ClockState) (up : List Content) → IsUnknownOr (clock_after_all clock up) board.reported_clock
+    → (clock : Option ClockState) (up : List Content)
+    → IsUnknownOr (clock_after_all clock up) board.reported_clock
     → IsUnknownOr (clock_after_all clock (up ++ message ∷ [])) (reported_clock_after board message)
 clock_reported_of board message reports clock up h = search (rules, clock_after_all-append)
 
 -- the clock that is followed is reported, or owed
 pub followed_after : (board : BoardState) (message : Content) → ReportedIsHeard board message
     → IsTrue board.times_owed ⊎ (board.reported_clock ≡ Some board.clock)
-    → IsTrue (times_owed_after board message) ⊎ (reported_clock_after board message ≡ Some board.clock)
+    → IsTrue (times_owed_after board message)
+    ⊎ (reported_clock_after board message ≡ Some board.clock)
 followed_after board message reports before = search rules

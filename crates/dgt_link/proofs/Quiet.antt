@@ -1,22 +1,10 @@
 -- A sound state with nothing under way and nothing to be sent.
-use Rattle.std.proofs.Common.{◌≡◌, refl, sym, ap, ◌∙◌, ◌⊎◌, ℕ, zero, suc, ◌<◌, List, [], ◌∷◌, Option}
-use Rattle.std.proofs.Common.{Some, Bool, true, false, cond, length, get_or, arith, rules}
-use Rattle.std.proofs.lemmas.Bool.{cond-true, false≢true, eqb-true, not-false}
-use Rattle.std.proofs.lemmas.List.{get_or_default, same_lists}
-use Rattle.std.proofs.lemmas.List.FromFn.{get_or-range_with_len}
-use Rattle.std.specs.Prelude.{◌==◌, not, IsTrue, IsSome, filter, map}
-use Rattle.dgt_values.specs.declared.pieces.Piece.{Piece}
-use Rattle.dgt_values.specs.Board.{piece_code}
-use Rattle.dgt_message.specs.Clock.{ClockState}
-use Rattle.dgt_values.proofs.PieceCodes.{same_code}
-use Rattle.dgt_board.specs.State.{BoardState, follows_clock, updates}
-use Rattle.dgt_board.specs.Sending.{differs, every_square, piece_on}
-use Rattle.dgt_link.specs.Machine.{MachineState}
-use Rattle.dgt_link.specs.Sound.{IsSound, IsExact, IsUnknownOr}
-use Rattle.dgt_link.specs.Promise.{IsPromised, IsQuiet, PictureIsComing, coming_mode}
-use Rattle.dgt_link.proofs.Lists.{left_empty, nothing_contained, right_empty}
+use Rattle.std.proofs.{Common.{◌≡◌, refl, sym, ap, ◌∙◌, ◌⊎◌, ℕ, zero, suc, ◌<◌, List, [], ◌∷◌, Option, Some, Bool, true, false, cond, length, get_or, arith, rules}, lemmas.Bool.{cond-true}}
+use Rattle.std.{proofs.lemmas.{Bool.{false≢true, eqb-true, not-false}, Grind.{common_steps}, List.{get_or_default, same_lists, FromFn.{get_or-range_with_len}}}, specs.Prelude.{◌==◌, not, IsTrue}}
+use Rattle.{std.specs.Prelude.{IsSome, filter, map}, dgt_values.{specs.{Board.{piece_code}, declared.pieces.Piece.{Piece}}, proofs.PieceCodes.{same_code}}, dgt_message.specs.Clock.{ClockState}}
+use Rattle.{dgt_board.specs.{Sending.{differs, every_square, piece_on}, State.{BoardState, follows_clock, updates}}, dgt_link.specs.{Machine.{MachineState}, Promise.{IsPromised, IsQuiet}}}
+use Rattle.dgt_link.{specs.{Promise.{PictureIsComing, coming_mode}, Sound.{IsSound, IsExact, IsUnknownOr}}, proofs.Lists.{left_empty, nothing_contained, right_empty}}
 use Rattle.dgt_link.proofs.Subsequences.{subsequence_of_nothing}
-use Rattle.std.proofs.lemmas.Grind.{common_steps}
 
 -- ---- nothing is pending
 
@@ -25,8 +13,8 @@ map_empty f [] h = refl
 map_empty f (x ∷ xs) h = cc
 
 -- a test that keeps nothing fails at each element
-kept_none : (test : ℕ → Bool) (x : ℕ) (rest : List ℕ) (passes : Bool) → cond passes (x ∷ rest) rest ≡ []
-    → (passes ≡ false) × (rest ≡ [])
+kept_none : (test : ℕ → Bool) (x : ℕ) (rest : List ℕ) (passes : Bool)
+    → cond passes (x ∷ rest) rest ≡ [] → (passes ≡ false) × (rest ≡ [])
 kept_none test x rest passes h = search rules
 
 filter_empty : (test : ℕ → Bool) (xs : List ℕ) (k d : ℕ) → k < length xs → filter test xs ≡ []
@@ -40,8 +28,8 @@ every_square-at : (k : ℕ) → k < 64 → (k < length every_square) × (get_or 
 unfolding every_square
 every_square-at k h = (h, get_or-range_with_len 0 64 k 0 h ∙ omega arith)
 
-same_unless_differs : (reported piece : Piece) → not (piece_code reported == piece_code piece) ≡ false
-    → reported ≡ piece
+same_unless_differs : (reported piece : Piece)
+    → not (piece_code reported == piece_code piece) ≡ false → reported ≡ piece
 same_unless_differs reported piece h = search (rules, same_code, eqb-true, not-false)
 
 -- if no square differs, the board has reported its squares
@@ -76,14 +64,16 @@ pub quiet_picture : (x : MachineState) → IsSound x → IsQuiet x → IsTrue (u
 quiet_picture x sound quiet asks = search (rules, quiet_up_to_date)
 
 -- when everything is quiet, a picture to come is known
-pub picture_has_come : (x : MachineState) → IsSound x → IsQuiet x → PictureIsComing x → IsSome x.picture
+pub picture_has_come : (x : MachineState) → IsSound x → IsQuiet x → PictureIsComing x
+    → IsSome x.picture
 picture_has_come x sound quiet h3 = search (rules, nothing_contained, quiet_up_to_date)
 
 pub quiet_mode : (x : MachineState) → IsQuiet x → coming_mode x ≡ x.board.mode
 quiet_mode x quiet = rw quiet.down
 
 -- a promised state that is quiet has the board's squares as its picture
-pub promised_picture : (x : MachineState) → IsSound x → IsPromised x → IsQuiet x → x.picture ≡ Some x.board.squares
+pub promised_picture : (x : MachineState) → IsSound x → IsPromised x → IsQuiet x
+    → x.picture ≡ Some x.board.squares
 promised_picture x sound promised quiet =
     grind (arith, common_steps, picture_has_come, quiet_picture, quiet_mode, false≢true)
 
@@ -96,8 +86,8 @@ pub quiet_clock : (x : MachineState) → IsExact x → IsQuiet x → IsTrue (fol
     → x.host_clock ≡ Some x.board.clock
 quiet_clock x exact quiet follows = search (rules, reported_clock, quiet_up_to_date)
 
-pub quiet_clock_reported : (x : MachineState) → IsSound x → IsQuiet x → IsTrue (follows_clock x.board.mode)
-    → IsUnknownOr x.host_clock (Some x.board.clock)
+pub quiet_clock_reported : (x : MachineState) → IsSound x → IsQuiet x
+    → IsTrue (follows_clock x.board.mode) → IsUnknownOr x.host_clock (Some x.board.clock)
 quiet_clock_reported x sound quiet follows = search (rules, reported_clock, quiet_up_to_date)
 
 pub quiet_awaited : (x : MachineState) → IsSound x → IsQuiet x → x.awaited ≡ []

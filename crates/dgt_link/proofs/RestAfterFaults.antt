@@ -1,44 +1,27 @@
 -- How a world at fault comes to rest, and that it is then quiet if it was promised to heal.
-use Rattle.std.proofs.Common.{◌≡◌, refl, sym, ap, ◌∙◌, ◌⊎◌, ℕ, List, [], ◌∷◌, ◌++◌, Option, Some, None, append_assoc}
-use Rattle.std.proofs.Common.{append-nil, rules}
-use Rattle.std.proofs.lemmas.Bool.{false≢true}
-use Rattle.std.specs.List.{AllByRecursion, flat_map}
-use Rattle.std.specs.Prelude.{IsSome}
-use Rattle.dgt_values.specs.declared.pieces.Piece.{Piece}
-use Rattle.dgt_message.specs.Clock.{ClockState}
-use Rattle.dgt_message.specs.Content.{Content, IsMessage}
-use Rattle.dgt_message.specs.Encoding.{encoding}
-use Rattle.dgt_command.specs.Laws.{EachDividesOnce}
-use Rattle.dgt_board.specs.Sending.{pending_messages}
-use Rattle.dgt_decode.specs.Grammar.{unfinished_message}
-use Rattle.dgt_link.specs.Healing.{Counted, IsHealing, IsInTurnWorld, IsPromisedWorld, IsRestedWorld, StandsBehind}
-use Rattle.dgt_link.specs.Clocks.{IsClockPromisedWorld}
-use Rattle.dgt_link.specs.Machine.{MachineState}
-use Rattle.dgt_link.specs.Promise.{IsPromised, IsQuiet}
-use Rattle.dgt_link.specs.Settling.{SettlesIn}
-use Rattle.dgt_link.specs.View.{IsQuietWorld, WorldView}
-use Rattle.dgt_link.proofs.Counting.{Holds, awaited_has_come, follows_with, host_knows, nothing_said, quiet_behind}
-use Rattle.dgt_link.specs.Readers.{Reads}
-use Rattle.dgt_link.proofs.Clocks.{promised_clock}
-use Rattle.dgt_link.proofs.Lists.{right_empty}
-use Rattle.dgt_link.proofs.Promises.{coming_promise}
-use Rattle.dgt_link.proofs.Quiet.{picture_has_come, promised_picture}
-use Rattle.dgt_link.proofs.WorldsByState.{nothing_first}
-use Rattle.dgt_link.proofs.Settling.{nothing_left_unfinished, nothing_partial, settled_kept}
+use Rattle.std.{proofs.{Common.{◌≡◌, refl, sym, ap, ◌∙◌, ◌⊎◌, ℕ, List, [], ◌∷◌, ◌++◌, Option, Some, None, append_assoc, append-nil, rules}, lemmas.Bool.{false≢true}}, specs.List.{AllByRecursion}}
+use Rattle.{std.specs.{List.{flat_map}, Prelude.{IsSome}}, dgt_values.specs.declared.pieces.Piece.{Piece}, dgt_message.specs.{Clock.{ClockState}, Content.{Content, IsMessage}, Encoding.{encoding}}}
+use Rattle.{dgt_command.specs.Laws.{EachDividesOnce}, dgt_board.specs.Sending.{pending_messages}, dgt_decode.specs.Grammar.{unfinished_message}, dgt_link.specs.Clocks.{IsClockPromisedWorld}}
+use Rattle.dgt_link.specs.{Healing.{Counted, IsHealing, IsInTurnWorld, IsPromisedWorld, IsRestedWorld, StandsBehind}, Machine.{MachineState}, Promise.{IsPromised, IsQuiet}, Readers.{Reads}}
+use Rattle.dgt_link.{specs.{Settling.{SettlesIn}, View.{IsQuietWorld, WorldView}}, proofs.{Clocks.{promised_clock}, Counting.{Holds, awaited_has_come, follows_with, host_knows, nothing_said}}}
+use Rattle.dgt_link.proofs.{Counting.{quiet_behind}, Lists.{right_empty}, Promises.{coming_promise}, Quiet.{picture_has_come, promised_picture}, Settling.{nothing_left_unfinished, nothing_partial}}
+use Rattle.dgt_link.proofs.{Settling.{settled_kept}, WorldsByState.{nothing_first}}
 
 -- ---- what counts is promised
 
-pub healing_promised : (c : Counted) (world : WorldView) → Holds c world → IsHealing c → IsPromisedWorld world
+pub healing_promised : (c : Counted) (world : WorldView) → Holds c world → IsHealing c
+    → IsPromisedWorld world
 healing_promised c world holds healing =
     let f = holds.follows healing.in_step in
     follows_with IsPromised f (coming_promise c.asked f.state f.comes healing.asked)
 
 -- a promised world that is quiet has the board's squares as its picture
-pub promised_at_quiet : EachDividesOnce → (world : WorldView) → IsPromisedWorld world → IsQuietWorld world
-    → world.host.picture ≡ Some world.board.state.squares
+pub promised_at_quiet : EachDividesOnce → (world : WorldView) → IsPromisedWorld world
+    → IsQuietWorld world → world.host.picture ≡ Some world.board.state.squares
 promised_at_quiet once world is quiet =
     let still = quiet_behind once is.garbage world is.state is.stands quiet in
-    rw is.stands.board (host_knows is.stands.picture (promised_picture is.state is.stands.sound is.holds still))
+    rw is.stands.board
+    (host_knows is.stands.picture (promised_picture is.state is.stands.sound is.holds still))
 
 -- ---- at rest
 
@@ -48,15 +31,17 @@ module _ (reads : Reads) where
       → AllByRecursion IsMessage (message ∷ messages)
       → unfinished_message (garbage ++ flat_map encoding (message ∷ messages)) ≡ []
   nothing_unfinished_behind garbage message messages are =
-      ap unfinished_message (sym (append_assoc garbage (encoding message) (flat_map encoding messages)))
+      ap unfinished_message
+      (sym (append_assoc garbage (encoding message) (flat_map encoding messages)))
       ∙ reads.unfinished_append (garbage ++ encoding message) (flat_map encoding messages)
       ∙ ap (λ (held : List ℕ). unfinished_message (held ++ flat_map encoding messages))
       (reads.encoding garbage message are.0).1
       ∙ nothing_left_unfinished reads messages (flat_map encoding messages) (search rules)
 
   -- the unread bytes of a host contain no whole message
-  none_unread : (unread garbage : List ℕ) (messages : List Content) → AllByRecursion IsMessage messages
-      → unread ≡ garbage ++ flat_map encoding messages → unfinished_message unread ≡ unread → messages ≡ []
+  none_unread : (unread garbage : List ℕ) (messages : List Content)
+      → AllByRecursion IsMessage messages → unread ≡ garbage ++ flat_map encoding messages
+      → unfinished_message unread ≡ unread → messages ≡ []
   none_unread unread garbage [] are e held = refl
   none_unread unread garbage (message ∷ messages) are e held =
       search (rules, nothing_unfinished_behind, nothing_said, right_empty)
@@ -72,7 +57,8 @@ module _ (reads : Reads) where
     all_unread = search (rules, append-nil)
 
     no_part : world.board.partial ≡ []
-    no_part = nothing_partial once x.down world.board.partial stands.partial (rw rested.1 at stands.down)
+    no_part =
+        nothing_partial once x.down world.board.partial stands.partial (rw rested.1 at stands.down)
 
     -- a rested world stands for a quiet state
     still_behind : IsQuiet x
@@ -87,7 +73,8 @@ module _ (reads : Reads) where
     rests_behind promised =
         let known = picture_has_come x stands.sound still_behind promised.coming in
         let clean : garbage ≡ []
-        = known_has_no_garbage x.picture garbage (x.host_clock ≡ None) stands.unheard known in record {
+        = known_has_no_garbage x.picture garbage (x.host_clock ≡ None) stands.unheard known in
+        record {
           up = rested.0;
           down = rested.1;
           unread = all_unread ∙ rw (clean, still_behind.up) refl;
@@ -98,7 +85,8 @@ module _ (reads : Reads) where
   module _ (once : EachDividesOnce) (world : WorldView) where
     pub promised_rests : IsPromisedWorld world → IsRestedWorld world
         → unfinished_message world.host.unread ≡ world.host.unread → IsQuietWorld world
-    promised_rests is rested held = rests_behind once is.garbage world is.state is.stands rested held is.holds
+    promised_rests is rested held =
+        rests_behind once is.garbage world is.state is.stands rested held is.holds
 
     pub clock_at_rest : IsClockPromisedWorld world → IsRestedWorld world
         → unfinished_message world.host.unread ≡ world.host.unread
@@ -111,10 +99,12 @@ module _ (reads : Reads) where
     pub in_turn_at_rest : IsInTurnWorld world → IsRestedWorld world
         → unfinished_message world.host.unread ≡ world.host.unread → world.host.awaited ≡ []
     in_turn_at_rest is rested held =
-        awaited_has_come world is (still_behind once is.garbage world is.state is.stands rested held)
+        awaited_has_come world is
+        (still_behind once is.garbage world is.state is.stands rested held)
 
 pub settled_squares : (count : ℕ) (old new : WorldView) → SettlesIn count old new
-    → new.host.picture ≡ Some new.board.state.squares → new.host.picture ≡ Some old.board.state.squares
+    → new.host.picture ≡ Some new.board.state.squares
+    → new.host.picture ≡ Some old.board.state.squares
 settled_squares count old new settled is =
     is ∙ ap (λ (squares : List Piece). Some squares) (settled_kept count old new settled).squares
 

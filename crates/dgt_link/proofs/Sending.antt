@@ -1,14 +1,7 @@
 -- What a board sends next is sent by one of the moves of the machine.
-use Rattle.std.specs.Prelude.{slice_get}
-use Rattle.std.proofs.Common.{◌≡◌, refl, ap, ◌∙◌, ◌⊎◌, inl, inr, ℕ, List, [], ◌∷◌, ◌++◌, Some, Bool, true, false}
-use Rattle.std.proofs.Common.{◌&&◌, cond, map, drop, rules}
-use Rattle.std.proofs.lemmas.Bool.{cond-true, and_from}
-use Rattle.std.proofs.lemmas.Option.{same_Some}
-use Rattle.std.specs.Prelude.{filter}
-use Rattle.dgt_message.specs.Content.{Content, clock_message}
-use Rattle.dgt_board.specs.declared.replies.Reply.{Reply}
-use Rattle.dgt_board.specs.State.{updates}
-use Rattle.dgt_board.specs.Sending.{after_sending, after_reporting, clock_news, differs, field_of, next_message, reply_message, unreported_squares}
+use Rattle.std.{specs.Prelude.{slice_get, filter}, proofs.Common.{◌≡◌, refl, ap, ◌∙◌, ◌⊎◌, inl, inr, ℕ, List, [], ◌∷◌, ◌++◌, Some, Bool, true, false, ◌&&◌, cond, map, drop, rules}}
+use Rattle.{std.proofs.lemmas.{Bool.{cond-true, and_from}, Option.{same_Some}}, dgt_message.specs.Content.{Content, clock_message}, dgt_board.specs.Sending.{after_sending, after_reporting}}
+use Rattle.dgt_board.specs.{Sending.{clock_news, differs, field_of, next_message, reply_message, unreported_squares}, State.{updates}, declared.replies.Reply.{Reply}}
 use Rattle.dgt_link.specs.Machine.{IsSending, Move, MachineState, after_move, after_reply, after_reported}
 
 abbrev sent_state : MachineState → Content → MachineState
@@ -33,16 +26,17 @@ without_reply x message e = search rules
 
 -- the first of the field updates, or what comes after them
 abbrev FirstField : Bool → (ℕ → Content) → (ℕ → Bool) → Content → Type 0
-FirstField asks field test message = (square : ℕ) × (asks ≡ true) × (test square ≡ true) × (field square ≡ message)
+FirstField asks field test message =
+    (square : ℕ) × (asks ≡ true) × (test square ≡ true) × (field square ≡ message)
 
-first_kept : (field : ℕ → Content) (test : ℕ → Bool) (square : ℕ) (rest : List ℕ) (others : List Content)
-    (message : Content) (passes : Bool)
-    → test square ≡ passes → slice_get (map field (cond passes (square ∷ rest) rest) ++ others) 0 ≡ Some message
+first_kept : (field : ℕ → Content) (test : ℕ → Bool) (square : ℕ) (rest : List ℕ)
+    (others : List Content) (message : Content) (passes : Bool) → test square ≡ passes
+    → slice_get (map field (cond passes (square ∷ rest) rest) ++ others) 0 ≡ Some message
     → FirstField true field test message ⊎ (slice_get (map field rest ++ others) 0 ≡ Some message)
 first_kept field test square rest others message passes e h = search (rules, same_Some)
 
-first_field : (asks : Bool) (field : ℕ → Content) (test : ℕ → Bool) (squares : List ℕ) (others : List Content)
-    (message : Content)
+first_field : (asks : Bool) (field : ℕ → Content) (test : ℕ → Bool) (squares : List ℕ)
+    (others : List Content) (message : Content)
     → slice_get (map field (cond asks (filter test squares) []) ++ others) 0 ≡ Some message
     → FirstField asks field test message ⊎ (slice_get others 0 ≡ Some message)
 first_field false field test squares others message h = inr h
@@ -51,16 +45,18 @@ first_field true field test (square ∷ squares) others message h =
     elim (first_kept field test square (filter test squares) others message (test square) refl h)
     [ inl found ↦ inl found | inr later ↦ first_field true field test squares others message later ]
 
-first_news : (owed : Bool) (news message : Content) → slice_get (cond owed (news ∷ []) []) 0 ≡ Some message
-    → (owed ≡ true) × (news ≡ message)
+first_news : (owed : Bool) (news message : Content)
+    → slice_get (cond owed (news ∷ []) []) 0 ≡ Some message → (owed ≡ true) × (news ≡ message)
 first_news owed news message h = search (rules, same_Some)
 
 report_is_sent : (x : MachineState) (message : Content) → x.board.owed ≡ []
-    → FirstField (updates x.board.mode) (field_of x.board) (differs x.board) message → SendsIt x message
+    → FirstField (updates x.board.mode) (field_of x.board) (differs x.board) message
+    → SendsIt x message
 report_is_sent x message none (square, asks, differing, same) = (
   Move.Report square,
   tt,
-  cond-true (updates x.board.mode && differs x.board square) (after_reported x (field_of x.board square)) x
+  cond-true (updates x.board.mode && differs x.board square)
+      (after_reported x (field_of x.board square)) x
       (and_from (updates x.board.mode) (differs x.board square) asks differing)
       ∙ without_reply x (field_of x.board square) none ∙ ap (sent_state x) same,
 )
@@ -87,5 +83,6 @@ next_of x (first ∷ rest) message e h = (
 next_of x [] message e h = search (rules, first_field, report_is_sent, clock_is_sent, first_news)
 
 -- the message that a board sends next is sent by a move
-pub next_is_sent : (x : MachineState) (message : Content) → next_message x.board ≡ Some message → SendsIt x message
+pub next_is_sent : (x : MachineState) (message : Content) → next_message x.board ≡ Some message
+    → SendsIt x message
 next_is_sent x message h = next_of x x.board.owed message refl h

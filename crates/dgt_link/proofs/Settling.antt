@@ -1,44 +1,15 @@
 -- Why a world comes to rest, and what it keeps on the way.
-use Rattle.std.proofs.Common.{arith, ◌≡◌, ◌≢◌, refl, sym, ap, subst, ◌∙◌, ◌⊎◌, inl, inr, ℕ, ◌+◌, ◌*◌, ◌^◌, ◌<◌, ◌≤◌}
-use Rattle.std.proofs.Common.{◌==◌, List, [], ◌∷◌, ◌++◌, Some, None, Bool, true, false, cond, length}
-use Rattle.std.proofs.Common.{take, drop, replicate, append-nil, rules}
-use Rattle.std.proofs.lemmas.List.{length-append, length-drop, drop_all, replicate_more}
-use Rattle.std.proofs.lemmas.Bool.{eqb-true, false≢true, ltb-false, or_parts}
-use Rattle.std.proofs.Math.Nat.{mul-le-mul_left}
-use Rattle.std.specs.Prelude.{◌↔◌, Contains, IsTrue, IsSome, nat_lt}
-use Rattle.std.specs.List.{AllByRecursion, flat_map}
-use Rattle.dgt_values.specs.declared.pieces.Piece.{Piece}
-use Rattle.dgt_message.specs.Clock.{ClockState}
-use Rattle.dgt_message.specs.Content.{Content}
-use Rattle.dgt_message.specs.Encoding.{encoding}
-use Rattle.dgt_command.specs.Content.{EventContent}
-use Rattle.dgt_command.specs.Words.{Divides, IsPartial}
-use Rattle.dgt_command.specs.Laws.{EachDividesOnce, NoWordBeginsAPart, WordsAreShort}
-use Rattle.dgt_decode.specs.Grammar.{unfinished_message}
-use Rattle.dgt_board.specs.declared.modes.Mode.{Mode}
-use Rattle.dgt_board.specs.Sending.{backlog, next_message}
-use Rattle.dgt_board.specs.State.{effects, BoardState, follows_clock, updates}
-use Rattle.dgt_link.specs.Act.{ActContent}
-use Rattle.dgt_link.specs.Stands.{AreEncoded, IsExactWorld, IsWorld, StandsFor}
-use Rattle.dgt_link.specs.Promise.{mode_after, act_requests, IsPromised, PictureIsComing, coming_mode}
-use Rattle.dgt_link.specs.declared.acts.Outcome.{Outcome}
-use Rattle.dgt_link.specs.View.{overflows, IsQuietWorld, WorldView}
-use Rattle.dgt_link.specs.Healing.{IsRestedWorld}
-use Rattle.dgt_link.specs.Machine.{MachineState, after_moves}
-use Rattle.dgt_link.specs.Step.{moves_nothing, Becomes, Delivers, Runs, Step, done_count}
-use Rattle.dgt_link.specs.Settling.{AreInOrder, IsNext, IsSettling, SettlesIn, steps_left}
-use Rattle.dgt_link.specs.Work.{work_left}
-use Rattle.dgt_link.specs.Sound.{IsUnknownOr}
-use Rattle.dgt_link.proofs.Backlogs.{BacklogFalls, BacklogRises}
-use Rattle.dgt_link.proofs.PromisedActs.{Leads}
-use Rattle.dgt_link.proofs.Lists.{all_append, nothing_contained, IsShorter, Reaches, prefixes}
-use Rattle.dgt_link.specs.Readers.{Reads}
-use Rattle.dgt_link.proofs.Hearing.{held_alone, nothing_unfinished}
-use Rattle.dgt_link.proofs.WorldsByState.{quiet_state, world_awaits_nothing, world_clock_known, world_clock_reported, world_picture}
-use Rattle.dgt_link.proofs.WorldsByState.{world_picture_reported}
-use Rattle.dgt_link.proofs.ActRuns.{run-push, run_keeps}
-use Rattle.dgt_link.proofs.Taking.{HasSameGame, effects_same_game}
-use Rattle.std.proofs.lemmas.Grind.{common_steps}
+use Rattle.std.proofs.Common.{arith, ◌≡◌, ◌≢◌, refl, sym, ap, subst, ◌∙◌, ◌⊎◌, inl, inr, ℕ, ◌+◌, ◌*◌, ◌^◌, ◌<◌, ◌≤◌, ◌==◌, List, [], ◌∷◌, ◌++◌, Some, None, Bool, true, false, cond, length, take, drop}
+use Rattle.std.proofs.{Common.{replicate, append-nil, rules}, Math.Nat.{mul-le-mul_left}, lemmas.{Bool.{eqb-true, false≢true, ltb-false, or_parts}, Grind.{common_steps}, List.{length-append}}}
+use Rattle.std.{proofs.lemmas.List.{length-drop, drop_all, replicate_more}, specs.{List.{AllByRecursion, flat_map}, Prelude.{◌↔◌, Contains, IsTrue, IsSome, nat_lt}}}
+use Rattle.{dgt_values.specs.declared.pieces.Piece.{Piece}, dgt_message.specs.{Clock.{ClockState}, Content.{Content}, Encoding.{encoding}}, dgt_command.specs.Content.{EventContent}}
+use Rattle.{dgt_command.specs.{Laws.{EachDividesOnce, NoWordBeginsAPart, WordsAreShort}, Words.{Divides, IsPartial}}, dgt_decode.specs.Grammar.{unfinished_message}, dgt_board.specs.Sending.{backlog}}
+use Rattle.{dgt_board.specs.{Sending.{next_message}, State.{effects, BoardState, follows_clock, updates}, declared.modes.Mode.{Mode}}, dgt_link.specs.{Act.{ActContent}, Healing.{IsRestedWorld}}}
+use Rattle.dgt_link.specs.{Machine.{MachineState, after_moves}, Promise.{mode_after, act_requests, IsPromised, PictureIsComing, coming_mode}, Readers.{Reads}, Settling.{AreInOrder, IsNext}}
+use Rattle.dgt_link.specs.{Settling.{IsSettling, SettlesIn, steps_left}, Sound.{IsUnknownOr}, Stands.{AreEncoded, IsExactWorld, IsWorld, StandsFor}, Step.{moves_nothing, Becomes, Delivers, Runs}}
+use Rattle.dgt_link.{specs.{Step.{Step, done_count}, View.{overflows, IsQuietWorld, WorldView}, Work.{work_left}, declared.acts.Outcome.{Outcome}}, proofs.ActRuns.{run-push, run_keeps}}
+use Rattle.dgt_link.proofs.{Backlogs.{BacklogFalls, BacklogRises}, Hearing.{held_alone, nothing_unfinished}, Lists.{all_append, nothing_contained, IsShorter, Reaches, prefixes}, PromisedActs.{Leads}}
+use Rattle.dgt_link.proofs.{Taking.{HasSameGame, effects_same_game}, WorldsByState.{quiet_state, world_awaits_nothing, world_clock_known, world_clock_reported, world_picture, world_picture_reported}}
 
 -- ---- each event has its own byte
 
@@ -62,7 +33,8 @@ module _ (short : WordsAreShort) (within : NoWordBeginsAPart) where
       all : length partial + length bytes ≡ length word + length after
       all = sym (length-append partial bytes) ∙ ap length e ∙ length-append word after
 
-      go : IsShorter partial word ⊎ Reaches partial bytes word after → length (event ∷ events) ≤ length bytes
+      go : IsShorter partial word ⊎ Reaches partial bytes word after
+          → length (event ∷ events) ≤ length bytes
       go (inl (next, others, f)) =
           let size = ap length f ∙ length-append partial (next ∷ others) in
           omega (arith, more, all, size)
@@ -71,7 +43,8 @@ module _ (short : WordsAreShort) (within : NoWordBeginsAPart) where
 -- ---- what a step towards rest keeps and uses up
 
 pub run_same : (acts : List ActContent) (world after : WorldView) (answers : List Outcome)
-    → AllByRecursion IsSettling acts → Runs acts world answers after → HasSameGame world.board.state after.board.state
+    → AllByRecursion IsSettling acts → Runs acts world answers after
+    → HasSameGame world.board.state after.board.state
 run_same [] world after [] all same = rw same (record { squares = refl; clock = refl })
 run_same (act ∷ acts) world after (answer ∷ answers) all (between, step, runs) =
     search (rules, run_same acts between after answers all.1 runs, effects_same_game)
@@ -82,13 +55,15 @@ pub settling_mode : (before : Mode) (act : ActContent) (answer : Outcome) → Is
 settling_mode before act answer is = search rules
 
 -- facts of the three acts that settle
-pub by_settling : (P : ActContent → Type 0) → P ActContent.BoardSend → ((count : ℕ) → P (ActContent.ToBoard count))
-    → ((count : ℕ) → P (ActContent.ToHost count)) → (act : ActContent) → IsSettling act → P act
+pub by_settling : (P : ActContent → Type 0) → P ActContent.BoardSend
+    → ((count : ℕ) → P (ActContent.ToBoard count)) → ((count : ℕ) → P (ActContent.ToHost count))
+    → (act : ActContent) → IsSettling act → P act
 by_settling P send board host act is = search rules
 
 -- an act that settles isn't a break
 pub settling_no_break : (act : ActContent) → IsSettling act → act ≢ ActContent.Break
-settling_no_break = by_settling (λ act. act ≢ ActContent.Break) (λ e. cc) (λ count e. cc) (λ count e. cc)
+settling_no_break =
+    by_settling (λ act. act ≢ ActContent.Break) (λ e. cc) (λ count e. cc) (λ count e. cc)
 
 -- acts that settle include no host break
 pub settling_no_host_break : (acts : List ActContent) → AllByRecursion IsSettling acts
@@ -103,8 +78,9 @@ pub record KeepsPromise (x : MachineState) (after : WorldView) : Type 0 where
   pub picture : PictureIsComing x → PictureIsComing state
 
 module _ (leads : Leads) where
-  pub run_promise : (acts : List ActContent) (world after : WorldView) (answers : List Outcome) (x : MachineState)
-      → AllByRecursion IsSettling acts → StandsFor world x → Runs acts world answers after → KeepsPromise x after
+  pub run_promise : (acts : List ActContent) (world after : WorldView) (answers : List Outcome)
+      (x : MachineState) → AllByRecursion IsSettling acts → StandsFor world x
+      → Runs acts world answers after → KeepsPromise x after
   run_promise [] world after [] x all stands same =
       record { state = x; stands = rw same stands; mode = refl; picture = λ h. h }
   run_promise (act ∷ acts) world after (answer ∷ answers) x all stands (between, step, runs) =
@@ -114,10 +90,11 @@ module _ (leads : Leads) where
       record {
         state = rest.state;
         stands = rest.stands;
-        mode = rest.mode ∙ leads.mode act world between answer x y stands step reached.2 ∙ settling_mode
-            (coming_mode x) act answer all.0;
+        mode = rest.mode ∙ leads.mode act world between answer x y stands step reached.2
+            ∙ settling_mode (coming_mode x) act answer all.0;
         picture = λ h. rest.picture
-            (leads.kept act world between answer x y (settling_no_break act all.0) stands step reached.2 h);
+            (leads.kept act world between answer x y (settling_no_break act all.0) stands step
+            reached.2 h);
       }
   run_promise _ world after _ x all stands none = absurd none
 
@@ -126,7 +103,8 @@ pub run_is_world : ((act : ActContent) (world after : WorldView) (answer : Outco
     → Step act world answer after → IsWorld after)
     → (count : ℕ) (old new : WorldView) → SettlesIn count old new → IsWorld old → IsWorld new
 run_is_world keeps count old new settled is =
-    run_keeps Step IsSettling IsWorld (λ act world after answer settling. keeps act world after answer) settled.acts
+    run_keeps Step IsSettling IsWorld
+    (λ act world after answer settling. keeps act world after answer) settled.acts
     old new (replicate count Outcome.Done) settled.settling is settled.run
 
 -- ---- the measure
@@ -155,7 +133,8 @@ module _ (short : WordsAreShort) (within : NoWordBeginsAPart) (rises : BacklogRi
   take_raises world after count partial delivers =
       let taken = delivers.taken in
       let few = few_taken short within world.board.partial
-      (take delivers.moved world.down.bytes) delivers.board.partial taken.events partial taken.divided in
+      (take delivers.moved world.down.bytes) delivers.board.partial taken.events partial
+      taken.divided in
       let more = rises world.board.state taken.events in
       grind (arith, common_steps)
 
@@ -167,15 +146,16 @@ module _ (short : WordsAreShort) (within : NoWordBeginsAPart) (rises : BacklogRi
       grind (arith, common_steps, take_leaves)
 
 pub hear_works : (world after : WorldView) → (length world.up.bytes == 0) ≡ false
-    → Becomes (ActContent.ToHost (length world.up.bytes)) world after → work_left after < work_left world
+    → Becomes (ActContent.ToHost (length world.up.bytes)) world after
+    → work_left after < work_left world
 hear_works world after some same = search (rules, drop_all)
 
 -- ---- at rest
 
 -- nothing stays unfinished of messages in a row
 module _ (reads : Reads) where
-  pub nothing_left_unfinished : (messages : List Content) (bytes : List ℕ) → AreEncoded messages bytes
-      → unfinished_message bytes ≡ []
+  pub nothing_left_unfinished : (messages : List Content) (bytes : List ℕ)
+      → AreEncoded messages bytes → unfinished_message bytes ≡ []
   nothing_left_unfinished [] bytes encoded = rw encoded.in_a_row nothing_unfinished
   nothing_left_unfinished (message ∷ messages) bytes encoded =
       let rest : unfinished_message (flat_map encoding messages) ≡ []
@@ -187,13 +167,13 @@ module _ (reads : Reads) where
         held_alone reads message encoded.are_messages.0,
       ) rest
 
-  pub nothing_unread : (messages : List Content) (unread : List ℕ) → AreEncoded messages (unread ++ [])
-      → unfinished_message unread ≡ unread → unread ≡ []
+  pub nothing_unread : (messages : List Content) (unread : List ℕ)
+      → AreEncoded messages (unread ++ []) → unfinished_message unread ≡ unread → unread ≡ []
   nothing_unread messages unread encoded held =
       sym held ∙ nothing_left_unfinished messages unread (rw (append-nil unread) at encoded)
 
-pub nothing_partial : EachDividesOnce → (events : List EventContent) (partial : List ℕ) → IsPartial partial
-    → Divides (partial ++ []) events [] → partial ≡ []
+pub nothing_partial : EachDividesOnce → (events : List EventContent) (partial : List ℕ)
+    → IsPartial partial → Divides (partial ++ []) events [] → partial ≡ []
 nothing_partial law events partial is divides =
     sym (law.1 (partial ++ []) events [] [] partial divides (append-nil partial, is)).1
 
@@ -205,7 +185,8 @@ done_at act world after answer e step = rw e at step
 -- one act towards rest
 abbrev pub Moves : WorldView → WorldView → Type 0
 Moves world after =
-    (act : ActContent) × IsNext world act × Step act world Outcome.Done after × (work_left after < work_left world)
+    (act : ActContent) × IsNext world act × Step act world Outcome.Done after
+    × (work_left after < work_left world)
 
 some_bytes : (bytes : List ℕ) → (length bytes == 0) ≡ false → 0 < length bytes
 some_bytes bytes h = search (rules, false≢true)
@@ -231,9 +212,9 @@ sends falls world after answer reported up some fits step =
 
 module _ (short : WordsAreShort) (within : NoWordBeginsAPart) (rises : BacklogRises) where
   pub takes : (world after : WorldView) (answer : Outcome) → IsPartial world.board.partial
-      → (length world.up.bytes == 0) ≡ true → next_message world.board.state ≡ None → world.board.state.owed ≡ []
-      → (length world.down.bytes == 0) ≡ false → Step (ActContent.ToBoard (length world.down.bytes)) world answer after
-      → Moves world after
+      → (length world.up.bytes == 0) ≡ true → next_message world.board.state ≡ None
+      → world.board.state.owed ≡ [] → (length world.down.bytes == 0) ≡ false
+      → Step (ActContent.ToBoard (length world.down.bytes)) world answer after → Moves world after
   takes world after answer partial up quiet none some step =
       search (rules, done_at, no_bytes, some_bytes, take_works)
 
@@ -242,8 +223,8 @@ pub rests : Reads → EachDividesOnce → (world : WorldView) → IsWorld world 
 rests reads law world is (up, down, none) unfinished_is =
     search (rules, nothing_unread, nothing_partial)
 
-pub not_owing : (result : Bool) (board : BoardState) → (IsTrue result ↔ IsSome (next_message board)) → result ≡ false
-    → next_message board ≡ None
+pub not_owing : (result : Bool) (board : BoardState) → (IsTrue result ↔ IsSome (next_message board))
+    → result ≡ false → next_message board ≡ None
 not_owing result board reports e = search (rules, false≢true)
 
 -- ---- the loop
@@ -253,8 +234,9 @@ next_settles : (world : WorldView) (act : ActContent) → IsNext world act → I
 next_settles world act is = search rules
 
 -- one more act, which is the next
-in_order_more : (acts : List ActContent) (act : ActContent) (old now new : WorldView) → AreInOrder acts old now
-    → IsNext now act → Step act now Outcome.Done new → AreInOrder (acts ++ act ∷ []) old new
+in_order_more : (acts : List ActContent) (act : ActContent) (old now new : WorldView)
+    → AreInOrder acts old now → IsNext now act → Step act now Outcome.Done new
+    → AreInOrder (acts ++ act ∷ []) old new
 in_order_more [] act old now new same next step = (
   new,
   subst (λ (w : WorldView). IsNext w act) same next,
@@ -319,18 +301,22 @@ module _ (leads : Leads)
   pub settled_awaited : new.host.awaited ≡ []
   settled_awaited = world_awaits_nothing law new promise.state promise.stands quiet
 
-pub settled_clock : EachDividesOnce → (count : ℕ) (old new : WorldView) → SettlesIn count old new → IsExactWorld new
-    → IsQuietWorld new → IsTrue (follows_clock new.board.state.mode) → new.host.clock ≡ Some old.board.state.clock
+pub settled_clock : EachDividesOnce → (count : ℕ) (old new : WorldView) → SettlesIn count old new
+    → IsExactWorld new → IsQuietWorld new → IsTrue (follows_clock new.board.state.mode)
+    → new.host.clock ≡ Some old.board.state.clock
 settled_clock law count old new settled exact quiet follows =
     let same = (settled_kept count old new settled).clock in
     world_clock_reported law new exact.state exact.stands quiet exact.exact follows ∙ ap
     (λ (clock : ClockState). Some clock) same
 
-pub work_fits : (world : WorldView) → ((board : BoardState) → backlog board ≤ length board.owed + 65)
-    → length world.down.bytes < 2 ^ 64 → length world.board.state.owed ≤ 8 → work_left world < 2 ^ 67
+pub work_fits : (world : WorldView)
+    → ((board : BoardState) → backlog board ≤ length board.owed + 65)
+    → length world.down.bytes < 2 ^ 64 → length world.board.state.owed ≤ 8
+    → work_left world < 2 ^ 67
 work_fits world bound down owed = search (rules, at_most_one)
 
-pub most_work : (world : WorldView) → work_left world ≤ 3 * length world.down.bytes + 2 * backlog world.board.state + 1
+pub most_work : (world : WorldView)
+    → work_left world ≤ 3 * length world.down.bytes + 2 * backlog world.board.state + 1
 most_work world = let flag = at_most_one (length world.up.bytes) in omega (arith, flag)
 
 -- ---- in any order and in any chunks
@@ -344,11 +330,13 @@ hear_steps world after count some same = search (rules, or_parts, length-drop, f
 
 module _ (falls : BacklogFalls) where
   send_steps : (world after : WorldView) → length world.board.state.reported_squares ≡ 64
-      → ((message : Content) → next_message world.board.state ≡ Some message → overflows world.up (encoding message)
-      ≡ false) → Becomes ActContent.BoardSend world after → steps_left after < steps_left world
+      → ((message : Content) → next_message world.board.state ≡ Some message
+      → overflows world.up (encoding message) ≡ false) → Becomes ActContent.BoardSend world after
+      → steps_left after < steps_left world
   send_steps world after squares room (message, is_next, encodes, same) =
       let less = falls world.board.state message squares is_next in
-      let few = fits world.up.capacity (length world.up.bytes + length (encoding message)) (room message is_next) in
+      let few = fits world.up.capacity (length world.up.bytes + length (encoding message))
+      (room message is_next) in
       let size = length-append world.up.bytes (encoding message) in
       let weighed = mul-le-mul_left (world.up.capacity + 1) less in
       rw same (omega (arith, few, size, weighed))
@@ -363,24 +351,28 @@ module _ (short : WordsAreShort) (within : NoWordBeginsAPart) (rises : BacklogRi
   take_steps world after count partial delivers =
       let weighed = mul-le-mul_left (world.up.capacity + 1)
       (take_raises short within rises world after count partial delivers) in
-      let bytes = ap (λ (n : ℕ). (world.up.capacity + 2) * n) (take_leaves world after count delivers) in
+      let bytes =
+      ap (λ (n : ℕ). (world.up.capacity + 2) * n) (take_leaves world after count delivers) in
       grind (arith, common_steps)
 
 module _ (keeps : (act : ActContent) (world after : WorldView) (answer : Outcome) → IsWorld world
     → Step act world answer after → IsWorld after)
     (falls : BacklogFalls)
     (short : WordsAreShort) (within : NoWordBeginsAPart) (rises : BacklogRises) where
-  step_steps : (act : ActContent) (world after : WorldView) (answer : Outcome) → IsWorld world → IsSettling act
-      → Step act world answer after → done_count (answer ∷ []) + steps_left after ≤ steps_left world
+  step_steps : (act : ActContent) (world after : WorldView) (answer : Outcome) → IsWorld world
+      → IsSettling act → Step act world answer after
+      → done_count (answer ∷ []) + steps_left after ≤ steps_left world
   step_steps act world after answer is settling step =
       grind (arith, common_steps, send_steps, reported_all, take_steps, hear_steps)
 
-  pub run_steps : (acts : List ActContent) (world after : WorldView) (answers : List Outcome) → IsWorld world
-      → AllByRecursion IsSettling acts → Runs acts world answers after → done_count answers ≤ steps_left world
+  pub run_steps : (acts : List ActContent) (world after : WorldView) (answers : List Outcome)
+      → IsWorld world → AllByRecursion IsSettling acts → Runs acts world answers after
+      → done_count answers ≤ steps_left world
   run_steps [] world after [] is all same = omega arith
   run_steps (act ∷ acts) world after (answer ∷ answers) is all (between, step, runs) =
       let first = step_steps act world between answer is all.0 step in
-      let rest = run_steps acts between after answers (keeps act world between answer is step) all.1 runs in
+      let rest =
+      run_steps acts between after answers (keeps act world between answer is step) all.1 runs in
       let both = count_first answer answers in
       omega (arith, first, rest, both)
   run_steps _ world after _ is all none = absurd none

@@ -1,26 +1,10 @@
 -- From each sound state takes, sendings and hears lead to a quiet one.
-use Rattle.std.proofs.Common.{arith, ◌≡◌, ◌≢◌, refl, ap, ◌∙◌, ◌⊎◌, inl, inr, ℕ, ◌<◌, ◌≤◌, zero, suc, List, [], ◌∷◌}
-use Rattle.std.proofs.Common.{Some, None, Bool, cond, Option, rules}
-use Rattle.std.proofs.lemmas.List.{length-append}
-use Rattle.std.specs.List.{AllByRecursion}
-use Rattle.dgt_values.specs.declared.pieces.Piece.{Piece}
-use Rattle.dgt_message.specs.Content.{Content}
-use Rattle.dgt_command.specs.Content.{EventContent}
-use Rattle.dgt_board.specs.declared.modes.Mode.{Mode}
-use Rattle.dgt_board.specs.Sending.{next_message, pending_messages}
-use Rattle.dgt_link.specs.Machine.{MachineState, after_move, after_moves, after_reported, IsSending, Move}
-use Rattle.dgt_link.specs.Promise.{IsPromised, IsQuiet, PictureIsComing, coming_mode, mode_after, requests}
-use Rattle.dgt_link.specs.Settling.{IsSettlingMove, SettlesBy, moves_left}
-use Rattle.dgt_link.specs.Sound.{IsSound}
-use Rattle.dgt_link.proofs.Backlogs.{BacklogFalls, BacklogRises}
-use Rattle.dgt_link.proofs.Promises.{move-mode, picture_keeps_coming}
-use Rattle.dgt_link.proofs.Quiet.{promised_picture}
-use Rattle.dgt_link.proofs.WorldsByState.{nothing_first}
-use Rattle.dgt_link.proofs.AfterMoves.{moves_sound}
-use Rattle.dgt_link.proofs.Sending.{next_is_sent}
-use Rattle.dgt_link.proofs.Soundness.{move_sound}
-use Rattle.dgt_link.proofs.Taking.{HasSameGame, effect_leaves, same_game}
-use Rattle.std.proofs.lemmas.Grind.{common_steps}
+use Rattle.std.proofs.{Common.{arith, ◌≡◌, ◌≢◌, refl, ap, ◌∙◌, ◌⊎◌, inl, inr, ℕ, ◌<◌, ◌≤◌, zero, suc, List, [], ◌∷◌, Some, None, Bool, cond, Option, rules}, lemmas.Grind.{common_steps}}
+use Rattle.{std.{proofs.lemmas.List.{length-append}, specs.List.{AllByRecursion}}, dgt_values.specs.declared.pieces.Piece.{Piece}, dgt_message.specs.Content.{Content}}
+use Rattle.{dgt_command.specs.Content.{EventContent}, dgt_board.specs.{Sending.{next_message, pending_messages}, declared.modes.Mode.{Mode}}, dgt_link.specs.Machine.{MachineState, after_move}}
+use Rattle.dgt_link.specs.{Machine.{after_moves, after_reported, IsSending, Move}, Promise.{IsPromised, IsQuiet, PictureIsComing, coming_mode, mode_after, requests}, Settling.{IsSettlingMove}}
+use Rattle.dgt_link.{specs.{Settling.{SettlesBy, moves_left}, Sound.{IsSound}}, proofs.{AfterMoves.{moves_sound}, Backlogs.{BacklogFalls, BacklogRises}, Promises.{move-mode, picture_keeps_coming}}}
+use Rattle.dgt_link.proofs.{Quiet.{promised_picture}, Sending.{next_is_sent}, Soundness.{move_sound}, Taking.{HasSameGame, effect_leaves, same_game}, WorldsByState.{nothing_first}}
 
 sending_settles : (move : Move) → IsSending move → IsSettlingMove move
 sending_settles move is = search rules
@@ -31,20 +15,20 @@ sending_settles move is = search rules
 abbrev NearerBy : MachineState → Move → Type 0
 NearerBy x move = IsSettlingMove move × (moves_left (after_move x move) < moves_left x)
 
-hears_nearer : (x : MachineState) (message : Content) (later : List Content) → x.up ≡ message ∷ later
-    → NearerBy x Move.Hear
+hears_nearer : (x : MachineState) (message : Content) (later : List Content)
+    → x.up ≡ message ∷ later → NearerBy x Move.Hear
 hears_nearer x message later e = (tt, rw e (omega arith))
 
 module _ (falls : BacklogFalls) (rises : BacklogRises) where
-  sends_nearer : (x : MachineState) (message : Content) → IsSound x → next_message x.board ≡ Some message
-      → (move : Move) × NearerBy x move
+  sends_nearer : (x : MachineState) (message : Content) → IsSound x
+      → next_message x.board ≡ Some message → (move : Move) × NearerBy x move
   sends_nearer x message sound e =
       let sent = next_is_sent x message e in
       let less = falls x.board message sound.reported_squares e in
       grind (arith, common_steps, length-append, sending_settles)
 
-  takes_nearer : (x : MachineState) (event : EventContent) (later : List EventContent) → x.down ≡ event ∷ later
-      → NearerBy x Move.Take
+  takes_nearer : (x : MachineState) (event : EventContent) (later : List EventContent)
+      → x.down ≡ event ∷ later → NearerBy x Move.Take
   takes_nearer x event later e =
       let more = rises x.board (event ∷ []) in
       (tt, rw e (omega (arith, more)))
@@ -53,10 +37,17 @@ module _ (falls : BacklogFalls) (rises : BacklogRises) where
   nearer : (x : MachineState) → IsSound x → IsQuiet x ⊎ ((move : Move) × NearerBy x move)
   nearer x sound = up x.up refl
     where
-      down : x.up ≡ [] → next_message x.board ≡ None → (events : List EventContent) → x.down ≡ events
+      down : x.up ≡ [] → next_message x.board ≡ None → (events : List EventContent)
+          → x.down ≡ events
           → IsQuiet x ⊎ ((move : Move) × NearerBy x move)
       down none_up none [] e =
-          inl (record { up = none_up; down = e; pending = nothing_first (pending_messages x.board) none })
+          inl
+          (record {
+            up = none_up;
+            down = e;
+            pending =
+                nothing_first (pending_messages x.board) none;
+          })
       down none_up none (event ∷ later) e = inr (Move.Take, takes_nearer x event later e)
 
       next : x.up ≡ [] → (message : Option Content) → next_message x.board ≡ message
@@ -64,12 +55,13 @@ module _ (falls : BacklogFalls) (rises : BacklogRises) where
       next none_up None e = down none_up e x.down refl
       next none_up (Some message) e = inr (sends_nearer x message sound e)
 
-      up : (messages : List Content) → x.up ≡ messages → IsQuiet x ⊎ ((move : Move) × NearerBy x move)
+      up : (messages : List Content) → x.up ≡ messages
+          → IsQuiet x ⊎ ((move : Move) × NearerBy x move)
       up [] e = next e (next_message x.board) refl
       up (message ∷ later) e = inr (Move.Hear, hears_nearer x message later e)
 
-  further : (x : MachineState) (move : Move) (moves : List Move) → NearerBy x move → SettlesBy moves (after_move x move)
-      → SettlesBy (move ∷ moves) x
+  further : (x : MachineState) (move : Move) (moves : List Move) → NearerBy x move
+      → SettlesBy moves (after_move x move) → SettlesBy (move ∷ moves) x
   further x move moves (is, less) settles = search rules
 
   reached_within : (most : ℕ) (x : MachineState) → IsSound x → moves_left x ≤ most
@@ -77,11 +69,13 @@ module _ (falls : BacklogFalls) (rises : BacklogRises) where
   reached_within zero x sound few = grind (arith, common_steps, nearer)
   reached_within (suc most) x sound few = go (reached_within most) (nearer x sound)
     where
-      go : ((y : MachineState) → IsSound y → moves_left y ≤ most → (moves : List Move) × SettlesBy moves y)
+      go : ((y : MachineState) → IsSound y → moves_left y ≤ most
+          → (moves : List Move) × SettlesBy moves y)
           → IsQuiet x ⊎ ((move : Move) × NearerBy x move) → (moves : List Move) × SettlesBy moves x
       go rest (inl quiet) = ([], record { settling = tt; few = omega arith; quiet = quiet })
       go rest (inr (move, (is, less))) =
-          let later = rest (after_move x move) (move_sound x move sound) (omega (arith, less, few)) in
+          let later =
+          rest (after_move x move) (move_sound x move sound) (omega (arith, less, few)) in
           (move ∷ later.0, further x move later.0 (is, less) later.1)
 
   pub quiet_is_reached : (x : MachineState) → IsSound x → (moves : List Move) × SettlesBy moves x
@@ -93,10 +87,12 @@ reported_same_game : (x : MachineState) (asks : Bool) (message : Content)
     → HasSameGame x.board (cond asks (after_reported x message) x).board
 reported_same_game x asks message = search (rules, same_game)
 
-move_same_game : (x : MachineState) (move : Move) → IsSettlingMove move → HasSameGame x.board (after_move x move).board
+move_same_game : (x : MachineState) (move : Move) → IsSettlingMove move
+    → HasSameGame x.board (after_move x move).board
 move_same_game x move is = search (rules, reported_same_game, same_game, effect_leaves)
 
-settling_keeps_mode : (before : Mode) (move : Move) → IsSettlingMove move → mode_after before (requests move) ≡ before
+settling_keeps_mode : (before : Mode) (move : Move) → IsSettlingMove move
+    → mode_after before (requests move) ≡ before
 settling_keeps_mode before move is = search rules
 
 settling_breaks_nothing : (move : Move) → IsSettlingMove move → move ≢ Move.Break
@@ -118,10 +114,11 @@ pub settling_mode : (x : MachineState) (moves : List Move) → AllByRecursion Is
     → coming_mode (after_moves x moves) ≡ coming_mode x
 settling_mode x [] all = refl
 settling_mode x (move ∷ moves) all =
-    settling_mode (after_move x move) moves all.1 ∙ move-mode x move ∙ settling_keeps_mode (coming_mode x) move all.0
+    settling_mode (after_move x move) moves all.1 ∙ move-mode x move
+    ∙ settling_keeps_mode (coming_mode x) move all.0
 
-settling_comes : (x : MachineState) (moves : List Move) → AllByRecursion IsSettlingMove moves → PictureIsComing x
-    → PictureIsComing (after_moves x moves)
+settling_comes : (x : MachineState) (moves : List Move) → AllByRecursion IsSettlingMove moves
+    → PictureIsComing x → PictureIsComing (after_moves x moves)
 settling_comes x [] all comes = comes
 settling_comes x (move ∷ moves) all comes = settling_comes (after_move x move) moves all.1
     (picture_keeps_coming x move (settling_breaks_nothing move all.0) comes)

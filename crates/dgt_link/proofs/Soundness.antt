@@ -1,29 +1,13 @@
 -- Each move keeps a sound state sound, and an exact one exact.
-use Rattle.std.proofs.Common.{◌≡◌, refl, ap, ◌∙◌, List, [], ◌∷◌, ◌++◌, ◌&&◌, length}
-use Rattle.std.proofs.Common.{append_assoc, rules}
-use Rattle.std.proofs.lemmas.List.{length-set}
-use Rattle.std.proofs.lemmas.List.Elements.{filter_map-append}
-use Rattle.std.proofs.lemmas.Bool.{cond_both, false≢true}
-use Rattle.std.specs.Prelude.{filter_map, map, option_to_list}
-use Rattle.std.specs.List.{cons_option}
-use Rattle.dgt_values.specs.declared.pieces.Piece.{Piece}
-use Rattle.dgt_values.specs.declared.kinds.Kind.{Kind}
-use Rattle.dgt_message.specs.Content.{Content, clock_message, answered_kind}
-use Rattle.dgt_message.specs.Clock.{ClockState}
-use Rattle.dgt_command.specs.Content.{CommandContent, EventContent, requested_kind}
-use Rattle.dgt_board.specs.declared.replies.Reply.{Reply}
-use Rattle.dgt_board.specs.State.{IdentityContent, updates, effect}
-use Rattle.dgt_board.specs.Sending.{differs, field_of, reply_message}
-use Rattle.dgt_host.specs.Host.{awaited_after}
-use Rattle.dgt_link.specs.Machine.{IsHostBreak, Move, MachineState, commands_anew, new_state, state_of_board, after_move, after_reported, after_take, after_reply, after_hear}
-use Rattle.dgt_link.specs.Sound.{IsSound, IsExact, IsSubsequence, coming_kinds, kind_of_event, kind_of_reply}
-use Rattle.dgt_link.proofs.Subsequences.{subsequence_at_end, subsequence_append, awaited_after-subsequence}
-use Rattle.dgt_link.proofs.Subsequences.{awaited_exactly, one_more, moved_over}
-use Rattle.dgt_link.proofs.MessageReports.{ReportedIsHeard, field_reports, clock_reports, reply_reports, reply_message-kind}
-use Rattle.dgt_link.proofs.MessageReports.{clock_message-kind, picture_reported, clock_reported_of, clock_after_all-append}
-use Rattle.dgt_link.proofs.MessageReports.{followed_after, handed_or_reported}
-use Rattle.dgt_command.specs.Words.{IsNoiseList}
-use Rattle.dgt_link.proofs.Taking.{effect-kinds, effect_followed, effect_leaves, nothing_of_noise}
+use Rattle.std.proofs.{Common.{◌≡◌, refl, ap, ◌∙◌, List, [], ◌∷◌, ◌++◌, ◌&&◌, length, append_assoc, rules}, lemmas.{Bool.{cond_both, false≢true}, List.{length-set, Elements.{filter_map-append}}}}
+use Rattle.{std.specs.{List.{cons_option}, Prelude.{filter_map, map, option_to_list}}, dgt_values.specs.declared.{kinds.Kind.{Kind}, pieces.Piece.{Piece}}, dgt_message.specs.Clock.{ClockState}}
+use Rattle.{dgt_message.specs.Content.{Content, clock_message, answered_kind}, dgt_command.specs.{Content.{CommandContent, EventContent, requested_kind}, Words.{IsNoiseList}}}
+use Rattle.{dgt_board.specs.{Sending.{differs, field_of, reply_message}, State.{IdentityContent, updates, effect}, declared.replies.Reply.{Reply}}, dgt_host.specs.Host.{awaited_after}}
+use Rattle.dgt_link.specs.{Machine.{IsHostBreak, Move, MachineState, commands_anew, new_state, state_of_board, after_move, after_reported, after_take, after_reply, after_hear}, Sound.{IsSound}}
+use Rattle.dgt_link.{specs.Sound.{IsExact, IsSubsequence, coming_kinds, kind_of_event, kind_of_reply}, proofs.MessageReports.{ReportedIsHeard, field_reports, clock_reports, reply_reports}}
+use Rattle.dgt_link.proofs.MessageReports.{reply_message-kind, clock_message-kind, picture_reported, clock_reported_of, clock_after_all-append, followed_after, handed_or_reported}
+use Rattle.dgt_link.proofs.{Subsequences.{subsequence_at_end, subsequence_append, awaited_after-subsequence, awaited_exactly, one_more, moved_over}, Taking.{effect-kinds, effect_followed}}
+use Rattle.dgt_link.proofs.Taking.{effect_leaves, nothing_of_noise}
 
 -- the state with other replies owed
 abbrev owing : MachineState → List Reply → MachineState
@@ -46,56 +30,68 @@ module _ (x : MachineState) (owed : List Reply) (message : Content)
 
 -- ---- the moves, one by one
 
-reply_sound : (x : MachineState) (owed : List Reply) → x.board.owed ≡ owed → IsSound x → IsSound (after_reply x owed)
+reply_sound : (x : MachineState) (owed : List Reply) → x.board.owed ≡ owed → IsSound x
+    → IsSound (after_reply x owed)
 reply_sound x owed e sound = search (rules, send_sound, reply_reports, reply_message-kind)
 
-reply_exact : (x : MachineState) (owed : List Reply) → x.board.owed ≡ owed → IsExact x → IsExact (after_reply x owed)
+reply_exact : (x : MachineState) (owed : List Reply) → x.board.owed ≡ owed → IsExact x
+    → IsExact (after_reply x owed)
 reply_exact x owed e exact = search (rules, send_exact, reply_reports, reply_message-kind)
 
 report_clock_first : (x : MachineState)
-    → filter_map kind_of_reply x.board.owed ≡ cons_option (answered_kind (clock_message x.board.clock))
-    (filter_map kind_of_reply x.board.owed)
+    → filter_map kind_of_reply x.board.owed ≡ cons_option
+    (answered_kind (clock_message x.board.clock)) (filter_map kind_of_reply x.board.owed)
 report_clock_first x = rw (clock_message-kind x.board.clock)
 
 -- requesting or taking a reply keeps the kinds to come
 pub ask-kinds : (x : MachineState) (command : CommandContent)
-    → coming_kinds (after_move x (Move.Ask command)) ≡ coming_kinds x ++ option_to_list (requested_kind command)
+    → coming_kinds (after_move x (Move.Ask command))
+    ≡ coming_kinds x ++ option_to_list (requested_kind command)
 ask-kinds x command = search (rules, filter_map-append, one_more, append_assoc)
 
-take-kinds : (x : MachineState) (event : EventContent) (rest : List EventContent) → x.down ≡ event ∷ rest
-    → coming_kinds (after_take x (event ∷ rest)) ≡ coming_kinds x
+take-kinds : (x : MachineState) (event : EventContent) (rest : List EventContent)
+    → x.down ≡ event ∷ rest → coming_kinds (after_take x (event ∷ rest)) ≡ coming_kinds x
 take-kinds x event rest e =
-    rw e (ap (λ (kinds : List Kind). filter_map answered_kind x.up ++ kinds) (effect-kinds x.board event rest))
+    rw e
+    (ap (λ (kinds : List Kind). filter_map answered_kind x.up ++ kinds)
+    (effect-kinds x.board event rest))
 
-take_sound : (x : MachineState) (down : List EventContent) → x.down ≡ down → IsSound x → IsSound (after_take x down)
+take_sound : (x : MachineState) (down : List EventContent) → x.down ≡ down → IsSound x
+    → IsSound (after_take x down)
 take_sound x down e sound = search (rules, effect_followed, take-kinds, effect_leaves)
 
-take_exact : (x : MachineState) (down : List EventContent) → x.down ≡ down → IsExact x → IsExact (after_take x down)
+take_exact : (x : MachineState) (down : List EventContent) → x.down ≡ down → IsExact x
+    → IsExact (after_take x down)
 take_exact x down e exact = search (rules, take_sound, effect_leaves, take-kinds)
 
 -- the kinds to come, if a message is the first under way
 hear-kinds : (x : MachineState) (message : Content) (rest : List Content) → x.up ≡ message ∷ rest
-    → coming_kinds x ≡ cons_option (answered_kind message) (coming_kinds (after_hear x (message ∷ rest)))
+    → coming_kinds x
+    ≡ cons_option (answered_kind message) (coming_kinds (after_hear x (message ∷ rest)))
 hear-kinds x message rest e = search rules
 
-hear_sound : (x : MachineState) (up : List Content) → x.up ≡ up → IsSound x → IsSound (after_hear x up)
+hear_sound : (x : MachineState) (up : List Content) → x.up ≡ up → IsSound x
+    → IsSound (after_hear x up)
 hear_sound x up e sound = search (rules, awaited_after-subsequence, hear-kinds)
 
-hear_exact : (x : MachineState) (up : List Content) → x.up ≡ up → IsExact x → IsExact (after_hear x up)
+hear_exact : (x : MachineState) (up : List Content) → x.up ≡ up → IsExact x
+    → IsExact (after_hear x up)
 hear_exact x up e exact = search (rules, hear_sound, hear-kinds, awaited_exactly)
 
-pub new_sound : (position : List Piece) (clock : ClockState) (identity : IdentityContent) → length position ≡ 64
-    → IsSound (new_state position clock identity)
+pub new_sound : (position : List Piece) (clock : ClockState) (identity : IdentityContent)
+    → length position ≡ 64 → IsSound (new_state position clock identity)
 new_sound position clock identity h = search (rules, false≢true)
 
-pub new_exact : (position : List Piece) (clock : ClockState) (identity : IdentityContent) → length position ≡ 64
-    → IsExact (new_state position clock identity)
+pub new_exact : (position : List Piece) (clock : ClockState) (identity : IdentityContent)
+    → length position ≡ 64 → IsExact (new_state position clock identity)
 new_exact position clock identity h =
     record { sound = new_sound position clock identity h; clock = refl; awaited = refl }
 
-pub noise-kinds : (noise : List EventContent) → IsNoiseList noise → filter_map kind_of_event noise ≡ []
+pub noise-kinds : (noise : List EventContent) → IsNoiseList noise
+    → filter_map kind_of_event noise ≡ []
 noise-kinds noise is_noise =
-    nothing_of_noise kind_of_event (λ message. refl) (λ leds. refl) (refl, refl, refl) (λ byte. refl) noise is_noise
+    nothing_of_noise kind_of_event (λ message. refl) (λ leds. refl) (refl, refl, refl)
+    (λ byte. refl) noise is_noise
 
 -- of the requests of a host that starts over, only a dump has a kind
 host_break-kinds : (x : MachineState) (noise : List EventContent) (is_noise : IsNoiseList noise)
@@ -118,31 +114,46 @@ board_sound x sound = search rules
 pub move_sound : (x : MachineState) (move : Move) → IsSound x → IsSound (after_move x move)
 move_sound x (Move.Change square piece) sound =
     assumption (length-set x.board.squares square piece ∙ sound.squares)
-move_sound x (Move.HandClock clock) sound = assumption (handed_or_reported x.board.mode x.board.reported_clock clock)
+move_sound x (Move.HandClock clock) sound =
+    assumption (handed_or_reported x.board.mode x.board.reported_clock clock)
 move_sound x (Move.Ask command) sound = search (rules, asked_sound, ask-kinds, subsequence_append)
 move_sound x Move.Take sound = take_sound x x.down refl sound
 move_sound x Move.Reply sound = reply_sound x x.board.owed refl sound
 move_sound x (Move.Report square) sound =
-    cond_both (updates x.board.mode && differs x.board square) (after_reported x (field_of x.board square)) x IsSound
-    (λ h. send_sound x x.board.owed (field_of x.board square) (field_reports x.board square) refl sound) (λ h. sound)
+    cond_both (updates x.board.mode && differs x.board square)
+    (after_reported x (field_of x.board square)) x IsSound
+    (λ h. send_sound x x.board.owed (field_of x.board square) (field_reports x.board square) refl
+    sound) (λ h. sound)
 move_sound x Move.ReportClock sound =
     search (rules, cond_both, send_sound, clock_reports, report_clock_first)
 move_sound x Move.Hear sound = hear_sound x x.up refl sound
-move_sound x Move.Break sound = new_sound x.board.squares x.board.clock x.board.identity sound.squares
+move_sound x Move.Break sound =
+    new_sound x.board.squares x.board.clock x.board.identity sound.squares
 move_sound x (Move.HostBreak noise is_noise) sound =
-    asked_sound (state_of_board x.board) (noise ++ map EventContent.Read commands_anew) (Kind.Dump ∷ [])
-    (board_sound x sound)
+    asked_sound (state_of_board x.board) (noise ++ map EventContent.Read commands_anew)
+    (Kind.Dump ∷ []) (board_sound x sound)
     (search (rules, host_break-kinds, subsequence_at_end))
 
 -- both sides are as new, except for the squares, the clock and the identity
 pub break_exact : (x : MachineState) → IsSound x → IsExact (after_move x Move.Break)
 break_exact x sound = new_exact x.board.squares x.board.clock x.board.identity sound.squares
 
-pub move_exact : (x : MachineState) (move : Move) → ¬ (IsHostBreak move) → IsExact x → IsExact (after_move x move)
+pub move_exact : (x : MachineState) (move : Move) → ¬ (IsHostBreak move) → IsExact x
+    → IsExact (after_move x move)
 move_exact x (Move.Change square piece) other exact =
-    record { sound = move_sound x (Move.Change square piece) exact.sound; clock = exact.clock; awaited = exact.awaited }
+    record {
+      sound = move_sound x (Move.Change square piece) exact.sound;
+      clock =
+          exact.clock;
+      awaited = exact.awaited;
+    }
 move_exact x (Move.HandClock clock) other exact =
-    record { sound = move_sound x (Move.HandClock clock) exact.sound; clock = exact.clock; awaited = exact.awaited }
+    record {
+      sound = move_sound x (Move.HandClock clock) exact.sound;
+      clock = exact.clock;
+      awaited =
+          exact.awaited;
+    }
 move_exact x (Move.Ask command) other exact = record {
   sound = move_sound x (Move.Ask command) exact.sound;
   clock = exact.clock;
@@ -151,8 +162,10 @@ move_exact x (Move.Ask command) other exact = record {
 move_exact x Move.Take other exact = take_exact x x.down refl exact
 move_exact x Move.Reply other exact = reply_exact x x.board.owed refl exact
 move_exact x (Move.Report square) other exact =
-    cond_both (updates x.board.mode && differs x.board square) (after_reported x (field_of x.board square)) x IsExact
-    (λ h. send_exact x x.board.owed (field_of x.board square) (field_reports x.board square) refl exact) (λ h. exact)
+    cond_both (updates x.board.mode && differs x.board square)
+    (after_reported x (field_of x.board square)) x IsExact
+    (λ h. send_exact x x.board.owed (field_of x.board square) (field_reports x.board square) refl
+    exact) (λ h. exact)
 move_exact x Move.ReportClock other exact =
     search (rules, cond_both, send_exact, clock_reports, report_clock_first)
 move_exact x Move.Hear other exact = hear_exact x x.up refl exact

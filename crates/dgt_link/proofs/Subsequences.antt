@@ -1,12 +1,6 @@
 -- Subsequences, and the kinds of a list with an added element.
-use Rattle.std.proofs.Common.{◌≡◌, refl, ap, inl, inr, List, [], ◌∷◌, ◌++◌, Option, true, false}
-use Rattle.std.proofs.Common.{append_assoc, rules}
-use Rattle.std.proofs.lemmas.List.{append-nil}
-use Rattle.std.proofs.lemmas.Bool.{cond_both, cond-true, false≢true}
-use Rattle.std.specs.List.{cons_option}
-use Rattle.std.specs.Option.{option_to_list}
-use Rattle.dgt_values.specs.declared.kinds.Kind.{Kind}
-use Rattle.dgt_host.specs.Host.{awaited_after, is_same_kind}
+use Rattle.std.proofs.{Common.{◌≡◌, refl, ap, inl, inr, List, [], ◌∷◌, ◌++◌, Option, true, false, append_assoc, rules}, lemmas.{Bool.{cond_both, cond-true, false≢true}, List.{append-nil}}}
+use Rattle.{std.specs.{List.{cons_option}, Option.{option_to_list}}, dgt_values.specs.declared.kinds.Kind.{Kind}, dgt_host.specs.Host.{awaited_after, is_same_kind}}
 use Rattle.dgt_link.specs.Sound.{IsSubsequence}
 
 -- the second list may have more in front
@@ -24,14 +18,16 @@ subsequence_at_end xs [] = subsequence_itself xs
 subsequence_at_end xs (y ∷ ys) = subsequence_later xs y (ys ++ xs) (subsequence_at_end xs ys)
 
 -- both grow by the same end
-pub subsequence_append : {X : Type 0} (xs ys zs : List X) → IsSubsequence xs ys → IsSubsequence (xs ++ zs) (ys ++ zs)
+pub subsequence_append : {X : Type 0} (xs ys zs : List X) → IsSubsequence xs ys
+    → IsSubsequence (xs ++ zs) (ys ++ zs)
 subsequence_append [] ys zs h = subsequence_at_end zs ys
 subsequence_append (x ∷ xs) [] zs h = absurd h
 subsequence_append (x ∷ xs) (y ∷ ys) zs (inl h) = inl (h.0, subsequence_append xs ys zs h.1)
 subsequence_append (x ∷ xs) (y ∷ ys) zs (inr h) = inr (subsequence_append (x ∷ xs) ys zs h)
 
 -- the first list may have less in front
-subsequence_tail : {X : Type 0} (x : X) (xs ys : List X) → IsSubsequence (x ∷ xs) ys → IsSubsequence xs ys
+subsequence_tail : {X : Type 0} (x : X) (xs ys : List X) → IsSubsequence (x ∷ xs) ys
+    → IsSubsequence xs ys
 subsequence_tail x xs [] h = absurd h
 subsequence_tail x xs (y ∷ ys) (inl h) = subsequence_later xs y ys h.1
 subsequence_tail x xs (y ∷ ys) (inr h) = subsequence_later xs y ys (subsequence_tail x xs ys h)
@@ -45,11 +41,13 @@ same_kind_itself kind = search rules
 
 -- what a heard kind leaves awaited
 pub awaited_after-subsequence : (awaited : List Kind) (kind : Option Kind) (rest : List Kind)
-    → IsSubsequence awaited (cons_option kind rest) → IsSubsequence (awaited_after awaited kind) rest
+    → IsSubsequence awaited (cons_option kind rest)
+    → IsSubsequence (awaited_after awaited kind) rest
 awaited_after-subsequence awaited kind rest h =
     search (rules, cond_both, subsequence_tail, false≢true, same_kind_itself)
 
-pub awaited_exactly : (kind : Option Kind) (rest : List Kind) → awaited_after (cons_option kind rest) kind ≡ rest
+pub awaited_exactly : (kind : Option Kind) (rest : List Kind)
+    → awaited_after (cons_option kind rest) kind ≡ rest
 awaited_exactly kind rest = search (rules, cond-true, same_kind_itself)
 
 -- ---- the kinds of lists under way

@@ -1,15 +1,7 @@
 -- How a command that the board takes changes the kinds owed and whether the clock is followed.
-use Rattle.std.proofs.Common.{◌≡◌, refl, ap, ◌∙◌, ◌⊎◌, ℕ, List, [], ◌∷◌, ◌++◌, Option, Some, None, append_assoc, rules}
-use Rattle.std.proofs.lemmas.List.{append-nil}
-use Rattle.std.proofs.lemmas.List.Elements.{filter_map-append}
-use Rattle.std.proofs.lemmas.Bool.{false≢true}
-use Rattle.std.specs.Prelude.{IsTrue, filter_map}
-use Rattle.std.specs.List.{cons_option}
-use Rattle.dgt_command.specs.Content.{ClockContent, CommandContent, EventContent}
-use Rattle.dgt_command.specs.Words.{IsNoise, IsNoiseList}
-use Rattle.dgt_board.specs.State.{BoardState, follows_clock, effect, effects}
-use Rattle.dgt_link.specs.Sound.{kind_of_event, kind_of_reply}
-use Rattle.dgt_link.proofs.MessageReports.{owed_or_reported}
+use Rattle.std.proofs.{Common.{◌≡◌, refl, ap, ◌∙◌, ◌⊎◌, ℕ, List, [], ◌∷◌, ◌++◌, Option, Some, None, append_assoc, rules}, lemmas.{Bool.{false≢true}, List.{append-nil, Elements.{filter_map-append}}}}
+use Rattle.{std.specs.{List.{cons_option}, Prelude.{IsTrue, filter_map}}, dgt_command.specs.{Content.{ClockContent, CommandContent, EventContent}, Words.{IsNoise, IsNoiseList}}}
+use Rattle.{dgt_board.specs.State.{BoardState, follows_clock, effect, effects}, dgt_link.{specs.Sound.{kind_of_event, kind_of_reply}, proofs.MessageReports.{owed_or_reported}}}
 
 -- the kinds owed and then asked for stay the same when a command is taken
 pub effect-kinds : (board : BoardState) (event : EventContent) (down : List EventContent)
@@ -21,7 +13,8 @@ abbrev IsFollowed : BoardState → Type 0
 IsFollowed board = IsTrue (follows_clock board.mode) → IsTrue board.times_owed
     ⊎ (board.reported_clock ≡ Some board.clock)
 
-pub effect_followed : (board : BoardState) (event : EventContent) → IsFollowed board → IsFollowed (effect board event)
+pub effect_followed : (board : BoardState) (event : EventContent) → IsFollowed board
+    → IsFollowed (effect board event)
 effect_followed board event before = search (rules, false≢true, owed_or_reported)
 
 -- a command doesn't change squares and clock, or what was reported of them
@@ -42,7 +35,8 @@ pub record HasSameGame (before after : BoardState) : Type 0 where
 pub same_game : (board : BoardState) → HasSameGame board board
 same_game board = record { squares = refl; clock = refl }
 
-pub effects_same_game : (board : BoardState) (events : List EventContent) → HasSameGame board (effects board events)
+pub effects_same_game : (board : BoardState) (events : List EventContent)
+    → HasSameGame board (effects board events)
 effects_same_game board [] = same_game board
 effects_same_game board (event ∷ events) =
     search (rules, effect_leaves, effects_same_game (effect board event) events)
@@ -51,10 +45,11 @@ effects_same_game board (event ∷ events) =
 
 -- anything that doesn't read clock messages, LED frames and faults doesn't read noise
 pub nothing_of_noise : {X : Type 0} (read : EventContent → Option X)
-    → ((message : ClockContent) → read (EventContent.Read (CommandContent.ClockMessage message)) ≡ None)
+    → ((message : ClockContent)
+    → read (EventContent.Read (CommandContent.ClockMessage message)) ≡ None)
     → ((leds : List ℕ) → read (EventContent.Read (CommandContent.Leds leds)) ≡ None)
-    → (read EventContent.BadSize ≡ None) × (read EventContent.BadStart ≡ None) × (read EventContent.BadEnd ≡ None)
-    → ((byte : ℕ) → read (EventContent.Stray byte) ≡ None)
+    → (read EventContent.BadSize ≡ None) × (read EventContent.BadStart ≡ None)
+    × (read EventContent.BadEnd ≡ None) → ((byte : ℕ) → read (EventContent.Stray byte) ≡ None)
     → (noise : List EventContent) → IsNoiseList noise → filter_map read noise ≡ []
 nothing_of_noise {X = X} read message leds faults stray noise is_noise = of noise is_noise
   where
@@ -70,4 +65,5 @@ nothing_of_noise {X = X} read message leds faults stray noise is_noise = of nois
     of : (noise : List EventContent) → IsNoiseList noise → filter_map read noise ≡ []
     of [] h = refl
     of (event ∷ rest) h =
-        ap (λ (found : Option X). cons_option found (filter_map read rest)) (one event h.0) ∙ of rest h.1
+        ap (λ (found : Option X). cons_option found (filter_map read rest)) (one event h.0)
+        ∙ of rest h.1

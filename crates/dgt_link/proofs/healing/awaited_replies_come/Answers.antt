@@ -1,5 +1,4 @@
-use Rattle.dgt_link.proofs.Counting.{counted_holds, counted_in_turn, in_turn_at_quiet, world_in_turn}
-use Rattle.dgt_link.proofs.PictureHopes.{anew_in_turn, given_up_in_turn, keeps_in_turn, settled_in_turn}
+use Rattle.dgt_link.proofs.{Counting.{counted_holds, counted_in_turn, in_turn_at_quiet, world_in_turn}, PictureHopes.{anew_in_turn, given_up_in_turn, keeps_in_turn, settled_in_turn}}
 use Rattle.dgt_link.proofs.RestAfterFaults.{in_turn_at_rest}
 use Rattle.dgt_link.proofs.healing.awaited_replies_come.Goals as goal
 

@@ -11,4 +11,5 @@ pub returns-clause-in_step : goal.returns-clause-in_step
 returns-clause-in_step c = in_step_again
 
 pub returns-clause-clock : goal.returns-clause-clock
-returns-clause-clock c = λ acts later act mode answers others same. clock_again acts later act answers others same mode
+returns-clause-clock c =
+    λ acts later act mode answers others same. clock_again acts later act answers others same mode

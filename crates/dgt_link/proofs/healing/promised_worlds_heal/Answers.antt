@@ -1,8 +1,4 @@
-use Rattle.dgt_board.specs.State.{updates}
-use Rattle.dgt_link.specs.Faults.{stops}
-use Rattle.dgt_link.specs.Promise.{PictureIsComing}
-use Rattle.dgt_link.proofs.Hopes.{settled_promised}
-use Rattle.dgt_link.proofs.PictureHopes.{picture_hope}
+use Rattle.{dgt_board.specs.State.{updates}, dgt_link.{specs.{Faults.{stops}, Promise.{PictureIsComing}}, proofs.{Hopes.{settled_promised}, PictureHopes.{picture_hope}}}}
 use Rattle.dgt_link.proofs.RestAfterFaults.{promised_at_quiet, promised_rests}
 use Rattle.dgt_link.proofs.healing.promised_worlds_heal.Goals as goal
 

@@ -1,8 +1,5 @@
-use Rattle.dgt_board.specs.State.{updates}
-use Rattle.dgt_link.specs.Faults.{stops}
-use Rattle.dgt_link.specs.Promise.{PictureIsComing}
-use Rattle.dgt_link.proofs.Hopes.{asked_follows}
-use Rattle.dgt_link.proofs.PictureHopes.{anew_heals, dump_promises, keeps_following, keeps_in_step, keeps_promised, picture_hope}
+use Rattle.{dgt_board.specs.State.{updates}, dgt_link.{specs.{Faults.{stops}, Promise.{PictureIsComing}}, proofs.{Hopes.{asked_follows}, PictureHopes.{anew_heals, dump_promises, keeps_following}}}}
+use Rattle.dgt_link.proofs.PictureHopes.{keeps_in_step, keeps_promised, picture_hope}
 use Rattle.dgt_link.proofs.healing.steps_heal.Goals as goal
 
 pub returns : goal.returns

@@ -1,5 +1,4 @@
-use Rattle.std.proofs.Common.{sym}
-use Rattle.dgt_link.proofs.KnownPictures.{reported_at_once, sending_sends}
+use Rattle.{std.proofs.Common.{sym}, dgt_link.proofs.KnownPictures.{reported_at_once, sending_sends}}
 use Rattle.dgt_link.proofs.healing.what_was_reported.Goals as goal
 
 pub returns-clause-begins : goal.returns-clause-begins

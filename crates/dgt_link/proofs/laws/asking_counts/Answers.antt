@@ -1,5 +1,4 @@
-use Rattle.dgt_link.proofs.Asked.{asked_dump_first, asked_mode_first}
-use Rattle.dgt_link.proofs.Headlines.{asks_for_picture}
+use Rattle.dgt_link.proofs.{Asked.{asked_dump_first, asked_mode_first}, Headlines.{asks_for_picture}}
 use Rattle.dgt_link.proofs.laws.asking_counts.Goals as goal
 
 pub returns-clause-mode_first : goal.returns-clause-mode_first

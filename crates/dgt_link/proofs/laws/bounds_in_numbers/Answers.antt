@@ -1,7 +1,4 @@
-use Rattle.std.proofs.Common.{arith, refl, ℕ, zero, suc, [], ◌∷◌, replicate}
-use Rattle.std.specs.List.{flat_map}
-use Rattle.dgt_link.specs.Act.{ActContent}
-use Rattle.dgt_link.specs.Settling.{HasRounds, IsRound}
+use Rattle.{std.{proofs.Common.{arith, refl, ℕ, zero, suc, [], ◌∷◌, replicate}, specs.List.{flat_map}}, dgt_link.specs.{Act.{ActContent}, Settling.{HasRounds, IsRound}}}
 use Rattle.dgt_link.proofs.laws.bounds_in_numbers.Goals as goal
 
 one_round : IsRound (ActContent.BoardSend ∷ ActContent.ToBoard 1 ∷ ActContent.ToHost 1 ∷ [])

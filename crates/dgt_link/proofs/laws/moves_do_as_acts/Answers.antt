@@ -1,9 +1,5 @@
-use Rattle.std.proofs.Common.{refl}
-use Rattle.dgt_link.specs.Machine.{IsHostBreak, Move, commands_anew}
-use Rattle.dgt_link.specs.Promise.{requests}
-use Rattle.std.specs.Prelude.{◌≡◌, Some, map}
+use Rattle.{std.{proofs.Common.{refl}, specs.Prelude.{◌≡◌, Some, map}}, dgt_link.{specs.{Machine.{IsHostBreak, Move, commands_anew}, Promise.{requests}}, proofs.Asking.{requests-act}}}
 use Rattle.dgt_link.proofs.BothWays.{moves-squares}
-use Rattle.dgt_link.proofs.Asking.{requests-act}
 use Rattle.dgt_link.proofs.laws.moves_do_as_acts.Goals as goal
 
 breaks : (move : Move) → IsHostBreak move → requests move ≡ map Some commands_anew

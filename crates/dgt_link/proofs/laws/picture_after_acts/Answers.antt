@@ -1,6 +1,4 @@
-use Rattle.dgt_link.proofs.Asking.{run_promises}
-use Rattle.dgt_link.specs.Machine.{after_moves}
-use Rattle.dgt_link.proofs.PictureHopes.{calm_promised}
+use Rattle.dgt_link.{proofs.{Asking.{run_promises}, PictureHopes.{calm_promised}}, specs.Machine.{after_moves}}
 use Rattle.dgt_link.proofs.laws.picture_after_acts.Goals as goal
 
 pub returns-clause-promised : goal.returns-clause-promised

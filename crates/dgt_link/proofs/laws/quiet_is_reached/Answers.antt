@@ -1,5 +1,4 @@
-use Rattle.dgt_link.proofs.SettlingMoves.{quiet_is_reached, settling_clock, settling_mode, settling_picture}
-use Rattle.dgt_link.proofs.SettlingMoves.{settling_squares}
+use Rattle.dgt_link.proofs.SettlingMoves.{quiet_is_reached, settling_clock, settling_mode, settling_picture, settling_squares}
 use Rattle.dgt_link.proofs.laws.quiet_is_reached.Goals as goal
 
 pub returns : goal.returns

@@ -1,5 +1,4 @@
-use Rattle.dgt_link.specs.Machine.{after_moves}
-use Rattle.dgt_link.proofs.Asking.{mode-step, run_promises}
+use Rattle.dgt_link.{specs.Machine.{after_moves}, proofs.Asking.{mode-step, run_promises}}
 use Rattle.dgt_link.proofs.laws.what_stands_after.Goals as goal
 
 pub returns-clause-step : goal.returns-clause-step

@@ -1,15 +1,10 @@
-use Rattle.std.proofs.Common.{refl}
-use Rattle.dgt_link.specs.Act.{act_content}
-use Rattle.dgt_link.specs.declared.acts.Outcome.{Outcome}
-use Rattle.dgt_link.specs.Faults.{FaultyContent}
-use Rattle.dgt_link.specs.View.{world_of}
-use Rattle.dgt_link.proofs.Counting.{faulty_step}
+use Rattle.{std.proofs.Common.{refl}, dgt_link.{specs.{Act.{act_content}, Faults.{FaultyContent}, View.{world_of}, declared.acts.Outcome.{Outcome}}, proofs.Counting.{faulty_step}}}
 use Rattle.dgt_link.proofs.faulty.FaultyWorld.act.Goals as goal
 
 pub invariant_of-self : goal.invariant_of-self
 invariant_of-self c =
-    c.faults_keep.ensures (FaultyContent.Plain (act_content c.in-Plain.act)) _ _ c.act_on.result c.self.invariant
-    (faulty_step _ _ _ _ c.act_on.ensures)
+    c.faults_keep.ensures (FaultyContent.Plain (act_content c.in-Plain.act)) _ _ c.act_on.result
+    c.self.invariant (faulty_step _ _ _ _ c.act_on.ensures)
 
 pub invariant_of-self-in-BoardLost : goal.invariant_of-self-in-BoardLost
 invariant_of-self-in-BoardLost c =

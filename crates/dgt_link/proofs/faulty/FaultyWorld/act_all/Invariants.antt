@@ -1,6 +1,4 @@
-use Rattle.std.proofs.Common.{◌≤◌, take}
-use Rattle.dgt_link.specs.Faults.{FaultyStep, faulty_content}
-use Rattle.dgt_link.proofs.ActRuns.{HasRun}
+use Rattle.{std.proofs.Common.{◌≤◌, take}, dgt_link.{specs.Faults.{FaultyStep, faulty_content}, proofs.ActRuns.{HasRun}}}
 use Rattle.dgt_link.proofs.faulty.FaultyWorld.act_all.Given as goal
 
 abbrev pub invariant-loop-act : goal.invariant-loop-act

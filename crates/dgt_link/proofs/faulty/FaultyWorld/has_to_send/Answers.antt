@@ -1,7 +1,4 @@
-use Rattle.std.proofs.Common.{subst}
-use Rattle.std.specs.Prelude.{◌↔◌, IsTrue, IsSome}
-use Rattle.dgt_board.specs.Sending.{next_message}
-use Rattle.dgt_link.specs.View.{WorldView}
+use Rattle.{std.{proofs.Common.{subst}, specs.Prelude.{◌↔◌, IsTrue, IsSome}}, dgt_board.specs.Sending.{next_message}, dgt_link.specs.View.{WorldView}}
 use Rattle.dgt_link.proofs.faulty.FaultyWorld.has_to_send.Goals as goal
 
 pub returns : goal.returns

@@ -1,8 +1,5 @@
-use Rattle.std.proofs.Common.{arith, refl}
-use Rattle.dgt_link.specs.Healing.{IsPromisedWorld}
-use Rattle.dgt_link.specs.View.{IsQuietWorld}
-use Rattle.dgt_link.proofs.RestAfterFaults.{settled_clock, settled_squares}
-use Rattle.dgt_link.proofs.Settling.{most_work, settled_kept, settled_more}
+use Rattle.{std.proofs.Common.{arith, refl}, dgt_link.{specs.{Healing.{IsPromisedWorld}, View.{IsQuietWorld}}, proofs.{RestAfterFaults.{settled_clock, settled_squares}, Settling.{most_work}}}}
+use Rattle.dgt_link.proofs.Settling.{settled_kept, settled_more}
 use Rattle.dgt_link.proofs.faulty.FaultyWorld.settle.Goals as goal
 
 pub overflow_add-done : goal.overflow_add-done
@@ -34,7 +31,8 @@ returns c =
     let turn_still = c.awaited_replies_come.ensures.settled count old new settled in
     let unfinished_is = c.holds_unfinished.ensures in
     let quiet : IsPromisedWorld old → IsQuietWorld new
-    = λ is. c.promised_worlds_heal.ensures.quiet new (still is) rests.0 (rw rests.1 at unfinished_is) in
+    = λ is. c.promised_worlds_heal.ensures.quiet new (still is) rests.0
+    (rw rests.1 at unfinished_is) in
     record {
       rested = rw rests.1 rests.0;
       run = rw rests.1 settled;
@@ -50,8 +48,10 @@ returns c =
       clock_kept = rw rests.1 clock_still;
       clock = rw rests.1
           (λ clock. settled_clock count old new settled
-          (c.clocks_heal.ensures.rested new (clock_still clock) rests.0 (rw rests.1 at unfinished_is)));
+          (c.clocks_heal.ensures.rested new (clock_still clock) rests.0
+          (rw rests.1 at unfinished_is)));
       in_turn = rw rests.1 turn_still;
       awaited = rw rests.1
-          (λ turn. c.awaited_replies_come.ensures.rested new (turn_still turn) rests.0 (rw rests.1 at unfinished_is));
+          (λ turn. c.awaited_replies_come.ensures.rested new (turn_still turn) rests.0
+          (rw rests.1 at unfinished_is));
     }

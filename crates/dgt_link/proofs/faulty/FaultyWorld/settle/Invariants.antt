@@ -1,6 +1,4 @@
-use Rattle.std.proofs.Common.{◌≤◌, ◌+◌}
-use Rattle.dgt_link.specs.Settling.{SettlesIn}
-use Rattle.dgt_link.specs.Work.{work_left}
+use Rattle.{std.proofs.Common.{◌≤◌, ◌+◌}, dgt_link.specs.{Settling.{SettlesIn}, Work.{work_left}}}
 use Rattle.dgt_link.proofs.faulty.FaultyWorld.settle.Given as goal
 
 abbrev pub invariant-loop-done : goal.invariant-loop-done

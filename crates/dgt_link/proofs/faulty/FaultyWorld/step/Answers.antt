@@ -1,6 +1,4 @@
-use Rattle.dgt_link.specs.Faults.{faulty_content}
-use Rattle.dgt_link.proofs.Counting.{undone}
-use Rattle.dgt_link.proofs.Restarting.{dump_is_done, gives_up, restart_done}
+use Rattle.dgt_link.{specs.Faults.{faulty_content}, proofs.{Counting.{undone}, Restarting.{dump_is_done, gives_up, restart_done}}}
 use Rattle.dgt_link.proofs.faulty.FaultyWorld.step.Goals as goal
 
 pub returns : goal.returns
@@ -30,7 +28,10 @@ returns c =
       clock_following = λ keeps going is. clock.following act _ _ c.act.result keeps going is step;
       reading = λ is done follows. clock.reading _ _ follows (rw (is, done) at step);
       clock_kept = λ none going is. clock.kept act _ _ c.act.result none going is step;
-      awaited_anew = λ is done. c.awaited_replies_come.ensures.anew act _ _ is sane (rw done at step);
-      awaited_given_up = λ is in_step. c.awaited_replies_come.ensures.given_up _ _ _ in_step (rw is at step);
-      awaited_kept = λ none is. c.awaited_replies_come.ensures.kept act _ _ c.act.result none sane is step;
+      awaited_anew =
+          λ is done. c.awaited_replies_come.ensures.anew act _ _ is sane (rw done at step);
+      awaited_given_up =
+          λ is in_step. c.awaited_replies_come.ensures.given_up _ _ _ in_step (rw is at step);
+      awaited_kept =
+          λ none is. c.awaited_replies_come.ensures.kept act _ _ c.act.result none sane is step;
     }

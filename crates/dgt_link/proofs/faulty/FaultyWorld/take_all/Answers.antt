@@ -1,6 +1,4 @@
-use Rattle.std.proofs.Common.{◌≡◌, length, rules}
-use Rattle.dgt_link.specs.Act.{ActContent}
-use Rattle.dgt_link.proofs.Counting.{plain_step}
+use Rattle.{std.proofs.Common.{◌≡◌, length, rules}, dgt_link.{specs.Act.{ActContent}, proofs.Counting.{plain_step}}}
 use Rattle.dgt_link.proofs.faulty.FaultyWorld.take_all.Goals as goal
 
 pub returns : goal.returns

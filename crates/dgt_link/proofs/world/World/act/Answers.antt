@@ -1,5 +1,4 @@
-use Rattle.dgt_link.specs.Act.{act_content}
-use Rattle.dgt_link.proofs.Counting.{plain_step}
+use Rattle.dgt_link.{specs.Act.{act_content}, proofs.Counting.{plain_step}}
 use Rattle.dgt_link.proofs.world.World.act.Goals as goal
 
 pub invariant_of-self : goal.invariant_of-self

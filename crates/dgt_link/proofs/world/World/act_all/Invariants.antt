@@ -1,7 +1,4 @@
-use Rattle.std.proofs.Common.{◌≤◌, take}
-use Rattle.dgt_link.specs.Act.{act_content}
-use Rattle.dgt_link.specs.Step.{Step}
-use Rattle.dgt_link.proofs.ActRuns.{HasRun}
+use Rattle.{std.proofs.Common.{◌≤◌, take}, dgt_link.{specs.{Act.{act_content}, Step.{Step}}, proofs.ActRuns.{HasRun}}}
 use Rattle.dgt_link.proofs.world.World.act_all.Given as goal
 
 abbrev pub invariant-loop-act : goal.invariant-loop-act

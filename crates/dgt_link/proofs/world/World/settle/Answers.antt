@@ -1,15 +1,11 @@
-use Rattle.dgt_link.specs.Settling.{SettlesIn}
-use Rattle.dgt_link.specs.Stands.{IsExactWorld, IsWorld}
-use Rattle.dgt_link.specs.View.{IsQuietWorld}
-use Rattle.dgt_link.proofs.PromisedActs.{Leads}
-use Rattle.dgt_link.proofs.RestAfterFaults.{settled_clock as settled_same_clock}
-use Rattle.dgt_link.proofs.Settling.{rests, run_is_world, settled_awaited, settled_clock, settled_known, settled_mode}
-use Rattle.dgt_link.proofs.Settling.{settled_picture, settled_reported, settling_no_host_break}
+use Rattle.dgt_link.{specs.{Settling.{SettlesIn}, Stands.{IsExactWorld, IsWorld}, View.{IsQuietWorld}}, proofs.{PromisedActs.{Leads}, RestAfterFaults.{settled_clock as settled_same_clock}}}
+use Rattle.dgt_link.proofs.Settling.{rests, run_is_world, settled_awaited, settled_clock, settled_known, settled_mode, settled_picture, settled_reported, settling_no_host_break}
 use Rattle.dgt_link.proofs.world.World.settle.Goals as goal
 
 pub invariant_of-self : goal.invariant_of-self
 invariant_of-self c =
-    run_is_world c.acts_keep.ensures.sound c.settle-done.result _ _ c.settle-done.ensures.run c.self.invariant
+    run_is_world c.acts_keep.ensures.sound c.settle-done.result _ _ c.settle-done.ensures.run
+    c.self.invariant
 
 pub returns : goal.returns
 returns c =
@@ -24,7 +20,8 @@ returns c =
     } in
     let once = c.grammars.ensures.once in
     let is_world : IsWorld new
-    = run_is_world c.acts_keep.ensures.sound count old new settled (rw c.self.view_is at c.self.invariant) in
+    = run_is_world c.acts_keep.ensures.sound count old new settled
+    (rw c.self.view_is at c.self.invariant) in
     let quiet : IsQuietWorld new
     = rests c.grammars.ensures.reads once new is_world c.settle-done.ensures.rested
     c.holds_unfinished.ensures in
@@ -40,11 +37,15 @@ returns c =
       keeps_clock = rw c.self.view_is at c.settle-done.ensures.keeps_clock;
       mode = settled_mode leads once count old new settled quiet;
       picture = settled_picture leads once count old new settled quiet;
-      reported = settled_reported leads once count old new settled quiet c.stands.ensures.0 c.stands.ensures.1;
+      reported = settled_reported leads once count old new settled quiet c.stands.ensures.0
+          c.stands.ensures.1;
       clock = λ is. settled_clock once count old new settled (exact is) quiet;
-      clock_reported = settled_known leads once count old new settled quiet c.stands.ensures.0 c.stands.ensures.1;
+      clock_reported = settled_known leads once count old new settled quiet c.stands.ensures.0
+          c.stands.ensures.1;
       clock_promised = λ promised. settled_same_clock count old new settled
-          (c.clocks_heal.ensures.clock new (c.clocks_heal.ensures.settled count old new settled promised) quiet);
-      awaited = settled_awaited leads once count old new settled quiet c.stands.ensures.0 c.stands.ensures.1;
+          (c.clocks_heal.ensures.clock new
+          (c.clocks_heal.ensures.settled count old new settled promised) quiet);
+      awaited = settled_awaited leads once count old new settled quiet c.stands.ensures.0
+          c.stands.ensures.1;
       stays_exact = exact;
     }
