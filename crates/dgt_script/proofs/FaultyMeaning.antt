@@ -1,21 +1,10 @@
 -- The vocabulary of lines with faults is ordered, and words ask for one act at most.
-use Rattle.std.proofs.Common.{◌≡◌, ◌≢◌, ℕ, List, [], ◌∷◌, Option, Some, None, inl, inr, length}
-use Rattle.std.proofs.Common.{rules}
-use Rattle.std.specs.Prelude.{bytes_eq, codes, if◌then◌else◌}
-use Rattle.hex.specs.Hex.{decode_of}
-use Rattle.hex.proofs.HexLemmas.{decode_of-same}
-use Rattle.dgt_command.specs.Laws.{EncodingsGiveCommands}
-use Rattle.dgt_link.specs.Faults.{FaultyContent}
-use Rattle.dgt_script.specs.declared.script_words.FaultyVerb.{FaultyVerb}
+use Rattle.{std.{proofs.Common.{◌≡◌, ◌≢◌, ℕ, List, [], ◌∷◌, Option, Some, None, inl, inr, length, rules}, specs.Prelude.{bytes_eq, codes, if◌then◌else◌}}, hex.specs.Hex.{decode_of}}
+use Rattle.{hex.proofs.HexLemmas.{decode_of-same}, dgt_command.specs.Laws.{EncodingsGiveCommands}, dgt_link.specs.Faults.{FaultyContent}, dgt_script.specs.FaultyScript.{AsksFaulty, faulty_kinds}}
+use Rattle.dgt_script.specs.{FaultyScript.{faulty_text, faulty_words}, Script.{AreOf, IsBadAt, plain_words, some_bytes}, ScriptWords.{verb_text, IsBytesWord}}
+use Rattle.dgt_script.{specs.declared.script_words.{FaultyVerb.{FaultyVerb}, Verb.{Verb}}, proofs.MeaningLemmas.{asks_in_order, kinds_ask, same_act, verb_named, verb_named-verb_text, verb_of}}
+use Rattle.dgt_script.proofs.{ScriptLemmas.{length-words}, ScriptWordLemmas.{IsRead}, VocabularyLemmas.{IsOrdered, none_left, one_left, one_value}}
 use Rattle.dgt_script.specs.declared.script_words.FaultyVerb.TheVariants as faulty
-use Rattle.dgt_script.specs.declared.script_words.Verb.{Verb}
-use Rattle.dgt_script.specs.Script.{AreOf, IsBadAt, plain_words, some_bytes}
-use Rattle.dgt_script.specs.ScriptWords.{verb_text, IsBytesWord}
-use Rattle.dgt_script.specs.FaultyScript.{AsksFaulty, faulty_kinds, faulty_text, faulty_words}
-use Rattle.dgt_script.proofs.MeaningLemmas.{asks_in_order, kinds_ask, same_act, verb_named, verb_named-verb_text, verb_of}
-use Rattle.dgt_script.proofs.ScriptLemmas.{length-words}
-use Rattle.dgt_script.proofs.ScriptWordLemmas.{IsRead}
-use Rattle.dgt_script.proofs.VocabularyLemmas.{IsOrdered, none_left, one_left, one_value}
 
 -- ---- The first word
 
@@ -64,7 +53,8 @@ faulty_kinds_ask faulty.GarbleUp rest h =
     let word = one_left some_bytes IsBytesWord (λ w of. of) (faulty_text faulty.GarbleUp) rest h in
     (FaultyContent.GarbleUp word.0, word.1)
 faulty_kinds_ask faulty.GarbleDown rest h =
-    let word = one_left some_bytes IsBytesWord (λ w of. of) (faulty_text faulty.GarbleDown) rest h in
+    let word =
+    one_left some_bytes IsBytesWord (λ w of. of) (faulty_text faulty.GarbleDown) rest h in
     (FaultyContent.GarbleDown word.0, word.1)
 faulty_kinds_ask faulty.BoardLost rest h =
     (FaultyContent.BoardLost, none_left (faulty_text faulty.BoardLost) rest h)

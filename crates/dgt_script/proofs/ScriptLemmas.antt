@@ -1,18 +1,9 @@
 -- The words of a script's lines, and where they go wrong.
 use Rattle.std.proofs.Common.{◌≡◌, ◌≢◌, ℕ, ◌+◌, ◌-◌, ◌<◌, ◌≤◌, ◌==◌, List, [], ◌∷◌, Option, Some, None, sym, ◌∙◌, ap, subst, arith, false, true, get_or, inl, inr, length, length-append, take, drop}
-use Rattle.std.proofs.Common.{rules}
-use Rattle.std.specs.Prelude.{All, slice_index}
-use Rattle.std.specs.List.{position_or_len}
-use Rattle.std.specs.Slice.{IsGetRangeResult}
-use Rattle.std.specs.Borrow.{Bor}
-use Rattle.std.proofs.lemmas.Bool.Decides.{eqb_tells}
-use Rattle.std.proofs.lemmas.List.{get_or-take, length-drop, length-take-le, take_all}
-use Rattle.std.proofs.lemmas.List.Splits.{join_with_byte-slice_split, length-slice_split, slice_split_first, slice_split_none}
-use Rattle.std.proofs.lemmas.List.Sums.{fails_before_first, position_or_len_is}
-use Rattle.dgt_script.specs.declared.script.Wrong.{Wrong}
-use Rattle.dgt_script.specs.ScriptWords.{words_text}
-use Rattle.dgt_script.specs.Script.{AsksFor, GoesWrong, IsBadAt, IsOf, Vocabulary, WordKind, words}
-use Rattle.dgt_script.specs.ScriptReading.{left_words, GoesWrongBefore}
+use Rattle.std.proofs.{Common.{rules}, lemmas.{List.{get_or-take, length-drop, length-take-le, take_all}, Bool.Decides.{eqb_tells}, List.Splits.{join_with_byte-slice_split, length-slice_split}}}
+use Rattle.std.{proofs.lemmas.List.{Splits.{slice_split_first, slice_split_none}, Sums.{fails_before_first, position_or_len_is}}, specs.{Borrow.{Bor}, List.{position_or_len}, Prelude.{All}}}
+use Rattle.{std.specs.{Prelude.{slice_index}, Slice.{IsGetRangeResult}}, dgt_script.specs.{Script.{AsksFor, GoesWrong, IsBadAt, IsOf, Vocabulary, WordKind, words}, ScriptReading.{left_words}}}
+use Rattle.dgt_script.specs.{ScriptReading.{GoesWrongBefore}, ScriptWords.{words_text}, declared.script.Wrong.{Wrong}}
 
 -- the words of a line make the line
 pub words_text-words : (line : List ℕ) → words_text (words line) ≡ line
@@ -29,13 +20,16 @@ length-left_words rest bytes h = search (rules, length-words)
 one_too_many : (parts : List (List ℕ)) → 0 < length parts → GoesWrong [] parts parts
 one_too_many parts h = search rules
 
-pub word_left : (rest : Option (Bor (List ℕ))) (bytes : Bor (List ℕ)) (wrong : Wrong) → rest ≡ Some bytes
-    → wrong.left ≡ length bytes.now → GoesWrongBefore [] (left_words rest) wrong
+pub word_left : (rest : Option (Bor (List ℕ))) (bytes : Bor (List ℕ)) (wrong : Wrong)
+    → rest ≡ Some bytes → wrong.left ≡ length bytes.now → GoesWrongBefore [] (left_words rest) wrong
 word_left None bytes wrong h e = absurd cc
 word_left (Some other) bytes wrong h e =
     let same : bytes.now ≡ other.now = cc in
-    let some = length-slice_split (λ byte. byte == 32) other.now in
-    (words other.now, one_too_many (words other.now) (omega arith), e ∙ ap length same ∙ sym (length-words other.now))
+    let some = length-slice_split (λ byte. byte == 32) other.now in (
+      words other.now,
+      one_too_many (words other.now) (omega arith),
+      e ∙ ap length same ∙ sym (length-words other.now),
+    )
 
 -- ---- What is left where words go wrong
 
@@ -56,9 +50,10 @@ goes_wrong_within (kind ∷ kinds) (word ∷ parts) bad (inr h) =
 -- ---- The first word
 
 -- a list that is cut before the first space, or not at all
-words_cut : (line : List ℕ) (end : ℕ) (rest : Option (Bor (List ℕ))) → position_or_len (λ byte. byte == 32) line ≡ end
-    → end ≤ length line
-    → IsGetRangeResult line (end + 1) (length line) rest → words line ≡ take end line ∷ left_words rest
+words_cut : (line : List ℕ) (end : ℕ) (rest : Option (Bor (List ℕ)))
+    → position_or_len (λ byte. byte == 32) line ≡ end → end ≤ length line
+    → IsGetRangeResult line (end + 1) (length line) rest
+    → words line ≡ take end line ∷ left_words rest
 words_cut line end None e within get =
     search (rules, fails_before_first, slice_split_none, take_all)
 words_cut line end (Some bytes) e within get =
@@ -66,14 +61,17 @@ words_cut line end (Some bytes) e within get =
 
 pub first_word : (line : List ℕ) (end : ℕ) (rest : Option (Bor (List ℕ))) → end ≤ length line
     → All (λ byte. byte ≢ 32) (take end line) → (end < length line → slice_index line end ≡ 32)
-    → IsGetRangeResult line (end + 1) (length line) rest → words line ≡ take end line ∷ left_words rest
+    → IsGetRangeResult line (end + 1) (length line) rest
+    → words line ≡ take end line ∷ left_words rest
 first_word line end rest within before space get =
-    words_cut line end rest (position_or_len_is (λ byte. byte == 32) line end 0 within no_space a_space) within get
+    words_cut line end rest
+    (position_or_len_is (λ byte. byte == 32) line end 0 within no_space a_space) within get
   where
     no_space : (k : ℕ) → k < end → (get_or line k 0 == 32) ≡ false
     no_space k h = let other = before k 0 (omega (arith, length-take-le end line within)) in
         let e = get_or-take end line k 0 h in
-        elim (eqb_tells (get_or line k 0) 32) [ inl same ↦ absurd (other (e ∙ same.1)) | inr ne ↦ ne.0 ]
+        elim (eqb_tells (get_or line k 0) 32)
+        [ inl same ↦ absurd (other (e ∙ same.1)) | inr ne ↦ ne.0 ]
 
     a_space : end < length line → (get_or line end 0 == 32) ≡ true
     a_space h = ap (λ byte. byte == 32) (space h)
@@ -81,8 +79,8 @@ first_word line end rest within before space get =
 -- ---- Where a reader stops
 
 -- a word of another kind
-pub word_refused : (kind : WordKind) (kinds : List WordKind) (parts rest : List (List ℕ)) (word : List ℕ)
-    (wrong : Wrong) → parts ≡ word ∷ rest → ¬ (IsOf kind word)
+pub word_refused : (kind : WordKind) (kinds : List WordKind) (parts rest : List (List ℕ))
+    (word : List ℕ) (wrong : Wrong) → parts ≡ word ∷ rest → ¬ (IsOf kind word)
     → wrong.left ≡ length (words_text parts) → GoesWrongBefore (kind ∷ kinds) parts wrong
 word_refused kind kinds parts rest word wrong e refused k = search rules
 
@@ -107,7 +105,8 @@ module _ {V A : Type 0} (v : Vocabulary V A) (line first : List ℕ) (later : Li
     pub line_asks : (act : A) → v.asks (v.text_of verb ∷ later) act → AsksFor v line act
     line_asks act h = (short, subst (λ parts. v.asks parts act) (sym begins) h)
 
-    pub left_within : (wrong : Wrong) → GoesWrongBefore (v.kinds_of verb) later wrong → wrong.left ≤ length line
+    pub left_within : (wrong : Wrong) → GoesWrongBefore (v.kinds_of verb) later wrong
+        → wrong.left ≤ length line
     left_within wrong h =
         let within = goes_wrong_within (v.kinds_of verb) later h.0 h.1 in
         let shorter = words_text-tail (v.text_of verb) later in
@@ -117,4 +116,5 @@ module _ {V A : Type 0} (v : Vocabulary V A) (line first : List ℕ) (later : Li
     pub bad_from_there : (wrong : Wrong) → GoesWrongBefore (v.kinds_of verb) later wrong
         → IsBadAt v line (length line - wrong.left)
     bad_from_there wrong h =
-        let within = left_within wrong h in inr (short, h.0, inr (verb, later, begins, h.1), omega (arith, h.2))
+        let within = left_within wrong h in
+        inr (short, h.0, inr (verb, later, begins, h.1), omega (arith, h.2))

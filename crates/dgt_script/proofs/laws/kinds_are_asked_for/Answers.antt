@@ -1,7 +1,4 @@
-use Rattle.dgt_script.specs.FaultyScript.{faulty_words}
-use Rattle.dgt_script.specs.Script.{plain_words}
-use Rattle.dgt_script.proofs.FaultyMeaning.{faulty_kinds_ask, faulty_order}
-use Rattle.dgt_script.proofs.MeaningLemmas.{kinds_ask, plain_order}
+use Rattle.dgt_script.{specs.{FaultyScript.{faulty_words}, Script.{plain_words}}, proofs.{FaultyMeaning.{faulty_kinds_ask, faulty_order}, MeaningLemmas.{kinds_ask, plain_order}}}
 use Rattle.dgt_script.proofs.VocabularyLemmas.{kinds_are_asked_for}
 use Rattle.dgt_script.proofs.laws.kinds_are_asked_for.Goals as goal
 

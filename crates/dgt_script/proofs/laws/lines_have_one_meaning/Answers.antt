@@ -1,7 +1,4 @@
-use Rattle.dgt_script.specs.FaultyScript.{faulty_words}
-use Rattle.dgt_script.specs.Script.{plain_words}
-use Rattle.dgt_script.proofs.FaultyMeaning.{bad_with_faults, faulty_order, same_faulty_act}
-use Rattle.dgt_script.proofs.MeaningLemmas.{plain_order, same_act}
+use Rattle.dgt_script.{specs.{FaultyScript.{faulty_words}, Script.{plain_words}}, proofs.{FaultyMeaning.{bad_with_faults, faulty_order, same_faulty_act}, MeaningLemmas.{plain_order, same_act}}}
 use Rattle.dgt_script.proofs.VocabularyLemmas.{asked_not_bad, one_act, one_place}
 use Rattle.dgt_script.proofs.laws.lines_have_one_meaning.Goals as goal
 

@@ -1,5 +1,4 @@
-use Rattle.std.proofs.Common.{rules}
-use Rattle.dgt_script.proofs.ScriptLemmas.{word_left}
+use Rattle.{std.proofs.Common.{rules}, dgt_script.proofs.ScriptLemmas.{word_left}}
 use Rattle.dgt_script.proofs.script.no_word.Goals as goal
 
 pub returns-in-Some : goal.returns-in-Some

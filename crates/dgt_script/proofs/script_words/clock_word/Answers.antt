@@ -1,12 +1,11 @@
-use Rattle.std.proofs.Common.{sym, ◌∙◌}
-use Rattle.dgt_script.proofs.ScriptWordLemmas.{clock_decoded, clock_not_faulty, clock_not_refused, clock_reported, error_of, not_ok, ok_of, value_of}
+use Rattle.{std.proofs.Common.{sym, ◌∙◌}, dgt_script.proofs.ScriptWordLemmas.{clock_decoded, clock_not_faulty, clock_not_refused, clock_reported, error_of, not_ok, ok_of, value_of}}
 use Rattle.dgt_script.proofs.script_words.clock_word.Goals as goal
 
 pub returns-in_err-bytes : goal.returns-in_err-bytes
 returns-in_err-bytes c =
     rw c.from_residual.ensures
-    (λ clock h. not_ok c.from_hex.result h.body (c.from_hex.ensures ∙ clock_decoded c.args.word.now clock h)
-    c.in_err-bytes.ensures.variant)
+    (λ clock h. not_ok c.from_hex.result h.body
+    (c.from_hex.ensures ∙ clock_decoded c.args.word.now clock h) c.in_err-bytes.ensures.variant)
 
 pub returns-in_err-ok : goal.returns-in_err-ok
 returns-in_err-ok c =

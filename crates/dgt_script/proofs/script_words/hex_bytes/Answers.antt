@@ -1,5 +1,4 @@
-use Rattle.std.proofs.Common.{rules}
-use Rattle.hex.proofs.HexLemmas.{decode_of-ok}
+use Rattle.{std.proofs.Common.{rules}, hex.proofs.HexLemmas.{decode_of-ok}}
 use Rattle.dgt_script.proofs.script_words.hex_bytes.Goals as goal
 
 pub returns-in_err-bytes : goal.returns-in_err-bytes

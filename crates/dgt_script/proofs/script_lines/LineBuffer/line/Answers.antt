@@ -1,6 +1,4 @@
-use Rattle.std.proofs.Common.{sym, ◌∙◌, length}
-use Rattle.std.proofs.lemmas.Bool.{ltb-false}
-use Rattle.std.proofs.lemmas.List.{take_all}
+use Rattle.std.proofs.{Common.{sym, ◌∙◌, length}, lemmas.{Bool.{ltb-false}, List.{take_all}}}
 use Rattle.dgt_script.proofs.script_lines.LineBuffer.line.Goals as goal
 
 pub returns-else-self : goal.returns-else-self
