@@ -1,10 +1,6 @@
 -- The facts that a board's answer determines.
-use Rattle.std.proofs.Common.{◌≡◌, List, [], ◌∷◌, ◌++◌, sym, ◌∙◌, ap, subst, length, arith, append_assoc}
-use Rattle.std.proofs.Common.{rules}
-use Rattle.dgt_message.specs.Encoding.{encoding}
-use Rattle.dgt_lines.specs.Monitoring.{IsPrefix}
-use Rattle.dgt_text.specs.Conversation.{EachIsAnsweredOnce, EachPrefixGoesOn, Exchange, bytes_sent, sent}
-use Rattle.dgt_text.specs.Ends.{BrokenAnswersBegin, OneAnswer, OneIsCutOff}
+use Rattle.{std.proofs.Common.{◌≡◌, List, [], ◌∷◌, ◌++◌, sym, ◌∙◌, ap, subst, length, arith, append_assoc, rules}, dgt_message.specs.Encoding.{encoding}, dgt_lines.specs.Monitoring.{IsPrefix}}
+use Rattle.dgt_text.specs.{Conversation.{EachIsAnsweredOnce, EachPrefixGoesOn, Exchange, bytes_sent, sent}, Ends.{BrokenAnswersBegin, OneAnswer, OneIsCutOff}}
 use Rattle.dgt_text.proofs.ConversationLemmas.{bytes_sent-append}
 
 pub one_answer : EachIsAnsweredOnce → OneAnswer
@@ -18,7 +14,8 @@ broken_answers_begin goes_on before after last bytes out whole p q =
 pub one_is_cut_off : OneIsCutOff
 one_is_cut_off first second out p = go p.before p.whole p.sure
   where
-    first_of : (x : Exchange) (xs : List Exchange) → sent first ∷ sent second ∷ [] ≡ x ∷ xs ++ p.last → x ≡ sent first
+    first_of : (x : Exchange) (xs : List Exchange)
+        → sent first ∷ sent second ∷ [] ≡ x ∷ xs ++ p.last → x ≡ sent first
     first_of x xs e = cc
 
     go : (before : List Exchange) → sent first ∷ sent second ∷ [] ≡ before ++ p.last
@@ -27,5 +24,8 @@ one_is_cut_off first second out p = go p.before p.whole p.sure
         let two : length p.last ≡ 2 = sym (ap length e) in
         let one = p.one in absurd (omega (arith, two, one))
     go (x ∷ xs) e sure =
-        let begins = subst (λ (s : Exchange). IsPrefix (bytes_sent (s ∷ xs)) out) (first_of x xs e) sure in
-        (bytes_sent xs ++ begins.0, begins.1 ∙ append_assoc (encoding first) (bytes_sent xs) begins.0)
+        let begins =
+        subst (λ (s : Exchange). IsPrefix (bytes_sent (s ∷ xs)) out) (first_of x xs e) sure in (
+          bytes_sent xs ++ begins.0,
+          begins.1 ∙ append_assoc (encoding first) (bytes_sent xs) begins.0,
+        )

@@ -1,43 +1,41 @@
 -- Conversations of a board.
-use Rattle.std.proofs.Common.{◌≡◌, ℕ, ◌<◌, ◌≤◌, suc, zero, List, [], ◌∷◌, ◌++◌, Option, Some, None, refl, sym, ◌∙◌, ap, subst, length, arith, append_assoc, append-nil}
-use Rattle.std.proofs.Common.{rules}
-use Rattle.std.proofs.Math.ListN.{length-set}
-use Rattle.std.proofs.lemmas.Option.{none-some, same_Some}
-use Rattle.dgt_message.specs.Content.{Content}
-use Rattle.dgt_command.specs.Content.{EventContent}
-use Rattle.dgt_command.specs.Laws.{DivisionsAppend, EachDividesOnce, PrefixesDivideFirst}
-use Rattle.dgt_command.specs.Encoding.{AreBytes}
-use Rattle.dgt_command.specs.Words.{IsWord, IsPartial, Divides}
-use Rattle.dgt_board.specs.State.{BoardState, effect}
-use Rattle.dgt_board.specs.Sending.{after_sending, left_to_send, next_message, reported_squares_after}
-use Rattle.dgt_board.specs.View.{BoardView, after_bytes}
-use Rattle.dgt_text.specs.Conversation.{Exchange, sent, heard, Converses, events_heard, bytes_sent, Hears, HearsPrefix, EachIsAnswered, EachIsAnsweredOnce, EachPrefixGoesOn}
+use Rattle.std.proofs.Common.{◌≡◌, ℕ, ◌<◌, ◌≤◌, suc, zero, List, [], ◌∷◌, ◌++◌, Option, Some, None, refl, sym, ◌∙◌, ap, subst, length, arith, append_assoc, append-nil, rules}
+use Rattle.{std.proofs.{Math.ListN.{length-set}, lemmas.Option.{none-some, same_Some}}, dgt_message.specs.Content.{Content}, dgt_command.specs.{Content.{EventContent}, Encoding.{AreBytes}}}
+use Rattle.{dgt_command.specs.{Laws.{DivisionsAppend, EachDividesOnce, PrefixesDivideFirst}, Words.{IsWord, IsPartial, Divides}}, dgt_board.specs.Sending.{after_sending, left_to_send, next_message}}
+use Rattle.{dgt_board.specs.{Sending.{reported_squares_after}, State.{BoardState, effect}, View.{BoardView, after_bytes}}, dgt_text.specs.Conversation.{Exchange, sent, heard, Converses, events_heard}}
+use Rattle.dgt_text.specs.Conversation.{bytes_sent, Hears, HearsPrefix, EachIsAnswered, EachIsAnsweredOnce, EachPrefixGoesOn}
 
 -- ---- steps in a row
 
-pub converses-append : (b : BoardState) (s t : List Exchange) (c d : BoardState) → Converses b s c → Converses c t d
-    → Converses b (s ++ t) d
+pub converses-append : (b : BoardState) (s t : List Exchange) (c d : BoardState) → Converses b s c
+    → Converses c t d → Converses b (s ++ t) d
 converses-append b [] t c d p q = subst (λ x. Converses x t d) (sym p) q
-converses-append b (sent message ∷ s) t c d p q = (p.0, converses-append (after_sending b message) s t c d p.1 q)
-converses-append b (heard event ∷ s) t c d p q = (p.0, converses-append (effect b event) s t c d p.1 q)
+converses-append b (sent message ∷ s) t c d p q =
+    (p.0, converses-append (after_sending b message) s t c d p.1 q)
+converses-append b (heard event ∷ s) t c d p q =
+    (p.0, converses-append (effect b event) s t c d p.1 q)
 
-pub events_heard-append : (s t : List Exchange) → events_heard (s ++ t) ≡ events_heard s ++ events_heard t
+pub events_heard-append : (s t : List Exchange)
+    → events_heard (s ++ t) ≡ events_heard s ++ events_heard t
 events_heard-append [] t = refl
 events_heard-append (sent message ∷ s) t = events_heard-append s t
-events_heard-append (heard event ∷ s) t = ap (λ (l : List EventContent). event ∷ l) (events_heard-append s t)
+events_heard-append (heard event ∷ s) t =
+    ap (λ (l : List EventContent). event ∷ l) (events_heard-append s t)
 
 pub bytes_sent-append : (s t : List Exchange) → bytes_sent (s ++ t) ≡ bytes_sent s ++ bytes_sent t
 bytes_sent-append [] t = refl
 bytes_sent-append (sent message ∷ s) t = search (rules, append_assoc, bytes_sent-append s t)
 bytes_sent-append (heard event ∷ s) t = bytes_sent-append s t
 
-pub hears_then : DivisionsAppend → (old mid new : BoardView) (s t : List ℕ) (steps more : List Exchange)
-    → Hears old s steps mid → Hears mid t more new → Hears old (s ++ t) (steps ++ more) new
+pub hears_then : DivisionsAppend
+    → (old mid new : BoardView) (s t : List ℕ) (steps more : List Exchange) → Hears old s steps mid
+    → Hears mid t more new → Hears old (s ++ t) (steps ++ more) new
 hears_then append old mid new s t steps more p q =
     search (rules, converses-append, events_heard-append, append_assoc)
 
-pub prefix_then : DivisionsAppend → (old mid new : BoardView) (s t : List ℕ) (steps more : List Exchange)
-    → Hears old s steps mid → HearsPrefix mid t more new → HearsPrefix old (s ++ t) (steps ++ more) new
+pub prefix_then : DivisionsAppend
+    → (old mid new : BoardView) (s t : List ℕ) (steps more : List Exchange) → Hears old s steps mid
+    → HearsPrefix mid t more new → HearsPrefix old (s ++ t) (steps ++ more) new
 prefix_then append old mid new s t steps more p q = record {
   prefix = s ++ q.prefix;
   rest = q.rest;
@@ -45,39 +43,41 @@ prefix_then append old mid new s t steps more p q = record {
   hears = hears_then append old mid new s q.prefix steps more p q.hears;
 }
 
-pub prefix_longer : (old new : BoardView) (s t : List ℕ) (steps : List Exchange) → HearsPrefix old s steps new
-    → HearsPrefix old (s ++ t) steps new
+pub prefix_longer : (old new : BoardView) (s t : List ℕ) (steps : List Exchange)
+    → HearsPrefix old s steps new → HearsPrefix old (s ++ t) steps new
 prefix_longer old new s t steps p = search (rules, append_assoc)
 
-pub prefix_whole : (old new : BoardView) (s : List ℕ) (steps : List Exchange) → Hears old s steps new
-    → HearsPrefix old s steps new
-prefix_whole old new s steps p = record { prefix = s; rest = []; whole = sym (append-nil s); hears = p }
+pub prefix_whole : (old new : BoardView) (s : List ℕ) (steps : List Exchange)
+    → Hears old s steps new → HearsPrefix old s steps new
+prefix_whole old new s steps p =
+    record { prefix = s; rest = []; whole = sym (append-nil s); hears = p }
 
 -- ---- one step
 
 -- a message is reported
-pub converses-sent : (old mid new : BoardState) (steps : List Exchange) (message : Content) → Converses old steps mid
-    → next_message mid ≡ Some message → new ≡ after_sending mid message
+pub converses-sent : (old mid new : BoardState) (steps : List Exchange) (message : Content)
+    → Converses old steps mid → next_message mid ≡ Some message → new ≡ after_sending mid message
     → Converses old (steps ++ sent message ∷ []) new
 converses-sent old mid new steps message p next is = search (rules, converses-append)
 
 -- messages hear nothing
-pub hears_nothing : (old new : BoardView) (steps : List Exchange) → Converses old.state steps new.state
-    → events_heard steps ≡ [] → new.partial ≡ old.partial → IsPartial new.partial
-    → Hears old [] steps new
+pub hears_nothing : (old new : BoardView) (steps : List Exchange)
+    → Converses old.state steps new.state → events_heard steps ≡ [] → new.partial ≡ old.partial
+    → IsPartial new.partial → Hears old [] steps new
 hears_nothing old new steps p none is partial =
     record { conversation = p; heard = rw none (append-nil old.partial ∙ sym is, partial) }
 
 -- bytes that end a word
 pub hears_word : IsPartial [] → (old new : BoardView) (bytes : List ℕ) (event : EventContent)
-    → next_message old.state ≡ None → IsWord event (old.partial ++ bytes) → new ≡ after_bytes old bytes (Some event)
-    → Hears old bytes (heard event ∷ []) new
+    → next_message old.state ≡ None → IsWord event (old.partial ++ bytes)
+    → new ≡ after_bytes old bytes (Some event) → Hears old bytes (heard event ∷ []) new
 hears_word nothing old new bytes event none word is = search (rules, append-nil)
 
 -- bytes that end none
 pub hears_part : (old new : BoardView) (bytes : List ℕ) → IsPartial (old.partial ++ bytes)
     → new ≡ after_bytes old bytes None → Hears old bytes [] new
-hears_part old new bytes partial is = rw is (record { conversation = refl; heard = (refl, partial) })
+hears_part old new bytes partial is =
+    rw is (record { conversation = refl; heard = (refl, partial) })
 
 -- ---- each board answers
 
@@ -90,11 +90,13 @@ reported_length : (board : BoardState) (message : Content) → IsWhole board
     → length (reported_squares_after board message) ≡ 64
 reported_length board message whole = search (rules, length-set)
 
-whole_after_sending : (board : BoardState) (message : Content) → IsWhole board → IsWhole (after_sending board message)
+whole_after_sending : (board : BoardState) (message : Content) → IsWhole board
+    → IsWhole (after_sending board message)
 whole_after_sending board message whole =
     record { squares = whole.squares; reported_squares = reported_length board message whole }
 
-whole_after_event : (board : BoardState) (event : EventContent) → IsWhole board → IsWhole (effect board event)
+whole_after_event : (board : BoardState) (event : EventContent) → IsWhole board
+    → IsWhole (effect board event)
 whole_after_event board event whole = search rules
 
 abbrev Lowers : Type 0
@@ -111,11 +113,20 @@ record GoesOn (board : BoardState) (events : List EventContent) : Type 0 where
   pub settled : next_message after ≡ None
   pub heard : events_heard steps ≡ events
 
-sends_first : (board : BoardState) (next : Option Content) → next_message board ≡ next → IsWhole board
-    → ((message : Content) → next_message board ≡ Some message → GoesOn (after_sending board message) [])
-    → GoesOn board []
+sends_first : (board : BoardState) (next : Option Content) → next_message board ≡ next
+    → IsWhole board
+    → ((message : Content) → next_message board ≡ Some message
+    → GoesOn (after_sending board message) []) → GoesOn board []
 sends_first board None is whole rest =
-    record { steps = []; after = board; whole = whole; conversation = refl; settled = is; heard = refl }
+    record {
+      steps = [];
+      after = board;
+      whole = whole;
+      conversation = refl;
+      settled = is;
+      heard =
+          refl;
+    }
 sends_first board (Some message) is whole rest =
     let more = rest message is in
     record {
@@ -127,17 +138,21 @@ sends_first board (Some message) is whole rest =
       heard = more.heard;
     }
 
-sends_all : Lowers → (n : ℕ) (board : BoardState) → IsWhole board → left_to_send board ≤ n → GoesOn board []
+sends_all : Lowers → (n : ℕ) (board : BoardState) → IsWhole board → left_to_send board ≤ n
+    → GoesOn board []
 sends_all lowers zero board whole few = search (rules, sends_first)
 sends_all lowers (suc n) board whole few = sends_first board (next_message board) refl whole
     (λ message is. let less = lowers board message whole.reported_squares is in sends_all lowers n
-    (after_sending board message) (whole_after_sending board message whole) (omega (arith, less, few)))
+    (after_sending board message) (whole_after_sending board message whole)
+    (omega (arith, less, few)))
 
-goes_on : Lowers → (board : BoardState) (events : List EventContent) → IsWhole board → GoesOn board events
+goes_on : Lowers → (board : BoardState) (events : List EventContent) → IsWhole board
+    → GoesOn board events
 goes_on lowers board [] whole = sends_all lowers (left_to_send board) board whole (omega arith)
 goes_on lowers board (event ∷ events) whole =
     let first = sends_all lowers (left_to_send board) board whole (omega arith) in
-    let more = goes_on lowers (effect first.after event) events (whole_after_event first.after event first.whole) in
+    let more = goes_on lowers (effect first.after event) events
+    (whole_after_event first.after event first.whole) in
     record {
       steps = first.steps ++ heard event ∷ more.steps;
       after = more.after;
@@ -148,9 +163,11 @@ goes_on lowers board (event ∷ events) whole =
     }
 
 pub each_is_answered : EachDividesOnce
-    → ((rest more : List ℕ) → IsPartial rest → AreBytes more → AreBytes (rest ++ more)) → Lowers → EachIsAnswered
+    → ((rest more : List ℕ) → IsPartial rest → AreBytes more → AreBytes (rest ++ more)) → Lowers
+    → EachIsAnswered
 each_is_answered divisions are_all_bytes lowers before bytes board are =
-    let found = divisions.0 (before.partial ++ bytes) (are_all_bytes before.partial bytes board.partial are) in
+    let found =
+    divisions.0 (before.partial ++ bytes) (are_all_bytes before.partial bytes board.partial are) in
     let talk = goes_on lowers before.state found.0
     (record { squares = board.squares; reported_squares = board.reported_squares }) in (
       talk.steps,
@@ -162,17 +179,24 @@ each_is_answered divisions are_all_bytes lowers before bytes board are =
 
 -- others are the steps, and then a conversation between the boards
 abbrev Continues : List Exchange → List Exchange → BoardState → BoardState → Type 0
-Continues steps others between after = (more : List Exchange) × (others ≡ steps ++ more) × Converses between more after
+Continues steps others between after =
+    (more : List Exchange) × (others ≡ steps ++ more) × Converses between more after
 
-one_more : (step another : Exchange) (steps others : List Exchange) (between after : BoardState) → another ≡ step
-    → Continues steps others between after → Continues (step ∷ steps) (another ∷ others) between after
-one_more step another steps others between after same rest =
-    (rest.0, ap (λ (s : Exchange). s ∷ others) same ∙ ap (λ (l : List Exchange). step ∷ l) rest.1, rest.2)
+one_more : (step another : Exchange) (steps others : List Exchange) (between after : BoardState)
+    → another ≡ step → Continues steps others between after
+    → Continues (step ∷ steps) (another ∷ others) between after
+one_more step another steps others between after same rest = (
+  rest.0,
+  ap (λ (s : Exchange). s ∷ others) same ∙ ap (λ (l : List Exchange). step ∷ l) rest.1,
+  rest.2,
+)
 
--- a conversation that ends with nothing to report goes on from each that hears the first of its events
-follows : (board between after : BoardState) (steps others : List Exchange) (events : List EventContent)
-    → Converses board steps between → Converses board others after → next_message after ≡ None
-    → events_heard others ≡ events_heard steps ++ events → Continues steps others between after
+-- a conversation that ends with nothing to report goes on from each that hears the first of its
+-- events
+follows : (board between after : BoardState) (steps others : List Exchange)
+    (events : List EventContent) → Converses board steps between → Converses board others after
+    → next_message after ≡ None → events_heard others ≡ events_heard steps ++ events
+    → Continues steps others between after
 follows board between after [] others events p q settled is =
     (others, refl, subst (λ x. Converses x others after) p q)
 follows board between after (sent message ∷ steps) [] events p q settled is =
@@ -202,24 +226,30 @@ each_prefix_goes_on prefixes before between after bytes steps others prefix answ
 nothing_more : (board after : BoardState) (steps : List Exchange) → next_message board ≡ None
     → Converses board steps after → events_heard steps ≡ [] → (steps ≡ []) × (board ≡ after)
 nothing_more board after [] settled p none = (refl, p)
-nothing_more board after (sent message ∷ steps) settled p none = absurd (none-some message (sym settled ∙ p.0))
+nothing_more board after (sent message ∷ steps) settled p none =
+    absurd (none-some message (sym settled ∙ p.0))
 nothing_more board after (heard event ∷ steps) settled p none = absurd (cc)
 
 pub each_is_answered_once : EachDividesOnce → EachIsAnsweredOnce
 each_is_answered_once divisions before after other bytes steps others p q =
     let same = divisions.1 (before.partial ++ bytes) (events_heard steps)
     (events_heard others) after.partial other.partial p.hears.heard q.hears.heard in
-    let rest = follows before.state after.state other.state steps others [] p.hears.conversation q.hears.conversation
-    q.settled (sym same.0 ∙ sym (append-nil (events_heard steps))) in
+    let rest = follows before.state after.state other.state steps others [] p.hears.conversation
+    q.hears.conversation q.settled (sym same.0 ∙ sym (append-nil (events_heard steps))) in
     let none : events_heard rest.0 ≡ [] = no_more (events_heard steps) (events_heard rest.0)
     (same.0 ∙ ap events_heard rest.1 ∙ events_heard-append steps rest.0) in
-    let last = nothing_more after.state other.state rest.0 p.settled rest.2 none in
-    (sym (rest.1 ∙ ap (λ (l : List Exchange). steps ++ l) last.0 ∙ append-nil steps), views after other last.1 same.1)
+    let last = nothing_more after.state other.state rest.0 p.settled rest.2 none in (
+      sym (rest.1 ∙ ap (λ (l : List Exchange). steps ++ l) last.0 ∙ append-nil steps),
+      views after other last.1 same.1,
+    )
   where
     no_more : (xs ys : List EventContent) → xs ≡ xs ++ ys → ys ≡ []
     no_more [] ys h = sym h
     no_more (x ∷ xs) ys h = no_more xs ys (cc)
 
     views : (a b : BoardView) → a.state ≡ b.state → a.partial ≡ b.partial → a ≡ b
-    views a b h k = ap (λ (s : BoardState). let view : BoardView = record { state = s; partial = a.partial } in view) h
-        ∙ ap (λ (l : List ℕ). let view : BoardView = record { state = b.state; partial = l } in view) k
+    views a b h k =
+        ap
+        (λ (s : BoardState). let view : BoardView = record { state = s; partial = a.partial } in
+        view) h ∙ ap
+        (λ (l : List ℕ). let view : BoardView = record { state = b.state; partial = l } in view) k

@@ -1,12 +1,7 @@
 -- A host's picture and clock are those that lines show of the same bytes.
-use Rattle.std.proofs.Common.{◌≡◌, List, [], ◌∷◌, refl, sym, ◌∙◌, ap, rules}
-use Rattle.std.specs.Prelude.{option_map}
-use Rattle.dgt_decode.specs.Grammar.{Event, Placed, events}
-use Rattle.dgt_host.specs.Host.{HostView, host_after_event, host_after_events, new_host}
-use Rattle.dgt_lines.specs.Clocks.{clock_text}
-use Rattle.dgt_lines.specs.Pictures.{picture_after_event, picture_after_events}
-use Rattle.dgt_lines.specs.Reports.{LastLineIsClock, clock_after_event, clock_after_events}
-use Rattle.dgt_text.specs.Hosts.{LastClockIsTheHosts, PictureIsTheHosts}
+use Rattle.{std.{proofs.Common.{◌≡◌, List, [], ◌∷◌, refl, sym, ◌∙◌, ap, rules}, specs.Prelude.{option_map}}, dgt_decode.specs.Grammar.{Event, Placed, events}, dgt_host.specs.Host.{HostView}}
+use Rattle.{dgt_host.specs.Host.{host_after_event, host_after_events, new_host}, dgt_lines.specs.{Clocks.{clock_text}, Pictures.{picture_after_event, picture_after_events}, Reports.{LastLineIsClock}}}
+use Rattle.{dgt_lines.specs.Reports.{clock_after_event, clock_after_events}, dgt_text.specs.Hosts.{LastClockIsTheHosts, PictureIsTheHosts}}
 
 one_event : (host : HostView) (event : Event)
     → ((host_after_event host event).picture ≡ picture_after_event host.picture event)

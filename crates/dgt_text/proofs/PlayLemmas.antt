@@ -1,25 +1,12 @@
 -- Lines that are played in a row.
-use Rattle.std.proofs.Common.{◌≡◌, ◌≢◌, ℕ, ◌+◌, ◌-◌, ◌<◌, List, [], ◌∷◌, ◌++◌, ◌⊎◌, inl, inr, Bool, false, Result, Ok, Err, IsErrAnd, IsTrue, refl, sym, ◌∙◌, ap, subst, length, arith, append_assoc, append-nil, length-append, suc, take, drop, slice_index, add-one, rules}
-use Rattle.std.specs.Prelude.{◌↔◌, All, MatchResult, flat_map}
-use Rattle.std.specs.Io.KnownBytes.{Appends}
-use Rattle.std.proofs.KnownBytes.{Appends-trans, Appends-nil}
-use Rattle.std.proofs.Math.Seq.{take-add, take-suc}
-use Rattle.std.proofs.lemmas.List.{places, take_rest, take-append-drop}
-use Rattle.std.proofs.lemmas.List.Elements.{All-append}
-use Rattle.std.proofs.lemmas.Grind.{flat_map-append, common_steps}
-use Rattle.dgt_link.specs.declared.acts.Outcome.{Outcome}
-use Rattle.dgt_link.specs.View.{IsQuietWorld, WorldView}
-use Rattle.dgt_lines.specs.declared.faults.RunFault.{RunFault}
-use Rattle.dgt_lines.specs.declared.faults.RunFault.TheVariants.{ReadFailed, WriteFailed, TooManyTurns, BadLine}
-use Rattle.dgt_script.specs.declared.script_lines.LineBuffer.{LineBuffer}
-use Rattle.dgt_text.specs.Closing.{closing_lines}
-use Rattle.dgt_script.specs.Outcomes.{outcome_line}
-use Rattle.dgt_lines.specs.Monitoring.{IsPrefix}
-use Rattle.dgt_lines.specs.Turns.{change}
-use Rattle.dgt_lines.specs.Writing.{Writes, Stopped}
-use Rattle.dgt_script.specs.ScriptLines.{HasNoFeed, IsCut, KeepsLine, ended}
-use Rattle.dgt_text.specs.Simulating.{BeginsWith, IsSimulatedFrom, NoFlush, Plays, Part, PlaysOn, PlaysTorn, Rules, Stops, Took, all_lines, part}
-use Rattle.dgt_lines.specs.declared.streams.Sink.{Ghosts as Sink}
+use Rattle.std.proofs.Common.{◌≡◌, ◌≢◌, ℕ, ◌+◌, ◌-◌, ◌<◌, List, [], ◌∷◌, ◌++◌, ◌⊎◌, inl, inr, Bool, false, Result, Ok, Err, IsErrAnd, IsTrue, refl, sym, ◌∙◌, ap, subst, length, arith, append_assoc}
+use Rattle.std.proofs.{Common.{append-nil, length-append, suc, take, drop, slice_index, add-one, rules}, KnownBytes.{Appends-trans, Appends-nil}, Math.Seq.{take-add, take-suc}}
+use Rattle.std.{proofs.lemmas.{Grind.{flat_map-append, common_steps}, List.{places, take_rest, take-append-drop, Elements.{All-append}}}, specs.Prelude.{◌↔◌, All, MatchResult, flat_map}}
+use Rattle.{std.specs.Io.KnownBytes.{Appends}, dgt_link.specs.{View.{IsQuietWorld, WorldView}, declared.acts.Outcome.{Outcome}}, dgt_lines.specs.{Monitoring.{IsPrefix}, Turns.{change}}}
+use Rattle.dgt_lines.specs.{Writing.{Writes, Stopped}, declared.{faults.RunFault.{RunFault}, streams.Sink.{Ghosts as Sink}, faults.RunFault.TheVariants.{ReadFailed, WriteFailed, TooManyTurns}}}
+use Rattle.{dgt_lines.specs.declared.faults.RunFault.TheVariants.{BadLine}, dgt_script.specs.{Outcomes.{outcome_line}, ScriptLines.{HasNoFeed, IsCut, KeepsLine, ended}}}
+use Rattle.{dgt_script.specs.declared.script_lines.LineBuffer.{LineBuffer}, dgt_text.specs.{Closing.{closing_lines}, Simulating.{BeginsWith, IsSimulatedFrom, NoFlush, Plays, Part, PlaysOn}}}
+use Rattle.dgt_text.specs.Simulating.{PlaysTorn, Rules, Stops, Took, all_lines, part}
 
 -- ---- lines
 
@@ -36,12 +23,14 @@ flat_one : (line : List ℕ) → flat_map ended (line ∷ []) ≡ ended line
 flat_one line = append-nil (ended line)
 
 -- lines, and then more lines
-whole_after : (bytes tail rest : List ℕ) (lines more : List (List ℕ)) → bytes ≡ flat_map ended lines ++ tail
-    → tail ≡ flat_map ended more ++ rest → bytes ≡ flat_map ended (lines ++ more) ++ rest
+whole_after : (bytes tail rest : List ℕ) (lines more : List (List ℕ))
+    → bytes ≡ flat_map ended lines ++ tail → tail ≡ flat_map ended more ++ rest
+    → bytes ≡ flat_map ended (lines ++ more) ++ rest
 whole_after bytes tail rest lines more e f = search (rules, append_assoc, flat_map-append)
 
-pub cut_after : (bytes tail rest : List ℕ) (lines more : List (List ℕ)) → bytes ≡ flat_map ended lines ++ tail
-    → All HasNoFeed lines → IsCut tail more rest → IsCut bytes (lines ++ more) rest
+pub cut_after : (bytes tail rest : List ℕ) (lines more : List (List ℕ))
+    → bytes ≡ flat_map ended lines ++ tail → All HasNoFeed lines → IsCut tail more rest
+    → IsCut bytes (lines ++ more) rest
 cut_after bytes tail rest lines more e h c = record {
   whole = whole_after bytes tail rest lines more e c.whole;
   each = All-append HasNoFeed lines more h c.each;
@@ -57,9 +46,10 @@ pub begins_none : (at_end : Bool) (bytes : List ℕ) → BeginsWith at_end bytes
 begins_none at_end bytes = inl (bytes, refl, all_none)
 
 -- a line with its line feed
-pub begins_ended : (at_end : Bool) (line rest bytes : List ℕ) → HasNoFeed line → bytes ≡ (line ++ 10 ∷ []) ++ rest
-    → BeginsWith at_end bytes (line ∷ [])
-begins_ended at_end line rest bytes h e = inl (rest, e ∙ ap (λ l. l ++ rest) (sym (flat_one line)), all_one line h)
+pub begins_ended : (at_end : Bool) (line rest bytes : List ℕ) → HasNoFeed line
+    → bytes ≡ (line ++ 10 ∷ []) ++ rest → BeginsWith at_end bytes (line ∷ [])
+begins_ended at_end line rest bytes h e =
+    inl (rest, e ∙ ap (λ l. l ++ rest) (sym (flat_one line)), all_one line h)
 
 -- a last line
 pub begins_last : (at_end : Bool) (line : List ℕ) → IsTrue at_end → HasNoFeed line → line ≢ []
@@ -86,7 +76,8 @@ prefix_none : (prefix rest : List ℕ) → [] ≡ prefix ++ rest → prefix ≡ 
 prefix_none [] rest h = refl
 prefix_none (b ∷ prefix) rest h = cc
 
-pub stopped_none : {S : Type 0} (W : Sink S) (a b : S) → Stopped W a b [] → Appends (W.written a) (W.written b) []
+pub stopped_none : {S : Type 0} (W : Sink S) (a b : S) → Stopped W a b []
+    → Appends (W.written a) (W.written b) []
 stopped_none W a b p = search (rules, prefix_none)
 
 -- a call that flushes nothing, whatever it answers
@@ -103,10 +94,11 @@ no_flush_exit W a b c r e k p q = search rules
 module _ (rules : Rules) where
   -- ---- playing
 
-  pub plays_append : (w m l : WorldView) (ls ks : List (List ℕ)) (t u : List ℕ) → Plays rules w ls t m
-      → Plays rules m ks u l → Plays rules w (ls ++ ks) (t ++ u) l
+  pub plays_append : (w m l : WorldView) (ls ks : List (List ℕ)) (t u : List ℕ)
+      → Plays rules w ls t m → Plays rules m ks u l → Plays rules w (ls ++ ks) (t ++ u) l
   plays_append w m l [] ks t u p q =
-      subst (λ x. Plays rules w ks (x ++ u) l) (sym p.0) (subst (λ x. Plays rules x ks u l) (sym p.1) q)
+      subst (λ x. Plays rules w ks (x ++ u) l) (sym p.0)
+      (subst (λ x. Plays rules x ks u l) (sym p.1) q)
   plays_append w m l (line ∷ ls) ks t u p q =
       grind (arith, common_steps, append_assoc, plays_append p.1 m l ls ks p.2 u p.5 q)
 
@@ -119,8 +111,8 @@ module _ (rules : Rules) where
   torn_none w = grind (arith, common_steps)
 
   -- one line, with an outcome that may be torn
-  torn_one : (w l : WorldView) (line prefix text : List ℕ) → Plays rules w (line ∷ []) text l → IsPrefix prefix text
-      → PlaysTorn rules w (line ∷ []) prefix l
+  torn_one : (w l : WorldView) (line prefix text : List ℕ) → Plays rules w (line ∷ []) text l
+      → IsPrefix prefix text → PlaysTorn rules w (line ∷ []) prefix l
   torn_one w l line prefix text p f = record {
     earlier = [];
     final = line ∷ [];
@@ -159,14 +151,17 @@ module _ (rules : Rules) where
   abbrev pub HoldsWithLines : (Part → List ℕ → Type 0) → Type 0
   HoldsWithLines P =
       (w m l : WorldView) (number number' : ℕ) (bytes tail t out : List ℕ) (ls : List (List ℕ))
-      → bytes ≡ flat_map ended ls ++ tail → All HasNoFeed ls → number' ≡ number + length ls → Plays rules w ls t m
-      → P (part number' tail m l) out → P (part number bytes w l) (t ++ out)
+      → bytes ≡ flat_map ended ls ++ tail → All HasNoFeed ls → number' ≡ number + length ls
+      → Plays rules w ls t m → P (part number' tail m l) out → P (part number bytes w l) (t ++ out)
 
   pub stops_after : (at_end : Bool) (e : RunFault) → HoldsWithLines (λ p. Stops rules at_end p e)
   stops_after at_end ReadFailed w m l number number' bytes tail t out ls e h n p s = absurd s
   stops_after at_end TooManyTurns w m l number number' bytes tail t out ls e h n p s = absurd s
-  stops_after at_end WriteFailed w m l number number' bytes tail t out ls e h n p s =
-      (ls ++ s.0, begins_after at_end bytes tail ls s.0 e h s.1, torn_after w m l ls s.0 t out p s.2)
+  stops_after at_end WriteFailed w m l number number' bytes tail t out ls e h n p s = (
+    ls ++ s.0,
+    begins_after at_end bytes tail ls s.0 e h s.1,
+    torn_after w m l ls s.0 t out p s.2,
+  )
   stops_after at_end (BadLine bad at) w m l number number' bytes tail t out ls e h n p s = (
     ls ++ s.0,
     s.1,
@@ -177,8 +172,9 @@ module _ (rules : Rules) where
     (let k = length-append ls s.0 in let f = s.5 in omega arith),
   )
 
-  all_after : (w m l : WorldView) (bytes tail rest t u : List ℕ) (ls ks : List (List ℕ)) → Plays rules w ls t m
-      → Plays rules m (all_lines ks rest) u l → Plays rules w (all_lines (ls ++ ks) rest) (t ++ u) l
+  all_after : (w m l : WorldView) (bytes tail rest t u : List ℕ) (ls ks : List (List ℕ))
+      → Plays rules w ls t m → Plays rules m (all_lines ks rest) u l
+      → Plays rules w (all_lines (ls ++ ks) rest) (t ++ u) l
   all_after w m l bytes tail rest t u ls ks p q = search (rules, all_lines-append, plays_append)
 
   pub simulated_after : {A : Type 0} (at_end : Bool) (r : Result A RunFault)
@@ -193,16 +189,26 @@ module _ (rules : Rules) where
     s.6,
     ap (λ x. t ++ x) s.7 ∙ sym (append_assoc t s.2 (closing_lines l s.3)),
   )
-  simulated_after at_end (Err ReadFailed) w m l number number' bytes tail t out ls e h n p s =
-      (ls ++ s.0, s.1, cut_after bytes tail s.1 ls s.0 e h s.2, plays_append w m l ls s.0 t out p s.3)
-  simulated_after at_end (Err TooManyTurns) w m l number number' bytes tail t out ls e h n p s =
-      (ls ++ s.0, s.1, cut_after bytes tail s.1 ls s.0 e h s.2, plays_append w m l ls s.0 t out p s.3)
+  simulated_after at_end (Err ReadFailed) w m l number number' bytes tail t out ls e h n p s = (
+    ls ++ s.0,
+    s.1,
+    cut_after bytes tail s.1 ls s.0 e h s.2,
+    plays_append w m l ls s.0 t out p s.3,
+  )
+  simulated_after at_end (Err TooManyTurns) w m l number number' bytes tail t out ls e h n p s = (
+    ls ++ s.0,
+    s.1,
+    cut_after bytes tail s.1 ls s.0 e h s.2,
+    plays_append w m l ls s.0 t out p s.3,
+  )
   simulated_after at_end (Err (BadLine bad at)) w m l number number' bytes tail t out ls e h n p s =
       search (rules, stops_after)
-  simulated_after at_end (Err WriteFailed) w m l number number' bytes tail t out ls e h n p (inl s) =
+  simulated_after at_end (Err WriteFailed) w m l number number' bytes tail t out ls e h n p
+      (inl s) =
       inl
       (stops_after at_end WriteFailed w m l number number' bytes tail t out ls e h n p s)
-  simulated_after at_end (Err WriteFailed) w m l number number' bytes tail t out ls e h n p (inr s) =
+  simulated_after at_end (Err WriteFailed) w m l number number' bytes tail t out ls e h n p
+      (inr s) =
       inr (
         ls ++ s.0,
         s.1,
@@ -217,31 +223,31 @@ module _ (rules : Rules) where
         s.10,
       )
 
-  stops_simulated : (at_end : Bool) (A : Type 0) (e : RunFault) (w l : WorldView) (number : ℕ) (bytes out : List ℕ)
-      → Stops rules at_end (part number bytes w l) e out → IsSimulatedFrom {A = A} rules at_end (part number bytes w l)
-      (Err e) out
+  stops_simulated : (at_end : Bool) (A : Type 0) (e : RunFault) (w l : WorldView) (number : ℕ)
+      (bytes out : List ℕ) → Stops rules at_end (part number bytes w l) e out
+      → IsSimulatedFrom {A = A} rules at_end (part number bytes w l) (Err e) out
   stops_simulated at_end A e w l number bytes out s = grind (arith, common_steps)
 
   -- ---- sinks
 
   -- a line with this number, with which a script of these bytes begins
-  abbrev PlaysLine : {S A : Type 0} → Sink S → Bool → WorldView → WorldView → S → S → Result A RunFault → ℕ → List ℕ
-      → List ℕ → Type 0
+  abbrev PlaysLine : {S A : Type 0} → Sink S → Bool → WorldView → WorldView → S → S
+      → Result A RunFault → ℕ → List ℕ → List ℕ → Type 0
   PlaysLine W at_end world last old new r number line bytes =
       MatchResult r (λ _. Took W old new (λ out. Plays rules world (line ∷ []) out last))
       (λ fault. Took W old new (Stops rules at_end (part number bytes world last) fault))
 
   -- a chunk of a script; the bytes are those since the last line feed before it, and the chunk
-  abbrev PlaysPiece : {S A : Type 0} → Sink S → Bool → WorldView → WorldView → S → S → LineBuffer → ℕ → ℕ
-      → Result A RunFault → List ℕ → Type 0
+  abbrev PlaysPiece : {S A : Type 0} → Sink S → Bool → WorldView → WorldView → S → S → LineBuffer
+      → ℕ → ℕ → Result A RunFault → List ℕ → Type 0
   PlaysPiece W at_end world last old new line number number' r bytes =
       MatchResult r (λ _. PlaysOn rules W (part number bytes world last) old new line number')
       (λ fault. Took W old new (Stops rules at_end (part number bytes world last) fault))
 
   module _ {S : Type 0} (W : Sink S) where
     -- the line of an outcome, or a prefix of it
-    pub line_put : {A : Type 0} (at_end : Bool) (r : Result A RunFault) (w l : WorldView) (a b : S) (number : ℕ)
-        (line bytes : List ℕ) (o : Outcome) → Writes W a b r (outcome_line o)
+    pub line_put : {A : Type 0} (at_end : Bool) (r : Result A RunFault) (w l : WorldView) (a b : S)
+        (number : ℕ) (line bytes : List ℕ) (o : Outcome) → Writes W a b r (outcome_line o)
         → rules.does line w o l → BeginsWith at_end bytes (line ∷ [])
         → PlaysLine W at_end w l a b r number line bytes
     line_put at_end (Ok x) w l a b number line bytes o p h g =
@@ -259,10 +265,11 @@ module _ (rules : Rules) where
         )
 
     -- a line that is not an act
-    pub line_refused : {A : Type 0} (at_end : Bool) (r : Result A RunFault) (w : WorldView) (a b : S) (number at : ℕ)
-        (line bytes : List ℕ) → (r ≡ Err (BadLine number at)) ⊎ (r ≡ Err WriteFailed)
-        → Appends (W.written a) (W.written b) [] → rules.is_bad line at → BeginsWith at_end bytes (line ∷ [])
-        → PlaysLine W at_end w w a b r number line bytes
+    pub line_refused : {A : Type 0} (at_end : Bool) (r : Result A RunFault) (w : WorldView)
+        (a b : S) (number at : ℕ) (line bytes : List ℕ)
+        → (r ≡ Err (BadLine number at)) ⊎ (r ≡ Err WriteFailed)
+        → Appends (W.written a) (W.written b) [] → rules.is_bad line at
+        → BeginsWith at_end bytes (line ∷ []) → PlaysLine W at_end w w a b r number line bytes
     line_refused {A = A} at_end r w a b number at line bytes (inl e) p h g =
         subst (λ x. PlaysLine {A = A} W at_end w w a b x number line bytes) (sym e)
         ([], p, ([], line, g, (refl, refl), h, omega arith))
@@ -271,8 +278,9 @@ module _ (rules : Rules) where
 
     -- ---- chunks
 
-    pub on_none : (w : WorldView) (a : S) (line : LineBuffer) (number : ℕ) (rest : List ℕ) → KeepsLine line rest
-        → HasNoFeed rest → PlaysOn rules W (part number rest w w) a a line number
+    pub on_none : (w : WorldView) (a : S) (line : LineBuffer) (number : ℕ) (rest : List ℕ)
+        → KeepsLine line rest → HasNoFeed rest
+        → PlaysOn rules W (part number rest w w) a a line number
     on_none w a line number rest k h = record {
       lines = [];
       rest = rest;
@@ -285,8 +293,8 @@ module _ (rules : Rules) where
     }
 
     -- a line with its line feed
-    pub on_one : (w l : WorldView) (a b : S) (line : LineBuffer) (number : ℕ) (whole : List ℕ) → KeepsLine line []
-        → HasNoFeed whole → Took W a b (λ out. Plays rules w (whole ∷ []) out l)
+    pub on_one : (w l : WorldView) (a b : S) (line : LineBuffer) (number : ℕ) (whole : List ℕ)
+        → KeepsLine line [] → HasNoFeed whole → Took W a b (λ out. Plays rules w (whole ∷ []) out l)
         → PlaysOn rules W (part number (whole ++ 10 ∷ []) w l) a b line (number + 1)
     on_one w l a b line number whole k h p = record {
       lines = whole ∷ [];
@@ -300,13 +308,14 @@ module _ (rules : Rules) where
     }
 
     on_whole : {w m : WorldView} {a b : S} {line : LineBuffer} {n n' : ℕ} (bytes : List ℕ)
-        (q : PlaysOn rules W (part n bytes w m) a b line n') (p : List ℕ) → bytes ++ p ≡ flat_map ended q.lines ++
-        (q.rest ++ p)
-    on_whole bytes q p = ap (λ l. l ++ p) q.cut.whole ∙ append_assoc (flat_map ended q.lines) q.rest p
+        (q : PlaysOn rules W (part n bytes w m) a b line n') (p : List ℕ)
+        → bytes ++ p ≡ flat_map ended q.lines ++ (q.rest ++ p)
+    on_whole bytes q p =
+        ap (λ l. l ++ p) q.cut.whole ∙ append_assoc (flat_map ended q.lines) q.rest p
 
-    pub on_more : (w m l : WorldView) (a b c : S) (line line' : LineBuffer) (n n' n'' : ℕ) (bytes chunk : List ℕ)
-        (q : PlaysOn rules W (part n bytes w m) a b line n') → PlaysOn rules W
-        (part n' (q.rest ++ chunk) m l) b c line' n''
+    pub on_more : (w m l : WorldView) (a b c : S) (line line' : LineBuffer) (n n' n'' : ℕ)
+        (bytes chunk : List ℕ) (q : PlaysOn rules W (part n bytes w m) a b line n')
+        → PlaysOn rules W (part n' (q.rest ++ chunk) m l) b c line' n''
         → PlaysOn rules W (part n (bytes ++ chunk) w l) a c line' n''
     on_more w m l a b c line line' n n' n'' bytes chunk q p = record {
       lines = q.lines ++ p.lines;
@@ -314,51 +323,57 @@ module _ (rules : Rules) where
       text = q.text ++ p.text;
       cut = search (rules, cut_after, on_whole);
       kept = p.kept;
-      counted = let k = length-append q.lines p.lines in let i = q.counted in let j = p.counted in omega arith;
+      counted = let k = length-append q.lines p.lines in let i = q.counted in let j = p.counted in
+          omega arith;
       plays = plays_append w m l q.lines p.lines q.text p.text q.plays p.plays;
       wrote = Appends-trans _ _ _ q.text p.text q.wrote p.wrote;
     }
 
     -- more bytes of the line
-    pub on_held : (w m : WorldView) (a b : S) (line line' : LineBuffer) (n n' : ℕ) (bytes p : List ℕ)
-        (q : PlaysOn rules W (part n bytes w m) a b line n') → HasNoFeed p → KeepsLine line' (q.rest ++ p)
-        → PlaysOn rules W (part n (bytes ++ p) w m) a b line' n'
+    pub on_held : (w m : WorldView) (a b : S) (line line' : LineBuffer) (n n' : ℕ)
+        (bytes p : List ℕ) (q : PlaysOn rules W (part n bytes w m) a b line n') → HasNoFeed p
+        → KeepsLine line' (q.rest ++ p) → PlaysOn rules W (part n (bytes ++ p) w m) a b line' n'
     on_held w m a b line line' n n' bytes p q h k = on_more w m m a b b line line' n n' n' bytes p q
         (on_none m b line' n' (q.rest ++ p) k (All-append (λ x. x ≢ 10) q.rest p q.cut.last h))
 
     -- a line feed after them
-    pub on_line : (w m l : WorldView) (a b c : S) (line line' : LineBuffer) (n n' : ℕ) (bytes p : List ℕ)
-        (q : PlaysOn rules W (part n bytes w m) a b line n') → HasNoFeed p → KeepsLine line' []
-        → Took W b c (λ out. Plays rules m ((q.rest ++ p) ∷ []) out l)
+    pub on_line : (w m l : WorldView) (a b c : S) (line line' : LineBuffer) (n n' : ℕ)
+        (bytes p : List ℕ) (q : PlaysOn rules W (part n bytes w m) a b line n') → HasNoFeed p
+        → KeepsLine line' [] → Took W b c (λ out. Plays rules m ((q.rest ++ p) ∷ []) out l)
         → PlaysOn rules W (part n (bytes ++ (p ++ 10 ∷ [])) w l) a c line' (n' + 1)
-    on_line w m l a b c line line' n n' bytes p q h k t = on_more w m l a b c line line' n n' (n' + 1) bytes
-        (p ++ 10 ∷ []) q
-        (subst (λ x. PlaysOn rules W (part n' x m l) b c line' (n' + 1)) (append_assoc q.rest p (10 ∷ []))
-        (on_one m l b c line' n' (q.rest ++ p) k (All-append (λ x. x ≢ 10) q.rest p q.cut.last h) t))
+    on_line w m l a b c line line' n n' bytes p q h k t =
+        on_more w m l a b c line line' n n' (n' + 1) bytes (p ++ 10 ∷ []) q
+        (subst (λ x. PlaysOn rules W (part n' x m l) b c line' (n' + 1))
+        (append_assoc q.rest p (10 ∷ []))
+        (on_one m l b c line' n' (q.rest ++ p) k (All-append (λ x. x ≢ 10) q.rest p q.cut.last h)
+        t))
 
     -- what holds of the rest, with them before it
-    pub on_rest : (P : Part → List ℕ → Type 0) → HoldsWithLines P → (w m l : WorldView) (a b c : S) (line : LineBuffer)
-        (n n' : ℕ) (bytes p : List ℕ) (q : PlaysOn rules W (part n bytes w m) a b line n')
+    pub on_rest : (P : Part → List ℕ → Type 0) → HoldsWithLines P
+        → (w m l : WorldView) (a b c : S) (line : LineBuffer) (n n' : ℕ) (bytes p : List ℕ)
+        (q : PlaysOn rules W (part n bytes w m) a b line n')
         → Took W b c (P (part n' (q.rest ++ p) m l)) → Took W a c (P (part n (bytes ++ p) w l))
     on_rest P holds w m l a b c line n n' bytes p q t = (
       q.text ++ t.0,
       Appends-trans _ _ _ q.text t.0 q.wrote t.1,
-      holds w m l n n' (bytes ++ p) (q.rest ++ p) q.text t.0 q.lines (on_whole bytes q p) q.cut.each q.counted q.plays
+      holds w m l n n' (bytes ++ p) (q.rest ++ p) q.text t.0 q.lines (on_whole bytes q p) q.cut.each
+          q.counted q.plays
           t.2,
     )
 
     -- the exit of a `?` in a chunk
-    pub piece_exit : {A : Type 0} (at_end : Bool) (r : Result A RunFault) (e : RunFault) (w l : WorldView) (a b : S)
-        (line : LineBuffer) (n n' : ℕ) (bytes : List ℕ) → IsErrAnd r (λ y. y ≡ e)
-        → Took W a b (Stops rules at_end (part n bytes w l) e)
+    pub piece_exit : {A : Type 0} (at_end : Bool) (r : Result A RunFault) (e : RunFault)
+        (w l : WorldView) (a b : S) (line : LineBuffer) (n n' : ℕ) (bytes : List ℕ)
+        → IsErrAnd r (λ y. y ≡ e) → Took W a b (Stops rules at_end (part n bytes w l) e)
         → PlaysPiece W at_end w l a b line n n' r bytes
     piece_exit at_end r e w l a b line n n' bytes k t = grind (arith, common_steps)
 
     -- ---- the end
 
     -- the exit of a `?` at the end
-    pub end_exit : {A : Type 0} (at_end : Bool) (r : Result A RunFault) (e : RunFault) (w l : WorldView) (a b : S)
-        (n : ℕ) (bytes : List ℕ) → IsErrAnd r (λ y. y ≡ e) → Took W a b (Stops rules at_end (part n bytes w l) e)
+    pub end_exit : {A : Type 0} (at_end : Bool) (r : Result A RunFault) (e : RunFault)
+        (w l : WorldView) (a b : S) (n : ℕ) (bytes : List ℕ) → IsErrAnd r (λ y. y ≡ e)
+        → Took W a b (Stops rules at_end (part n bytes w l) e)
         → Took W a b (IsSimulatedFrom rules at_end (part n bytes w l) r)
     end_exit at_end r e w l a b n bytes k t = grind (arith, common_steps, stops_simulated)
 
@@ -372,10 +387,11 @@ module _ (rules : Rules) where
     end_none w l a b rest e f h = rw (e, f, h) ([], Appends-nil (W.written a), (refl, refl))
 
     -- the closing lines, or a prefix of them
-    pub end_closing : {A : Type 0} (at_end : Bool) (r : Result A RunFault) (w l : WorldView) (a b c : S) (n : ℕ)
-        (rest : List ℕ) (quiet : Bool) → IsTrue at_end → HasNoFeed rest
-        → Took W a b (λ out. Plays rules w (all_lines [] rest) out l) → (IsTrue quiet ↔ IsQuietWorld l)
-        → Writes W b c r (closing_lines l quiet) → Took W a c (IsSimulatedFrom rules at_end (part n rest w l) r)
+    pub end_closing : {A : Type 0} (at_end : Bool) (r : Result A RunFault) (w l : WorldView)
+        (a b c : S) (n : ℕ) (rest : List ℕ) (quiet : Bool) → IsTrue at_end → HasNoFeed rest
+        → Took W a b (λ out. Plays rules w (all_lines [] rest) out l)
+        → (IsTrue quiet ↔ IsQuietWorld l) → Writes W b c r (closing_lines l quiet)
+        → Took W a c (IsSimulatedFrom rules at_end (part n rest w l) r)
     end_closing at_end (Ok x) w l a b c n rest quiet e h t k p = (
       t.0 ++ closing_lines l quiet,
       Appends-trans _ _ _ t.0 (closing_lines l quiet) t.1 p.appends,
@@ -393,34 +409,38 @@ module _ (rules : Rules) where
 -- ---- the bytes of a chunk
 
 pub held_bytes : (rest chunk : List ℕ) (i n : ℕ)
-    → (rest ++ take i chunk) ++ take n (take (length chunk - i) (drop i chunk)) ≡ rest ++ take (i + n) chunk
+    → (rest ++ take i chunk) ++ take n (take (length chunk - i) (drop i chunk))
+    ≡ rest ++ take (i + n) chunk
 held_bytes rest chunk i n = rw (take_rest, take-add i n chunk) (append_assoc rest (take i chunk) _)
 
 line_feed : (chunk : List ℕ) (i n : ℕ) → i + n < length chunk
     → (n < length (take (length chunk - i) (drop i chunk))
     → slice_index (take (length chunk - i) (drop i chunk)) n ≡ 10)
-    → take (n + 1) (take (length chunk - i) (drop i chunk)) ≡ take n (take (length chunk - i) (drop i chunk)) ++ 10 ∷ []
+    → take (n + 1) (take (length chunk - i) (drop i chunk))
+    ≡ take n (take (length chunk - i) (drop i chunk)) ++ 10 ∷ []
 line_feed chunk i n h k = grind (arith, common_steps, places, add-one, take-suc)
 
 pub line_bytes : (rest chunk : List ℕ) (i n : ℕ) → i + n < length chunk
     → (n < length (take (length chunk - i) (drop i chunk))
     → slice_index (take (length chunk - i) (drop i chunk)) n ≡ 10)
-    → (rest ++ take i chunk) ++ (take n (take (length chunk - i) (drop i chunk)) ++ 10 ∷ []) ≡ rest ++ take
-    (i + n + 1) chunk
+    → (rest ++ take i chunk) ++ (take n (take (length chunk - i) (drop i chunk)) ++ 10 ∷ [])
+    ≡ rest ++ take (i + n + 1) chunk
 line_bytes rest chunk i n h k =
     let sum : i + (n + 1) ≡ i + n + 1 = omega arith in
     ap (λ l. (rest ++ take i chunk) ++ l) (sym (line_feed chunk i n h k)) ∙ held_bytes rest chunk i
     (n + 1) ∙ ap (λ m. rest ++ take m chunk) sum
 
 -- the bytes after those that were played
-pub left_bytes : (rest chunk : List ℕ) (i : ℕ) → (rest ++ take i chunk) ++ drop i chunk ≡ rest ++ chunk
+pub left_bytes : (rest chunk : List ℕ) (i : ℕ)
+    → (rest ++ take i chunk) ++ drop i chunk ≡ rest ++ chunk
 left_bytes rest chunk i = search (rules, append_assoc, take-append-drop)
 
 -- they begin with a line
 pub feed_begins : (at_end : Bool) (rest chunk : List ℕ) (i n : ℕ) → i + n < length chunk
     → (n < length (take (length chunk - i) (drop i chunk))
     → slice_index (take (length chunk - i) (drop i chunk)) n ≡ 10) → HasNoFeed rest
-    → HasNoFeed (take n (take (length chunk - i) (drop i chunk))) → BeginsWith at_end (rest ++ drop i chunk)
+    → HasNoFeed (take n (take (length chunk - i) (drop i chunk)))
+    → BeginsWith at_end (rest ++ drop i chunk)
     ((rest ++ take n (take (length chunk - i) (drop i chunk))) ∷ [])
 feed_begins at_end rest chunk i n h k none clean =
     let left = take (length chunk - i) (drop i chunk) in
@@ -428,7 +448,7 @@ feed_begins at_end rest chunk i n h k none clean =
     begins_ended at_end (rest ++ line) (drop (n + 1) left) (rest ++ drop i chunk)
     (All-append (λ x. x ≢ 10) rest line none clean)
     (ap (λ l. rest ++ l)
-    (sym (take_rest chunk i) ∙ sym (take-append-drop (n + 1) left) ∙ ap (λ l. l ++ drop (n + 1) left)
-    (line_feed chunk i n h k))
-    ∙ sym (append_assoc rest (line ++ 10 ∷ []) (drop (n + 1) left)) ∙ ap (λ l. l ++ drop (n + 1) left)
-    (sym (append_assoc rest line (10 ∷ []))))
+    (sym (take_rest chunk i) ∙ sym (take-append-drop (n + 1) left)
+    ∙ ap (λ l. l ++ drop (n + 1) left) (line_feed chunk i n h k))
+    ∙ sym (append_assoc rest (line ++ 10 ∷ []) (drop (n + 1) left))
+    ∙ ap (λ l. l ++ drop (n + 1) left) (sym (append_assoc rest line (10 ∷ []))))

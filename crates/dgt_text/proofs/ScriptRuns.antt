@@ -1,21 +1,10 @@
 -- How a run of `simulate` ends.
-use Rattle.std.proofs.Common.{◌≡◌, ℕ, List, [], ◌++◌, Bool, true, Some, Result, Ok, Err, IsErrAnd, IsTrue, OnOk, sym, ap, subst, append-nil}
-use Rattle.std.proofs.Common.{arith, rules}
-use Rattle.std.specs.Prelude.{IfErr}
-use Rattle.std.specs.Io.KnownBytes.{Appends, Consumes}
-use Rattle.std.proofs.KnownBytes.{Appends-trans, Consumes-nil, Consumes-trans}
-use Rattle.dgt_link.specs.View.{IsQuietWorld, WorldView}
-use Rattle.dgt_lines.specs.declared.faults.RunFault.{RunFault}
-use Rattle.dgt_lines.specs.declared.faults.RunFault.TheVariants.{WriteFailed}
-use Rattle.dgt_script.specs.declared.script_lines.LineBuffer.{LineBuffer}
-use Rattle.dgt_text.specs.Closing.{ClosingLinesAgree}
-use Rattle.dgt_lines.specs.Writing.{Stopped}
-use Rattle.dgt_lines.specs.Turns.{HasTurns, Ran, change, InTurns}
-use Rattle.dgt_text.specs.Simulating.{EndsAlike, IsOfLine, IsSimulated, IsSimulatedFrom, PlaysOn, Stops, Rules, Took, part}
-use Rattle.dgt_text.proofs.PlayLemmas.{begins_none, end_exit, on_rest, simulated_after, stopped_none, torn_none}
-use Rattle.dgt_lines.specs.declared.streams.Source.{Ghosts as Source}
-use Rattle.dgt_lines.specs.declared.streams.Sink.{Ghosts as Sink}
-use Rattle.std.proofs.lemmas.Grind.{common_steps}
+use Rattle.std.proofs.{Common.{◌≡◌, ℕ, List, [], ◌++◌, Bool, true, Some, Result, Ok, Err, IsErrAnd, IsTrue, OnOk, sym, ap, subst, append-nil, arith, rules}, KnownBytes.{Appends-trans, Consumes-nil}}
+use Rattle.{std.{proofs.{KnownBytes.{Consumes-trans}, lemmas.Grind.{common_steps}}, specs.{Prelude.{IfErr}, Io.KnownBytes.{Appends, Consumes}}}, dgt_link.specs.View.{IsQuietWorld, WorldView}}
+use Rattle.dgt_lines.specs.{Turns.{HasTurns, Ran, change, InTurns}, Writing.{Stopped}, declared.{faults.RunFault.{RunFault}, streams.{Sink.{Ghosts as Sink}, Source.{Ghosts as Source}}}}
+use Rattle.{dgt_lines.specs.declared.faults.RunFault.TheVariants.{WriteFailed}, dgt_script.specs.declared.script_lines.LineBuffer.{LineBuffer}, dgt_text.specs.Closing.{ClosingLinesAgree}}
+use Rattle.dgt_text.{specs.Simulating.{EndsAlike, IsOfLine, IsSimulated, IsSimulatedFrom, PlaysOn, Stops, Rules, Took, part}, proofs.PlayLemmas.{begins_none, end_exit, on_rest, simulated_after}}
+use Rattle.dgt_text.proofs.PlayLemmas.{stopped_none, torn_none}
 
 -- a fault of a line is none of turns
 line_turns : {A : Type 0} (limit : ℕ) (r : Result A RunFault) (bytes : List ℕ) → IfErr r IsOfLine
@@ -23,18 +12,18 @@ line_turns : {A : Type 0} (limit : ℕ) (r : Result A RunFault) (bytes : List �
 line_turns limit r bytes f = search rules
 
 -- what stops a run at a line is a fault of a line
-stop_line : {A : Type 0} (rules : Rules) (at_end : Bool) (r : Result A RunFault) (e : RunFault) (w l : WorldView)
-    (n : ℕ)
-    (bytes out : List ℕ) → IsErrAnd r (λ y. y ≡ e) → Stops rules at_end (part n bytes w l) e out → IfErr r IsOfLine
+stop_line : {A : Type 0} (rules : Rules) (at_end : Bool) (r : Result A RunFault) (e : RunFault)
+    (w l : WorldView) (n : ℕ) (bytes out : List ℕ) → IsErrAnd r (λ y. y ≡ e)
+    → Stops rules at_end (part n bytes w l) e out → IfErr r IsOfLine
 stop_line rules at_end r e w l n bytes out k s = grind (arith, common_steps)
 
 is_true : {b : Bool} → IsTrue b → b ≡ true
 is_true h = cc
 
 -- the lines that were played, and a flush
-pub plays_flushed : {T : Type 0} (rules : Rules) (W : Sink T) (c d d' : T) (w m : WorldView) (line : LineBuffer) (n : ℕ)
-    (bytes : List ℕ) → PlaysOn rules W (part 1 bytes w m) c d line n → Appends (W.written d) (W.written d') []
-    → PlaysOn rules W (part 1 bytes w m) c d' line n
+pub plays_flushed : {T : Type 0} (rules : Rules) (W : Sink T) (c d d' : T) (w m : WorldView)
+    (line : LineBuffer) (n : ℕ) (bytes : List ℕ) → PlaysOn rules W (part 1 bytes w m) c d line n
+    → Appends (W.written d) (W.written d') [] → PlaysOn rules W (part 1 bytes w m) c d' line n
 plays_flushed rules W c d d' w m line n bytes q p = record {
   lines = q.lines;
   rest = q.rest;
@@ -49,15 +38,15 @@ plays_flushed rules W c d d' w m line n bytes q p = record {
 
 module _ (rules : Rules) {S T : Type 0} (R : Source S) (W : Sink T) where
   -- how the run ends
-  pub scripted_ends : {A : Type 0} (at_end : Bool) (limit : ℕ) (r : Result A RunFault) (a b b' : S) (c d d' : T)
-      (w m l : WorldView) (line : LineBuffer) (n : ℕ) (bytes chunk : List ℕ) → Consumes (R.left a) (R.left b) bytes
-      → (q : PlaysOn rules W (part 1 bytes w m) c d line n)
+  pub scripted_ends : {A : Type 0} (at_end : Bool) (limit : ℕ) (r : Result A RunFault) (a b b' : S)
+      (c d d' : T) (w m l : WorldView) (line : LineBuffer) (n : ℕ) (bytes chunk : List ℕ)
+      → Consumes (R.left a) (R.left b) bytes → (q : PlaysOn rules W (part 1 bytes w m) c d line n)
       → Consumes (R.left b) (R.left b') chunk → IfErr r IsOfLine
       → Took W d d' (IsSimulatedFrom rules at_end (part n (q.rest ++ chunk) m l) r)
       → Ran R W (change a b') (change c d') (InTurns limit r (IsSimulated rules at_end r w l))
   scripted_ends at_end limit r a b b' c d d' w m l line n bytes chunk g q p f t =
-      let whole = on_rest rules W (λ p. IsSimulatedFrom rules at_end p r) (simulated_after rules at_end r) w m l c d d'
-      line 1 n bytes chunk q t in (
+      let whole = on_rest rules W (λ p. IsSimulatedFrom rules at_end p r)
+      (simulated_after rules at_end r) w m l c d d' line 1 n bytes chunk q t in (
         bytes ++ chunk,
         whole.0,
         Consumes-trans _ _ _ bytes chunk g p,
@@ -66,11 +55,11 @@ module _ (rules : Rules) {S T : Type 0} (R : Source S) (W : Sink T) where
       )
 
   -- the exit of a `?` on a chunk
-  pub scripted_stops : {A : Type 0} (at_end : Bool) (limit : ℕ) (r : Result A RunFault) (e : RunFault) (a b b' : S)
-      (c d d' : T) (w m l : WorldView) (line : LineBuffer) (n : ℕ) (bytes chunk : List ℕ)
-      → Consumes (R.left a) (R.left b) bytes → (q : PlaysOn rules W (part 1 bytes w m) c d line n)
-      → Consumes (R.left b) (R.left b') chunk → IsErrAnd r (λ y. y ≡ e)
-      → Took W d d' (Stops rules at_end (part n (q.rest ++ chunk) m l) e)
+  pub scripted_stops : {A : Type 0} (at_end : Bool) (limit : ℕ) (r : Result A RunFault)
+      (e : RunFault) (a b b' : S) (c d d' : T) (w m l : WorldView) (line : LineBuffer) (n : ℕ)
+      (bytes chunk : List ℕ) → Consumes (R.left a) (R.left b) bytes
+      → (q : PlaysOn rules W (part 1 bytes w m) c d line n) → Consumes (R.left b) (R.left b') chunk
+      → IsErrAnd r (λ y. y ≡ e) → Took W d d' (Stops rules at_end (part n (q.rest ++ chunk) m l) e)
       → Ran R W (change a b') (change c d') (InTurns limit r (IsSimulated rules at_end r w l))
   scripted_stops at_end limit r e a b b' c d d' w m l line n bytes chunk g q p k t =
       scripted_ends at_end limit r a b b' c d d' w m l line n bytes chunk g q p
@@ -78,20 +67,23 @@ module _ (rules : Rules) {S T : Type 0} (R : Source S) (W : Sink T) where
       (end_exit rules W at_end r e m l d d' n (q.rest ++ chunk) k t)
 
   -- the exit of a `?` on a flush
-  pub scripted_unflushed : {A : Type 0} (at_end : Bool) (limit : ℕ) (r : Result A RunFault) (e : RunFault) (a b : S)
-      (c d d' : T) (w m : WorldView) (line : LineBuffer) (n : ℕ) (bytes : List ℕ)
-      → Consumes (R.left a) (R.left b) bytes → PlaysOn rules W (part 1 bytes w m) c d line n → IsErrAnd r (λ y. y ≡ e)
+  pub scripted_unflushed : {A : Type 0} (at_end : Bool) (limit : ℕ) (r : Result A RunFault)
+      (e : RunFault) (a b : S) (c d d' : T) (w m : WorldView) (line : LineBuffer) (n : ℕ)
+      (bytes : List ℕ) → Consumes (R.left a) (R.left b) bytes
+      → PlaysOn rules W (part 1 bytes w m) c d line n → IsErrAnd r (λ y. y ≡ e)
       → (e ≡ WriteFailed) × Stopped W d d' []
       → Ran R W (change a b) (change c d') (InTurns limit r (IsSimulated rules at_end r w m))
   scripted_unflushed at_end limit r e a b c d d' w m line n bytes g q k s =
-      scripted_stops at_end limit r e a b b c d d' w m m line n bytes [] g q (Consumes-nil (R.left b)) k
+      scripted_stops at_end limit r e a b b c d d' w m m line n bytes [] g q
+      (Consumes-nil (R.left b)) k
       (subst (λ f. Took W d d' (Stops rules at_end (part n (q.rest ++ []) m m) f)) (sym s.0)
       ([], stopped_none W d d' s.1, ([], begins_none at_end (q.rest ++ []), torn_none rules m)))
 
   -- the closing lines of a quiet world, if the host's picture is the board's position
-  pub simulated_pictures : {A : Type 0} (at_end : Bool) (limit : ℕ) (r : Result A RunFault) (a b : S) (c d : T)
-      (w l : WorldView) (P : List ℕ → Type 0) → ClosingLinesAgree
-      → ((out : List ℕ) → (IsQuietWorld l → l.host.picture ≡ Some l.board.state.squares → EndsAlike l out) → P out)
+  pub simulated_pictures : {A : Type 0} (at_end : Bool) (limit : ℕ) (r : Result A RunFault)
+      (a b : S) (c d : T) (w l : WorldView) (P : List ℕ → Type 0) → ClosingLinesAgree
+      → ((out : List ℕ)
+      → (IsQuietWorld l → l.host.picture ≡ Some l.board.state.squares → EndsAlike l out) → P out)
       → Ran R W (change a b) (change c d) (InTurns limit r (IsSimulated rules at_end r w l))
       → Ran R W (change a b) (change c d) (InTurns limit r (λ _ out. OnOk r (P out)))
   simulated_pictures at_end limit (Ok x) a b c d w l P agree ends p = let s = p.4.1 in (

@@ -1,30 +1,13 @@
 -- The text of a board's conversation in a sink.
-use Rattle.std.proofs.Common.{◌≡◌, ℕ, ◌+◌, ◌-◌, ◌≤◌, List, [], ◌∷◌, ◌++◌, Option, Some, None, Result, Ok, Err, IsErrAnd, refl, sym, ◌∙◌, ap, subst, append_assoc, append-nil, length, take, drop, arith, true, false, is_some, IfSome, IfNone, option_map}
-use Rattle.std.proofs.Common.{rules}
-use Rattle.std.proofs.Math.Seq.{take-add, take-append_seam}
-use Rattle.std.proofs.lemmas.List.{take-append-drop, take_all, take_rest}
-use Rattle.std.specs.Io.KnownBytes.{Consumes}
-use Rattle.std.proofs.KnownBytes.{Appends-trans, Consumes-trans}
-use Rattle.dgt_message.specs.Content.{Content}
-use Rattle.dgt_message.specs.Encoding.{encoding}
-use Rattle.dgt_command.specs.Content.{EventContent}
-use Rattle.dgt_command.specs.Laws.{DivisionsAppend}
-use Rattle.dgt_command.specs.Words.{IsWord, IsPartial}
-use Rattle.dgt_board.specs.declared.sending.Polled.{Polled}
-use Rattle.dgt_board.specs.Sending.{after_sending, next_message}
-use Rattle.dgt_board.specs.View.{Polls, BoardView, after_bytes}
-use Rattle.dgt_lines.specs.declared.streams.Source.{Ghosts as Source}
-use Rattle.dgt_lines.specs.declared.streams.Sink.{Ghosts as Sink}
-use Rattle.dgt_lines.specs.declared.faults.RunFault.{RunFault}
-use Rattle.dgt_lines.specs.declared.faults.RunFault.TheVariants.{WriteFailed}
-use Rattle.dgt_lines.specs.Writing.{Wrote, Stopped, Writes, InARow}
-use Rattle.dgt_lines.specs.Turns.{Ran, change, InTurns}
-use Rattle.dgt_text.specs.Conversation.{Exchange, sent, heard, Converses, events_heard, bytes_sent, Hears}
-use Rattle.dgt_text.specs.Serving.{IsAlmostSent, IsServed, Served, Halted, Serves}
-use Rattle.dgt_lines.proofs.TurnLemmas.{BetweenReads}
-use Rattle.dgt_text.proofs.ConversationLemmas.{events_heard-append, bytes_sent-append, converses-sent, hears_then, hears_nothing, hears_word, hears_part, prefix_then, prefix_longer, prefix_whole}
-use Rattle.dgt_text.specs.Simulating.{part}
-use Rattle.std.proofs.lemmas.Grind.{common_steps}
+use Rattle.std.proofs.Common.{◌≡◌, ℕ, ◌+◌, ◌-◌, ◌≤◌, List, [], ◌∷◌, ◌++◌, Option, Some, None, Result, Ok, Err, IsErrAnd, refl, sym, ◌∙◌, ap, subst, append_assoc, append-nil, length, take, drop, arith}
+use Rattle.std.proofs.{Common.{true, false, is_some, IfSome, IfNone, option_map, rules}, KnownBytes.{Appends-trans, Consumes-trans}, Math.Seq.{take-add, take-append_seam}, lemmas.Grind.{common_steps}}
+use Rattle.{std.{proofs.lemmas.List.{take-append-drop, take_all, take_rest}, specs.Io.KnownBytes.{Consumes}}, dgt_message.specs.{Content.{Content}, Encoding.{encoding}}}
+use Rattle.{dgt_command.specs.{Content.{EventContent}, Laws.{DivisionsAppend}, Words.{IsWord, IsPartial}}, dgt_board.specs.{Sending.{after_sending, next_message}, View.{Polls, BoardView}}}
+use Rattle.{dgt_board.specs.{View.{after_bytes}, declared.sending.Polled.{Polled}}, dgt_lines.specs.{Turns.{Ran, change, InTurns}, Writing.{Wrote, Stopped, Writes, InARow}}}
+use Rattle.dgt_lines.specs.declared.{faults.RunFault.{RunFault}, streams.{Sink.{Ghosts as Sink}, Source.{Ghosts as Source}}, faults.RunFault.TheVariants.{WriteFailed}}
+use Rattle.{dgt_lines.proofs.TurnLemmas.{BetweenReads}, dgt_text.specs.{Conversation.{Exchange, sent, heard, Converses, events_heard, bytes_sent, Hears}, Serving.{IsAlmostSent, IsServed, Served}}}
+use Rattle.dgt_text.{specs.{Serving.{Halted, Serves}, Simulating.{part}}, proofs.ConversationLemmas.{events_heard-append, bytes_sent-append, converses-sent, hears_then, hears_nothing, hears_word}}
+use Rattle.dgt_text.proofs.ConversationLemmas.{hears_part, prefix_then, prefix_longer, prefix_whole}
 
 -- ---- chunks
 
@@ -33,8 +16,9 @@ pub chunk_more : (chunk : List ℕ) (i n : ℕ)
     → take (i + n) chunk ≡ take i chunk ++ take n (take (length chunk - i) (drop i chunk))
 chunk_more chunk i n = rw take_rest (take-add i n chunk)
 
-pub chunk_rest : (chunk : List ℕ) (i n : ℕ) → (take i chunk ++ take n (take (length chunk - i) (drop i chunk))) ++ drop
-    (i + n) chunk ≡ chunk
+pub chunk_rest : (chunk : List ℕ) (i n : ℕ)
+    → (take i chunk ++ take n (take (length chunk - i) (drop i chunk))) ++ drop (i + n) chunk
+    ≡ chunk
 chunk_rest chunk i n = rw (← chunk_more chunk i n) (take-append-drop (i + n) chunk)
 
 -- ---- calls of the board
@@ -47,7 +31,8 @@ pub record HasSent (before after : BoardView) (count : ℕ) (out : List ℕ) : T
   pub bytes : take count out ≡ encoding message
 
 pub has_sent : (before after : BoardView) (count : ℕ) (old out : List ℕ)
-    → Polls (Polled.Wrote count) (next_message before.state) before after old out → HasSent before after count out
+    → Polls (Polled.Wrote count) (next_message before.state) before after old out
+    → HasSent before after count out
 has_sent before after count old out = go (next_message before.state) refl
   where
     go : (next : Option Content) → next_message before.state ≡ next
@@ -57,25 +42,28 @@ has_sent before after count old out = go (next_message before.state) refl
       message = message;
       next = is;
       state = p.4;
-      bytes = ap (λ (l : List ℕ). take count l) p.2 ∙ ap (λ (n : ℕ). take n (encoding message ++ drop count old))
+      bytes = ap (λ (l : List ℕ). take count l) p.2
+          ∙ ap (λ (n : ℕ). take n (encoding message ++ drop count old))
           p.0 ∙ take-append_seam (encoding message) (drop count old);
     }
 
 -- bytes that ended a word
-pub hears_some : {E : Type 0} → IsPartial [] → (content : E → EventContent) (before after : BoardView) (bytes : List ℕ)
-    (event : Option E) → next_message before.state ≡ None → true ≡ is_some event
+pub hears_some : {E : Type 0} → IsPartial []
+    → (content : E → EventContent) (before after : BoardView) (bytes : List ℕ) (event : Option E)
+    → next_message before.state ≡ None → true ≡ is_some event
     → IfSome event (λ e. IsWord (content e) (before.partial ++ bytes))
-    → after ≡ after_bytes before bytes (option_map content event) → (found : EventContent)
-    × Hears before bytes (heard found ∷ []) after
+    → after ≡ after_bytes before bytes (option_map content event)
+    → (found : EventContent) × Hears before bytes (heard found ∷ []) after
 hears_some nothing content before after bytes event settled some word is =
     search (rules, hears_word)
 
 -- bytes that ended none, and so are all of the chunk
-pub hears_none : {E : Type 0} (content : E → EventContent) (before after : BoardView) (chunk : List ℕ) (used : ℕ)
-    (event : Option E) → false ≡ is_some event
+pub hears_none : {E : Type 0} (content : E → EventContent) (before after : BoardView)
+    (chunk : List ℕ) (used : ℕ) (event : Option E) → false ≡ is_some event
     → IfNone event ((used ≡ length chunk) × IsPartial (before.partial ++ chunk))
     → after ≡ after_bytes before (take used chunk) (option_map content event)
-    → IsPartial (before.partial ++ take used chunk) × (after ≡ after_bytes before (take used chunk) None)
+    → IsPartial (before.partial ++ take used chunk)
+    × (after ≡ after_bytes before (take used chunk) None)
 hears_none content before after chunk used event none part is = search (rules, take_all)
 
 -- ---- what was written
@@ -116,15 +104,16 @@ pub record Sent {S : Type 0} (W : Sink S) (before after : BoardView) (old new : 
   pub wrote : Wrote W old new (bytes_sent steps)
 
 module _ {S : Type 0} (W : Sink S) where
-  pub sent_more : InARow W → (old mid new : BoardView) (a b c : S) (message : Content) → Sent W old mid a b
-      → next_message mid.state ≡ Some message
-      → new ≡ record mid { state = after_sending mid.state message } → Wrote W b c (encoding message)
-      → Sent W old new a c
+  pub sent_more : InARow W → (old mid new : BoardView) (a b c : S) (message : Content)
+      → Sent W old mid a b → next_message mid.state ≡ Some message
+      → new ≡ record mid { state = after_sending mid.state message }
+      → Wrote W b c (encoding message) → Sent W old new a c
   sent_more row old mid new a b c message p next is q = record {
     steps = p.steps ++ sent message ∷ [];
     conversation = search (rules, converses-sent);
     none_heard =
-        events_heard-append p.steps (sent message ∷ []) ∙ ap (λ (l : List EventContent). l ++ []) p.none_heard;
+        events_heard-append p.steps (sent message ∷ [])
+        ∙ ap (λ (l : List EventContent). l ++ []) p.none_heard;
     partial = ap (λ (v : BoardView). v.partial) is ∙ p.partial;
     wrote = subst (λ (l : List ℕ). Wrote W a c l)
         (search (rules, append-nil, bytes_sent-append))
@@ -134,14 +123,16 @@ module _ {S : Type 0} (W : Sink S) where
   -- the sink refused a message
   pub sent_halts : (old mid new : BoardView) (a b c : S) (message : Content) → Sent W old mid a b
       → IsPartial mid.partial → next_message mid.state ≡ Some message
-      → new ≡ record mid { state = after_sending mid.state message } → Stopped W b c (encoding message)
-      → Halted W old new a c []
+      → new ≡ record mid { state = after_sending mid.state message }
+      → Stopped W b c (encoding message) → Halted W old new a c []
   sent_halts old mid new a b c message p partial next is q =
       let steps = p.steps ++ sent message ∷ [] in
-      let conversation = converses-sent old.state mid.state new.state p.steps message p.conversation next
+      let conversation =
+      converses-sent old.state mid.state new.state p.steps message p.conversation next
       (ap (λ (v : BoardView). v.state) is) in
       let none : events_heard steps ≡ [] =
-      events_heard-append p.steps (sent message ∷ []) ∙ ap (λ (l : List EventContent). l ++ []) p.none_heard in
+      events_heard-append p.steps (sent message ∷ [])
+      ∙ ap (λ (l : List EventContent). l ++ []) p.none_heard in
       let same : new.partial ≡ mid.partial = ap (λ (v : BoardView). v.partial) is in
       record {
         out = bytes_sent p.steps ++ q.prefix;
@@ -154,8 +145,9 @@ module _ {S : Type 0} (W : Sink S) where
   -- ---- bytes in a row
 
   -- steps that report nothing, and what follows them
-  pub served_then : InARow W → DivisionsAppend → (old mid between new : BoardView) (a b c : S) (s t : List ℕ)
-      (steps : List Exchange) → Served W old mid a b s → Hears mid t steps between → bytes_sent steps ≡ []
+  pub served_then : InARow W → DivisionsAppend
+      → (old mid between new : BoardView) (a b c : S) (s t : List ℕ) (steps : List Exchange)
+      → Served W old mid a b s → Hears mid t steps between → bytes_sent steps ≡ []
       → Served W between new b c [] → Served W old new a c (s ++ t)
   served_then row append old mid between new a b c s t steps p h none q =
       let all = p.steps ++ (steps ++ q.steps) in
@@ -177,7 +169,8 @@ module _ {S : Type 0} (W : Sink S) where
       → Halted W old new a b (s ++ t)
   halted_longer old new a b s t p = search (rules, prefix_longer)
 
-  halted_then : DivisionsAppend → (old mid new : BoardView) (a b c : S) (s t : List ℕ) (steps : List Exchange)
+  halted_then : DivisionsAppend
+      → (old mid new : BoardView) (a b c : S) (s t : List ℕ) (steps : List Exchange)
       → Hears old s steps mid → Wrote W a b (bytes_sent steps) → Halted W mid new b c t
       → Halted W old new a c (s ++ t)
   halted_then append old mid new a b c s t steps h w q = record {
@@ -193,8 +186,9 @@ module _ {S : Type 0} (W : Sink S) where
   }
 
   -- some bytes, and then more
-  pub served_more : InARow W → DivisionsAppend → (old mid new : BoardView) (a b c : S) (s t : List ℕ)
-      → Served W old mid a b s → Served W mid new b c t → Served W old new a c (s ++ t)
+  pub served_more : InARow W → DivisionsAppend
+      → (old mid new : BoardView) (a b c : S) (s t : List ℕ) → Served W old mid a b s
+      → Served W mid new b c t → Served W old new a c (s ++ t)
   served_more row append old mid new a b c s t p q = record {
     steps = p.steps ++ q.steps;
     answers = search (rules, hears_then);
@@ -202,27 +196,34 @@ module _ {S : Type 0} (W : Sink S) where
   }
 
   -- the sink refused after a word
-  pub served_halts : InARow W → DivisionsAppend → (old mid between new : BoardView) (a b c : S) (s t : List ℕ)
-      (event : EventContent) → Served W old mid a b s → Hears mid t (heard event ∷ []) between
+  pub served_halts : InARow W → DivisionsAppend
+      → (old mid between new : BoardView) (a b c : S) (s t : List ℕ) (event : EventContent)
+      → Served W old mid a b s → Hears mid t (heard event ∷ []) between
       → Halted W between new b c [] → Halted W old new a c (s ++ t)
   served_halts row append old mid between new a b c s t event p h q =
-      let later = halted_then append mid between new b b c t [] (heard event ∷ []) h (row.nothing b) q in
-      halted_then append old mid new a b c s t p.steps p.answers.hears p.wrote (rw (append-nil t) at later)
+      let later =
+      halted_then append mid between new b b c t [] (heard event ∷ []) h (row.nothing b) q in
+      halted_then append old mid new a b c s t p.steps p.answers.hears p.wrote
+      (rw (append-nil t) at later)
 
   -- bytes that end no word
-  pub served_part : DivisionsAppend → (old mid new : BoardView) (a b : S) (s t : List ℕ) → Served W old mid a b s
-      → IsPartial (mid.partial ++ t) → new ≡ after_bytes mid t None → Served W old new a b (s ++ t)
+  pub served_part : DivisionsAppend → (old mid new : BoardView) (a b : S) (s t : List ℕ)
+      → Served W old mid a b s → IsPartial (mid.partial ++ t) → new ≡ after_bytes mid t None
+      → Served W old new a b (s ++ t)
   served_part append old mid new a b s t p partial is = record {
     steps = p.steps ++ [];
     answers = record {
-      hears = hears_then append old mid new s t p.steps [] p.answers.hears (hears_part mid new t partial is);
+      hears = hears_then append old mid new s t p.steps [] p.answers.hears
+          (hears_part mid new t partial is);
       settled = ap (λ (v : BoardView). next_message v.state) is ∙ p.answers.settled;
     };
-    wrote = subst (λ (l : List Exchange). Wrote W a b (bytes_sent l)) (sym (append-nil p.steps)) p.wrote;
+    wrote = subst (λ (l : List Exchange). Wrote W a b (bytes_sent l)) (sym (append-nil p.steps))
+        p.wrote;
   }
 
   -- a flush at the end
-  pub served_flushed : InARow W → (old new : BoardView) (a b c : S) (s : List ℕ) (r : Result (Unit {0}) RunFault)
+  pub served_flushed : InARow W
+      → (old new : BoardView) (a b c : S) (s : List ℕ) (r : Result (Unit {0}) RunFault)
       → Served W old new a b s → Writes W b c r [] → Serves W (change old new) (change a c) r s
   served_flushed row old new a b c s (Ok x) p q = search (rules, append-nil)
   served_flushed row old new a b c s (Err e) p q = (
@@ -241,8 +242,8 @@ module _ {S : Type 0} (W : Sink S) where
   )
 
   -- the exit of a `?`
-  pub halted_exit : {A : Type 0} (old new : BoardView) (a b : S) (s : List ℕ) (r : Result A RunFault) (e : RunFault)
-      → IsErrAnd r (λ y. y ≡ e) → e ≡ WriteFailed
+  pub halted_exit : {A : Type 0} (old new : BoardView) (a b : S) (s : List ℕ)
+      (r : Result A RunFault) (e : RunFault) → IsErrAnd r (λ y. y ≡ e) → e ≡ WriteFailed
       → Halted W old new a b s → Serves W (change old new) (change a b) r s
   halted_exit old new a b s r e k w q = search rules
 
@@ -250,19 +251,22 @@ module _ {S : Type 0} (W : Sink S) where
 
 module _ {S T : Type 0} (R : Source S) (W : Sink T) where
   -- the sink refused
-  pub halted_run : {A : Type 0} (limit : ℕ) (a b : S) (c d : T) (old new : BoardView) (bytes : List ℕ)
-      (r : Result A RunFault) (e : RunFault) → Consumes (R.left a) (R.left b) bytes
+  pub halted_run : {A : Type 0} (limit : ℕ) (a b : S) (c d : T) (old new : BoardView)
+      (bytes : List ℕ) (r : Result A RunFault) (e : RunFault) → Consumes (R.left a) (R.left b) bytes
       → Halted W old new c d bytes → IsErrAnd r (λ y. y ≡ e) → e ≡ WriteFailed
       → Ran R W (change a b) (change c d) (InTurns limit r (IsServed r old new))
   halted_run limit a b c d old new bytes r e k q h w = search rules
 
 -- it refused after a read
-pub served_stops : {S T A : Type 0} {R : Source S} {W : Sink T} {a b : S} {c d : T} {taken limit : ℕ} → DivisionsAppend
-    → (b' : S) (d' : T) (old mid new : BoardView) (chunk : List ℕ) (r : Result A RunFault) (e : RunFault)
-    → (t : BetweenReads R W a b c d taken limit) → Served W old mid c d t.bytes → Consumes (R.left b) (R.left b') chunk
-    → Halted W mid new d d' chunk → IsErrAnd r (λ y. y ≡ e) → e ≡ WriteFailed
-    → Ran R W (change a b') (change c d') (InTurns limit r (IsServed r old new))
-served_stops {R = R} {W = W} {a = a} {b = b} {c = c} {d = d} {limit = limit} append b' d' old mid new chunk r e t p k q
+pub served_stops : {S T A : Type 0} {R : Source S} {W : Sink T} {a b : S} {c d : T}
+    {taken limit : ℕ} → DivisionsAppend
+    → (b' : S) (d' : T) (old mid new : BoardView) (chunk : List ℕ) (r : Result A RunFault)
+    (e : RunFault) → (t : BetweenReads R W a b c d taken limit) → Served W old mid c d t.bytes
+    → Consumes (R.left b) (R.left b') chunk → Halted W mid new d d' chunk → IsErrAnd r (λ y. y ≡ e)
+    → e ≡ WriteFailed → Ran R W (change a b') (change c d') (InTurns limit r (IsServed r old new))
+served_stops {R = R} {W = W} {a = a} {b = b} {c = c} {d = d} {limit = limit} append b' d' old mid
+    new chunk r e t p k q
     h w =
-    halted_run R W limit a b' c d' old new (t.bytes ++ chunk) r e (Consumes-trans _ _ _ t.bytes chunk t.given k)
+    halted_run R W limit a b' c d' old new (t.bytes ++ chunk) r e
+    (Consumes-trans _ _ _ t.bytes chunk t.given k)
     (halted_then W append old mid new c d d' t.bytes chunk p.steps p.answers.hears p.wrote q) h w

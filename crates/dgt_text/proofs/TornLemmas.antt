@@ -1,22 +1,16 @@
 -- After a refused write a prefix of the text of a script was written.
-use Rattle.std.proofs.Common.{◌≡◌, ℕ, inl, inr, List, [], ◌∷◌, ◌++◌, refl, sym, ◌∙◌, ap, subst, length, arith, append_assoc, true≢false}
-use Rattle.dgt_link.specs.declared.acts.Outcome.{Outcome}
-use Rattle.dgt_link.specs.View.{WorldView}
-use Rattle.dgt_lines.specs.Monitoring.{IsPrefix}
-use Rattle.dgt_script.specs.Outcomes.{outcome_line}
-use Rattle.dgt_text.specs.Closing.{closing_lines}
-use Rattle.dgt_text.specs.Ends.{OneIsTorn, OnlyWholeLines, TornTextsBegin}
-use Rattle.dgt_text.specs.Simulating.{Plays, PlaysTorn, Rules}
-use Rattle.dgt_text.proofs.BeginLemmas.{begins_all, begins_whole}
-use Rattle.dgt_text.proofs.EndOnce.{AreClear, closed_once, cut_plays_once}
-use Rattle.dgt_text.proofs.PlayLemmas.{plays_append}
-use Rattle.dgt_text.proofs.PlayOnce.{plays_once}
+use Rattle.{std.proofs.Common.{◌≡◌, ℕ, inl, inr, List, [], ◌∷◌, ◌++◌, refl, sym, ◌∙◌, ap, subst, length, arith, append_assoc, true≢false}, dgt_link.specs.View.{WorldView}}
+use Rattle.{dgt_link.specs.declared.acts.Outcome.{Outcome}, dgt_lines.specs.Monitoring.{IsPrefix}, dgt_script.specs.Outcomes.{outcome_line}, dgt_text.specs.{Closing.{closing_lines}, Ends.{OneIsTorn}}}
+use Rattle.dgt_text.{specs.{Ends.{OnlyWholeLines, TornTextsBegin}, Simulating.{Plays, PlaysTorn, Rules}}, proofs.{BeginLemmas.{begins_all, begins_whole}, EndOnce.{AreClear, closed_once}}}
+use Rattle.dgt_text.proofs.{EndOnce.{cut_plays_once}, PlayLemmas.{plays_append}, PlayOnce.{plays_once}}
 
 -- a prefix of a list is one of a longer list
 prefix_longer : (out text more : List ℕ) → IsPrefix out text → IsPrefix out (text ++ more)
-prefix_longer out text more p = (p.0 ++ more, ap (λ (l : List ℕ). l ++ more) p.1 ∙ append_assoc out p.0 more)
+prefix_longer out text more p =
+    (p.0 ++ more, ap (λ (l : List ℕ). l ++ more) p.1 ∙ append_assoc out p.0 more)
 
-prefix_after : (text prefix whole : List ℕ) → IsPrefix prefix whole → IsPrefix (text ++ prefix) (text ++ whole)
+prefix_after : (text prefix whole : List ℕ) → IsPrefix prefix whole
+    → IsPrefix (text ++ prefix) (text ++ whole)
 prefix_after text prefix whole p =
     (p.0, ap (λ (l : List ℕ). text ++ l) p.1 ∙ sym (append_assoc text prefix p.0))
 
@@ -50,10 +44,12 @@ module _ (rules : Rules) where
   pub one_is_torn : OneIsTorn rules
   one_is_torn world last first second out p = go p.earlier p.split p.plays
     where
-      first_of : (x : List ℕ) (xs : List (List ℕ)) → first ∷ second ∷ [] ≡ x ∷ xs ++ p.final → x ≡ first
+      first_of : (x : List ℕ) (xs : List (List ℕ)) → first ∷ second ∷ [] ≡ x ∷ xs ++ p.final
+          → x ≡ first
       first_of x xs e = cc
 
-      go : (ls : List (List ℕ)) → first ∷ second ∷ [] ≡ ls ++ p.final → Plays rules world ls p.text p.between
+      go : (ls : List (List ℕ)) → first ∷ second ∷ [] ≡ ls ++ p.final
+          → Plays rules world ls p.text p.between
           → (outcome : Outcome) × (between : WorldView) × rules.does first world outcome between
           × IsPrefix (outcome_line outcome) out
       go [] e q =
@@ -69,25 +65,29 @@ module _ (rules : Rules) where
 
   module _ (clear : AreClear rules) where
     -- lines that are torn, and all that are played
-    torn_prefix : (w l o : WorldView) (lines more : List (List ℕ)) (out text : List ℕ) → PlaysTorn rules w lines out l
-        → Plays rules w (lines ++ more) text o → IsPrefix out text
+    torn_prefix : (w l o : WorldView) (lines more : List (List ℕ)) (out text : List ℕ)
+        → PlaysTorn rules w lines out l → Plays rules w (lines ++ more) text o → IsPrefix out text
     torn_prefix w l o lines more out text p q =
-        let whole = plays_append rules w p.between l p.earlier p.final p.text p.torn p.plays p.ends in
+        let whole =
+        plays_append rules w p.between l p.earlier p.final p.text p.torn p.plays p.ends in
         let both = plays_both w o lines more text q in
         let once = plays_once rules clear.one w lines (p.text ++ p.torn) both.first l both.between
-        (subst (λ (x : List (List ℕ)). Plays rules w x (p.text ++ p.torn) l) (sym p.split) whole) both.begins in
+        (subst (λ (x : List (List ℕ)). Plays rules w x (p.text ++ p.torn) l) (sym p.split) whole)
+        both.begins in
         let first : IsPrefix out (p.text ++ p.torn)
         = subst (λ (x : List ℕ). IsPrefix x (p.text ++ p.torn)) (sym p.out_is)
         (prefix_after p.text p.prefix p.torn p.is_prefix) in
         subst (λ (x : List ℕ). IsPrefix out x) (sym both.whole)
-        (prefix_longer out both.first both.second (subst (λ (x : List ℕ). IsPrefix out x) once.0 first))
+        (prefix_longer out both.first both.second
+        (subst (λ (x : List ℕ). IsPrefix out x) once.0 first))
 
     pub only_whole_lines : OnlyWholeLines rules
     only_whole_lines world last other bytes out text rest lines (inl s) cut q =
         let h = begins_whole bytes rest s.0 lines cut s.1 in
         torn_prefix world last other s.0 h.0 out text s.2
         (subst (λ (x : List (List ℕ)). Plays rules world x text other) h.1 q)
-    only_whole_lines world last other bytes out text rest lines (inr s) cut q = absurd (true≢false (sym s.10))
+    only_whole_lines world last other bytes out text rest lines (inr s) cut q =
+        absurd (true≢false (sym s.10))
 
     pub torn_texts_begin : TornTextsBegin rules
     torn_texts_begin at_end ended world last other bytes out whole (inl s) q =
@@ -97,7 +97,8 @@ module _ (rules : Rules) where
         (torn_prefix world last other s.0 h.0 out q.2 s.2
         (subst (λ (x : List (List ℕ)). Plays rules world x q.2 other) h.1 q.5)))
     torn_texts_begin at_end ended world last other bytes out whole (inr s) q =
-        let played = cut_plays_once rules clear world last other bytes s.2 q.2 s.1 q.1 s.0 q.0 s.5 q.4 s.6 q.5 in
+        let played =
+        cut_plays_once rules clear world last other bytes s.2 q.2 s.1 q.1 s.0 q.0 s.5 q.4 s.6 q.5 in
         let closed = closed_once s.2 q.2 last other s.3 q.3 played.0 played.1 s.7 q.6 in
         subst (λ (x : List ℕ). IsPrefix x whole) (sym s.9)
         (subst (λ (x : List ℕ). IsPrefix (s.2 ++ s.4) x) (closed ∙ sym q.7)

@@ -3,7 +3,8 @@ use Rattle.dgt_text.proofs.laws.one_conversation.Goals as goal
 
 pub returns-clause-answered : goal.returns-clause-answered
 returns-clause-answered c =
-    each_is_answered c.one_division.ensures c.parts_of_words.ensures.bytes c.bounded_sending.ensures.falls
+    each_is_answered c.one_division.ensures c.parts_of_words.ensures.bytes
+    c.bounded_sending.ensures.falls
 
 pub returns-clause-once : goal.returns-clause-once
 returns-clause-once c = each_is_answered_once c.one_division.ensures

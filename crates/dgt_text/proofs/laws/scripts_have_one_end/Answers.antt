@@ -1,6 +1,5 @@
-use Rattle.dgt_text.proofs.EndOnce.{acts_clear, one_bad_line, one_end}
+use Rattle.{std.proofs.Common.{rules}, dgt_text.proofs.EndOnce.{acts_clear, one_bad_line, one_end}}
 use Rattle.dgt_text.proofs.laws.scripts_have_one_end.Goals as goal
-use Rattle.std.proofs.Common.{rules}
 
 pub returns-clause-plain : goal.returns-clause-plain
 returns-clause-plain c = search (rules, one_end, acts_clear)

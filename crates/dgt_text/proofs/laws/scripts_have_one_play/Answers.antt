@@ -1,6 +1,5 @@
-use Rattle.dgt_text.proofs.PlayOnce.{acts_once, cut_once, plays_once}
+use Rattle.{std.proofs.Common.{rules}, dgt_text.proofs.PlayOnce.{acts_once, cut_once, plays_once}}
 use Rattle.dgt_text.proofs.laws.scripts_have_one_play.Goals as goal
-use Rattle.std.proofs.Common.{rules}
 
 pub returns-clause-cut : goal.returns-clause-cut
 returns-clause-cut c = cut_once

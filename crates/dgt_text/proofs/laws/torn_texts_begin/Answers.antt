@@ -1,8 +1,5 @@
-use Rattle.dgt_text.specs.Simulating.{faulty_rules, plain_rules}
-use Rattle.dgt_text.proofs.EndOnce.{acts_clear}
-use Rattle.dgt_text.proofs.TornLemmas.{one_is_torn, only_whole_lines, torn_texts_begin}
+use Rattle.{std.proofs.Common.{rules}, dgt_text.{specs.Simulating.{faulty_rules, plain_rules}, proofs.{EndOnce.{acts_clear}, TornLemmas.{one_is_torn, only_whole_lines, torn_texts_begin}}}}
 use Rattle.dgt_text.proofs.laws.torn_texts_begin.Goals as goal
-use Rattle.std.proofs.Common.{rules}
 
 pub returns-clause-plain : goal.returns-clause-plain
 returns-clause-plain c = search (rules, torn_texts_begin, acts_clear)

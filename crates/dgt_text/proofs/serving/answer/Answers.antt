@@ -1,6 +1,5 @@
-use Rattle.dgt_text.proofs.ServingLemmas.{halted_exit, served_flushed}
+use Rattle.{std.proofs.Common.{rules}, dgt_text.proofs.ServingLemmas.{halted_exit, served_flushed}}
 use Rattle.dgt_text.proofs.serving.answer.Goals as goal
-use Rattle.std.proofs.Common.{rules}
 
 pub returns-in_err-answer_chunk-clause-served : goal.returns-in_err-answer_chunk-clause-served
 returns-in_err-answer_chunk-clause-served g c = search (rules, halted_exit)

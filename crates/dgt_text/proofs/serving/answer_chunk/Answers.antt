@@ -1,7 +1,4 @@
-use Rattle.std.proofs.Common.{◌+◌, ◌∷◌, [], take, drop, ◌-◌, refl, rules}
-use Rattle.std.proofs.lemmas.List.{places, take_all}
-use Rattle.dgt_command.specs.Content.{command_event_content}
-use Rattle.dgt_text.specs.Conversation.{heard}
+use Rattle.{std.proofs.{Common.{◌+◌, ◌∷◌, [], take, drop, ◌-◌, refl, rules}, lemmas.List.{places, take_all}}, dgt_command.specs.Content.{command_event_content}, dgt_text.specs.Conversation.{heard}}
 use Rattle.dgt_text.proofs.ServingLemmas.{chunk_more, chunk_rest, hears_some, hears_none, served_then, served_part, served_halts, halted_exit, halted_longer}
 use Rattle.dgt_text.proofs.serving.answer_chunk.Goals as goal
 
@@ -17,9 +14,16 @@ loop-at-preserved-in-Continue-branch-2 g c =
     c.loop-at.invariant.served.answers.settled c.if-is_some.ensures
     (rw c.unwrap-used.ensures at c.take.ensures.event) taken.0 in
     record {
-      bound = search (rules, places, c.loop-at.invariant.bound, rw c.unwrap-used.ensures at c.take.ensures.within);
+      bound =
+          search (
+            rules,
+            places,
+            c.loop-at.invariant.bound,
+            rw c.unwrap-used.ensures at c.take.ensures.within,
+          );
       served = rw (chunk_more c.args.chunk.now c.loop-at.at c.unwrap-used.result.used)
-          (served_then _ c.writes_in_a_row.ensures c.divisions_append.ensures _ _ _ _ _ _ _ _ _ (heard found.0 ∷ [])
+          (served_then _ c.writes_in_a_row.ensures c.divisions_append.ensures _ _ _ _ _ _ _ _ _
+          (heard found.0 ∷ [])
           c.loop-at.invariant.served found.1 refl c.in_ok-send_all-2.ensures.served);
       no_flush = λ h. c.in_ok-send_all-2.ensures.no_flush (c.loop-at.invariant.no_flush h);
     }
@@ -30,11 +34,14 @@ returns-in_err-send_all-2-clause-served g c =
     let found = hears_some c.parts_of_words.ensures.nothing command_event_content _ _ _ _
     c.loop-at.invariant.served.answers.settled c.if-is_some.ensures
     (rw c.unwrap-used.ensures at c.take.ensures.event) taken.0 in
-    let halted = served_halts _ c.writes_in_a_row.ensures c.divisions_append.ensures _ _ _ _ _ _ _ _ _ found.0
+    let halted =
+    served_halts _ c.writes_in_a_row.ensures c.divisions_append.ensures _ _ _ _ _ _ _ _ _ found.0
     c.loop-at.invariant.served found.1 c.in_err-send_all-2.ensures.served.1 in
-    halted_exit _ _ _ _ _ _ _ _ c.from_residual-in_err-send_all-2.ensures.1 c.in_err-send_all-2.ensures.served.0
+    halted_exit _ _ _ _ _ _ _ _ c.from_residual-in_err-send_all-2.ensures.1
+    c.in_err-send_all-2.ensures.served.0
     (rw (chunk_rest c.args.chunk.now c.loop-at.at c.unwrap-used.result.used) at
-    (halted_longer _ _ _ _ _ _ (drop (c.loop-at.at + c.unwrap-used.result.used) c.args.chunk.now) halted))
+    (halted_longer _ _ _ _ _ _ (drop (c.loop-at.at + c.unwrap-used.result.used) c.args.chunk.now)
+    halted))
 
 pub loop-at-preserved : goal.loop-at-preserved
 loop-at-preserved g c = search (rules, hears_none, places, chunk_more, served_part)

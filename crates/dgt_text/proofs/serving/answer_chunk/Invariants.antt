@@ -1,5 +1,4 @@
-use Rattle.std.proofs.Common.{◌≡◌, ◌≤◌, ◌-◌, false, length, take}
-use Rattle.dgt_text.specs.Serving.{Served}
+use Rattle.{std.proofs.Common.{◌≡◌, ◌≤◌, ◌-◌, false, length, take}, dgt_text.specs.Serving.{Served}}
 use Rattle.dgt_text.proofs.serving.answer_chunk.Given as goal
 
 abbrev pub invariant-loop-at : goal.invariant-loop-at

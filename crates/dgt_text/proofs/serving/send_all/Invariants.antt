@@ -1,6 +1,4 @@
-use Rattle.std.proofs.Common.{◌≡◌, false}
-use Rattle.dgt_board.specs.Sending.{left_to_send}
-use Rattle.dgt_text.proofs.ServingLemmas.{Sent}
+use Rattle.{std.proofs.Common.{◌≡◌, false}, dgt_board.specs.Sending.{left_to_send}, dgt_text.proofs.ServingLemmas.{Sent}}
 use Rattle.dgt_text.proofs.serving.send_all.Given as goal
 
 abbrev pub invariant-loop-length : goal.invariant-loop-length

@@ -1,12 +1,10 @@
-use Rattle.std.proofs.Common.{[], rules}
-use Rattle.std.proofs.KnownBytes.{Consumes-nil}
-use Rattle.dgt_text.proofs.ServingLemmas.{served_more, served_stops, halted_run}
-use Rattle.dgt_lines.proofs.TurnLemmas.{no_read, next_read}
+use Rattle.{std.proofs.{Common.{[], rules}, KnownBytes.{Consumes-nil}}, dgt_text.proofs.ServingLemmas.{served_more, served_stops, halted_run}, dgt_lines.proofs.TurnLemmas.{no_read, next_read}}
 use Rattle.dgt_text.proofs.serving.serve.Goals as goal
 
 pub returns-in_err-answer-clause-output : goal.returns-in_err-answer-clause-output
 returns-in_err-answer-clause-output g c =
-    halted_run g.R.Source g.W.Sink _ _ _ _ _ _ _ [] _ _ (Consumes-nil (g.R.Source.left c.args.reader.now))
+    halted_run g.R.Source g.W.Sink _ _ _ _ _ _ _ [] _ _
+    (Consumes-nil (g.R.Source.left c.args.reader.now))
     c.in_err-answer.ensures.served.1 c.from_residual.ensures.1 c.in_err-answer.ensures.served.0
 
 pub loop-init : goal.loop-init
@@ -17,9 +15,10 @@ loop-init g c = record {
 
 pub returns-in_err-answer-2-clause-output : goal.returns-in_err-answer-2-clause-output
 returns-in_err-answer-2-clause-output g c =
-    served_stops c.divisions_append.ensures _ _ _ _ _ _ _ _ c.loop.invariant.in_turns c.loop.invariant.served
-    c.in-Ok.ensures.bytes.0 c.in_err-answer-2.ensures.served.1 c.from_residual-in_err-answer-2.ensures.1
-    c.in_err-answer-2.ensures.served.0
+    served_stops c.divisions_append.ensures _ _ _ _ _ _ _ _ c.loop.invariant.in_turns
+    c.loop.invariant.served
+    c.in-Ok.ensures.bytes.0 c.in_err-answer-2.ensures.served.1
+    c.from_residual-in_err-answer-2.ensures.1 c.in_err-answer-2.ensures.served.0
 
 pub loop-preserved : goal.loop-preserved
 loop-preserved g c =

@@ -1,9 +1,5 @@
-use Rattle.std.proofs.Common.{arith, true, [], append-nil, rules}
-use Rattle.std.proofs.lemmas.List.{length-take-le}
-use Rattle.std.proofs.KnownBytes.{Consumes-trans}
-use Rattle.dgt_text.proofs.PlayLemmas.{no_byte, on_more, on_none}
-use Rattle.dgt_text.proofs.ScriptRuns.{plays_flushed, scripted_ends, scripted_stops, scripted_unflushed}
-use Rattle.dgt_lines.proofs.TurnLemmas.{no_read, next_read}
+use Rattle.{std.proofs.{Common.{arith, true, [], append-nil, rules}, KnownBytes.{Consumes-trans}, lemmas.List.{length-take-le}}, dgt_text.proofs.PlayLemmas.{no_byte, on_more, on_none}}
+use Rattle.{dgt_text.proofs.ScriptRuns.{plays_flushed, scripted_ends, scripted_stops, scripted_unflushed}, dgt_lines.proofs.TurnLemmas.{no_read, next_read}}
 use Rattle.dgt_text.proofs.simulating.play.Goals as goal
 
 pub loop-init : goal.loop-init
@@ -22,8 +18,8 @@ loop-preserved g c =
     let given = length-take-le c.in-Ok.given c.read_some.new.buffer read.bound in record {
       in_turns = search (rules, next_read);
       played = plays_flushed g.S.Stage.rules g.W.Sink _ _ _ _ _ _ _ _
-          (on_more g.S.Stage.rules g.W.Sink _ _ _ _ _ _ _ _ _ _ _ _ _ q (chunk.played true q.rest q.kept q.cut.last))
-          flushed.output.appends;
+          (on_more g.S.Stage.rules g.W.Sink _ _ _ _ _ _ _ _ _ _ _ _ _ q
+          (chunk.played true q.rest q.kept q.cut.last)) flushed.output.appends;
       short = omega (arith, read.bound, c.read_some.auto.buffer, chunk.counted);
     }
 
@@ -53,8 +49,8 @@ returns-in_err-flush-clause-output g c =
     let turns = c.loop.invariant.in_turns in
     let q = c.loop.invariant.played in
     let at_end = g.R.Source.ended c.read_some.new.self in
-    scripted_unflushed g.S.Stage.rules g.R.Source g.W.Sink at_end c.args.limit _ _ _ _ _ _ _ _ _ _ _ _
-    (Consumes-trans _ _ _ turns.bytes _ turns.given c.in-Ok.ensures.bytes.0)
+    scripted_unflushed g.S.Stage.rules g.R.Source g.W.Sink at_end c.args.limit _ _ _ _ _ _ _ _ _ _ _
+    _ (Consumes-trans _ _ _ turns.bytes _ turns.given c.in-Ok.ensures.bytes.0)
     (on_more g.S.Stage.rules g.W.Sink _ _ _ _ _ _ _ _ _ _ _ _ _ q
     (c.in_ok-play_chunk.ensures.played at_end q.rest q.kept q.cut.last))
     c.from_residual-in_err-flush.ensures.1 c.in_err-flush.ensures.output

@@ -1,7 +1,5 @@
-use Rattle.std.proofs.Common.{refl, sym, ◌∙◌, append-nil, drop, true, arith, rules}
-use Rattle.std.proofs.lemmas.List.{places}
-use Rattle.dgt_text.specs.Simulating.{Stops}
-use Rattle.dgt_text.proofs.PlayLemmas.{on_none, on_held, on_line, on_rest, piece_exit, stops_after, held_bytes, line_bytes, left_bytes, feed_begins, no_flush_exit}
+use Rattle.{std.proofs.{Common.{refl, sym, ◌∙◌, append-nil, drop, true, arith, rules}, lemmas.List.{places}}, dgt_text.{specs.Simulating.{Stops}, proofs.PlayLemmas.{on_none, on_held, on_line}}}
+use Rattle.dgt_text.proofs.PlayLemmas.{on_rest, piece_exit, stops_after, held_bytes, line_bytes, left_bytes, feed_begins, no_flush_exit}
 use Rattle.dgt_text.proofs.simulating.play_chunk.Goals as goal
 
 pub loop-at-init : goal.loop-at-init
@@ -13,7 +11,8 @@ loop-at-init g c = record {
   no_flush = λ h. h;
   played = λ rest h k. rw (append-nil rest)
       (on_none g.S.Stage.rules g.W.Sink
-      (g.S.Stage.seen c.args.world.now) c.args.writer.now c.args.line.now c.args.number.now rest h k);
+      (g.S.Stage.seen c.args.world.now) c.args.writer.now c.args.line.now c.args.number.now rest h
+      k);
 }
 
 pub loop-at-preserved : goal.loop-at-preserved
@@ -44,10 +43,12 @@ loop-at-preserved-then-at-chunk g c =
       no_flush = λ h. c.in_ok-play_line.ensures.no_flush (c.loop-at.invariant.no_flush h);
       played = λ rest h k.
           let q = c.loop-at.invariant.played rest h k in
-          let begins = feed_begins true q.rest p i n c.if-at-chunk.true c.len_before-end.ensures.found q.cut.last
+          let begins =
+          feed_begins true q.rest p i n c.if-at-chunk.true c.len_before-end.ensures.found q.cut.last
           c.len_before-end.ensures.before in
           rw (sym (line_bytes rest p i n c.if-at-chunk.true c.len_before-end.ensures.found))
-          (on_line g.S.Stage.rules g.W.Sink _ _ _ _ _ _ _ _ _ _ _ _ q c.len_before-end.ensures.before c.new.ensures
+          (on_line g.S.Stage.rules g.W.Sink _ _ _ _ _ _ _ _ _ _ _ _ q
+          c.len_before-end.ensures.before c.new.ensures
           (c.in_ok-play_line.ensures.played true _ _ (c.add.ensures q.rest q.kept) begins));
     }
 
@@ -56,7 +57,8 @@ returns-in_err-play_line-clause-played g c = λ at_end rest h k.
     let p = c.args.chunk.now in let i = c.loop-at.at in let n = c.len_before-end.result in
     let fault = c.in_err-play_line.field-0.0 in
     let q = c.loop-at.invariant.played rest h k in
-    let begins = feed_begins at_end q.rest p i n c.if-at-chunk.true c.len_before-end.ensures.found q.cut.last
+    let begins =
+    feed_begins at_end q.rest p i n c.if-at-chunk.true c.len_before-end.ensures.found q.cut.last
     c.len_before-end.ensures.before in
     piece_exit g.S.Stage.rules g.W.Sink at_end _ _ _ _ _ _ _ _ _ _ c.from_residual.ensures.1
     (rw (left_bytes rest p i) at
@@ -65,5 +67,6 @@ returns-in_err-play_line-clause-played g c = λ at_end rest h k.
     (c.in_err-play_line.ensures.played at_end _ _ (c.add.ensures q.rest q.kept) begins)))
 
 pub returns-in_err-play_line-clause-no_flush : goal.returns-in_err-play_line-clause-no_flush
-returns-in_err-play_line-clause-no_flush g c = no_flush_exit g.W.Sink _ _ _ _ _ c.from_residual.ensures.1
+returns-in_err-play_line-clause-no_flush g c =
+    no_flush_exit g.W.Sink _ _ _ _ _ c.from_residual.ensures.1
     c.loop-at.invariant.no_flush c.in_err-play_line.ensures.no_flush

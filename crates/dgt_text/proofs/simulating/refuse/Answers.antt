@@ -1,5 +1,4 @@
-use Rattle.std.proofs.Common.{rules}
-use Rattle.dgt_text.proofs.PlayLemmas.{no_flush_exit, stopped_none}
+use Rattle.{std.proofs.Common.{rules}, dgt_text.proofs.PlayLemmas.{no_flush_exit, stopped_none}}
 use Rattle.dgt_text.proofs.simulating.refuse.Goals as goal
 
 pub returns-in_err-flush-clause-bytes : goal.returns-in_err-flush-clause-bytes
