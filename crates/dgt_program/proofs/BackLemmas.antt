@@ -1,25 +1,13 @@
 -- The text of a command requests it.
-use Rattle.std.proofs.Common.{◌≡◌, ◌≢◌, ◌∙◌, ◌+◌, ◌/◌, ◌%◌, ◌<◌, ◌≤◌, ◌⊎◌, ℕ, zero, suc, Bool, true, false, List, [], ◌∷◌, ◌++◌, length, get_or, map, None, ap, arith, inl, inr, refl, sym, slice_index as nth}
-use Rattle.std.proofs.Common.{rules}
-use Rattle.std.specs.Prelude.{codes, decimal, find, if◌then◌else◌, ◌==◌, ◌&&◌}
-use Rattle.std.specs.List.{All, list_all}
-use Rattle.std.proofs.lemmas.List.{get_or-map, length-map}
-use Rattle.std.specs.Str.{IsAscii}
-use Rattle.std.proofs.lemmas.Bool.{eqb-true, leb-true}
-use Rattle.std.proofs.lemmas.Bool.Decides.{nat_tests}
-use Rattle.hex.specs.Hex.{encode_lower, encode_with, lower_digits}
-use Rattle.hex.proofs.HexLemmas.{decode_of-encode_lower, decode_sized-encode_lower}
-use Rattle.dgt_values.specs.Segment.{IsShownBy}
-use Rattle.dgt_command.specs.declared.ids.KnownId.{KnownId}
-use Rattle.dgt_command.specs.Content.{ClockContent, CommandContent, Reset, Clock, Dump, Update, UpdateBoard, UpdateNice, Serial, Trademark, Battery, Version, LongSerial, ClockMessage, Leds, known_clock}
-use Rattle.dgt_command.specs.Encoding.{AreBytes, EncodesCommand, command_encoding}
-use Rattle.dgt_command.specs.Ids.{has_own_case, has_size, id_number, id_with, known_ids}
-use Rattle.dgt_lines.specs.Lines.{bytes_text, words_text}
-use Rattle.dgt_lines.specs.CommandWords.{command_text, display_word, is_printable, is_shown, known_words, raw_words, shown_character, text_word, words_with}
-use Rattle.dgt_ask.specs.declared.details.Detail.TheVariants as detail
+use Rattle.std.proofs.Common.{◌≡◌, ◌≢◌, ◌∙◌, ◌+◌, ◌/◌, ◌%◌, ◌<◌, ◌≤◌, ◌⊎◌, ℕ, zero, suc, Bool, true, false, List, [], ◌∷◌, ◌++◌, length, get_or, map, None, ap, arith, inl, inr, refl, sym}
+use Rattle.std.{proofs.{Common.{slice_index as nth, rules}, lemmas.{Bool.{eqb-true, leb-true}, Grind.{common_steps}, List.{get_or-map, length-map}, Bool.Decides.{nat_tests}}}, specs.List.{All}}
+use Rattle.{std.specs.{List.{list_all}, Prelude.{codes, decimal, find, if◌then◌else◌, ◌==◌, ◌&&◌}, Str.{IsAscii}}, hex.specs.Hex.{encode_lower, encode_with, lower_digits}}
+use Rattle.{hex.proofs.HexLemmas.{decode_of-encode_lower, decode_sized-encode_lower}, dgt_values.specs.Segment.{IsShownBy}, dgt_command.specs.Content.{ClockContent, CommandContent, Reset, Clock}}
+use Rattle.dgt_command.specs.{Content.{Dump, Update, UpdateBoard, UpdateNice, Serial, Trademark, Battery, Version, LongSerial, ClockMessage, Leds, known_clock}, Encoding.{AreBytes, EncodesCommand}}
+use Rattle.dgt_command.{specs.{Encoding.{command_encoding}, Ids.{has_own_case, has_size, id_number, id_with, known_ids}, declared.ids.KnownId.{KnownId}}, proofs.DivisionLemmas.{bytes_left}}
+use Rattle.dgt_lines.specs.{CommandWords.{command_text, display_word, is_printable, is_shown, known_words, raw_words, shown_character, text_word, words_with}, Lines.{bytes_text, words_text}}
 use Rattle.dgt_ask.specs.Asks.{AskInOrder, Asks, HasBytes, HasPayload, IsDisplay, IsText}
-use Rattle.dgt_command.proofs.DivisionLemmas.{bytes_left}
-use Rattle.std.proofs.lemmas.Grind.{common_steps}
+use Rattle.dgt_ask.specs.declared.details.Detail.TheVariants as detail
 
 -- bytes are read back from their text
 is_no_hyphen : (bytes : List ℕ) (byte : ℕ) → encode_lower (byte ∷ bytes) ≢ codes "-"
@@ -33,17 +21,25 @@ is_some_text bytes byte e = omega (arith, ap length e)
 has_bytes : (bytes : List ℕ) → AreBytes bytes → HasBytes (bytes_text bytes) bytes
 has_bytes [] are = inl (refl, refl)
 has_bytes (byte ∷ bytes) are =
-    inr (is_no_hyphen bytes byte, is_some_text bytes byte, decode_of-encode_lower (byte ∷ bytes) are)
+    inr
+    (is_no_hyphen bytes byte, is_some_text bytes byte, decode_of-encode_lower (byte ∷ bytes) are)
 
-has_payload : (known : KnownId) (size : ℕ) (payload : List ℕ) → AreBytes payload → length payload ≡ suc size
+has_payload : (known : KnownId) (size : ℕ) (payload : List ℕ) → AreBytes payload
+    → length payload ≡ suc size
     → HasPayload known (suc size) (bytes_text payload) (known_clock known payload)
 has_payload known size payload are sized = search (rules, decode_sized-encode_lower)
 
-leds_back : (leds bytes : List ℕ) → EncodesCommand (Leds leds) bytes → Asks (command_text (Leds leds)) (Leds leds)
+leds_back : (leds bytes : List ℕ) → EncodesCommand (Leds leds) bytes
+    → Asks (command_text (Leds leds)) (Leds leds)
 leds_back leds bytes encodes =
     let are : AreBytes (0x60 ∷ length leds ∷ leds) = rw (← encodes.encoded) encodes.are_bytes in
     let few : length leds < 256 = are 1 in
-    inr (detail.Leds, bytes_text leds, refl, (has_bytes leds (λ i. are (suc (suc i))), omega (arith, few)))
+    inr (
+      detail.Leds,
+      bytes_text leds,
+      refl,
+      (has_bytes leds (λ i. are (suc (suc i))), omega (arith, few)),
+    )
 
 -- ---- clock messages
 
@@ -52,9 +48,11 @@ pub record Carried (message : ClockContent) : Type 0 where
   pub few : length message.payload ≤ 252
   pub are_bytes : AreBytes message.payload
 
-carried : (message : ClockContent) (bytes : List ℕ) → EncodesCommand (ClockMessage message) bytes → Carried message
+carried : (message : ClockContent) (bytes : List ℕ) → EncodesCommand (ClockMessage message) bytes
+    → Carried message
 carried message bytes encodes =
-    let are : AreBytes (0x2b ∷ (length message.payload + 3) ∷ 0x03 ∷ message.id ∷ (message.payload ++ 0x00 ∷ []))
+    let are : AreBytes
+    (0x2b ∷ (length message.payload + 3) ∷ 0x03 ∷ message.id ∷ (message.payload ++ 0x00 ∷ []))
     = rw (← encodes.encoded) encodes.are_bytes in
     let size : length message.payload + 3 < 256 = are 1 in
     record {
@@ -66,7 +64,8 @@ carried message bytes encodes =
 one_byte : (byte : ℕ) → byte < 256 → AreBytes (byte ∷ [])
 one_byte byte small = search rules
 
-raw_back : (message : ClockContent) → Carried message → has_own_case message.id (length message.payload) ≡ false
+raw_back : (message : ClockContent) → Carried message
+    → has_own_case message.id (length message.payload) ≡ false
     → Asks (words_text (raw_words message.id message.payload)) (ClockMessage message)
 unfolding encode_with
 raw_back message carries other =
@@ -102,37 +101,45 @@ by_eight P holds (a ∷ b ∷ c ∷ d ∷ e ∷ f ∷ g ∷ []) z = absurd (omeg
 by_eight P holds (a ∷ b ∷ c ∷ d ∷ e ∷ f ∷ g ∷ h ∷ []) z = holds a b c d e f g h
 by_eight P holds (a ∷ b ∷ c ∷ d ∷ e ∷ f ∷ g ∷ h ∷ i ∷ xs) z = absurd (omega (arith, z))
 
-by_nine : (P : List ℕ → Type 0) → ((a b c d e f g h i : ℕ) → P (a ∷ b ∷ c ∷ d ∷ e ∷ f ∷ g ∷ h ∷ i ∷ []))
-    → (xs : List ℕ) → length xs ≡ 9 → P xs
+by_nine : (P : List ℕ → Type 0)
+    → ((a b c d e f g h i : ℕ) → P (a ∷ b ∷ c ∷ d ∷ e ∷ f ∷ g ∷ h ∷ i ∷ [])) → (xs : List ℕ)
+    → length xs ≡ 9 → P xs
 by_nine P holds [] z = absurd (omega (arith, z))
 by_nine P holds (x ∷ xs) z = by_eight (λ ys. P (x ∷ ys)) (holds x) xs (omega (arith, z))
 
-shown : (segments : ℕ) → is_shown (shown_character segments) ≡ true → IsShownBy (shown_character segments) segments
+shown : (segments : ℕ) → is_shown (shown_character segments) ≡ true
+    → IsShownBy (shown_character segments) segments
 shown segments is = grind (arith, nat_tests)
 
 both : (a b : Bool) → a && b ≡ true → (a ≡ true) × (b ≡ true)
 both a b e = search rules
 
 -- places that all show characters
-all_shown : (places : List ℕ) → list_all is_shown (map shown_character places) ≡ true → (i : ℕ) → i < length places
-    → IsShownBy (nth (map shown_character places) i) (nth places i)
+all_shown : (places : List ℕ) → list_all is_shown (map shown_character places) ≡ true → (i : ℕ)
+    → i < length places → IsShownBy (nth (map shown_character places) i) (nth places i)
 all_shown [] are i small = absurd (omega (arith, small))
 all_shown (x ∷ xs) are zero small =
     shown x (both (is_shown (shown_character x)) (list_all is_shown (map shown_character xs)) are).0
 all_shown (x ∷ xs) are (suc i) small =
-    all_shown xs (both (is_shown (shown_character x)) (list_all is_shown (map shown_character xs)) are).1 i
+    all_shown xs
+    (both (is_shown (shown_character x)) (list_all is_shown (map shown_character xs)) are).1 i
     (omega (arith, small))
 
 -- the display of eight bytes
-display_choice : (a b c d e f g h : ℕ) → AreBytes (a ∷ b ∷ c ∷ d ∷ e ∷ f ∷ g ∷ h ∷ []) → (plain : Bool)
-    → (list_all is_shown (map shown_character (c ∷ b ∷ a ∷ f ∷ e ∷ d ∷ [])) && g == 0 && h == 0) ≡ plain
-    → IsDisplay (if plain then map shown_character (c ∷ b ∷ a ∷ f ∷ e ∷ d ∷ [])
-    else bytes_text (a ∷ b ∷ c ∷ d ∷ e ∷ f ∷ g ∷ h ∷ []))
+display_choice : (a b c d e f g h : ℕ) → AreBytes (a ∷ b ∷ c ∷ d ∷ e ∷ f ∷ g ∷ h ∷ [])
+    → (plain : Bool)
+    → (list_all is_shown (map shown_character (c ∷ b ∷ a ∷ f ∷ e ∷ d ∷ [])) && g == 0 && h == 0)
+    ≡ plain
+    → IsDisplay
+    (if plain then map shown_character (c ∷ b ∷ a ∷ f ∷ e ∷ d ∷ []) else bytes_text
+    (a ∷ b ∷ c ∷ d ∷ e ∷ f ∷ g ∷ h ∷ []))
     (known_clock KnownId.Display (a ∷ b ∷ c ∷ d ∷ e ∷ f ∷ g ∷ h ∷ []))
 display_choice a b c d e f g h are false is = inl (has_payload KnownId.Display 7 _ are refl)
 display_choice a b c d e f g h are true is =
-    let outer = both (list_all is_shown (map shown_character (c ∷ b ∷ a ∷ f ∷ e ∷ d ∷ [])) && g == 0) (h == 0) is in
-    let inner = both (list_all is_shown (map shown_character (c ∷ b ∷ a ∷ f ∷ e ∷ d ∷ []))) (g == 0) outer.0 in
+    let outer = both
+    (list_all is_shown (map shown_character (c ∷ b ∷ a ∷ f ∷ e ∷ d ∷ [])) && g == 0) (h == 0) is in
+    let inner =
+    both (list_all is_shown (map shown_character (c ∷ b ∷ a ∷ f ∷ e ∷ d ∷ []))) (g == 0) outer.0 in
     inr (
       refl,
       (
@@ -145,7 +152,9 @@ display_choice a b c d e f g h are true is =
 display_back : (payload : List ℕ) → AreBytes payload → length payload ≡ 8
     → IsDisplay (display_word payload) (known_clock KnownId.Display payload)
 display_back payload are sized =
-    by_eight (λ payload. AreBytes payload → IsDisplay (display_word payload) (known_clock KnownId.Display payload))
+    by_eight
+    (λ payload. AreBytes payload
+    → IsDisplay (display_word payload) (known_clock KnownId.Display payload))
     (search (rules, display_choice))
     payload sized are
 
@@ -153,20 +162,24 @@ display_back payload are sized =
 ascii_all : (xs : List ℕ) → list_all is_printable xs ≡ true → IsAscii xs
 ascii_all xs are = grind (arith, common_steps, both, leb-true)
 
-text_choice : (a b c d e f g h i : ℕ) → AreBytes (a ∷ b ∷ c ∷ d ∷ e ∷ f ∷ g ∷ h ∷ i ∷ []) → (plain : Bool)
+text_choice : (a b c d e f g h i : ℕ) → AreBytes (a ∷ b ∷ c ∷ d ∷ e ∷ f ∷ g ∷ h ∷ i ∷ [])
+    → (plain : Bool)
     → (list_all is_printable (a ∷ b ∷ c ∷ d ∷ e ∷ f ∷ g ∷ h ∷ []) && i == 0) ≡ plain
-    → IsText (if plain then a ∷ b ∷ c ∷ d ∷ e ∷ f ∷ g ∷ h ∷ []
-    else bytes_text (a ∷ b ∷ c ∷ d ∷ e ∷ f ∷ g ∷ h ∷ i ∷ []))
+    → IsText
+    (if plain then a ∷ b ∷ c ∷ d ∷ e ∷ f ∷ g ∷ h
+    ∷ [] else bytes_text (a ∷ b ∷ c ∷ d ∷ e ∷ f ∷ g ∷ h ∷ i ∷ []))
     (known_clock KnownId.Text (a ∷ b ∷ c ∷ d ∷ e ∷ f ∷ g ∷ h ∷ i ∷ []))
 text_choice a b c d e f g h i are false is = inl (has_payload KnownId.Text 8 _ are refl)
 text_choice a b c d e f g h i are true is =
     let parts = both (list_all is_printable (a ∷ b ∷ c ∷ d ∷ e ∷ f ∷ g ∷ h ∷ [])) (i == 0) is in
-    inr (refl, ascii_all (a ∷ b ∷ c ∷ d ∷ e ∷ f ∷ g ∷ h ∷ []) parts.0, rw (eqb-true i 0 parts.1) refl)
+    inr
+    (refl, ascii_all (a ∷ b ∷ c ∷ d ∷ e ∷ f ∷ g ∷ h ∷ []) parts.0, rw (eqb-true i 0 parts.1) refl)
 
 text_back : (payload : List ℕ) → AreBytes payload → length payload ≡ 9
     → IsText (text_word payload) (known_clock KnownId.Text payload)
 text_back payload are sized =
-    by_nine (λ payload. AreBytes payload → IsText (text_word payload) (known_clock KnownId.Text payload))
+    by_nine
+    (λ payload. AreBytes payload → IsText (text_word payload) (known_clock KnownId.Text payload))
     (search (rules, text_choice))
     payload sized are
 
@@ -188,10 +201,16 @@ known_back KnownId.Button (x ∷ payload) are few size =
 known_back KnownId.Version (x ∷ payload) are few size =
     let none : length (x ∷ payload) ≡ 0 = eqb-true _ _ size in absurd (omega (arith, none))
 known_back KnownId.SetAndRun payload are few size =
-    inr (detail.SetAndRun, bytes_text payload, refl, has_payload KnownId.SetAndRun 6 payload are (eqb-true _ _ size))
+    inr (
+      detail.SetAndRun,
+      bytes_text payload,
+      refl,
+      has_payload KnownId.SetAndRun 6 payload are (eqb-true _ _ size),
+    )
 known_back KnownId.Beep [] are few size =
     let one : length {A = ℕ} [] ≡ 1 = eqb-true _ _ size in absurd (omega (arith, one))
-known_back KnownId.Beep (x ∷ []) are few size = inr (detail.Beep, decimal x, refl, (x, are 0, refl, refl))
+known_back KnownId.Beep (x ∷ []) are few size =
+    inr (detail.Beep, decimal x, refl, (x, are 0, refl, refl))
 known_back KnownId.Beep (x ∷ y ∷ payload) are few size =
     let one : length (x ∷ y ∷ payload) ≡ 1 = eqb-true _ _ size in absurd (omega (arith, one))
 known_back KnownId.Text payload are few size =
@@ -200,7 +219,8 @@ known_back KnownId.Text payload are few size =
 -- an id is known, or its clock messages are of no known kind
 abbrev IsOneOf : ℕ → List KnownId → Type 0
 IsOneOf number ids =
-    ((known : KnownId) × (number ≡ id_number known)) ⊎ (find (λ id. id_number id == number) ids ≡ None)
+    ((known : KnownId) × (number ≡ id_number known))
+    ⊎ (find (λ id. id_number id == number) ids ≡ None)
 
 is_one_of : (number : ℕ) (id : KnownId) (ids : List KnownId) → IsOneOf number ids → (is : Bool)
     → (id_number id == number) ≡ is → IsOneOf number (id ∷ ids)
@@ -236,7 +256,8 @@ chosen_back message carries true is = elim (one_of message.id known_ids) [
 clock_back : (message : ClockContent) (bytes : List ℕ) → EncodesCommand (ClockMessage message) bytes
     → Asks (command_text (ClockMessage message)) (ClockMessage message)
 clock_back message bytes encodes =
-    chosen_back message (carried message bytes encodes) (has_own_case message.id (length message.payload)) refl
+    chosen_back message (carried message bytes encodes)
+    (has_own_case message.id (length message.payload)) refl
 
 pub asked_back : (command : CommandContent) (bytes : List ℕ) → EncodesCommand command bytes
     → Asks (command_text command) command
@@ -254,13 +275,21 @@ asked_back LongSerial bytes encodes = inl refl
 asked_back (ClockMessage message) bytes encodes = clock_back message bytes encodes
 asked_back (Leds leds) bytes encodes = leds_back leds bytes encodes
 
-pub asked_in_order : (commands : List CommandContent) → All (λ command. AreBytes (command_encoding command)) commands
+pub asked_in_order : (commands : List CommandContent)
+    → All (λ command. AreBytes (command_encoding command)) commands
     → AskInOrder (map command_text commands) (map command_encoding commands)
 asked_in_order commands are = record {
   all = length-map commands command_encoding ∙ sym (length-map commands command_text);
   each = λ i small.
       let within : i < length commands = rw (← length-map commands command_text) small in
       let command = get_or commands i Reset in
-      rw (get_or-map command_text commands i Reset [] within, get_or-map command_encoding commands i Reset [] within)
-      (inl (command, asked_back command _ (record { are_bytes = are i Reset within; encoded = refl }), refl));
+      rw (
+        get_or-map command_text commands i Reset [] within,
+        get_or-map command_encoding commands i Reset [] within,
+      )
+      (inl (
+        command,
+        asked_back command _ (record { are_bytes = are i Reset within; encoded = refl }),
+        refl,
+      ));
 }

@@ -1,21 +1,11 @@
 -- How tasks end.
-use Rattle.std.proofs.Common.{◌≡◌, ◌≢◌, ℕ, ◌+◌, Bool, true, false, List, [], ◌∷◌, ◌++◌, length, Result, Ok, Err, ap, arith, length-append}
-use Rattle.std.proofs.Common.{rules}
-use Rattle.dgt_link.specs.View.{WorldView}
-use Rattle.dgt_lines.specs.declared.faults.RunFault.{RunFault}
-use Rattle.dgt_lines.specs.declared.faults.RunFault.TheVariants.{WriteFailed}
-use Rattle.dgt_lines.specs.declared.streams.Source.{Ghosts as Source}
-use Rattle.dgt_lines.specs.declared.streams.Sink.{Ghosts as Sink}
-use Rattle.dgt_lines.specs.Lines.{monitor_text}
-use Rattle.dgt_lines.specs.Monitoring.{IsPrefix}
-use Rattle.dgt_lines.specs.Turns.{Change, Ran}
-use Rattle.dgt_text.specs.Simulating.{IsSimulated, Rules, ShowsHealed, ShowsPicture, faulty_rules, plain_rules}
-use Rattle.dgt_ask.specs.declared.tasks.Task.TheVariants.{Show, Monitor, Picture, Board, Simulate}
-use Rattle.dgt_program.specs.declared.fault.Fault.{Fault}
+use Rattle.std.proofs.{Common.{◌≡◌, ◌≢◌, ℕ, ◌+◌, Bool, true, false, List, [], ◌∷◌, ◌++◌, length, Result, Ok, Err, ap, arith, length-append, rules}, lemmas.Grind.{common_steps}}
+use Rattle.{dgt_link.specs.View.{WorldView}, dgt_lines.specs.{Lines.{monitor_text}, Monitoring.{IsPrefix}, Turns.{Change, Ran}, declared.{faults.RunFault.{RunFault}, streams.Sink.{Ghosts as Sink}}}}
+use Rattle.{dgt_lines.specs.declared.{streams.Source.{Ghosts as Source}, faults.RunFault.TheVariants.{WriteFailed}}, dgt_text.specs.Simulating.{IsSimulated, Rules, ShowsHealed, ShowsPicture}}
+use Rattle.{dgt_text.specs.Simulating.{faulty_rules, plain_rules}, dgt_ask.specs.declared.tasks.Task.TheVariants.{Show, Monitor, Picture, Board, Simulate}, dgt_program.specs.Ends.{AllIsMonitored}}
+use Rattle.dgt_program.specs.Ends.{AllIsShown, FaultsComeFirst, IsBeforeRuns, OddWordsAreRefused, PlacementsAreRefused, PlaysAll, PositionsArePlaced, ShowsAll, ShowsNothing, SmallLinesAreRefused}
+use Rattle.dgt_program.specs.{Ends.{TextsAreFlushed, WordsAreDecoded, WorldsAreLarge}, Tasks.{IsPrintedWith, IsShown, PlaysScript, PlaysWith, task_answer}, declared.fault.Fault.{Fault}}
 use Rattle.dgt_program.specs.declared.fault.Fault.TheVariants.{Run}
-use Rattle.dgt_program.specs.Ends.{AllIsMonitored, AllIsShown, FaultsComeFirst, IsBeforeRuns, OddWordsAreRefused, PlacementsAreRefused, PlaysAll, PositionsArePlaced, ShowsAll, ShowsNothing, SmallLinesAreRefused, TextsAreFlushed, WordsAreDecoded, WorldsAreLarge}
-use Rattle.dgt_program.specs.Tasks.{IsPrintedWith, IsShown, PlaysScript, PlaysWith, task_answer}
-use Rattle.std.proofs.lemmas.Grind.{common_steps}
 
 -- ---- answers
 
@@ -25,14 +15,16 @@ ok_run run e = search rules
 ok_not_failed : (run : Result (Unit {0}) RunFault) → run ≡ Ok tt → run ≢ Err WriteFailed
 ok_not_failed run e h = cc
 
-no_run : (run : Result (Unit {0}) RunFault) (fault : Fault) → IsBeforeRuns fault → Err fault ≡ task_answer run → ⊥
+no_run : (run : Result (Unit {0}) RunFault) (fault : Fault) → IsBeforeRuns fault
+    → Err fault ≡ task_answer run → ⊥
 no_run run fault first e = search rules
 
 -- ---- faults
 
 module _ {S T : Type 0} (R : Source S) (W : Sink T) where
-  no_script : (faults : Bool) (source : Change S) (sink : Change T) (fault : Fault) (world : WorldView)
-      → IsBeforeRuns fault → PlaysWith faults R W source sink (Err fault) world → ⊥
+  no_script : (faults : Bool) (source : Change S) (sink : Change T) (fault : Fault)
+      (world : WorldView) → IsBeforeRuns fault → PlaysWith faults R W source sink (Err fault) world
+      → ⊥
   no_script false source sink fault world first p = no_run p.plays.run fault first p.plays.answer
   no_script true source sink fault world first p = no_run p.plays.run fault first p.plays.answer
 
@@ -44,10 +36,12 @@ module _ {S T : Type 0} (R : Source S) (W : Sink T) where
   pub all_is_monitored : (names : Bool) → AllIsMonitored R W names (IsPrintedWith names (Ok tt))
   all_is_monitored names source sink p = search (rules, ok_run)
 
-  script_ends : (rules : Rules) (ShowsBoard : WorldView → List ℕ → Type 0) (source : Change S) (sink : Change T)
-      (world : WorldView) → PlaysScript R W source sink (Ok tt) rules ShowsBoard world
+  script_ends : (rules : Rules) (ShowsBoard : WorldView → List ℕ → Type 0) (source : Change S)
+      (sink : Change T) (world : WorldView)
+      → PlaysScript R W source sink (Ok tt) rules ShowsBoard world
       → (last : WorldView)
-      × Ran R W source sink (IsSimulated {A = Unit {0}} rules (R.ended source.new) (Ok tt) world last)
+      × Ran R W source sink
+      (IsSimulated {A = Unit {0}} rules (R.ended source.new) (Ok tt) world last)
       × Ran R W source sink (λ _ out. ShowsBoard last out)
   script_ends rules ShowsBoard source sink world p = grind (arith, common_steps, ok_run)
 
@@ -77,7 +71,8 @@ module _ {T : Type 0} (W : Sink T) where
   pub texts_are_flushed : TextsAreFlushed W
   texts_are_flushed sink text p = search (rules, ok_run)
 
-  pub all_is_shown : (leaves : Result (Unit {0}) RunFault → List ℕ → List ℕ → Type 0) → AllIsShown W leaves
+  pub all_is_shown : (leaves : Result (Unit {0}) RunFault → List ℕ → List ℕ → Type 0)
+      → AllIsShown W leaves
   all_is_shown leaves sink bytes p = search (rules, ok_run, ok_not_failed)
 
   pub words_are_decoded : WordsAreDecoded W
@@ -94,6 +89,7 @@ shows_all = search (rules, length-append)
 pub shows_nothing : ShowsNothing
 shows_nothing out p = go p.0 p.1.0 p.1.1 p.2
   where
-    go : (read rest : List ℕ) → [] ≡ read ++ rest → IsPrefix out (monitor_text read) → IsPrefix out (monitor_text [])
+    go : (read rest : List ℕ) → [] ≡ read ++ rest → IsPrefix out (monitor_text read)
+        → IsPrefix out (monitor_text [])
     go [] rest e q = q
     go (x ∷ read) rest e q = absurd (cc)

@@ -1,7 +1,5 @@
-use Rattle.std.proofs.Common.{false, true}
-use Rattle.dgt_lines.specs.Monitoring.{IsMonitored}
-use Rattle.dgt_lines.specs.NamedLines.{AreMonitored}
-use Rattle.dgt_program.proofs.EndLemmas.{all_is_monitored, all_is_shown, plays_all, plays_all_faults, texts_are_flushed}
+use Rattle.{std.proofs.Common.{false, true}, dgt_lines.specs.{Monitoring.{IsMonitored}, NamedLines.{AreMonitored}}, dgt_program.proofs.EndLemmas.{all_is_monitored, all_is_shown, plays_all}}
+use Rattle.dgt_program.proofs.EndLemmas.{plays_all_faults, texts_are_flushed}
 use Rattle.dgt_program.proofs.laws.tasks_end_well.Goals as goal
 
 pub returns-clause-flushed : goal.returns-clause-flushed

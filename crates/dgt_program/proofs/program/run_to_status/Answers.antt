@@ -1,5 +1,4 @@
-use Rattle.std.proofs.Common.{refl}
-use Rattle.dgt_program.proofs.TaskLemmas.{either_result}
+use Rattle.{std.proofs.Common.{refl}, dgt_program.proofs.TaskLemmas.{either_result}}
 use Rattle.dgt_program.proofs.program.run_to_status.Goals as goal
 
 pub returns-in-Ok-clause-status : goal.returns-in-Ok-clause-status

@@ -1,5 +1,4 @@
-use Rattle.std.proofs.Common.{rules}
-use Rattle.dgt_program.proofs.TaskLemmas.{shown}
+use Rattle.{std.proofs.Common.{rules}, dgt_program.proofs.TaskLemmas.{shown}}
 use Rattle.dgt_program.proofs.program.show.Goals as goal
 
 pub returns : goal.returns

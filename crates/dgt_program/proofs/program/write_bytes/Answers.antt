@@ -1,6 +1,4 @@
-use Rattle.std.proofs.Common.{[], Err}
-use Rattle.std.proofs.lemmas.List.{append-nil}
-use Rattle.dgt_program.proofs.TaskLemmas.{failed}
+use Rattle.{std.proofs.{Common.{[], Err}, lemmas.List.{append-nil}}, dgt_program.proofs.TaskLemmas.{failed}}
 use Rattle.dgt_program.proofs.program.write_bytes.Goals as goal
 
 pub returns-in_err-flush : goal.returns-in_err-flush
