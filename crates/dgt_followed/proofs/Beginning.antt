@@ -1,21 +1,9 @@
 -- A host that awaits nothing and starts over leaves an exact world exact.
-use Rattle.std.proofs.Common.{◌≡◌, inl, refl, sym, ap, ◌∙◌, ℕ, List, [], ◌∷◌, ◌++◌, append_assoc, map, replicate}
-use Rattle.std.proofs.lemmas.List.Elements.{filter_map-append}
-use Rattle.std.specs.Prelude.{filter_map}
-use Rattle.dgt_values.specs.declared.kinds.Kind.{Kind}
-use Rattle.dgt_message.specs.Content.{answered_kind}
-use Rattle.dgt_command.specs.Content.{EventContent}
-use Rattle.dgt_command.specs.Laws.{DivisionsAppend, ZerosSettleTheReader}
-use Rattle.dgt_command.specs.Words.{Divides, IsNoiseList, IsPartial}
-use Rattle.dgt_host.specs.Host.{follow_bytes, restart_bytes}
-use Rattle.dgt_link.specs.declared.acts.Outcome.{Outcome}
-use Rattle.dgt_link.specs.Faults.{FaultyBecomes, FaultyContent, FaultyStep}
-use Rattle.dgt_link.specs.Machine.{MachineState, commands_anew}
-use Rattle.dgt_link.specs.Sound.{IsExact, coming_kinds, kind_of_event, kind_of_reply}
-use Rattle.dgt_link.specs.View.{WorldView}
-use Rattle.dgt_link.proofs.Dividing.{anew_divides}
-use Rattle.dgt_link.proofs.Soundness.{asked_sound, noise-kinds}
-use Rattle.dgt_followed.specs.Restated.{IsRestatedWorld}
+use Rattle.std.{proofs.{Common.{◌≡◌, inl, refl, sym, ap, ◌∙◌, ℕ, List, [], ◌∷◌, ◌++◌, append_assoc, map, replicate}, lemmas.List.Elements.{filter_map-append}}, specs.Prelude.{filter_map}}
+use Rattle.{dgt_values.specs.declared.kinds.Kind.{Kind}, dgt_message.specs.Content.{answered_kind}, dgt_command.specs.{Content.{EventContent}, Laws.{DivisionsAppend, ZerosSettleTheReader}}}
+use Rattle.{dgt_command.specs.Words.{Divides, IsNoiseList, IsPartial}, dgt_host.specs.Host.{follow_bytes, restart_bytes}, dgt_link.specs.Faults.{FaultyBecomes, FaultyContent, FaultyStep}}
+use Rattle.dgt_link.specs.{Machine.{MachineState, commands_anew}, Sound.{IsExact, coming_kinds, kind_of_event, kind_of_reply}, View.{WorldView}, declared.acts.Outcome.{Outcome}}
+use Rattle.{dgt_link.proofs.{Dividing.{anew_divides}, Soundness.{asked_sound, noise-kinds}}, dgt_followed.specs.Restated.{IsRestatedWorld}}
 
 -- a state in which these are also under way to the board
 abbrev more_down : MachineState → List EventContent → MachineState
@@ -36,38 +24,43 @@ more_down-kinds x more =
     let down : List Kind = filter_map kind_of_event x.down in
     let new : List Kind = filter_map kind_of_event more in
     ap (λ (kinds : List Kind). up ++ (owed ++ kinds)) (filter_map-append kind_of_event x.down more)
-    ∙ sym (append_assoc up (owed ++ down) new ∙ ap (λ (kinds : List Kind). up ++ kinds) (append_assoc owed down new))
+    ∙ sym
+    (append_assoc up (owed ++ down) new
+    ∙ ap (λ (kinds : List Kind). up ++ kinds) (append_assoc owed down new))
 
-more_exact : (x : MachineState) (noise : List EventContent) → IsNoiseList noise → IsExact x → x.awaited ≡ []
-    → IsExact (more_down x (noise ++ map EventContent.Read commands_anew))
+more_exact : (x : MachineState) (noise : List EventContent) → IsNoiseList noise → IsExact x
+    → x.awaited ≡ [] → IsExact (more_down x (noise ++ map EventContent.Read commands_anew))
 more_exact x noise is_noise exact none =
     let more : List EventContent = noise ++ map EventContent.Read commands_anew in
     let kinds : coming_kinds (more_down x more) ≡ Kind.Dump ∷ []
-    = more_down-kinds x more ∙ ap (λ (new : List Kind). coming_kinds x ++ new) (anew-kinds noise is_noise)
+    = more_down-kinds x more
+    ∙ ap (λ (new : List Kind). coming_kinds x ++ new) (anew-kinds noise is_noise)
     ∙ ap (λ (old : List Kind). old ++ Kind.Dump ∷ []) (sym exact.awaited ∙ none) in
     record {
-      sound = asked_sound x (x.down ++ more) (Kind.Dump ∷ []) exact.sound (rw kinds (inl (refl, tt)));
+      sound =
+          asked_sound x (x.down ++ more) (Kind.Dump ∷ []) exact.sound (rw kinds (inl (refl, tt)));
       clock = exact.clock;
       awaited = sym kinds;
     }
 
 module _ (append : DivisionsAppend) (zeros : ZerosSettleTheReader) (nothing : IsPartial []) where
   anew_comes : (bytes : List ℕ) (events : List EventContent) → Divides bytes events []
-      → (noise : List EventContent) × IsNoiseList noise
-      × Divides (bytes ++ restart_bytes) (events ++ (noise ++ map EventContent.Read commands_anew)) []
+      → (noise : List EventContent) × IsNoiseList noise × Divides (bytes ++ restart_bytes)
+      (events ++ (noise ++ map EventContent.Read commands_anew)) []
   anew_comes bytes events divides = let (noise, is_noise, divided) = zeros [] nothing in (
     noise,
     is_noise,
     append bytes restart_bytes events (noise ++ map EventContent.Read commands_anew) [] [] divides
-        (append (replicate 255 0) follow_bytes noise (map EventContent.Read commands_anew) [] [] divided
-        (anew_divides nothing)),
+        (append (replicate 255 0) follow_bytes noise (map EventContent.Read commands_anew) [] []
+        divided (anew_divides nothing)),
   )
 
   begun_restates : (world after : WorldView) → IsRestatedWorld world → world.host.awaited ≡ []
       → FaultyBecomes FaultyContent.Restart world after → IsRestatedWorld after
   begun_restates world after is none same =
       let x = is.state in
-      let (noise, is_noise, down) = anew_comes (world.board.partial ++ world.down.bytes) x.down is.stands.down in
+      let (noise, is_noise, down) =
+      anew_comes (world.board.partial ++ world.down.bytes) x.down is.stands.down in
       let exact = more_exact x noise is_noise is.exact (sym is.stands.awaited ∙ none) in
       rw same (record {
         state = more_down x (noise ++ map EventContent.Read commands_anew);
@@ -86,6 +79,8 @@ module _ (append : DivisionsAppend) (zeros : ZerosSettleTheReader) (nothing : Is
       })
 
   pub beginning_restates : (world after : WorldView) (answer : Outcome) → IsRestatedWorld world
-      → world.host.awaited ≡ [] → FaultyStep FaultyContent.Restart world answer after → IsRestatedWorld after
-  beginning_restates world after Outcome.Done is none step = begun_restates world after is none step.leaves
+      → world.host.awaited ≡ [] → FaultyStep FaultyContent.Restart world answer after
+      → IsRestatedWorld after
+  beginning_restates world after Outcome.Done is none step =
+      begun_restates world after is none step.leaves
   beginning_restates world after _ is none step = rw (step.leaves) is

@@ -1,17 +1,7 @@
 -- What a host notices, and what is at rest.
-use Rattle.std.proofs.Common.{◌≡◌, ◌≢◌, ◌⊎◌, inl, inr, refl, sym, ap, ℕ, zero, suc, List, [], ◌∷◌, true, false, arith}
-use Rattle.std.proofs.lemmas.Bool.{false≢true}
-use Rattle.std.specs.Prelude.{◌↔◌, Contains}
-use Rattle.dgt_values.specs.declared.kinds.Kind.{Kind}
-use Rattle.dgt_board.specs.State.{BoardState}
-use Rattle.dgt_board.specs.declared.replies.Reply.{Reply}
-use Rattle.dgt_link.specs.Act.{ActContent}
-use Rattle.dgt_link.specs.Faults.{FaultyContent, FaultyStep}
-use Rattle.dgt_link.specs.Machine.{MachineState, Move}
-use Rattle.dgt_link.specs.View.{WorldView}
-use Rattle.dgt_link.specs.declared.acts.Outcome.{Outcome}
-use Rattle.dgt_followed.specs.Followed.{FollowedStep, FollowedView, Happening}
-use Rattle.dgt_followed.specs.Heard.{is_noticed}
+use Rattle.std.{proofs.{Common.{◌≡◌, ◌≢◌, ◌⊎◌, inl, inr, refl, sym, ap, ℕ, zero, suc, List, [], ◌∷◌, true, false, arith}, lemmas.Bool.{false≢true}}, specs.Prelude.{◌↔◌, Contains}}
+use Rattle.{dgt_values.specs.declared.kinds.Kind.{Kind}, dgt_board.specs.{State.{BoardState}, declared.replies.Reply.{Reply}}, dgt_link.specs.{Act.{ActContent}, Faults.{FaultyContent, FaultyStep}}}
+use Rattle.{dgt_link.specs.{Machine.{MachineState, Move}, View.{WorldView}, declared.acts.Outcome.{Outcome}}, dgt_followed.specs.{Followed.{FollowedStep, FollowedView, Happening}, Heard.{is_noticed}}}
 use Rattle.dgt_followed.specs.Restated.{ActsAtRest, IsAtRest, SendsAtRest}
 
 -- the acts that a host notices, besides deliveries
@@ -54,11 +44,13 @@ HearsNothing before after =
 same_world : (before after : WorldView) → after ≡ before → HearsNothing before after
 same_world before after same = rw same (refl, refl, refl)
 
-unheard_step : (act : FaultyContent) (before after : WorldView) (answer : Outcome) → is_noticed act ≡ false
-    → FaultyStep act before answer after → HearsNothing before after
-unheard_step (FaultyContent.Plain (ActContent.Change square piece)) before after Outcome.Done none step =
+unheard_step : (act : FaultyContent) (before after : WorldView) (answer : Outcome)
+    → is_noticed act ≡ false → FaultyStep act before answer after → HearsNothing before after
+unheard_step (FaultyContent.Plain (ActContent.Change square piece)) before after Outcome.Done none
+    step =
     rw step.leaves (refl, refl, refl)
-unheard_step (FaultyContent.Plain (ActContent.ClockRead clock)) before after Outcome.Done none step =
+unheard_step (FaultyContent.Plain (ActContent.ClockRead clock)) before after Outcome.Done none
+    step =
     rw step.leaves (refl, refl, refl)
 unheard_step (FaultyContent.Plain (ActContent.Host command)) before after Outcome.Done none step =
     rw step.leaves.1 (refl, refl, refl)
@@ -66,13 +58,18 @@ unheard_step (FaultyContent.Plain ActContent.BoardSend) before after Outcome.Don
     rw step.leaves.3 (refl, refl, refl)
 unheard_step (FaultyContent.Plain (ActContent.ToBoard count)) before after Outcome.Done none step =
     rw step.leaves.leaves (refl, refl, refl)
-unheard_step (FaultyContent.GarbleUp bytes) before after Outcome.Done none step = rw step.leaves (refl, refl, refl)
-unheard_step (FaultyContent.GarbleDown bytes) before after Outcome.Done none step = rw step.leaves.1 (refl, refl, refl)
-unheard_step FaultyContent.BoardLost before after Outcome.Done none step = rw step.leaves (refl, refl, refl)
+unheard_step (FaultyContent.GarbleUp bytes) before after Outcome.Done none step =
+    rw step.leaves (refl, refl, refl)
+unheard_step (FaultyContent.GarbleDown bytes) before after Outcome.Done none step =
+    rw step.leaves.1 (refl, refl, refl)
+unheard_step FaultyContent.BoardLost before after Outcome.Done none step =
+    rw step.leaves (refl, refl, refl)
 unheard_step (FaultyContent.Plain (ActContent.ToHost count)) before after answer none step =
     absurd (false≢true (sym none))
-unheard_step (FaultyContent.Plain ActContent.Break) before after answer none step = absurd (false≢true (sym none))
-unheard_step (FaultyContent.Plain ActContent.HostBreak) before after answer none step = absurd (false≢true (sym none))
+unheard_step (FaultyContent.Plain ActContent.Break) before after answer none step =
+    absurd (false≢true (sym none))
+unheard_step (FaultyContent.Plain ActContent.HostBreak) before after answer none step =
+    absurd (false≢true (sym none))
 unheard_step FaultyContent.Restart before after answer none step = absurd (false≢true (sym none))
 unheard_step FaultyContent.GiveUp before after answer none step = absurd (false≢true (sym none))
 unheard_step act before after _ none step = same_world before after step.leaves
@@ -84,7 +81,8 @@ unheard act before after none (answer, step, kept, since, clock_since) =
 
 -- ---- at rest
 
-pub acts_rest : (act : ActContent) (world : WorldView) → act ≢ ActContent.BoardSend → ActsAtRest act world
+pub acts_rest : (act : ActContent) (world : WorldView) → act ≢ ActContent.BoardSend
+    → ActsAtRest act world
 acts_rest ActContent.BoardSend world other = absurd (other refl)
 acts_rest _ world other = tt
 
@@ -92,12 +90,12 @@ pub moves_rest : (x : MachineState) (move : Move) → move ≢ Move.Reply → Se
 moves_rest x Move.Reply other = absurd (other refl)
 moves_rest x _ other = tt
 
-pub reported_rests : (board : BoardState) (owed : List Reply) → board.squares ≡ board.reported_squares
-    → IsAtRest board owed
+pub reported_rests : (board : BoardState) (owed : List Reply)
+    → board.squares ≡ board.reported_squares → IsAtRest board owed
 reported_rests board (Reply.Of Kind.Dump ∷ later) same = same
 reported_rests board _ same = tt
 
-pub others_rest : (board : BoardState) (reply : Reply) (later : List Reply) → reply ≢ Reply.Of Kind.Dump
-    → IsAtRest board (reply ∷ later)
+pub others_rest : (board : BoardState) (reply : Reply) (later : List Reply)
+    → reply ≢ Reply.Of Kind.Dump → IsAtRest board (reply ∷ later)
 others_rest board (Reply.Of Kind.Dump) later other = absurd (other refl)
 others_rest board _ later other = tt

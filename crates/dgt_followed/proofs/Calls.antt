@@ -1,33 +1,27 @@
 -- The effects of a follower's calls are happenings to it and to the world of its host.
-use Rattle.std.proofs.Common.{◌≡◌, ◌<◌, true, false, Ok, refl, sym, ap, ◌∙◌, ℕ, List, [], ◌∷◌, ◌++◌, append_assoc, append-nil, flat_map, length, subst, take, arith, rules}
-use Rattle.std.proofs.lemmas.Bool.{false≢true}
-use Rattle.std.proofs.lemmas.List.{length-append}
-use Rattle.dgt_command.specs.Content.{CommandContent, requested_kind}
-use Rattle.dgt_command.specs.Encoding.{EncodesCommand, command_encoding}
-use Rattle.dgt_host.specs.Host.{HostView, Request, Sends, awaits_too_many, host_after, host_awaiting}
-use Rattle.dgt_follow.specs.declared.asking.UpdateMode.{UpdateMode}
-use Rattle.dgt_follow.specs.Pace.{KeepsCount, asking_bytes, mode_command, sent_bytes}
-use Rattle.dgt_follow.specs.Calls.{Call, follower_after_call}
-use Rattle.dgt_follow.specs.Follower.{Asks, FollowerView, asking_of, follower_after}
-use Rattle.dgt_link.specs.declared.acts.Outcome.{Outcome}
-use Rattle.dgt_link.specs.Faults.{sends}
-use Rattle.dgt_link.specs.Step.{moves_nothing}
-use Rattle.dgt_link.specs.View.{LineContents, WorldView, with_bytes, without_first}
-use Rattle.dgt_followed.specs.Heard.{HeardRuns, HeardStep, TimedHappening, is_setting, sending}
-use Rattle.dgt_followed.specs.Followed.{FollowedView, HasRoom, after_writing, clock_count_after, clock_count_after_asking, count_after, count_after_asking, follower_of}
+use Rattle.std.proofs.{Common.{◌≡◌, ◌<◌, true, false, Ok, refl, sym, ap, ◌∙◌, ℕ, List, [], ◌∷◌, ◌++◌, append_assoc, append-nil, flat_map, length, subst, take, arith, rules}, lemmas.Bool.{false≢true}}
+use Rattle.{std.proofs.lemmas.List.{length-append}, dgt_command.specs.{Content.{CommandContent, requested_kind}, Encoding.{EncodesCommand, command_encoding}}, dgt_host.specs.Host.{HostView, Request}}
+use Rattle.{dgt_host.specs.Host.{Sends, awaits_too_many, host_after, host_awaiting}, dgt_follow.specs.{Calls.{Call, follower_after_call}, Follower.{Asks, FollowerView, asking_of, follower_after}}}
+use Rattle.{dgt_follow.specs.{Pace.{KeepsCount, asking_bytes, mode_command, sent_bytes}, declared.asking.UpdateMode.{UpdateMode}}, dgt_link.specs.{Faults.{sends}, Step.{moves_nothing}}}
+use Rattle.{dgt_link.specs.{View.{LineContents, WorldView, with_bytes, without_first}, declared.acts.Outcome.{Outcome}}, dgt_followed.specs.Followed.{FollowedView, HasRoom, after_writing}}
+use Rattle.dgt_followed.specs.{Followed.{clock_count_after, clock_count_after_asking, count_after, count_after_asking, follower_of}, Heard.{HeardRuns, HeardStep, TimedHappening, is_setting, sending}}
 use Rattle.dgt_followed.proofs.Acts.{asking_is_acts, fits, mode_done, prefix_of}
 
-pub ask_happens : (before : FollowedView) (after : FollowerView) (now written : ℕ) (old new : List ℕ)
+pub ask_happens : (before : FollowedView) (after : FollowerView) (now written : ℕ)
+    (old new : List ℕ)
     → Asks (asking_of (follower_of before) now) now (follower_of before) after old new (Ok written)
     → HasRoom before.world.down (asking_bytes before.pace.mode (asking_of (follower_of before) now))
-    → HeardStep (TimedHappening.Asks now) before (record {
+    → HeardStep (TimedHappening.Asks now) before
+    (record {
       world = after_writing before.world after.host (take written new);
       pace = after.pace;
       since = count_after_asking (asking_of (follower_of before) now) before.since;
-      clock_since = clock_count_after_asking before.pace.mode (asking_of (follower_of before) now) before.clock_since;
+      clock_since = clock_count_after_asking before.pace.mode (asking_of (follower_of before) now)
+          before.clock_since;
     })
 ask_happens before after now written old new asked room =
-    let done = asking_is_acts (follower_of before) after now written old new before.world asked refl room in
+    let done =
+    asking_is_acts (follower_of before) after now written old new before.world asked refl room in
     ((done, asked.1, refl, refl), tt)
 
 moves_some : (line : LineContents) (count : ℕ) → 0 < count → 0 < length line.bytes
@@ -57,7 +51,10 @@ hear_happens hosts counts before now count asked some =
         Outcome.Done,
         record {
           answers = rw free refl;
-          leaves = ap (λ (h : HostView). record before.world { host = h; up = without_first before.world.up count })
+          leaves =
+              ap
+              (λ (h : HostView). record before.world
+              { host = h; up = without_first before.world.up count })
               (hosts (follower_of before) now bytes);
         },
         record { patience = kept.patience; left = kept.left },
@@ -97,9 +94,16 @@ mode_happens : (mode : UpdateMode) (before : FollowedView)
       since = count_after (sends (mode_command mode)) before.since;
       clock_since = clock_count_after (sends (mode_command mode)) before.clock_since;
     })
-mode_happens mode before room =
-    ((Outcome.Done, mode_done mode before.world room, record { patience = refl; left = refl }, refl, refl),
-    (refl, refl))
+mode_happens mode before room = (
+  (
+    Outcome.Done,
+    mode_done mode before.world room,
+    record { patience = refl; left = refl },
+    refl,
+    refl,
+  ),
+  (refl, refl),
+)
 
 -- by these happenings the follower's host is this one and has written these bytes
 abbrev Happen : List TimedHappening → FollowedView → HostView → List ℕ → Type 0
@@ -112,22 +116,29 @@ bytes_of_one : (command : CommandContent)
 bytes_of_one command = append-nil (command_encoding command)
 
 bytes_of_two : (command next : CommandContent)
-    → flat_map command_encoding (command ∷ next ∷ []) ≡ command_encoding command ++ command_encoding next
-bytes_of_two command next = ap (λ (bytes : List ℕ). command_encoding command ++ bytes) (bytes_of_one next)
+    → flat_map command_encoding (command ∷ next ∷ [])
+    ≡ command_encoding command ++ command_encoding next
+bytes_of_two command next =
+    ap (λ (bytes : List ℕ). command_encoding command ++ bytes) (bytes_of_one next)
 
 bare_happens : (command : CommandContent) (before : FollowedView)
     → awaits_too_many before.world.host (requested_kind command) ≡ false
     → EncodesCommand command (command_encoding command)
     → HasRoom before.world.down (flat_map command_encoding (command ∷ []))
     → Happen (TimedHappening.Acts (sends command) ∷ []) before
-    (host_awaiting before.world.host (requested_kind command)) (flat_map command_encoding (command ∷ []))
+    (host_awaiting before.world.host (requested_kind command))
+    (flat_map command_encoding (command ∷ []))
 bare_happens command before few encodes room =
     let same = bytes_of_one command in
     let world : WorldView = before.world in
-    let step = one_happens before command few encodes (subst (HasRoom world.down) same room) in
-    (_, (_, [], [], step, (refl, refl, refl), refl, refl),
-    ap (λ (bytes : List ℕ). after_writing world (host_awaiting world.host (requested_kind command)) bytes)
-    (sym same), refl)
+    let step = one_happens before command few encodes (subst (HasRoom world.down) same room) in (
+      _,
+      (_, [], [], step, (refl, refl, refl), refl, refl),
+      ap
+          (λ (bytes : List ℕ). after_writing world
+          (host_awaiting world.host (requested_kind command)) bytes) (sym same),
+      refl,
+    )
 
 room_first : (line : LineContents) (first next : List ℕ) → HasRoom line (first ++ next)
     → HasRoom line first
@@ -141,7 +152,8 @@ frame_happens : (mode : UpdateMode) (command : CommandContent) (before : Followe
     → awaits_too_many before.world.host (requested_kind command) ≡ false
     → EncodesCommand command (command_encoding command)
     → HasRoom before.world.down (flat_map command_encoding (command ∷ mode_command mode ∷ []))
-    → Happen (TimedHappening.Acts (sends command) ∷ TimedHappening.Acts (sends (mode_command mode)) ∷ [])
+    → Happen
+    (TimedHappening.Acts (sends command) ∷ TimedHappening.Acts (sends (mode_command mode)) ∷ [])
     before (host_awaiting before.world.host (requested_kind command))
     (flat_map command_encoding (command ∷ mode_command mode ∷ []))
 frame_happens mode command before few encodes room =
@@ -150,10 +162,14 @@ frame_happens mode command before few encodes room =
     let same = bytes_of_two command (mode_command mode) in
     let world : WorldView = before.world in
     let fits_both : HasRoom world.down (first ++ next) = subst (HasRoom world.down) same room in
-    let step = one_happens before command few encodes (room_first world.down first next fits_both) in
-    let last = mode_happens mode _ (room_next world.down first next fits_both) in
-    (_, (_, [], [], step, (_, [], [], last, (refl, refl, refl), refl, refl), refl, refl),
-    rw same (simp append_assoc), refl)
+    let step =
+    one_happens before command few encodes (room_first world.down first next fits_both) in
+    let last = mode_happens mode _ (room_next world.down first next fits_both) in (
+      _,
+      (_, [], [], step, (_, [], [], last, (refl, refl, refl), refl, refl), refl, refl),
+      rw same (simp append_assoc),
+      refl,
+    )
 
 sent_happen : (mode : UpdateMode) (command : CommandContent) (before : FollowedView)
     → awaits_too_many before.world.host (requested_kind command) ≡ false
@@ -184,5 +200,6 @@ pub send_happens : (before : FollowedView) (command : CommandContent) (after : H
     → HasRoom before.world.down (sent_bytes before.pace.mode command)
     → Happen (sending before.pace.mode command) before after (take written new)
 send_happens before command after written old new sent encodes room =
-    let (ended, runs, world, pace) = sent_happen before.pace.mode command before sent.0 encodes room in
+    let (ended, runs, world, pace) =
+    sent_happen before.pace.mode command before sent.0 encodes room in
     (ended, runs, world ∙ world_sent before.world _ after written old new sent, pace)

@@ -1,20 +1,11 @@
--- After the last fault, one request more than the patience heals the clock, in the modes that report it.
-use Rattle.std.proofs.Common.{◌≡◌, inl, inr, ◌+◌, false, Some, refl, ap, ℕ, List, [], ◌∷◌, arith}
-use Rattle.std.specs.Prelude.{IsTrue}
-use Rattle.dgt_command.specs.Content.{CommandContent}
-use Rattle.dgt_board.specs.declared.modes.Mode.{Mode}
-use Rattle.dgt_board.specs.State.{command_mode, follows_clock}
-use Rattle.dgt_follow.specs.declared.asking.Asking.{Asking}
-use Rattle.dgt_follow.specs.declared.asking.UpdateMode.{UpdateMode}
-use Rattle.dgt_follow.specs.Pace.{PaceView, pace_after_asking, pace_at}
-use Rattle.dgt_follow.specs.Follower.{asking_of}
-use Rattle.dgt_link.specs.declared.acts.Outcome.{Outcome}
-use Rattle.dgt_link.specs.Clocks.{AreClockCalm, IsClockFollowing, IsClockPromisedWorld, stops_clock}
-use Rattle.dgt_link.specs.Faults.{FaultyContent, FaultyRuns, FaultyStep, is_fault, sends}
-use Rattle.dgt_link.specs.Healing.{IsInStep, IsInStepBy, IsSane}
-use Rattle.dgt_link.specs.View.{WorldView}
-use Rattle.dgt_followed.specs.Followed.{AfterAskings, FollowedStep, FollowedView, Happening, RunsDone, asking_acts, clock_count_after_asking, follower_of, unsettles_clock}
-use Rattle.dgt_followed.proofs.Askings.{Hope, Hopes, heartbeat_hope, neither, other_hope, promised_by_askings}
+-- After the last fault, one request more than the patience heals the clock, in the modes that
+-- report it.
+use Rattle.{std.{proofs.Common.{◌≡◌, inl, inr, ◌+◌, false, Some, refl, ap, ℕ, List, [], ◌∷◌, arith}, specs.Prelude.{IsTrue}}, dgt_command.specs.Content.{CommandContent}}
+use Rattle.{dgt_board.specs.{State.{command_mode, follows_clock}, declared.modes.Mode.{Mode}}, dgt_follow.specs.{Follower.{asking_of}, Pace.{PaceView, pace_after_asking, pace_at}}}
+use Rattle.{dgt_follow.specs.declared.asking.{Asking.{Asking}, UpdateMode.{UpdateMode}}, dgt_link.specs.Clocks.{AreClockCalm, IsClockFollowing, IsClockPromisedWorld, stops_clock}}
+use Rattle.dgt_link.specs.{Faults.{FaultyContent, FaultyRuns, FaultyStep, is_fault, sends}, Healing.{IsInStep, IsInStepBy, IsSane}, View.{WorldView}, declared.acts.Outcome.{Outcome}}
+use Rattle.dgt_followed.{specs.Followed.{AfterAskings, FollowedStep, FollowedView, Happening, RunsDone, asking_acts, clock_count_after_asking, follower_of, unsettles_clock}, proofs.Askings.{Hope}}
+use Rattle.dgt_followed.proofs.Askings.{Hopes, heartbeat_hope, neither, other_hope, promised_by_askings}
 
 abbrev count : FollowedView → ℕ
 count followed = followed.clock_since
@@ -29,14 +20,16 @@ anew_acts command = FaultyContent.Restart ∷ sends command ∷ sends CommandCon
 module _
     (stay_sane : (acts : List FaultyContent) (world after : WorldView) (answers : List Outcome)
     → IsSane world → FaultyRuns acts world answers after → IsSane after)
-    (in_step : (acts : List FaultyContent) (world after : WorldView) (answers : List Outcome) → IsSane world
-    → FaultyRuns acts world answers after → IsInStepBy acts answers → IsInStep after)
-    (asked : (command : CommandContent) (mode : Mode) (world after : WorldView) → command_mode command ≡ Some mode
-    → IsTrue (follows_clock mode) → IsInStep world → FaultyStep (sends command) world Outcome.Done after
-    → IsClockFollowing after)
+    (in_step : (acts : List FaultyContent) (world after : WorldView) (answers : List Outcome)
+    → IsSane world → FaultyRuns acts world answers after → IsInStepBy acts answers → IsInStep after)
+    (asked : (command : CommandContent) (mode : Mode) (world after : WorldView)
+    → command_mode command ≡ Some mode
+    → IsTrue (follows_clock mode) → IsInStep world
+    → FaultyStep (sends command) world Outcome.Done after → IsClockFollowing after)
     (reading : (world after : WorldView) → IsClockFollowing world
     → FaultyStep (sends CommandContent.Clock) world Outcome.Done after → IsClockPromisedWorld after)
-    (kept : (act : FaultyContent) (world after : WorldView) (answer : Outcome) → is_fault act ≡ false
+    (kept : (act : FaultyContent) (world after : WorldView) (answer : Outcome)
+    → is_fault act ≡ false
     → stops_clock act ≡ false → IsClockPromisedWorld world → FaultyStep act world answer after
     → IsClockPromisedWorld after) where
   kept_by_all : (acts : List FaultyContent) (world after : WorldView) → AreClockCalm acts
@@ -61,21 +54,26 @@ module _
   anew_promises : (command : CommandContent) (mode : Mode) → command_mode command ≡ Some mode
       → IsTrue (follows_clock mode) → (world after : WorldView) → IsSane world
       → RunsDone (anew_acts command) world after → IsClockPromisedWorld after
-  anew_promises command mode is follows world after sane (first, step, (second, reported, (third, read, same))) =
-      let stepped = in_step (FaultyContent.Restart ∷ []) world first (Outcome.Done ∷ []) sane (first, step, refl) refl
-      in rw same (reading second third (asked command mode first second is follows stepped reported) read)
+  anew_promises command mode is follows world after sane
+      (first, step, (second, reported, (third, read, same))) =
+      let stepped = in_step (FaultyContent.Restart ∷ []) world first (Outcome.Done ∷ []) sane
+      (first, step, refl) refl
+      in rw same
+      (reading second third (asked command mode first second is follows stepped reported) read)
 
   ask_hope : (mode : UpdateMode) (what : Asking) (now : ℕ) (before after : FollowedView)
-      → asking_of (follower_of before) now ≡ what → RunsDone (asking_acts mode what) before.world after.world
+      → asking_of (follower_of before) now ≡ what
+      → RunsDone (asking_acts mode what) before.world after.world
       → after.pace ≡ pace_after_asking what (pace_at before.pace now) now
       → after.clock_since ≡ clock_count_after_asking mode what before.clock_since
       → Hopes IsClockPromisedWorld count before → Hope IsClockPromisedWorld count after
-  ask_hope mode Asking.Nothing now before after e same pace since hopes = rw (same, pace, since) hopes.hope
+  ask_hope mode Asking.Nothing now before after e same pace since hopes =
+      rw (same, pace, since) hopes.hope
   ask_hope mode Asking.Identify now before after e runs pace since hopes =
-      other_hope IsClockPromisedWorld count false before after (ap (λ (p : PaceView). p.patience) pace)
-      (ap (λ (p : PaceView). p.left) pace) since
-      (λ e promised. kept_by_all (asking_acts mode Asking.Identify) before.world after.world ((refl, refl), tt) promised
-      runs) hopes
+      other_hope IsClockPromisedWorld count false before after
+      (ap (λ (p : PaceView). p.patience) pace) (ap (λ (p : PaceView). p.left) pace) since
+      (λ e promised. kept_by_all (asking_acts mode Asking.Identify) before.world after.world
+      ((refl, refl), tt) promised runs) hopes
   ask_hope UpdateMode.Squares Asking.Heartbeat now before after e runs pace since hopes =
       inr (rw (pace, since) (omega (arith, hopes.left)))
   ask_hope UpdateMode.Squares Asking.Anew now before after e runs pace since hopes =
@@ -83,19 +81,25 @@ module _
   ask_hope UpdateMode.Clock Asking.Heartbeat now before after e runs pace since hopes =
       heartbeat_keeps CommandContent.Update refl now before after e runs pace since hopes
   ask_hope UpdateMode.Clock Asking.Anew now before after e runs pace since hopes =
-      inl (anew_promises CommandContent.Update Mode.Update refl refl before.world after.world hopes.sane runs)
+      inl
+      (anew_promises CommandContent.Update Mode.Update refl refl before.world after.world hopes.sane
+      runs)
   ask_hope UpdateMode.ClockChanges Asking.Heartbeat now before after e runs pace since hopes =
       heartbeat_keeps CommandContent.UpdateNice refl now before after e runs pace since hopes
   ask_hope UpdateMode.ClockChanges Asking.Anew now before after e runs pace since hopes =
-      inl (anew_promises CommandContent.UpdateNice Mode.UpdateNice refl refl before.world after.world hopes.sane runs)
+      inl
+      (anew_promises CommandContent.UpdateNice Mode.UpdateNice refl refl before.world after.world
+      hopes.sane runs)
 
-  hope_after : (happening : Happening) (before after : FollowedView) → FollowedStep happening before after
-      → Hopes IsClockPromisedWorld count before → Hope IsClockPromisedWorld count after
+  hope_after : (happening : Happening) (before after : FollowedView)
+      → FollowedStep happening before after → Hopes IsClockPromisedWorld count before
+      → Hope IsClockPromisedWorld count after
   hope_after (Happening.Ask now) before after (runs, pace, since, clock_since) hopes =
-      ask_hope before.pace.mode (asking_of (follower_of before) now) now before after refl runs pace clock_since hopes
+      ask_hope before.pace.mode (asking_of (follower_of before) now) now before after refl runs pace
+      clock_since hopes
   hope_after (Happening.Other act) before after (answer, step, keeps, since, clock_since) hopes =
-      other_hope IsClockPromisedWorld count (unsettles_clock act) before after keeps.patience keeps.left clock_since
-      (λ e promised. let both = neither (is_fault act) (stops_clock act) e in
+      other_hope IsClockPromisedWorld count (unsettles_clock act) before after keeps.patience
+      keeps.left clock_since (λ e promised. let both = neither (is_fault act) (stops_clock act) e in
       kept act before.world after.world answer both.0 both.1 promised step) hopes
 
   pub askings_promise_clock : AfterAskings count IsClockPromisedWorld

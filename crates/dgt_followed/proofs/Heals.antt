@@ -1,15 +1,9 @@
 -- After the last fault, one request more than the patience heals the picture.
-use Rattle.std.proofs.Common.{◌≡◌, inl, true, false, refl, ap, ℕ, List, [], ◌∷◌}
-use Rattle.dgt_follow.specs.declared.asking.Asking.{Asking}
-use Rattle.dgt_follow.specs.declared.asking.UpdateMode.{UpdateMode}
-use Rattle.dgt_follow.specs.Pace.{PaceView, mode_command, pace_after_asking, pace_at}
-use Rattle.dgt_follow.specs.Follower.{asking_of}
-use Rattle.dgt_link.specs.declared.acts.Outcome.{Outcome}
-use Rattle.dgt_link.specs.Faults.{AreCalm, FaultyContent, FaultyRuns, FaultyStep, begins_anew, is_fault, sends, stops}
-use Rattle.dgt_link.specs.Healing.{IsPromisedWorld, IsSane}
-use Rattle.dgt_link.specs.View.{WorldView}
-use Rattle.dgt_followed.specs.Followed.{AfterAskings, FollowedStep, FollowedView, Happening, RunsDone, asking_acts, count_after_asking, follower_of, reading_acts, unsettles}
-use Rattle.dgt_followed.proofs.Askings.{Hope, Hopes, heartbeat_hope, neither, other_hope, promised_by_askings}
+use Rattle.{std.proofs.Common.{◌≡◌, inl, true, false, refl, ap, ℕ, List, [], ◌∷◌}, dgt_follow.specs.{Follower.{asking_of}, Pace.{PaceView, mode_command, pace_after_asking, pace_at}}}
+use Rattle.{dgt_follow.specs.declared.asking.{Asking.{Asking}, UpdateMode.{UpdateMode}}, dgt_link.specs.Faults.{AreCalm, FaultyContent, FaultyRuns, FaultyStep, begins_anew, is_fault, sends, stops}}
+use Rattle.{dgt_link.specs.{Healing.{IsPromisedWorld, IsSane}, View.{WorldView}, declared.acts.Outcome.{Outcome}}, dgt_followed.specs.Followed.{AfterAskings, FollowedStep, FollowedView, Happening}}
+use Rattle.dgt_followed.{specs.Followed.{RunsDone, asking_acts, count_after_asking, follower_of, reading_acts, unsettles}, proofs.Askings.{Hope, Hopes, heartbeat_hope, neither, other_hope}}
+use Rattle.dgt_followed.proofs.Askings.{promised_by_askings}
 
 abbrev count : FollowedView → ℕ
 count followed = followed.since
@@ -21,14 +15,16 @@ mode_is_calm UpdateMode.Clock = ((refl, refl), ((refl, refl), tt))
 mode_is_calm UpdateMode.ClockChanges = ((refl, refl), ((refl, refl), tt))
 
 heartbeat_is_calm : (mode : UpdateMode) → AreCalm (asking_acts mode Asking.Heartbeat)
-heartbeat_is_calm mode = let reported = mode_is_calm mode in (reported.0, ((refl, refl), reported.1))
+heartbeat_is_calm mode = let reported = mode_is_calm mode in
+    (reported.0, ((refl, refl), reported.1))
 
 module _
     (stay_sane : (acts : List FaultyContent) (world after : WorldView) (answers : List Outcome)
     → IsSane world → FaultyRuns acts world answers after → IsSane after)
     (anew : (act : FaultyContent) (world after : WorldView) → begins_anew act ≡ true → IsSane world
     → FaultyStep act world Outcome.Done after → IsPromisedWorld after)
-    (kept : (act : FaultyContent) (world after : WorldView) (answer : Outcome) → is_fault act ≡ false
+    (kept : (act : FaultyContent) (world after : WorldView) (answer : Outcome)
+    → is_fault act ≡ false
     → stops act ≡ false → IsSane world → IsPromisedWorld world → FaultyStep act world answer after
     → IsPromisedWorld after) where
   sane_after : (act : FaultyContent) (world after : WorldView) (answer : Outcome) → IsSane world
@@ -49,11 +45,13 @@ module _
       → after.pace ≡ pace_after_asking what (pace_at before.pace now) now
       → after.since ≡ count_after_asking what before.since
       → Hopes IsPromisedWorld count before → Hope IsPromisedWorld count after
-  ask_hope Asking.Nothing now before after e same pace since hopes = rw (same, pace, since) hopes.hope
+  ask_hope Asking.Nothing now before after e same pace since hopes =
+      rw (same, pace, since) hopes.hope
   ask_hope Asking.Identify now before after e runs pace since hopes =
       other_hope IsPromisedWorld count false before after (ap (λ (p : PaceView). p.patience) pace)
       (ap (λ (p : PaceView). p.left) pace) since
-      (λ e promised. kept_by_all (asking_acts before.pace.mode Asking.Identify) before.world after.world
+      (λ e promised.
+      kept_by_all (asking_acts before.pace.mode Asking.Identify) before.world after.world
       ((refl, refl), tt) hopes.sane promised runs) hopes
   ask_hope Asking.Heartbeat now before after e runs pace since hopes =
       let mode = before.pace.mode in
@@ -62,12 +60,15 @@ module _
       (heartbeat_is_calm mode) hopes.sane promised runs) hopes
   ask_hope Asking.Anew now before after e (first, step, later) pace since hopes =
       let mode = before.pace.mode in
-      inl (kept_by_all (sends (mode_command mode) ∷ reading_acts mode) first after.world (mode_is_calm mode)
+      inl
+      (kept_by_all (sends (mode_command mode) ∷ reading_acts mode) first after.world
+      (mode_is_calm mode)
       (sane_after FaultyContent.Restart before.world first Outcome.Done hopes.sane step)
       (anew FaultyContent.Restart before.world first refl hopes.sane step) later)
 
-  hope_after : (happening : Happening) (before after : FollowedView) → FollowedStep happening before after
-      → Hopes IsPromisedWorld count before → Hope IsPromisedWorld count after
+  hope_after : (happening : Happening) (before after : FollowedView)
+      → FollowedStep happening before after → Hopes IsPromisedWorld count before
+      → Hope IsPromisedWorld count after
   hope_after (Happening.Ask now) before after (runs, pace, since, clock_since) hopes =
       ask_hope (asking_of (follower_of before) now) now before after refl runs pace since hopes
   hope_after (Happening.Other act) before after (answer, step, keeps, since, clock_since) hopes =

@@ -1,14 +1,9 @@
 -- One faulty byte in a message leaves one message at most.
-use Rattle.std.proofs.Common.{◌≡◌, ◌⊎◌, ◌≤◌, ◌<◌, ◌+◌, ℕ, zero, suc, Bool, true, false, cond, List, [], ◌∷◌, ◌++◌, length, take, drop, Option, Some, None, option_to_list, refl, sym, ap, ◌∙◌, inl, inr, arith, append_assoc, append-nil, rules, subst}
-use Rattle.std.proofs.lemmas.Bool.{cases_lt}
-use Rattle.dgt_message.specs.Content.{Content, IsMessage}
-use Rattle.dgt_message.specs.Encoding.{Encodes, encoding}
-use Rattle.dgt_decode.specs.Grammar.{Event, Message, Refused, Cut, BadLength, Stray, Placed, announced_total, cut_of, events, shifted, has_top_bit, lead, segment_events, segments, segments_events, strays, unfinished_part, verdict}
-use Rattle.dgt_decode.proofs.SevenBit.{SevenByRecursion, by_recursion}
-use Rattle.dgt_decode.proofs.Verdicts.{verdict-short, verdict-waits}
-use Rattle.dgt_host.specs.Confirmed.{message_in, messages}
-use Rattle.dgt_host.proofs.StretchLemmas.{messages_append, messages_behind}
-use Rattle.dgt_followed.specs.OneByte.{OneByteIsAStretch, with_fault}
+use Rattle.std.proofs.Common.{◌≡◌, ◌⊎◌, ◌≤◌, ◌<◌, ◌+◌, ℕ, zero, suc, Bool, true, false, cond, List, [], ◌∷◌, ◌++◌, length, take, drop, Option, Some, None, option_to_list, refl, sym, ap, ◌∙◌, inl, inr}
+use Rattle.{std.proofs.{Common.{arith, append_assoc, append-nil, rules, subst}, lemmas.Bool.{cases_lt}}, dgt_message.specs.{Content.{Content, IsMessage}, Encoding.{Encodes, encoding}}}
+use Rattle.dgt_decode.specs.Grammar.{Event, Message, Refused, Cut, BadLength, Stray, Placed, announced_total, cut_of, events, shifted, has_top_bit, lead, segment_events, segments, segments_events}
+use Rattle.dgt_decode.{specs.Grammar.{strays, unfinished_part, verdict}, proofs.{SevenBit.{SevenByRecursion, by_recursion}, Verdicts.{verdict-short, verdict-waits}}}
+use Rattle.{dgt_host.{specs.Confirmed.{message_in, messages}, proofs.StretchLemmas.{messages_append, messages_behind}}, dgt_followed.specs.OneByte.{OneByteIsAStretch, with_fault}}
 
 -- one message at most
 abbrev One : List Content → Type 0
@@ -44,10 +39,13 @@ of_verdict (Some x) g =
     let none : messages (shifted x.place (strays (drop x.place g))) ≡ []
     = messages_behind x.place (strays (drop x.place g)) ∙ no_strays (drop x.place g) in
     same _ (message_in x.event)
-    (ap (λ (m : List Content). message_in x.event ++ m) none ∙ append-nil (message_in x.event)) (of_event x.event)
+    (ap (λ (m : List Content). message_in x.event ++ m) none ∙ append-nil (message_in x.event))
+    (of_event x.event)
 
-last_is : (g : List ℕ) → messages (segments_events (g ∷ [])) ≡ messages (segment_events (verdict g) g)
-last_is g = messages_append (segment_events (verdict g) g) [] ∙ append-nil (messages (segment_events (verdict g) g))
+last_is : (g : List ℕ)
+    → messages (segments_events (g ∷ [])) ≡ messages (segment_events (verdict g) g)
+last_is g = messages_append (segment_events (verdict g) g) []
+    ∙ append-nil (messages (segment_events (verdict g) g))
 
 of_last : (g : List ℕ) → One (messages (segments_events (g ∷ [])))
 of_last g = same _ (messages (segment_events (verdict g) g)) (last_is g) (of_verdict (verdict g) g)
@@ -70,7 +68,8 @@ both_are g k =
     ∙ last_is k)
 
 -- one of two segments contains no message
-of_both : (g k : List ℕ) → (verdict g ≡ None) ⊎ (verdict k ≡ None) → One (messages (segments_events (g ∷ k ∷ [])))
+of_both : (g k : List ℕ) → (verdict g ≡ None) ⊎ (verdict k ≡ None)
+    → One (messages (segments_events (g ∷ k ∷ [])))
 of_both g k (inl none) = same _ (messages (segment_events (verdict k) k))
     (both_are g k ∙ ap (λ (m : List Content). m ++ messages (segment_events (verdict k) k))
     (nothing_in (verdict g) g none)) (of_verdict (verdict k) k)
@@ -83,7 +82,8 @@ in_segments : (s : List ℕ) → messages (events s) ≡ messages (segments_even
 unfolding events
 in_segments s =
     messages_append (strays (lead s)) (shifted (length (lead s)) (segments_events (segments s)))
-    ∙ ap (λ (m : List Content). m ++ messages (shifted (length (lead s)) (segments_events (segments s))))
+    ∙ ap
+    (λ (m : List Content). m ++ messages (shifted (length (lead s)) (segments_events (segments s))))
     (no_strays (lead s))
     ∙ messages_behind (length (lead s)) (segments_events (segments s))
 
@@ -108,11 +108,15 @@ all_lead : (s : List ℕ) → SevenByRecursion s → lead s ≡ s
 all_lead s seven = ap lead (sym (append-nil s)) ∙ seven_lead s [] seven ∙ append-nil s
 
 of_seven : (s : List ℕ) → SevenByRecursion s → SaysOne s
-of_seven s seven =
-    (None, in_segments s ∙ ap (λ (gs : List (List ℕ)). messages (segments_events gs)) (no_segments s seven))
+of_seven s seven = (
+  None,
+  in_segments s
+      ∙ ap (λ (gs : List (List ℕ)). messages (segments_events gs)) (no_segments s seven),
+)
 
 of_one : (b : ℕ) (s : List ℕ) → SevenByRecursion s → SaysOne (b ∷ s)
-of_one b s seven = same _ _ (in_segments (b ∷ s)) (go (has_top_bit b) (segments s) (no_segments s seven))
+of_one b s seven =
+    same _ _ (in_segments (b ∷ s)) (go (has_top_bit b) (segments s) (no_segments s seven))
   where
     go : (t : Bool) (gs : List (List ℕ)) → gs ≡ []
         → One (messages (segments_events (cond t ((b ∷ lead s) ∷ gs) gs)))
@@ -128,13 +132,15 @@ of_two h b x y first last none =
     ∙ ap (λ (l : List ℕ). x ++ cond (has_top_bit b) [] (b ∷ l)) (all_lead y last) in
     let parts : segments (x ++ b ∷ y) ≡ cond (has_top_bit b) ((b ∷ y) ∷ []) []
     = seven_segments x (b ∷ y) first
-    ∙ ap (λ (l : List ℕ). cond (has_top_bit b) ((b ∷ l) ∷ segments y) (segments y)) (all_lead y last)
+    ∙ ap (λ (l : List ℕ). cond (has_top_bit b) ((b ∷ l) ∷ segments y) (segments y))
+    (all_lead y last)
     ∙ ap (λ (gs : List (List ℕ)). cond (has_top_bit b) ((b ∷ y) ∷ gs) gs) (no_segments y last) in
     same _ _ (in_segments (h ∷ (x ++ b ∷ y)))
     (go (has_top_bit h) (has_top_bit b) (lead (x ++ b ∷ y)) (segments (x ++ b ∷ y)) whole parts)
   where
     go : (t u : Bool) (prefix : List ℕ) (gs : List (List ℕ)) → prefix ≡ x ++ cond u [] (b ∷ y)
-        → gs ≡ cond u ((b ∷ y) ∷ []) [] → One (messages (segments_events (cond t ((h ∷ prefix) ∷ gs) gs)))
+        → gs ≡ cond u ((b ∷ y) ∷ []) []
+        → One (messages (segments_events (cond t ((h ∷ prefix) ∷ gs) gs)))
     go true true prefix gs e g = rw (e, g, append-nil x) (of_both (h ∷ x) (b ∷ y) none)
     go true false prefix gs e g = rw g (of_last (h ∷ prefix))
     go false true prefix gs e g = rw g (of_last (b ∷ y))
@@ -152,7 +158,8 @@ seven_drop zero s seven = seven
 seven_drop (suc n) [] seven = seven
 seven_drop (suc n) (b ∷ s) (small, seven) = seven_drop n s seven
 
-seven_append : (s more : List ℕ) → SevenByRecursion s → SevenByRecursion more → SevenByRecursion (s ++ more)
+seven_append : (s more : List ℕ) → SevenByRecursion s → SevenByRecursion more
+    → SevenByRecursion (s ++ more)
 seven_append [] more first last = last
 seven_append (b ∷ s) more (small, first) last = (small, seven_append s more first last)
 
@@ -180,7 +187,8 @@ part_waits h (suc (suc p)) (x ∷ []) e within = absurd (omega (arith, within))
 part_waits h (suc (suc p)) (x ∷ y ∷ t) e within =
     verdict-waits (h ∷ x ∷ y ∷ take p t) (omega (arith, e, within, take_is_short p t))
 
-module _ (h : ℕ) (t : List ℕ) (seven : SevenByRecursion t) (e : announced_total (h ∷ t) ≡ suc (length t)) where
+module _ (h : ℕ) (t : List ℕ) (seven : SevenByRecursion t)
+    (e : announced_total (h ∷ t) ≡ suc (length t)) where
   rest : (p lost : ℕ) → drop (suc p + lost) (h ∷ t) ≡ drop (p + lost) t
   rest p lost = ap (λ (n : ℕ). drop n (h ∷ t)) (next p lost)
     where
@@ -225,12 +233,14 @@ module _ (h : ℕ) (t : List ℕ) (seven : SevenByRecursion t) (e : announced_to
   faulty place lost (b ∷ []) few short = put_one place lost b few
   faulty place lost (b ∷ c ∷ more) few short = absurd (omega (arith, short))
 
-of_encoded : (said : Content) (bytes : List ℕ) → Encodes said bytes → (place lost : ℕ) (put : List ℕ) → lost ≤ 1
-    → length put ≤ 1 → SaysOne (with_fault bytes place lost put)
+of_encoded : (said : Content) (bytes : List ℕ) → Encodes said bytes
+    → (place lost : ℕ) (put : List ℕ) → lost ≤ 1 → length put ≤ 1
+    → SaysOne (with_fault bytes place lost put)
 of_encoded said [] is place lost put few short = absurd (omega (arith, is.header.long_enough))
 of_encoded said (h ∷ t) is place lost put few short =
     faulty h t (by_recursion t is.header.seven_bit) is.header.total_is place lost put few short
 
-pub one_byte : ((said : Content) → IsMessage said → Encodes said (encoding said)) → OneByteIsAStretch
+pub one_byte : ((said : Content) → IsMessage said → Encodes said (encoding said))
+    → OneByteIsAStretch
 one_byte encodes said place lost put is few short =
     of_encoded said (encoding said) (encodes said is) place lost put few short

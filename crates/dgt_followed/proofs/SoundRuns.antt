@@ -1,21 +1,9 @@
 -- A follower that asks in time on a sound line is never in doubt.
-use Rattle.std.proofs.Common.{◌≡◌, ◌≢◌, true, false, refl, sym, subst, ℕ, List, [], ◌∷◌, take, rules}
-use Rattle.std.proofs.lemmas.Bool.{false≢true}
-use Rattle.dgt_command.specs.Content.{CommandContent}
-use Rattle.dgt_follow.specs.declared.asking.Asking.{Asking}
-use Rattle.dgt_follow.specs.declared.asking.UpdateMode.{UpdateMode}
-use Rattle.dgt_follow.specs.Calls.{Call, follower_after_call}
-use Rattle.dgt_follow.specs.Follower.{FollowerView, asking_of, follower_after}
-use Rattle.dgt_follow.specs.Pace.{mode_command}
-use Rattle.dgt_link.specs.declared.acts.Outcome.{Outcome}
-use Rattle.dgt_link.specs.Act.{ActContent}
-use Rattle.dgt_link.specs.Faults.{FaultyContent, FaultyStep, sends}
-use Rattle.dgt_link.specs.View.{WorldView}
-use Rattle.dgt_link.proofs.Counting.{plain_step}
-use Rattle.dgt_followed.specs.Followed.{FollowedView, RunsDone, asking_acts, follower_of, reading_acts}
-use Rattle.dgt_followed.specs.Heard.{HeardStep, TimedHappening, is_noticed, is_setting}
-use Rattle.dgt_followed.specs.Restated.{ActsAtRest, HasNoDoubt, IsRestatedWorld, IsSoundHappening, SoundRuns, StepAtRest}
-use Rattle.dgt_followed.proofs.Undoubted.{asks_no_doubt}
+use Rattle.{std.proofs.{Common.{◌≡◌, ◌≢◌, true, false, refl, sym, subst, ℕ, List, [], ◌∷◌, take, rules}, lemmas.Bool.{false≢true}}, dgt_command.specs.Content.{CommandContent}}
+use Rattle.dgt_follow.specs.{Calls.{Call, follower_after_call}, Follower.{FollowerView, asking_of, follower_after}, Pace.{mode_command}, declared.asking.{Asking.{Asking}, UpdateMode.{UpdateMode}}}
+use Rattle.dgt_link.{specs.{Act.{ActContent}, Faults.{FaultyContent, FaultyStep, sends}, View.{WorldView}, declared.acts.Outcome.{Outcome}}, proofs.Counting.{plain_step}}
+use Rattle.dgt_followed.specs.{Followed.{FollowedView, RunsDone, asking_acts, follower_of, reading_acts}, Heard.{HeardStep, TimedHappening, is_noticed, is_setting}, Restated.{ActsAtRest, HasNoDoubt}}
+use Rattle.dgt_followed.{specs.Restated.{IsRestatedWorld, IsSoundHappening, SoundRuns, StepAtRest}, proofs.Undoubted.{asks_no_doubt}}
 
 -- a world in which each dump restates the picture, and a pace without doubt
 abbrev IsCalm : FollowedView → Type 0
@@ -26,20 +14,23 @@ set_is_calm : (before : FollowedView) (call : Call) → is_setting call ≡ true
     → HasNoDoubt (follower_after_call (follower_of before) call).pace
 set_is_calm before call sets sound calm = search (rules, false≢true)
 
-is_no_break : (act : ActContent) → is_noticed (FaultyContent.Plain act) ≡ false → act ≢ ActContent.HostBreak
+is_no_break : (act : ActContent) → is_noticed (FaultyContent.Plain act) ≡ false
+    → act ≢ ActContent.HostBreak
 is_no_break act unseen same = cc
 
 module _
-    (keeps : (act : ActContent) (world after : WorldView) (answer : Outcome) → act ≢ ActContent.HostBreak
+    (keeps : (act : ActContent) (world after : WorldView) (answer : Outcome)
+    → act ≢ ActContent.HostBreak
     → IsRestatedWorld world → StepAtRest act world answer after → IsRestatedWorld after)
-    (begins : (world after : WorldView) (answer : Outcome) → IsRestatedWorld world → world.host.awaited ≡ []
+    (begins : (world after : WorldView) (answer : Outcome) → IsRestatedWorld world
+    → world.host.awaited ≡ []
     → FaultyStep FaultyContent.Restart world answer after → IsRestatedWorld after)
     (heard : (world : WorldView) (follower : FollowerView) (now count : ℕ) → IsRestatedWorld world
     → follower.host ≡ world.host → HasNoDoubt follower.pace
     → HasNoDoubt (follower_after follower now (take count world.up.bytes)).pace) where
-  plain_restates : (act : ActContent) (world after : WorldView) (answer : Outcome) → act ≢ ActContent.HostBreak
-      → ActsAtRest act world → IsRestatedWorld world → FaultyStep (FaultyContent.Plain act) world answer after
-      → IsRestatedWorld after
+  plain_restates : (act : ActContent) (world after : WorldView) (answer : Outcome)
+      → act ≢ ActContent.HostBreak → ActsAtRest act world → IsRestatedWorld world
+      → FaultyStep (FaultyContent.Plain act) world answer after → IsRestatedWorld after
   plain_restates act world after answer other rest is step = search (rules, plain_step)
 
   sent_restates : (command : CommandContent) (world after : WorldView) → IsRestatedWorld world
@@ -69,14 +60,17 @@ module _
 
   step_is_calm : (happening : TimedHappening) (before after : FollowedView) → IsCalm before
       → HeardStep happening before after → IsSoundHappening happening before → IsCalm after
-  step_is_calm (TimedHappening.Asks now) before after (is, calm) ((runs, pace, since, clock_since), notes) in_time =
+  step_is_calm (TimedHappening.Asks now) before after (is, calm)
+      ((runs, pace, since, clock_since), notes) in_time =
       let what = asking_of (follower_of before) now in (
         asked_restates before.pace.mode what before.world after.world in_time.idle is runs,
-        rw pace (asks_no_doubt what before.pace now calm in_time.early in_time.fresh in_time.answered),
+        rw pace
+            (asks_no_doubt what before.pace now calm in_time.early in_time.fresh in_time.answered),
       )
   step_is_calm (TimedHappening.Hears now count) before after (is, calm)
       ((answer, step, keeps_patience, since, clock_since), noted) sound = (
-        plain_restates (ActContent.ToHost count) before.world after.world answer (λ e. cc) tt is step,
+        plain_restates (ActContent.ToHost count) before.world after.world answer (λ e. cc) tt is
+            step,
         subst (λ (f : FollowerView). HasNoDoubt f.pace) (sym noted)
             (heard before.world (follower_of before) now count is refl calm),
       )
@@ -88,8 +82,8 @@ module _
       search (rules, plain_restates, is_no_break)
   step_is_calm (TimedHappening.Acts _) before after calm step none = absurd none
 
-  pub runs_are_calm : (happenings : List TimedHappening) (before after : FollowedView) → IsRestatedWorld before.world
-      → HasNoDoubt before.pace → SoundRuns happenings before after
+  pub runs_are_calm : (happenings : List TimedHappening) (before after : FollowedView)
+      → IsRestatedWorld before.world → HasNoDoubt before.pace → SoundRuns happenings before after
       → IsRestatedWorld after.world × HasNoDoubt after.pace
   runs_are_calm [] before after is calm same = rw same (is, calm)
   runs_are_calm (happening ∷ later) before after is calm (between, step, sound, runs) =

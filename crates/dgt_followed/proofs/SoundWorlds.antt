@@ -1,42 +1,29 @@
 -- In a world without faults each dump restates the picture, and a follower hears no doubt.
-use Rattle.std.proofs.Common.{◌≡◌, ◌≢◌, refl, sym, ℕ, zero, suc, List, [], ◌∷◌, ◌++◌, replicate, take, drop, map}
-use Rattle.std.specs.List.{AllByRecursion}
-use Rattle.dgt_message.specs.Content.{Content}
-use Rattle.dgt_decode.specs.Grammar.{Event, Message, Placed, events}
-use Rattle.dgt_board.specs.State.{BoardState}
-use Rattle.dgt_follow.specs.Follower.{FollowerView, follower_after, follower_after_event, follower_after_events}
-use Rattle.dgt_link.specs.declared.acts.Outcome.{Outcome}
-use Rattle.dgt_link.specs.Act.{ActContent}
-use Rattle.dgt_link.specs.Machine.{IsHostBreak, IsSending, MachineState, Move, after_move, after_moves}
-use Rattle.dgt_link.specs.Sound.{IsExact, IsSound}
-use Rattle.dgt_link.specs.Stands.{AreMovesOfAct, AreMovesOfStep, IsExactWorld, StandsAfterStep, StandsFor}
-use Rattle.dgt_link.specs.Step.{Step}
-use Rattle.dgt_link.specs.View.{WorldView}
-use Rattle.dgt_link.proofs.Asking.{step_is_other}
-use Rattle.dgt_link.proofs.Counting.{nothing_said}
-use Rattle.dgt_link.proofs.Standing.{prefix_of}
-use Rattle.dgt_followed.specs.Restated.{ActsAtRest, DumpsAtRest, HasNoDoubt, IsAtRest, IsRestatedWorld, RunsAtRest, SendsAtRest, StepAtRest}
-use Rattle.dgt_link.specs.Readers.{Reads}
-use Rattle.dgt_link.proofs.Hearing.{heard_prefix, known}
-use Rattle.dgt_followed.proofs.Restating.{Restates, move_restates, moves_restate}
-use Rattle.dgt_followed.proofs.Undoubted.{FirstIsAwaited, hears_as_the_machine}
+use Rattle.{std.{proofs.Common.{◌≡◌, ◌≢◌, refl, sym, ℕ, zero, suc, List, [], ◌∷◌, ◌++◌, replicate, take, drop, map}, specs.List.{AllByRecursion}}, dgt_message.specs.Content.{Content}}
+use Rattle.{dgt_decode.specs.Grammar.{Event, Message, Placed, events}, dgt_board.specs.State.{BoardState}, dgt_follow.specs.Follower.{FollowerView, follower_after, follower_after_event}}
+use Rattle.{dgt_follow.specs.Follower.{follower_after_events}, dgt_link.specs.{Act.{ActContent}, Machine.{IsHostBreak, IsSending, MachineState, Move, after_move, after_moves}, Readers.{Reads}}}
+use Rattle.dgt_link.specs.{Sound.{IsExact, IsSound}, Stands.{AreMovesOfAct, AreMovesOfStep, IsExactWorld, StandsAfterStep, StandsFor}, Step.{Step}, View.{WorldView}, declared.acts.Outcome.{Outcome}}
+use Rattle.{dgt_link.proofs.{Asking.{step_is_other}, Counting.{nothing_said}, Hearing.{heard_prefix, known}, Standing.{prefix_of}}, dgt_followed.specs.Restated.{ActsAtRest, DumpsAtRest, HasNoDoubt}}
+use Rattle.dgt_followed.{specs.Restated.{IsAtRest, IsRestatedWorld, RunsAtRest, SendsAtRest, StepAtRest}, proofs.{Restating.{Restates, move_restates, moves_restate}, Undoubted.{FirstIsAwaited}}}
+use Rattle.dgt_followed.proofs.Undoubted.{hears_as_the_machine}
 
 -- ---- the moves of acts
 
-all_at_rest : (count : ℕ) (move : Move) → ((x : MachineState) → SendsAtRest x move) → (x : MachineState)
-    → DumpsAtRest x (replicate count move)
+all_at_rest : (count : ℕ) (move : Move) → ((x : MachineState) → SendsAtRest x move)
+    → (x : MachineState) → DumpsAtRest x (replicate count move)
 all_at_rest zero move rests x = tt
 all_at_rest (suc count) move rests x = (rests x, all_at_rest count move rests (after_move x move))
 
-sending_rests : (x : MachineState) (board : BoardState) (move : Move) → board ≡ x.board → IsSending move
-    → IsAtRest board board.owed → SendsAtRest x move
+sending_rests : (x : MachineState) (board : BoardState) (move : Move) → board ≡ x.board
+    → IsSending move → IsAtRest board board.owed → SendsAtRest x move
 sending_rests x board Move.Reply same sending rest = rw same at rest
 sending_rests x board (Move.Report square) same sending rest = tt
 sending_rests x board Move.ReportClock same sending rest = tt
 sending_rests x board _ same none rest = absurd none
 
 act_rests : (act : ActContent) (world : WorldView) (x : MachineState) (moves : List Move)
-    → world.board.state ≡ x.board → ActsAtRest act world → AreMovesOfAct act moves → DumpsAtRest x moves
+    → world.board.state ≡ x.board → ActsAtRest act world → AreMovesOfAct act moves
+    → DumpsAtRest x moves
 act_rests (ActContent.Change square piece) world x moves same rest e = rw e (tt, tt)
 act_rests (ActContent.ClockRead clock) world x moves same rest e = rw e (tt, tt)
 act_rests (ActContent.Host command) world x moves same rest e = rw e (tt, tt)
@@ -49,8 +36,9 @@ act_rests (ActContent.ToHost bytes) world x moves same rest (count, e) =
 act_rests ActContent.Break world x moves same rest e = rw e (tt, tt)
 act_rests ActContent.HostBreak world x moves same rest (noise, is_noise, e) = rw e (tt, tt)
 
-step_rests : (answer : Outcome) (act : ActContent) (world : WorldView) (x : MachineState) (moves : List Move)
-    → world.board.state ≡ x.board → ActsAtRest act world → AreMovesOfStep act answer moves → DumpsAtRest x moves
+step_rests : (answer : Outcome) (act : ActContent) (world : WorldView) (x : MachineState)
+    (moves : List Move) → world.board.state ≡ x.board → ActsAtRest act world
+    → AreMovesOfStep act answer moves → DumpsAtRest x moves
 step_rests Outcome.Done act world x moves same rest are = act_rests act world x moves same rest are
 step_rests _ act world x moves same rest e = rw e tt
 
@@ -63,13 +51,14 @@ ActsAreMoves = (act : ActContent) (world after : WorldView) (answer : Outcome) (
 
 abbrev pub MovesStayExact : Type 0
 MovesStayExact =
-    (x : MachineState) (moves : List Move) → AllByRecursion (λ move. ¬ (IsHostBreak move)) moves → IsExact x
-    → IsExact (after_moves x moves)
+    (x : MachineState) (moves : List Move) → AllByRecursion (λ move. ¬ (IsHostBreak move)) moves
+    → IsExact x → IsExact (after_moves x moves)
 
 module _ (reach : ActsAreMoves) (exact : MovesStayExact)
     (sound : (x : MachineState) (move : Move) → IsSound x → IsSound (after_move x move)) where
-  pub act_restates : (act : ActContent) (world after : WorldView) (answer : Outcome) → act ≢ ActContent.HostBreak
-      → IsRestatedWorld world → StepAtRest act world answer after → IsRestatedWorld after
+  pub act_restates : (act : ActContent) (world after : WorldView) (answer : Outcome)
+      → act ≢ ActContent.HostBreak → IsRestatedWorld world → StepAtRest act world answer after
+      → IsRestatedWorld after
   act_restates act world after answer other is step =
       let (moves, are, stands) = reach act world after answer is.state is.stands step.step in
       record {
@@ -90,8 +79,8 @@ module _ (reach : ActsAreMoves) (exact : MovesStayExact)
   acts_restate _ world after _ others is none = absurd none
 
 -- nothing is under way
-pub nothing_to_restate : (world : WorldView) → IsExactWorld world → world.host.unread ≡ [] → world.up.bytes ≡ []
-    → IsRestatedWorld world
+pub nothing_to_restate : (world : WorldView) → IsExactWorld world → world.host.unread ≡ []
+    → world.up.bytes ≡ [] → IsRestatedWorld world
 nothing_to_restate world is unread up =
     let none : is.state.up ≡ []
     = nothing_said is.state.up (sym (rw (unread, up) at is.stands.up.in_a_row)) in
@@ -106,37 +95,45 @@ same_rest : (x y : Event) (xs ys : List Event) → x ∷ xs ≡ y ∷ ys → xs 
 same_rest x y xs ys e = cc
 
 module _ (first : FirstIsAwaited)
-    (exact : (x : MachineState) (move : Move) → ¬ (IsHostBreak move) → IsExact x → IsExact (after_move x move))
+    (exact : (x : MachineState) (move : Move) → ¬ (IsHostBreak move) → IsExact x
+    → IsExact (after_move x move))
   where
-    hears_messages : (heard left : List Content) (xs : List Placed) (x : MachineState) (follower : FollowerView)
-        (now : ℕ) → known xs ≡ map Message heard → IsExact x → Restates x → x.up ≡ heard ++ left
-        → follower.host.picture ≡ x.picture → follower.host.awaited ≡ x.awaited → HasNoDoubt follower.pace
+    hears_messages : (heard left : List Content) (xs : List Placed) (x : MachineState)
+        (follower : FollowerView) (now : ℕ) → known xs ≡ map Message heard → IsExact x → Restates x
+        → x.up ≡ heard ++ left → follower.host.picture ≡ x.picture
+        → follower.host.awaited ≡ x.awaited → HasNoDoubt follower.pace
         → HasNoDoubt (follower_after_events follower now xs).pace
     hears_messages [] left [] x follower now are is all up picture awaited calm = calm
     hears_messages [] left (y ∷ ys) x follower now are is all up picture awaited calm = cc
     hears_messages (said ∷ heard) left [] x follower now are is all up picture awaited calm = cc
     hears_messages (said ∷ heard) left (y ∷ ys) x follower now are is all up picture awaited calm =
-        let step = hears_as_the_machine first x follower now said (heard ++ left) is all up picture awaited calm in
-        let event : y.event ≡ Message said = same_first y.event (Message said) (known ys) (map Message heard) are in
+        let step = hears_as_the_machine first x follower now said (heard ++ left) is all up picture
+        awaited calm in
+        let event : y.event ≡ Message said =
+        same_first y.event (Message said) (known ys) (map Message heard) are in
         let others : known ys ≡ map Message heard
         = same_rest y.event (Message said) (known ys) (map Message heard) are in
-        let later : HasNoDoubt (follower_after_events (follower_after_event follower now (Message said)) now ys).pace
-        = hears_messages heard left ys (after_move x Move.Hear) (follower_after_event follower now (Message said)) now
-        others (exact x Move.Hear (λ h. h) is) (move_restates x Move.Hear is.sound all tt) (rw up refl) step.1 step.2
-        step.0 in
+        let later : HasNoDoubt
+        (follower_after_events (follower_after_event follower now (Message said)) now ys).pace
+        = hears_messages heard left ys (after_move x Move.Hear)
+        (follower_after_event follower now (Message said)) now
+        others (exact x Move.Hear (λ h. h) is) (move_restates x Move.Hear is.sound all tt)
+        (rw up refl) step.1 step.2 step.0 in
         rw event later
 
     module _ (reads : Reads) where
-      pub delivery_is_no_doubt : (world : WorldView) (follower : FollowerView) (now count : ℕ) → IsRestatedWorld world
-          → follower.host ≡ world.host → HasNoDoubt follower.pace
+      pub delivery_is_no_doubt : (world : WorldView) (follower : FollowerView) (now count : ℕ)
+          → IsRestatedWorld world → follower.host ≡ world.host → HasNoDoubt follower.pace
           → HasNoDoubt (follower_after follower now (take count world.up.bytes)).pace
       delivery_is_no_doubt world follower now count is same calm =
           let prefix : List ℕ = world.host.unread ++ take count world.up.bytes in
           let says = heard_prefix reads prefix (drop count world.up.bytes) is.state.up
           (rw (prefix_of world.host.unread world.up.bytes count) at is.stands.up) in
           let heard : HasNoDoubt (follower_after_events follower now (events prefix)).pace
-          = hears_messages says.heard says.left (events prefix) is.state follower now says.known is.exact
+          = hears_messages says.heard says.left (events prefix) is.state follower now says.known
+          is.exact
           is.restates says.all (rw same is.stands.picture) (rw same is.stands.awaited) calm in
           let calm_then : HasNoDoubt (follower_after_events follower now
-          (events (follower.host.unread ++ take count world.up.bytes))).pace = rw (← same) at heard in
+          (events (follower.host.unread ++ take count world.up.bytes))).pace =
+          rw (← same) at heard in
           record { doubtful = calm_then.doubtful; disturbed = calm_then.disturbed }

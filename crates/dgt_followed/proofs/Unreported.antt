@@ -1,14 +1,7 @@
 -- A square that changed unreported when a dump was sent is a doubt.
-use Rattle.std.proofs.Common.{◌≡◌, ◌≢◌, Bool, true, false, not, ◌||◌, Some, refl, sym, ℕ, List, [], ◌∷◌}
-use Rattle.dgt_values.specs.declared.kinds.Kind.{Kind}
-use Rattle.dgt_values.specs.declared.pieces.Piece.{Piece}
-use Rattle.dgt_message.specs.Content.Content.{dump}
-use Rattle.dgt_decode.specs.Grammar.{Message}
-use Rattle.dgt_board.specs.declared.replies.Reply.{Reply}
-use Rattle.dgt_host.specs.Confirmed.{same_pieces}
-use Rattle.dgt_host.proofs.ConfirmedLemmas.{same_is}
-use Rattle.dgt_follow.specs.Pace.{PaceView, disturbs, pace_after_event}
-use Rattle.dgt_link.specs.Machine.{MachineState, Move, after_move}
+use Rattle.{std.proofs.Common.{◌≡◌, ◌≢◌, Bool, true, false, not, ◌||◌, Some, refl, sym, ℕ, List, [], ◌∷◌}, dgt_values.specs.declared.{kinds.Kind.{Kind}, pieces.Piece.{Piece}}}
+use Rattle.{dgt_message.specs.Content.Content.{dump}, dgt_decode.specs.Grammar.{Message}, dgt_board.specs.declared.replies.Reply.{Reply}, dgt_host.specs.Confirmed.{same_pieces}}
+use Rattle.{dgt_host.proofs.ConfirmedLemmas.{same_is}, dgt_follow.specs.Pace.{PaceView, disturbs, pace_after_event}, dgt_link.specs.Machine.{MachineState, Move, after_move}}
 
 or_true : (a b : Bool) → b ≡ true → (a || b) ≡ true
 or_true true b e = refl
@@ -27,16 +20,20 @@ doubts false other e = cc
 
 contradicted : (pardons : Bool) (awaited : List Kind) (a b : List Piece) → a ≢ b
     → disturbs pardons awaited (Some a) (Message (dump b)) ≡ true
-contradicted pardons awaited a b other = or_true _ (not (same_pieces a b)) (rw (other_pieces a b other) refl)
+contradicted pardons awaited a b other =
+    or_true _ (not (same_pieces a b)) (rw (other_pieces a b other) refl)
 
-pub change_is_doubt : (x : MachineState) (pace : PaceView) (now : ℕ) (later : List Reply) → x.up ≡ []
-    → x.board.owed ≡ Reply.Of Kind.Dump ∷ later → x.picture ≡ Some x.board.reported_squares
-    → x.board.squares ≢ x.board.reported_squares
+pub change_is_doubt : (x : MachineState) (pace : PaceView) (now : ℕ) (later : List Reply)
+    → x.up ≡ [] → x.board.owed ≡ Reply.Of Kind.Dump ∷ later
+    → x.picture ≡ Some x.board.reported_squares → x.board.squares ≢ x.board.reported_squares
     → ((after_move x Move.Reply).up ≡ dump x.board.squares ∷ [])
-    × ((pace_after_event pace now (after_move x Move.Reply).awaited (after_move x Move.Reply).picture
-    (Message (dump x.board.squares))).doubtful ≡ true)
+    × ((pace_after_event pace now (after_move x Move.Reply).awaited
+    (after_move x Move.Reply).picture (Message (dump x.board.squares))).doubtful ≡ true)
 change_is_doubt x pace now later none owed known other = rw (owed, none, known) (
   refl,
-  doubts (disturbs pace.pardons x.awaited (Some x.board.reported_squares) (Message (dump x.board.squares))) _
-      (contradicted pace.pardons x.awaited x.board.reported_squares x.board.squares (λ e. other (sym e))),
+  doubts
+      (disturbs pace.pardons x.awaited (Some x.board.reported_squares)
+      (Message (dump x.board.squares))) _
+      (contradicted pace.pardons x.awaited x.board.reported_squares x.board.squares
+      (λ e. other (sym e))),
 )

@@ -8,5 +8,5 @@ returns-clause-promised c =
 pub returns-clause-picture : goal.returns-clause-picture
 returns-clause-picture c = λ happenings before after sane left none runs often quiet.
     c.promised_worlds_heal.ensures.picture after.world
-    (askings_promise c.faults_heal.ensures.sane c.steps_heal.ensures.anew c.steps_heal.ensures.kept happenings before
-    after sane left none runs often) quiet
+    (askings_promise c.faults_heal.ensures.sane c.steps_heal.ensures.anew c.steps_heal.ensures.kept
+    happenings before after sane left none runs often) quiet

@@ -1,5 +1,4 @@
-use Rattle.dgt_followed.proofs.Restating.{moves_restate}
-use Rattle.dgt_followed.proofs.Undoubted.{asks_no_doubt, hears_as_the_machine}
+use Rattle.dgt_followed.proofs.{Restating.{moves_restate}, Undoubted.{asks_no_doubt, hears_as_the_machine}}
 use Rattle.dgt_followed.proofs.sound_lines_raise_no_doubt.Goals as goal
 
 pub returns-clause-restated : goal.returns-clause-restated

@@ -1,5 +1,4 @@
-use Rattle.dgt_followed.proofs.Undoubted.{agreeing_ends}
-use Rattle.dgt_followed.proofs.Unreported.{change_is_doubt}
+use Rattle.dgt_followed.proofs.{Undoubted.{agreeing_ends}, Unreported.{change_is_doubt}}
 use Rattle.dgt_followed.proofs.unreported_changes_are_doubts.Goals as goal
 
 pub returns-clause-raised : goal.returns-clause-raised

@@ -1,6 +1,4 @@
-use Rattle.std.proofs.Common.{refl}
-use Rattle.dgt_followed.proofs.HeardRuns.{are_calls, are_followed, confirmed_as_delivered, confirmed_is_reported, one_stretch_in_worlds}
-use Rattle.dgt_followed.proofs.Sent.{sent_is_reported}
+use Rattle.{std.proofs.Common.{refl}, dgt_followed.proofs.{HeardRuns.{are_calls, are_followed, confirmed_as_delivered, confirmed_is_reported, one_stretch_in_worlds}, Sent.{sent_is_reported}}}
 use Rattle.dgt_followed.proofs.worlds_confirm_as_delivered.Goals as goal
 
 pub returns-clause-followed : goal.returns-clause-followed
@@ -23,7 +21,8 @@ returns-clause-reported c = confirmed_is_reported c.one_stretch_is_seen.ensures 
 
 pub returns-clause-stretch : goal.returns-clause-stretch
 returns-clause-stretch c =
-    λ reported before first last bytes meant heard first_are last_are says whole unconfirmed right. record {
+    λ reported before first last bytes meant heard first_are last_are says whole unconfirmed right.
+    record {
       first = first;
       last = last;
       stretch = bytes;
