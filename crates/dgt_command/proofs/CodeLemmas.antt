@@ -51,11 +51,6 @@ pub bare_form : (byte : ℕ) (each : Command) → bare_command byte ≡ Some eac
     → HasForm (Read (command_content each)) (byte ∷ [])
 bare_form byte each e = grind (arith, common_steps, found_passes, eqb-true, encoded_by_code)
 
--- the first byte, or 0
-abbrev pub first_byte : List ℕ → ℕ
-first_byte [] = 0
-first_byte (b ∷ rest) = b
-
 -- a byte that is no command of one byte begins no command but the longer ones
 pub no_command : (byte : ℕ) → bare_command byte ≡ None → byte ≢ 0x2b → byte ≢ 0x60
     → BeginsNoCommand byte

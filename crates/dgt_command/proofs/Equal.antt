@@ -23,9 +23,6 @@ differ number a b apart = search (rules, never)
 abbrev id_of : ClockContent → ℕ
 id_of said = said.id
 
-abbrev payload_of : ClockContent → List ℕ
-payload_of said = said.payload
-
 -- one of the bytes of the payload
 abbrev byte_of : ℕ → ClockContent → ℕ
 byte_of i said = slice_index said.payload i

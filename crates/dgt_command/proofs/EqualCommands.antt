@@ -1,24 +1,14 @@
 -- The derived `==` of commands and of events. Different commands differ in their codes, and events
 -- in a number for each variant.
-use Rattle.std.{proofs.{Common.{◌≡◌, ℕ, refl, ap, List, [], arith, rules}, lemmas.Grind.{common_steps}}, specs.{Option.{option_eq, option_map}, Prelude.{◌↔◌, IsTrue, Option, Some, None, IfSome}}}
-use Rattle.dgt_command.specs.{Content.{ClockContent, CommandContent, EventContent, command_content, command_event_content}, Encoding.{command_code}, Equality.{CommandHasArrays, EventHasArrays}}
-use Rattle.dgt_command.{specs.{Equality.{FedHasArrays, fed_seen}, declared.command.CommandEvent.{CommandEvent}}, proofs.Equal.{differ, equal_bytes, equal_clocks}}
-use Rattle.dgt_values.specs.Equality.{EqualIsSameReadOf}
+use Rattle.std.{proofs.{Common.{◌≡◌, ℕ, refl, ap, [], arith, rules}, lemmas.Grind.{common_steps}}, specs.{Option.{option_eq, option_map}, Prelude.{◌↔◌, IsTrue, Option, Some, None, IfSome}}}
+use Rattle.dgt_command.specs.{Content.{EventContent, command_content, command_event_content}, Encoding.{command_code}, Equality.{CommandHasArrays, EventHasArrays, FedHasArrays, fed_seen}}
+use Rattle.{dgt_command.{specs.declared.command.CommandEvent.{CommandEvent}, proofs.Equal.{differ, equal_bytes, equal_clocks}}, dgt_values.specs.Equality.{EqualIsSameReadOf}}
 use Rattle.dgt_command.specs.declared.command.Command.TheVariants as command
 use Rattle.dgt_command.specs.declared.command.CommandEvent.TheVariants as event
 use Rattle.dgt_command.specs.Content as content
 use Rattle.dgt_command.specs.contracts.command.CommandPartialEq.TheImpl as derived_command
 use Rattle.dgt_command.specs.contracts.command.CommandEventPartialEq.TheImpl as derived_event
 use Rattle.dgt_command.specs.contracts.decoder.CommandFedPartialEq.TheImpl as derived_fed
-
--- the clock message of a command, and its LED bytes
-abbrev message_of : CommandContent → ClockContent
-message_of (content.ClockMessage message) = message
-message_of _ = record { id = 0; payload = [] }
-
-abbrev leds_of : CommandContent → List ℕ
-leds_of (content.Leds leds) = leds
-leds_of _ = []
 
 -- two commands are equal exactly if they mean the same
 pub equal_commands : EqualIsSameReadOf CommandHasArrays command_content
@@ -46,15 +36,6 @@ event_case_of content.BadStart = 2
 event_case_of content.BadEnd = 3
 event_case_of (content.Stray byte) = 4
 
--- the command that an event reports, and the byte of a stray one
-abbrev read_of : EventContent → CommandContent
-read_of (content.Read read) = read
-read_of _ = content.Reset
-
-abbrev byte_of : EventContent → ℕ
-byte_of (content.Stray byte) = byte
-byte_of _ = 0
-
 -- two events are equal exactly if they report the same
 pub equal_events : EqualIsSameReadOf EventHasArrays command_event_content
     (derived_event.eq-value).it
@@ -64,11 +45,6 @@ equal_events event.BadStart event.BadStart h k = (λ _. refl, λ _. refl)
 equal_events event.BadEnd event.BadEnd h k = (λ _. refl, λ _. refl)
 equal_events (event.Stray a) (event.Stray b) h k = search rules
 equal_events a b h k = differ event_case_of (command_event_content a) (command_event_content b) refl
-
--- the event that is there
-abbrev there : Option EventContent → EventContent
-there (Some reported) = reported
-there None = content.BadSize
 
 -- whether an event is there, as a number
 abbrev how_many : Option EventContent → ℕ
