@@ -1,7 +1,4 @@
-use Rattle.std.proofs.Common.{refl, arith, Some}
-use Rattle.dgt_message.specs.Content.Content.{dump}
-use Rattle.dgt_host.specs.Confirmed.{Faulty}
-use Rattle.dgt_host.proofs.ConfirmedLemmas.{confirmed_was}
+use Rattle.{std.proofs.Common.{refl, arith, Some}, dgt_message.specs.Content.Content.{dump}, dgt_host.{specs.Confirmed.{Faulty}, proofs.ConfirmedLemmas.{confirmed_was}}}
 use Rattle.dgt_host.proofs.laws.a_faulty_dump_confirms.Goals as goal
 
 pub returns : goal.returns
