@@ -4,7 +4,7 @@ from __future__ import annotations
 
 import ctypes
 from collections.abc import Callable, Iterator
-from ctypes import byref
+from ctypes import byref, c_size_t, c_uint64
 from typing import Any
 
 from ._c import EVENT_FIELD, MAX_BODY, MAX_WORD, CommandStruct, EventStruct
@@ -71,16 +71,18 @@ class EventReader(Handle):
         return self._steps(*held, *time)
 
     def _steps(self, held: bytes, address: int, *time: int) -> Iterator[Event]:
-        end = address + len(held)
+        end, left, room = address + len(held), c_size_t(), c_size_t(MAX_BODY)
         feed, told, told_at, body_at = self._feed, self._events, self._events_at, self._body_at
+        times = [c_uint64(each) for each in time]  # ctypes converts other numbers at each call
         while address < end:
+            left.value = end - address
             # The body of `_call`: calling it for each event would take 50 % longer.
             with self._lock:
                 if self._running or not self._at:
                     self._refuse()
                 self._running = True
                 try:
-                    used = feed(self._at, *time, address, end - address, told_at, body_at, MAX_BODY)
+                    used = feed(self._at, *times, address, left, told_at, body_at, room)
                     address += used
                     self._offset += used
                     kind = told[KIND]
