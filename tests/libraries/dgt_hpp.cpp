@@ -390,22 +390,26 @@ void hosts() {
     CHECK(host.unread() == 0 && !host.picture() && host.awaited().empty());
 }
 
-template <class Sender> void clock_commands(Sender &&sender) {
+/// A follower's messages end in its mode's command.
+template <class Sender>
+void clock_commands(Sender &&sender, const std::string &after = "") {
     using dgt::Time;
-    CHECK(hex(sender.send_display("123456"), " ") == "2b 0b 03 01 4f 5b 06 7d 6d 66 00 00 00");
-    CHECK(hex(sender.send_display("-12345", 1), " ") == "2b 0b 03 01 5b 06 40 6d 66 4f 01 00 00");
-    CHECK(hex(sender.send_display("7890"), " ") == "2b 0b 03 01 6f 7f 07 00 00 3f 00 00 00");
-    CHECK(hex(sender.send_display("", 255, 254), " ") == "2b 0b 03 01 00 00 00 00 00 00 ff fe 00");
-    CHECK(hex(sender.send_text("hello"), " ") == "2b 0c 03 0c 68 65 6c 6c 6f 20 20 20 00 00");
-    CHECK(hex(sender.send_text("ABCDEFGH", 255), " ") ==
-          "2b 0c 03 0c 41 42 43 44 45 46 47 48 ff 00");
-    CHECK(hex(sender.send_beep(3), " ") == "2b 04 03 0b 03 00");
-    CHECK(hex(sender.send_set_and_run(Time{9, 8, 7}, Time{6, 5, 4}, 255), " ") ==
-          "2b 0a 03 0a 09 08 07 06 05 04 ff 00");
-    CHECK(hex(sender.send_icons(dgt::Bytes{1, 255}), " ") == "2b 05 03 02 01 ff 00");
-    CHECK(hex(sender.send_end(), " ") == "2b 03 03 03 00");
-    CHECK(hex(sender.send_button(), " ") == "2b 03 03 08 00");
-    CHECK(hex(sender.send_clock_version(), " ") == "2b 03 03 09 00");
+    auto is_sent = [&](const dgt::Commands &sent, const char *right) {
+        return hex(sent, " ") == right + after;
+    };
+    CHECK(is_sent(sender.send_display("123456"), "2b 0b 03 01 4f 5b 06 7d 6d 66 00 00 00"));
+    CHECK(is_sent(sender.send_display("-12345", 1), "2b 0b 03 01 5b 06 40 6d 66 4f 01 00 00"));
+    CHECK(is_sent(sender.send_display("7890"), "2b 0b 03 01 6f 7f 07 00 00 3f 00 00 00"));
+    CHECK(is_sent(sender.send_display("", 255, 254), "2b 0b 03 01 00 00 00 00 00 00 ff fe 00"));
+    CHECK(is_sent(sender.send_text("hello"), "2b 0c 03 0c 68 65 6c 6c 6f 20 20 20 00 00"));
+    CHECK(is_sent(sender.send_text("ABCDEFGH", 255), "2b 0c 03 0c 41 42 43 44 45 46 47 48 ff 00"));
+    CHECK(is_sent(sender.send_beep(3), "2b 04 03 0b 03 00"));
+    CHECK(is_sent(sender.send_set_and_run(Time{9, 8, 7}, Time{6, 5, 4}, 255),
+                  "2b 0a 03 0a 09 08 07 06 05 04 ff 00"));
+    CHECK(is_sent(sender.send_icons(dgt::Bytes{1, 255}), "2b 05 03 02 01 ff 00"));
+    CHECK(is_sent(sender.send_end(), "2b 03 03 03 00"));
+    CHECK(is_sent(sender.send_button(), "2b 03 03 08 00"));
+    CHECK(is_sent(sender.send_clock_version(), "2b 03 03 09 00"));
     for (const char *wrong : {"1234567", "12:34", "hello", "\xb2"})
         CHECK(refuses([&] { sender.send_display(wrong); }));
     for (const char *wrong : {"too long.", "Z\xfcg"})
@@ -492,7 +496,7 @@ void followers() {
     const dgt::Times times{{1, 2, 3}, {4, 5, 6}, 9};
     CHECK(heard.used == 8 && heard.event && std::get<dgt::Times>(*heard.event) == times);
     CHECK(follower.clock() == dgt::Clock(times));
-    CHECK(hex(follower.send(dgt::Ask::version)) == "4d" && follower.send_leds({}).size() == 2);
+    CHECK(hex(follower.send(dgt::Ask::version)) == "4d" && follower.send_leds({}).size() == 3);
     CHECK(refuses([&] { follower.ask(dgt::Milliseconds(-1)); }));
     CHECK(refuses([&] { follower.hear(dgt::Milliseconds(-1), {}); }));
     CHECK(refuses([] { dgt::Follower wrong(seconds(-1)); }));
@@ -814,7 +818,7 @@ int main(int count, char **words) {
     later_kinds();
     hosts();
     clock_commands(dgt::Host());
-    clock_commands(dgt::Follower());
+    clock_commands(dgt::Follower(), " 44");
     exceptions();
     decoders();
     followers();

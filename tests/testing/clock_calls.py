@@ -78,7 +78,8 @@ def made(dgt, call, arguments):
         wanted(f"what {call} of a board returns", getattr(board, f"send_{call}")(*arguments), None)
     host, follower = (getattr(each, f"send_{call}")(*arguments)
                       for each in (dgt.Host(), dgt.Follower()))
-    wanted(f"{call} of a follower, and of a board", (follower, line.written), (host, [host]))
+    right = host + b"\x44"  # the mode's command
+    wanted(f"{call} of a follower, and of a board", (follower, line.written), (right, [right]))
     return host
 
 

@@ -167,10 +167,10 @@ def lights(dgt, line):
         board.light("e2", "e4")
         board.light()
         end = time.monotonic() + SECONDS
-        while sum(len(asked) for _, asked in line.asked) < 12 and time.monotonic() < end:
+        while sum(len(asked) for _, asked in line.asked) < 14 and time.monotonic() < end:
             time.sleep(0.01)
         wanted("frames", b"".join(asked for _, asked in line.asked).hex(),
-               "600401342400" "600400404000")
+               "600401342400" "44" "600400404000" "44")
 
 
 def identifies(dgt, line):

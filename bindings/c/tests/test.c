@@ -644,14 +644,15 @@ static void setting_a_clock(void) {
 
 /* Has a host send a message, and then a follower, and compares the bytes. The follower writes one
  * byte more, its mode's command: `more` is 0 for the host, and 1 for the follower. */
-#define SENDS(name, bytes, ...)                                                                  \
+#define SENDS(name, wanted, ...)                                                                 \
     do {                                                                                         \
         size_t more = 0;                                                                         \
-        CHECK(is_sent(dgt_host_##name(host, __VA_ARGS__), out, bytes));                          \
+        CHECK(is_sent(dgt_host_##name(host, __VA_ARGS__), out, wanted));                         \
         more = 1;                                                                                \
         dgt_sent told = dgt_follower_##name(follower, __VA_ARGS__);                              \
         CHECK(told.bytes > 0 && out[--told.bytes] == DGT_SEND_UPDATE_BOARD);                     \
-        CHECK(is_sent(told, out, bytes));                                                        \
+        CHECK(is_sent(told, out, wanted));                                                       \
+        (void)more;                                                                              \
     } while (0)
 
 /* The same for a message that is refused with this status and this number. */
@@ -1097,21 +1098,21 @@ static void no_bytes_for_commands(void) {
     dgt_follower *follower = room(dgt_follower_size());
     CHECK(dgt_host_new(host) && dgt_follower_new(follower, 1000, 1));
     const uint8_t time[3] = {0}, digits[6] = {'1', '2', '3', '4', '5', '6'}, text[8] = {0};
-    uint8_t out[5];
+    uint8_t out[6];
     REFUSES(send, DGT_NO_ROOM, 1, DGT_SEND_DUMP, NULL, 0);
-    REFUSES(send_clock, DGT_NO_ROOM, 5, DGT_ID_END, NULL, 0, NULL, 0);
+    REFUSES(send_clock, DGT_NO_ROOM, 5 + more, DGT_ID_END, NULL, 0, NULL, 0);
     SENDS(send_clock, BYTES(0x2b, 3, 3, 3, 0), DGT_ID_END, NULL, 0, out, sizeof out);
-    REFUSES(send_leds, DGT_NO_ROOM, 2, NULL, 0, NULL, 0);
+    REFUSES(send_leds, DGT_NO_ROOM, 2 + more, NULL, 0, NULL, 0);
     SENDS(send_leds, BYTES(0x60, 0), NULL, 0, out, sizeof out);
-    REFUSES(send_display, DGT_NO_ROOM, 13, digits, 0, 0, NULL, 0);
-    REFUSES(send_text, DGT_NO_ROOM, 14, text, 0, NULL, 0);
-    REFUSES(send_beep, DGT_NO_ROOM, 6, 3, NULL, 0);
-    REFUSES(send_set_and_run, DGT_NO_ROOM, 12, time, time, 0, NULL, 0);
-    REFUSES(send_icons, DGT_NO_ROOM, 5, NULL, 0, NULL, 0);
+    REFUSES(send_display, DGT_NO_ROOM, 13 + more, digits, 0, 0, NULL, 0);
+    REFUSES(send_text, DGT_NO_ROOM, 14 + more, text, 0, NULL, 0);
+    REFUSES(send_beep, DGT_NO_ROOM, 6 + more, 3, NULL, 0);
+    REFUSES(send_set_and_run, DGT_NO_ROOM, 12 + more, time, time, 0, NULL, 0);
+    REFUSES(send_icons, DGT_NO_ROOM, 5 + more, NULL, 0, NULL, 0);
     SENDS(send_icons, BYTES(0x2b, 3, 3, 2, 0), NULL, 0, out, sizeof out);
-    REFUSES(send_end, DGT_NO_ROOM, 5, NULL, 0);
-    REFUSES(send_button, DGT_NO_ROOM, 5, NULL, 0);
-    REFUSES(send_clock_version, DGT_NO_ROOM, 5, NULL, 0);
+    REFUSES(send_end, DGT_NO_ROOM, 5 + more, NULL, 0);
+    REFUSES(send_button, DGT_NO_ROOM, 5 + more, NULL, 0);
+    REFUSES(send_clock_version, DGT_NO_ROOM, 5 + more, NULL, 0);
     free(host), free(follower);
 }
 
