@@ -80,7 +80,9 @@ export class Following {
   #askedAt = -Infinity;
   #unansweredAt = -Infinity;
   #disturbedUntil = 0;
+  /** @type {BoardPort} */
   #port;
+  /** @type {Ports | undefined} */
   #ports;
   /** @type {BoardPort[]} the other ports while this one was there: those of other boards */
   #others = [];
@@ -95,7 +97,6 @@ export class Following {
     const { ports, waitForPort, ...rest } = options;
     this.follower = new Follower(dgt, rest);
     this.#port = port;
-    /** @type {Ports | undefined} */
     this.#ports = ports ?? /** @type {any} */ (globalThis.navigator)?.serial;
     this.#waits = Boolean(waitForPort);
     this.#served = this.#serve();
