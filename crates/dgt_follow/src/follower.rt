@@ -287,8 +287,8 @@ impl Follower {
     pub fn send(&mut self, command: &Command<'_>, out: &mut [u8]) -> Result<usize, SendFault>
         ensures sends { let said = command_content command.now in
             Sends (record {
-                kind = requested_kind said;
-                bytes = sent_bytes self.old.pace.mode said;
+              kind = requested_kind said;
+              bytes = sent_bytes self.old.pace.mode said;
             }) self.old.host self.new.host out.old out.new result }
         ensures encodes { let said = command_content command.now in
             OnOk result (EncodesCommand said (command_encoding said)) }
