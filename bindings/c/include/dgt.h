@@ -668,7 +668,8 @@ void dgt_follower_set_confirm(dgt_follower *follower, bool confirm) DGT_NONNULL_
 void dgt_follower_set_identify(dgt_follower *follower, bool identify) DGT_NONNULL_(1);
 
 /* Sends the command of the single byte `code`, as dgt_host_send does. It doesn't count as a request
- * of the follower's. After DGT_SEND_RESET the board reports no change until the next request. */
+ * of the follower's. After DGT_SEND_RESET the board reports no change until the next request, LED
+ * frame or message to the clock. */
 dgt_sent dgt_follower_send(dgt_follower *follower, uint8_t code, uint8_t *out, size_t n)
     DGT_MUST_USE_ DGT_NONNULL_(1) DGT_WRITES_(3, 4);
 
