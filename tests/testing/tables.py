@@ -79,7 +79,7 @@ class Table(games.Hand):
         self.asked = None
         self.squares = list(letters or dgt.Position.start().letters)
         self.board = dgt.Board(self.position(), timer.times if timer else dgt.NoClock())
-        self.steps = following._Steps(2.0, game._PATIENCE, dgt.Mode.UPDATE_NICE, True)
+        self.steps = following._Steps(2.0, game.PATIENCE, dgt.Mode.UPDATE_NICE, True)
         compared = file and Compared(self, file)
         self.keeper = game.Games(self.told.append, self.warned.append, compared, tags, white_clock,
                                  fen, "port")

@@ -58,7 +58,7 @@ Tell = Callable[[str, Summary | None, bool], None]
 
 
 @dataclass
-class Said:
+class Observation:
     """The state of a board from a time on."""
 
     board: str
@@ -88,7 +88,21 @@ class Now:
     at: float | None
 
 
-Heard = Now | str | Callable[[], None]
+@dataclass
+class Removed:
+    """A board was removed."""
+
+    board: str
+
+
+@dataclass
+class Call:
+    """Something to do between two entries."""
+
+    run: Callable[[], None]
+
+
+Heard = Now | Removed | Call
 
 
 class State:
@@ -200,17 +214,17 @@ class State:
         return [each for each in row or () if each]
 
 
-def said_of(board: topics.Board, at: float, row: int) -> Said:
-    return Said(board.name, at, board.position.letters, board.clock, board.state, board.is_sure,
-                board.players, board.is_confirmed, row)
+def observation_of(board: topics.Board, at: float, row: int) -> Observation:
+    return Observation(board.name, at, board.position.letters, board.clock, board.state,
+                       board.is_sure, board.players, board.is_confirmed, row)
 
 
-def contradiction(said: list[Said], doubt: int) -> tuple[int, list[int]]:
+def contradiction(seen: list[Observation], doubt: int) -> tuple[int, list[int]]:
     """Which report since a doubt contradicts the one before it, and on which squares, if one does.
     A report of all squares changes several at once, and hands change one after the other."""
-    end = next(at for at in range(doubt, len(said)) if said[at].is_sure)
+    end = next(at for at in range(doubt, len(seen)) if seen[at].is_sure)
     changed = [(at, [square for square in range(64)
-                     if said[at - 1].letters[square] != said[at].letters[square]])
+                     if seen[at - 1].letters[square] != seen[at].letters[square]])
                for at in range(doubt, end + 1)]
     some = [each for each in changed if each[1]]
     several = [each for each in some if len(each[1]) > 1]
@@ -223,21 +237,21 @@ def is_capture(wrong: str, right: str, start: int, end: int) -> bool:
             and wrong[end] != "." and wrong[end].isupper() != right[end].isupper())
 
 
-def correct(said: list[Said], before: str) -> None:
+def correct(seen: list[Observation], before: str) -> None:
     """Corrects a board's reports from one confirmed position to the next. If a report of all
     squares, after a doubt, contradicts the change of a square, the square didn't change."""
-    doubt = next((at for at, each in enumerate(said) if each.state == "doubt"), 0)
-    if not doubt or any(each.state in AWAY for each in said):
+    doubt = next((at for at, each in enumerate(seen) if each.state == "doubt"), 0)
+    if not doubt or any(each.state in AWAY for each in seen):
         return
-    end, squares = contradiction(said, doubt)
-    wrong, right = said[end - 1].letters, said[end].letters
+    end, squares = contradiction(seen, doubt)
+    wrong, right = seen[end - 1].letters, seen[end].letters
     if any(is_capture(wrong, right, *pair) for pair in (squares, squares[::-1]) if len(pair) == 2):
         return  # it was made during the doubt
     for square in squares if len(squares) <= MOST_WRONG else ():
         since = next((at for at in range(end - 1, -1, -1)
-                      if said[at].letters[square] != wrong[square]), -1) + 1
+                      if seen[at].letters[square] != wrong[square]), -1) + 1
         if since or before[square:square + 1] != wrong[square]:
-            for each in said[since:end]:
+            for each in seen[since:end]:
                 each.letters = each.letters[:square] + right[square] + each.letters[square + 1:]
 
 
@@ -441,7 +455,7 @@ class Table:
     place: Place
     players: tuple[str, str] | None = None
     told: Any = None
-    pending: list[tuple[str, Said]] = field(default_factory=list)  # with the journal of each
+    pending: list[tuple[str, Observation]] = field(default_factory=list)  # with the journal of each
     confirmed: str = ""  # the letters that were confirmed last
     letters: str = ""  # on the board now
     row: int = 0  # the first one with these letters
@@ -504,10 +518,9 @@ class Collector:
         self.thread = threading.Thread(target=self.run, daemon=True)
         self.thread.start()
 
-    def hear(self, said: Heard) -> None:
-        """The time on a board, or the name of one that is removed, or something to do between two
-        entries; the entries themselves are in the state."""
-        self.waiting.put(said)
+    def hear(self, heard: Heard) -> None:
+        """What is heard beside the boards' entries, which are in the state."""
+        self.waiting.put(heard)
 
     def close(self) -> None:
         """Puts all games so far on the shelf."""
@@ -541,21 +554,27 @@ class Collector:
                 self.do(name, functools.partial(self.wait, now))
             due = min((table.due for table in self.tables.values()), default=NEVER)
             try:
-                said = self.next(min(1.0, max(0.0, due - time.monotonic())))
+                heard = self.next(min(1.0, max(0.0, due - time.monotonic())))
             except queue.Empty:
                 continue
             self.take_news()  # what was heard before this
-            if said is None:
-                return
-            if callable(said):
-                said()
-            elif isinstance(said, str):
-                self.remove(said)
-            elif table := self.tables.get(said.board):
-                table.base = None
-                if said.at is not None and said.journal == table.journal:
-                    table.base = said.at + table.shift, time.monotonic()
-                table.set_due()
+            match heard:
+                case None:
+                    return
+                case Call(run):
+                    run()
+                case Removed(board):
+                    self.remove(board)
+                case Now():
+                    self.set_time(heard)
+
+    def set_time(self, now: Now) -> None:
+        """Sets the time on a board, from which its next event is due."""
+        if table := self.tables.get(now.board):
+            table.base = None
+            if now.at is not None and now.journal == table.journal:
+                table.base = now.at + table.shift, time.monotonic()
+            table.set_due()
 
     def take_news(self) -> None:
         while news := self.state.news():
@@ -573,7 +592,8 @@ class Collector:
         board.hear_entry(round(1000 * at), entry)
         board.journal, board.heard_at = journal, at
         if board.is_shown and not self.is_between:
-            self.do(name, functools.partial(self.hear_said, journal, said_of(board, at, row)))
+            seen = observation_of(board, at, row)
+            self.do(name, functools.partial(self.observe, journal, seen))
 
     def take_round(self, row: int, tags: dict[str, str] | None) -> None:
         """Sets the tags of all games that begin from now on. Without tags the present games are
@@ -591,8 +611,8 @@ class Collector:
         if self.is_between:
             self.is_between = False
             for name, board in self.shown.items():
-                said = said_of(board, board.heard_at, row)
-                self.do(name, functools.partial(self.hear_said, board.journal, said))
+                seen = observation_of(board, board.heard_at, row)
+                self.do(name, functools.partial(self.observe, board.journal, seen))
 
     def remove(self, name: str) -> None:
         """Ends the game on a board. The board may be back, and was taken for the same."""
@@ -620,16 +640,16 @@ class Collector:
         else:
             table.place.done.clear()
 
-    def hear_said(self, journal: str, said: Said, table: Table) -> None:
+    def observe(self, journal: str, seen: Observation, table: Table) -> None:
         """Queues a board's entries until they are confirmed: they may be corrected before."""
-        table.pending.append((journal, said))
+        table.pending.append((journal, seen))
         table.rows += 1
-        is_sure = said.is_sure and said.is_confirmed
+        is_sure = seen.is_sure and seen.is_confirmed
         if not is_sure and len(table.pending) < MOST_PENDING:
             return
         if is_sure:
             correct([each for _, each in table.pending], table.confirmed)
-            table.confirmed = said.letters
+            table.confirmed = seen.letters
         for of_journal, each in table.pending:
             self.see(of_journal, each, table)
         table.pending.clear()
@@ -649,22 +669,22 @@ class Collector:
         table.games.tick(table.at)
         table.note_beginning()
 
-    def see(self, journal: str, said: Said, table: Table) -> None:
+    def see(self, journal: str, seen: Observation, table: Table) -> None:
         """Handles a board's entry, after everything that was due before. The clock of another
         machine may be slow, and nobody watched before it did."""
         if journal != table.journal:
             if table.at:
                 self.lose(table, table.at - table.shift)
-            table.journal, table.shift = journal, max(0.0, table.at + 1 - said.at)
-        table.at = max(table.at, said.at + table.shift)
+            table.journal, table.shift = journal, max(0.0, table.at + 1 - seen.at)
+        table.at = max(table.at, seen.at + table.shift)
         while (due := table.games.due) is not None and due <= table.at:
             table.games.tick(due)
-        table.games.set_tags({"Date": time.strftime("%Y.%m.%d", time.localtime(said.at)),
+        table.games.set_tags({"Date": time.strftime("%Y.%m.%d", time.localtime(seen.at)),
                               **self.tags}, False)
-        table.name_players(said.players)
-        if said.is_sure and said.letters != table.letters:
-            table.letters, table.row = said.letters, said.row
-        table.games.see(said.view(), table.at)
+        table.name_players(seen.players)
+        if seen.is_sure and seen.letters != table.letters:
+            table.letters, table.row = seen.letters, seen.row
+        table.games.see(seen.view(), table.at)
         table.note_beginning()
 
     def do(self, name: str, what: Callable[[Table], None]) -> None:

@@ -9,7 +9,7 @@ import time
 from typing import Any, Protocol
 
 import collector
-import corrected
+import corrected_games
 
 
 class Shown(Protocol):
@@ -48,7 +48,7 @@ class LateState(collector.State):
         return super().news()
 
 
-class Late(corrected.Corrected):
+class Late(corrected_games.CorrectedGames):
     """Makes the games of a delayed state. `boards` shows them."""
 
     def __init__(self, shelf: collector.Shelf, tags: dict[str, str], side: str,
@@ -57,8 +57,8 @@ class Late(corrected.Corrected):
         self.held: collections.deque[tuple[float, collector.Heard]] = collections.deque()
         super().__init__(shelf, tags, side, tell, name, state, True)
 
-    def hear(self, said: collector.Heard) -> None:
-        self.held.append((time.monotonic() + self.seconds, said))
+    def hear(self, heard: collector.Heard) -> None:
+        self.held.append((time.monotonic() + self.seconds, heard))
 
     def close(self) -> None:
         self.is_closed.set()
@@ -71,12 +71,12 @@ class Late(corrected.Corrected):
         if due > (here := time.monotonic()):
             self.is_closed.wait(min(seconds, due - here))
             raise queue.Empty
-        said = self.held.popleft()[1]
-        if isinstance(said, str):
-            self.boards.remove(said)
-        elif isinstance(said, collector.Now):
-            self.boards.show_time(said)
-        return said
+        heard = self.held.popleft()[1]
+        if isinstance(heard, collector.Removed):
+            self.boards.remove(heard.board)
+        elif isinstance(heard, collector.Now):
+            self.boards.show_time(heard)
+        return heard
 
     def report_lost(self, name: str, advice: str) -> None:
         """It was reported already."""

@@ -20,11 +20,11 @@ from typing import Any
 import dgt
 
 import collector
-import corrected
+import corrected_games
 import corrections
 import web
 from corrections import RESULTS, Refused
-from corrected import Wanted
+from corrected_games import Wanted
 
 TEMPLATE = pathlib.Path(__file__).resolve().parent / "desk.html"
 WAIT = 1.0  # seconds before a wrong password is refused
@@ -43,7 +43,7 @@ class Source:
     the server."""
 
     boards: Any
-    games: corrected.Corrected
+    games: corrected_games.CorrectedGames
     password: str | None
     status: Callable[[], list[tuple[str, bool]]]
     metrics: Callable[[], str]

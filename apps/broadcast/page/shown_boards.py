@@ -11,7 +11,7 @@ import time
 from typing import Any
 
 import collector
-import corrected
+import corrected_games
 import corrections
 import topics
 import web
@@ -21,8 +21,8 @@ from collector import report
 MOST_BOARDS, MOST_OF_PUBLISHER = 4096, 512
 
 
-class Said:
-    """Reports the broker's state on standard error, each time that it changes."""
+class Reporter:
+    """Reports the state of something on standard error, each time that it changes."""
 
     def __init__(self) -> None:
         self.last = ""
@@ -40,14 +40,14 @@ class Boards:
         self.lock = threading.Lock()
         self.state, self.marks = state, state.marks()
         self.asked: dict[tuple[str, str], tuple[int, float]] = {}
-        self.fault = Said()
+        self.fault = Reporter()
         self.known: dict[str, topics.Board] = {}
         self.owned: collections.Counter[str] = collections.Counter()  # boards of each journal
         self.events = web.Events()
         self.latest: tuple[int, str] = (-1, "")
-        self.games: corrected.Corrected | None = None
+        self.games: corrected_games.CorrectedGames | None = None
         self.late: Boards | None = None  # the boards for spectators
-        self.names: corrected.Players = {}
+        self.names: corrected_games.Players = {}
         self.seats: dict[str, str] = {}  # the other board of each swapped one
         self.broker = False
         self.messages = self.refused = 0
@@ -244,7 +244,7 @@ class Boards:
                 self.state.add("", board.name, round(1000 * now), board.as_entry())
             self.games.hear(collector.Now(board.name, "", now))
         elif self.games and was_shown:
-            self.games.hear(board.name)
+            self.games.hear(collector.Removed(board.name))
 
     def recall(self) -> None:
         """Shows the boards of the state until their messages arrive."""
@@ -318,7 +318,7 @@ class Boards:
             self.known[board.name] = board
             self.tell_change(board)
 
-    def name(self, players: corrected.Players) -> None:
+    def name(self, players: corrected_games.Players) -> None:
         """Sets the players of the file of names."""
         with self.lock:
             self.names = players

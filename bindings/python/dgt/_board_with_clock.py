@@ -9,7 +9,7 @@ from .board import Mode
 from .events import Ack, Dump
 from .following import BoardView, Following
 
-_PATIENCE = 30
+PATIENCE = 30
 """Requests are so frequent that the usual patience would start over every few seconds."""
 
 
@@ -23,7 +23,7 @@ class BoardWithClock(Following):
         self.asked_at = self.confirmed_at = float("-inf")
         """When the last dump that confirmed the picture was requested, and when it arrived."""
         self.shown_move = Display()
-        super().__init__(port, period, patience=_PATIENCE, mode=mode, confirm=True,
+        super().__init__(port, period, patience=PATIENCE, mode=mode, confirm=True,
                          wait_for_port=True, identify=identify)
 
     def _hear(self, chunk: bytes, now: float) -> None:

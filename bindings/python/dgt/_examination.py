@@ -8,10 +8,11 @@ import time
 from collections import deque
 
 from ._findings import FINDINGS
+from ._port import has_input
 from ._session import FAULTS, RecordedPort, Recorder
 from .commands import Ask, ClockId
 from .events import Ack, Dump, Event, Fault, Field, Other, Refused
-from .following import _DUMP, _has_input
+from .following import _DUMP
 from .host import Host
 
 PATIENCE = 4.0
@@ -44,7 +45,7 @@ class Person:
     def typed(self, seconds: float = 0.0) -> str | None:
         """Returns the next line that the person types within this time, or `None`. `Stopped` for
         `q`, and at the end of the input."""
-        if b"\n" not in self._rest and _has_input(0, seconds):
+        if b"\n" not in self._rest and has_input(0, seconds):
             self._rest += os.read(0, 4096) or b"q\n"
         line, end, rest = self._rest.partition(b"\n")
         if not end:
@@ -136,7 +137,7 @@ class Examination:
             for event in self.host.hear(chunk):
                 self._note(event)
                 self._queue.append(event)
-            is_over = time.monotonic() >= until or (wakes is not None and _has_input(wakes, 0.0))
+            is_over = time.monotonic() >= until or (wakes is not None and has_input(wakes, 0.0))
             if not self._queue and is_over:
                 return None
         return self._queue.popleft()
@@ -162,7 +163,7 @@ class Examination:
         return self._port is not None
 
     def _check_stop(self) -> None:
-        if _has_input(self._stop, 0.0):
+        if has_input(self._stop, 0.0):
             raise Stopped
 
     def _note(self, event: Event) -> None:

@@ -6,12 +6,12 @@ import time
 from collections.abc import Callable, Sequence
 from dataclasses import replace
 
-from ._port import Port
+from ._port import Port, has_input
 from ._session import FAULTS
 from .clock_side import SIDES, WhiteClock
 from .decoder import Decoder
 from .events import Other
-from .following import BoardView, _has_input
+from .following import BoardView
 from .games import Games
 from .pgn import PgnGame
 from .rules import START_FEN
@@ -87,7 +87,7 @@ def _heard(port: Port, stop: int) -> tuple[bytes, str]:
             if bodies and not decoder.rest:
                 break  # the log was complete
             raise
-        if _has_input(stop, 0.0):
+        if has_input(stop, 0.0):
             raise Stopped
         now = time.monotonic()
         heard = now if chunk else heard

@@ -7,6 +7,7 @@ import errno
 import fcntl
 import os
 import select
+import signal
 import termios
 
 # Why a port can't be opened, and what to do.
@@ -25,6 +26,26 @@ _COUNTS, _FAULTS = 80, slice(24, 44)
 """The size of Linux' counters of a port's events, and the part that counts faults."""
 _LATE = 0.1
 """For how many seconds after a fault was counted bytes may come that the port got before it."""
+
+
+def has_input(descriptor: int | None, seconds: float, other: int | None = None) -> bool:
+    """Waits until one of the descriptors has something to read, at most for this time in seconds.
+    Returns whether one has."""
+    poll = select.poll()
+    for each in (descriptor, other):
+        if each is not None:
+            poll.register(each, select.POLLIN)
+    return bool(poll.poll(1000 * seconds))
+
+
+def stopping() -> int:
+    """Returns a descriptor that has something to read once a signal stops the program."""
+    readable, writable = os.pipe2(os.O_NONBLOCK | os.O_CLOEXEC)
+    signal.set_wakeup_fd(writable, warn_on_full_buffer=False)
+    for number in (signal.SIGINT, signal.SIGTERM, signal.SIGHUP):
+        if signal.getsignal(number) is not signal.SIG_IGN:
+            signal.signal(number, lambda *_: None)
+    return readable
 
 
 def raised(descriptor: int) -> int:

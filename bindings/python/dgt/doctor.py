@@ -27,12 +27,12 @@ from typing import TextIO
 
 from ._examination import LEFT_OUT, LONGEST, LOOK, Examination, Person, Stopped
 from ._findings import FINDINGS, STATEMENTS
+from ._port import stopping
 from ._session import Recorder
 from ._steps import STEPS, do_step
 from ._version import VERSION
 from .commands import Ask, ClockId
 from .events import Battery, Dump, Event, LongSerial, Serial, Trademark, Version
-from .game import _stopping
 from .names import BatteryState
 from .serial_ports import ports
 from .values import NoClock, Times
@@ -179,7 +179,7 @@ def _run(name: str, file: TextIO, begun: str) -> bool:
     """Examines a board, and writes the report. Returns whether nothing was found."""
     lines, person = list[str](), Person()
     recorder = Recorder(lines.append)
-    board = Examination(name, recorder, person, _stopping())
+    board = Examination(name, recorder, person, stopping())
     try:
         _examine(board)
     except Stopped:
@@ -205,16 +205,16 @@ def main(arguments: list[str] | None = None) -> None:
     parser.add_argument("--report", metavar="FILE", default=time.strftime(
         "dgt-doctor-%Y%m%d-%H%M%S.txt"), help="the file for the report; it must not exist yet "
         "(dgt-doctor-DATE-TIME.txt)")
-    words = parser.parse_args(arguments)
-    what = words.report
+    args = parser.parse_args(arguments)
+    what = args.report
     try:
-        file = open(words.report, "x", encoding="utf-8", errors="backslashreplace")
-        what = words.port
-        is_well = _run(words.port, file, begun)
+        file = open(args.report, "x", encoding="utf-8", errors="backslashreplace")
+        what = args.port
+        is_well = _run(args.port, file, begun)
     except OSError as refused:
-        if what == words.port and not os.path.getsize(words.report):
-            os.unlink(words.report)
-        is_busy = what == words.port and refused.errno in _BUSY
+        if what == args.port and not os.path.getsize(args.report):
+            os.unlink(args.report)
+        is_busy = what == args.port and refused.errno in _BUSY
         raise SystemExit(f"dgt-doctor: {what}: {'busy port: ' * is_busy}"
                          f"{refused.strerror}") from None
     sys.exit(not is_well)

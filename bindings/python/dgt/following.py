@@ -6,7 +6,6 @@ from __future__ import annotations
 import contextlib
 import errno
 import os
-import select
 import threading
 import time
 from collections import deque
@@ -15,7 +14,7 @@ from dataclasses import dataclass, field
 from typing import Any, Protocol, Self
 
 from ._handle import Bytes, Uncopied, readable
-from ._port import Port, raised
+from ._port import Port, has_input, raised
 from .board import Mode
 from .clock_commands import ClockCommands
 from .commands import ClockId, Leds
@@ -181,16 +180,6 @@ class _Steps:
             self.changes.append(view)
 
 
-def _has_input(descriptor: int | None, seconds: float, other: int | None = None) -> bool:
-    """Waits until one of the descriptors has something to read, at most for this time in seconds.
-    Returns whether one has."""
-    poll = select.poll()
-    for each in (descriptor, other):
-        if each is not None:
-            poll.register(each, select.POLLIN)
-    return bool(poll.poll(1000 * seconds))
-
-
 def _mode(mode: Mode | None, clock: bool) -> Mode:
     """Returns the mode of a follower with these arguments."""
     if checked(clock, bool) and mode is not None:
@@ -347,7 +336,7 @@ class Following(Uncopied, ClockCommands[None]):
                 self._turn(until, wakes)
                 self._check_open()
                 is_over = until is not None and time.monotonic() >= until
-                if not changes and (is_over or _has_input(wakes, 0.0)):
+                if not changes and (is_over or has_input(wakes, 0.0)):
                     return None
             return changes.popleft()
 
@@ -360,7 +349,7 @@ class Following(Uncopied, ClockCommands[None]):
             self._look()
         elif self._line is None:
             end = self._look_at if until is None else min(self._look_at, until)
-            _has_input(wakes, max(0.0, end - now), self._closing)
+            has_input(wakes, max(0.0, end - now), self._closing)
         else:
             self._converse(self._line, now, until, wakes)
 

@@ -71,19 +71,19 @@ from __future__ import annotations
 import argparse
 import os
 import select
-import signal
 import sys
 import time
 
-from ._board_with_clock import _PATIENCE
+from ._board_with_clock import PATIENCE
 from ._logged import LoggedGames, NoLog, Stopped, ask_for_log
 from ._pgn_file import PgnFile
+from ._port import has_input, stopping
 from .board import Mode
 from .clock_side import SIDES
 from .errors import BadFen
-from .following import Following, _has_input, follow
+from .following import Following, follow
 from .games import Games
-from .uci import _period
+from .uci import period
 from .values import Position
 
 _PERIOD = 2.0
@@ -121,21 +121,11 @@ class _Output:
         return not self._unsent
 
 
-def _stopping() -> int:
-    """Returns a descriptor that has something to read once a signal stops the program."""
-    readable, writable = os.pipe2(os.O_NONBLOCK | os.O_CLOEXEC)
-    signal.set_wakeup_fd(writable, warn_on_full_buffer=False)
-    for number in (signal.SIGINT, signal.SIGTERM, signal.SIGHUP):
-        if signal.getsignal(number) is not signal.SIG_IGN:
-            signal.signal(number, lambda *_: None)
-    return readable
-
-
 def _record(board: Following, games: Games, output: _Output, notes: _Output) -> None:
     """Records the games on a board until a signal, or until nobody reads the output."""
-    stop = _stopping()
+    stop = stopping()
     asked: Position | None = None
-    while not output.is_broken and not _has_input(stop, 0.0):
+    while not output.is_broken and not has_input(stop, 0.0):
         due = games.due
         if not all([output.send(), notes.send()]):
             later = time.monotonic() + _OUTPUT_WAIT
@@ -150,7 +140,7 @@ def _record(board: Following, games: Games, output: _Output, notes: _Output) -> 
                 board.follower.ask_now()
 
 
-def _read_words(arguments: list[str] | None) -> argparse.Namespace:
+def _read_args(arguments: list[str] | None) -> argparse.Namespace:
     parser = argparse.ArgumentParser(
         prog="dgt-game", description=__doc__, allow_abbrev=False,
         formatter_class=argparse.RawDescriptionHelpFormatter)
@@ -164,23 +154,23 @@ def _read_words(arguments: list[str] | None) -> argparse.Namespace:
                         "the side that the clock reports first. learn begins with left, and "
                         "changes if the right side counts when White is to move")
     parser.add_argument("--fen", help="the position with which the game begins")
-    parser.add_argument("--period", type=_period, metavar="SECONDS",
+    parser.add_argument("--period", type=period, metavar="SECONDS",
                         help=f"the time between two requests for all squares ({_PERIOD})")
     parser.add_argument("--log", action="store_true", help="read the games in the board's log, "
                         "without following the board")
-    words = parser.parse_args(arguments)
-    if words.log and (words.fen or words.period):
+    args = parser.parse_args(arguments)
+    if args.log and (args.fen or args.period):
         parser.error("--log takes no --fen and no --period")
-    return words
+    return args
 
 
-def _follow(words: argparse.Namespace, file: PgnFile | None, tags: dict[str, str],
+def _follow(args: argparse.Namespace, file: PgnFile | None, tags: dict[str, str],
             output: _Output, notes: _Output) -> bool:
     """Records the games on the board. Returns whether the file contains all of them."""
     games = Games(output.say, lambda text: notes.say(f"dgt-game: {text}"), file, tags,
-                  words.white_clock, words.fen, words.port)
+                  args.white_clock, args.fen, args.port)
     try:
-        with follow(words.port, words.period or _PERIOD, patience=_PATIENCE, mode=Mode.UPDATE_NICE,
+        with follow(args.port, args.period or _PERIOD, patience=PATIENCE, mode=Mode.UPDATE_NICE,
                     confirm=True) as board:
             _record(board, games, output, notes)
     finally:
@@ -188,15 +178,15 @@ def _follow(words: argparse.Namespace, file: PgnFile | None, tags: dict[str, str
     return is_whole
 
 
-def _read_log(words: argparse.Namespace, file: PgnFile | None, tags: dict[str, str],
+def _read_log(args: argparse.Namespace, file: PgnFile | None, tags: dict[str, str],
               output: _Output, notes: _Output) -> bool:
     """Reads the games of the board's log. Returns whether the file contains all of them."""
-    stop = _stopping()
-    log = ask_for_log(words.port, stop)
+    stop = stopping()
+    log = ask_for_log(args.port, stop)
     logged = LoggedGames(output.say, lambda text: notes.say(f"dgt-game: {text}"), tags,
-                         words.white_clock)
+                         args.white_clock)
     logged.read(log)
-    while not output.send(_OUTPUT_WAIT) and not output.fault and not _has_input(stop, 0.0):
+    while not output.send(_OUTPUT_WAIT) and not output.fault and not has_input(stop, 0.0):
         pass  # its reader is slow
     if file is None:
         return True
@@ -213,15 +203,15 @@ def _read_log(words: argparse.Namespace, file: PgnFile | None, tags: dict[str, s
 
 def main(arguments: list[str] | None = None) -> None:
     """Runs the program `dgt-game` with these arguments, or those of the process."""
-    words = _read_words(arguments)
+    args = _read_args(arguments)
     output, notes = _Output(1), _Output(2)
     tags = {name.capitalize(): value for name in _TAGS
-            if (value := getattr(words, name)) is not None}
-    what, is_whole = words.pgn, False
+            if (value := getattr(args, name)) is not None}
+    what, is_whole = args.pgn, False
     try:
-        file = None if words.pgn is None else PgnFile(words.pgn)
-        what = words.port
-        is_whole = (_read_log if words.log else _follow)(words, file, tags, output, notes)
+        file = None if args.pgn is None else PgnFile(args.pgn)
+        what = args.port
+        is_whole = (_read_log if args.log else _follow)(args, file, tags, output, notes)
     except Stopped:
         pass
     except BadFen as wrong:

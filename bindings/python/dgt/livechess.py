@@ -55,9 +55,9 @@ _LAST_WAIT = 3.0
 class Server:
     """The WebSocket, and the boards."""
 
-    def __init__(self, words: argparse.Namespace) -> None:
+    def __init__(self, args: argparse.Namespace) -> None:
         """`SystemExit` if a module is missing."""
-        self._words, self._boards, self._count = words, list[Board](), 0
+        self._args, self._boards, self._count = args, list[Board](), 0
         self._opening, self._lacked_at = list[Any](), float("-inf")
         try:
             self._websockets: Any = importlib.import_module("websockets")
@@ -66,7 +66,7 @@ class Server:
 
     async def run(self) -> None:
         """Serves until a signal arrives. `SystemExit` if the port can't be opened."""
-        words, stop, loop = self._words, asyncio.Event(), asyncio.get_running_loop()
+        args, stop, loop = self._args, asyncio.Event(), asyncio.get_running_loop()
         for number in (signal.SIGINT, signal.SIGTERM, signal.SIGHUP):
             if signal.getsignal(number) is not signal.SIG_IGN:
                 loop.add_signal_handler(number, stop.set)
@@ -74,9 +74,9 @@ class Server:
         try:
             server = await self._serve()
         except OSError as fault:
-            sys.exit(f"dgt-livechess: port {words.port}: {fault} (end LiveChess and other programs "
+            sys.exit(f"dgt-livechess: port {args.port}: {fault} (end LiveChess and other programs "
                      "that use it, or see --port)")
-        say(f"ws://localhost:{words.port}{_PATH} (stop with Ctrl-C)")
+        say(f"ws://localhost:{args.port}{_PATH} (stop with Ctrl-C)")
         looking = self._follow()
         await stop.wait()
         if looking is not None:
@@ -89,12 +89,12 @@ class Server:
             board.close()
 
     async def _serve(self) -> Any:
-        serve, origins = self._websockets.serve, [*_ORIGINS, *self._words.origin]
+        serve, origins = self._websockets.serve, [*_ORIGINS, *self._args.origin]
         has_protocols = "create_protocol" in inspect.signature(serve).parameters
         how: dict[str, Any] = {"open_timeout": _OPEN_WAIT}
         if has_protocols:
             how = {"create_protocol": self._open}
-        return await serve(self._visit, "localhost", self._words.port, origins=origins,
+        return await serve(self._visit, "localhost", self._args.port, origins=origins,
                            max_size=_MOST_BYTES, max_queue=_MOST_SENT, compression=None,
                            close_timeout=2, **how)
 
@@ -138,12 +138,12 @@ class Server:
 
     def _follow(self) -> asyncio.Task[None] | None:
         """Begins to follow the boards. Returns the task that looks for more of them."""
-        words, shows = self._words, (self._words.clock, self._words.leds)
-        if words.broker:
-            Broker(self._boards, words.broker, words.broker_port, words.user)
-        elif not words.ports:
+        args, shows = self._args, (self._args.clock, self._args.leds)
+        if args.broker:
+            Broker(self._boards, args.broker, args.broker_port, args.user)
+        elif not args.ports:
             return asyncio.create_task(look_for_ports(self._boards, *shows))
-        for port in words.ports:
+        for port in args.ports:
             try:
                 self._boards.append(PortBoard(port, *shows))
             except OSError as fault:
@@ -208,10 +208,10 @@ def _read_words(arguments: Sequence[str] | None) -> argparse.Namespace:
                         help="the board's clock shows a move that a site has set up, until it "
                         "is made on the board")
     parser.add_argument("--leds", action="store_true", help="the board's lights show it, too")
-    words = parser.parse_args(arguments)
-    if words.broker and (words.ports or words.clock or words.leds):
+    args = parser.parse_args(arguments)
+    if args.broker and (args.ports or args.clock or args.leds):
         parser.error("--broker can't be combined with a PORT, --clock or --leds")
-    return words
+    return args
 
 
 def main(arguments: Sequence[str] | None = None) -> None:

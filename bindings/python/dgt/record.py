@@ -22,13 +22,12 @@ import threading
 import tty
 from typing import BinaryIO
 
-from ._board_with_clock import _PATIENCE
-from ._port import Port
+from ._board_with_clock import PATIENCE
+from ._port import Port, has_input, stopping
 from ._session import RecordedPort, Recorder
 from ._version import VERSION
 from .board import Mode
-from .following import Following, _has_input
-from .game import _stopping
+from .following import Following
 
 _PERIOD = 2.0
 """The seconds between two requests for all squares."""
@@ -41,7 +40,7 @@ class _Recorded(Following):
 
     def __init__(self, port: str, recorder: Recorder) -> None:
         self._recorder = recorder
-        super().__init__(port, _PERIOD, patience=_PATIENCE, mode=Mode.UPDATE_NICE, confirm=True)
+        super().__init__(port, _PERIOD, patience=PATIENCE, mode=Mode.UPDATE_NICE, confirm=True)
 
     def _open(self) -> Port:
         return RecordedPort(self._name, self._closing, self._recorder)
@@ -55,7 +54,7 @@ def _follow(port: str, recorder: Recorder, stop: int) -> None:
     """Follows the board until a signal."""
     away: str | None = None
     with _Recorded(port, recorder) as board:
-        while not _has_input(stop, 0.0):
+        while not has_input(stop, 0.0):
             view = board.wait(wakes=stop)
             if view and view.away != away:
                 away = view.away
@@ -70,7 +69,7 @@ def _pass_on(port: str, recorder: Recorder, stop: int) -> None:
     os.set_blocking(program, False)
     line = RecordedPort(port, stop, recorder)
     print(os.ttyname(terminal), flush=True)
-    while not _has_input(stop, 0.0):
+    while not has_input(stop, 0.0):
         chunk = line.exchange(_LONGEST, program)
         taken = 0
         with contextlib.suppress(BlockingIOError):
@@ -92,24 +91,24 @@ def _note_lines(recorder: Recorder) -> None:
                 recorder.note(f"did {line.decode(errors='replace')}")
 
 
-def _record(words: argparse.Namespace, file: BinaryIO) -> None:
+def _record(args: argparse.Namespace, file: BinaryIO) -> None:
     def write(line: str) -> None:
         left = line.encode(errors="backslashreplace")
         try:
             while left:
                 left = left[file.write(left):]
         except OSError as refused:
-            raise SystemExit(f"dgt-record: {words.file}: {refused.strerror}") from None
+            raise SystemExit(f"dgt-record: {args.file}: {refused.strerror}") from None
 
     recorder = Recorder(write)
-    recorder.note(f"dgt-record {VERSION} of {words.port}")
+    recorder.note(f"dgt-record {VERSION} of {args.port}")
     threading.Thread(target=_note_lines, args=(recorder,), daemon=True).start()
     try:
-        (_pass_on if words.passes else _follow)(words.port, recorder, _stopping())
+        (_pass_on if args.passes else _follow)(args.port, recorder, stopping())
     finally:
         recorder.end()
         if recorder.is_empty:  # the port wasn't opened
-            os.unlink(words.file)
+            os.unlink(args.file)
 
 
 def main(arguments: list[str] | None = None) -> None:
@@ -121,13 +120,13 @@ def main(arguments: list[str] | None = None) -> None:
     parser.add_argument("file", help="the file for the session; it must not exist yet")
     parser.add_argument("--pass", dest="passes", action="store_true",
                         help="let a program use the board through a pseudo-terminal")
-    words = parser.parse_args(arguments)
+    args = parser.parse_args(arguments)
     signal.signal(signal.SIGTTIN, signal.SIG_IGN)  # or a read in the background stops the program
-    what = words.file
+    what = args.file
     try:
-        with open(words.file, "xb", buffering=0) as file:
-            what = words.port
-            _warn(f"recording {words.port} to {words.file} (stop with Ctrl-C)")
-            _record(words, file)
+        with open(args.file, "xb", buffering=0) as file:
+            what = args.port
+            _warn(f"recording {args.port} to {args.file} (stop with Ctrl-C)")
+            _record(args, file)
     except OSError as refused:
         raise SystemExit(f"dgt-record: {what}: {refused.strerror}") from None

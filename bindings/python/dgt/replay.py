@@ -100,21 +100,21 @@ def main(arguments: list[str] | None = None) -> None:
     parser.add_argument("file", help="the session")
     parser.add_argument("--speed", type=_speed, default=1.0, metavar="TIMES",
                         help="the speed, as a multiple of the recorded one (%(default)s)")
-    words = parser.parse_args(arguments)
+    args = parser.parse_args(arguments)
     try:
-        with open(words.file, encoding="utf-8", errors="replace") as file:
+        with open(args.file, encoding="utf-8", errors="replace") as file:
             entries, is_whole = read_session(file.read())
     except (OSError, BadSession) as wrong:
         why = wrong.strerror if isinstance(wrong, OSError) else wrong
-        raise SystemExit(f"dgt-replay: {words.file}: {why}") from None
+        raise SystemExit(f"dgt-replay: {args.file}: {why}") from None
     line, terminal = pty.openpty()
     tty.setraw(terminal)  # like a serial line: without echo
     os.set_blocking(line, False)
     print(os.ttyname(terminal), flush=True)
     player = _Player(line)
     with contextlib.suppress(KeyboardInterrupt):
-        player.play(entries, words.speed)
+        player.play(entries, args.speed)
         if not player.finish(terminal):
             sys.exit("dgt-replay: the program hasn't read all")
     if not is_whole:
-        sys.exit(f"dgt-replay: {words.file}: the session was cut off: its end is missing")
+        sys.exit(f"dgt-replay: {args.file}: the session was cut off: its end is missing")

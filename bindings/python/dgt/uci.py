@@ -414,10 +414,10 @@ def _serve(engine: Engine) -> None:
         due = engine.work(time.monotonic())
         if engine.line is None:
             left = 3600.0 if due is None else due - time.monotonic()
-            following._has_input(0, max(0.0, left))
+            _port.has_input(0, max(0.0, left))
         elif view := engine.line.wait(until=due, wakes=0):
             engine.see(view, time.monotonic())
-        if not following._has_input(0, 0.0):
+        if not _port.has_input(0, 0.0):
             continue
         chunk = os.read(0, 65536)
         if not chunk:
@@ -430,7 +430,8 @@ def _serve(engine: Engine) -> None:
                 break
 
 
-def _period(text: str) -> float:
+def period(text: str) -> float:
+    """Reads the seconds of `--period`."""
     with contextlib.suppress(ValueError):
         if 1 <= (seconds := float(text)) <= 3600:
             return seconds
@@ -444,11 +445,11 @@ def main(arguments: list[str] | None = None) -> None:
         formatter_class=argparse.RawDescriptionHelpFormatter)
     parser.add_argument("port", nargs="?", default="",
                         help="the board's serial port, such as /dev/ttyUSB0")
-    parser.add_argument("--period", type=_period, default=_PERIOD, metavar="SECONDS",
+    parser.add_argument("--period", type=period, default=_PERIOD, metavar="SECONDS",
                         help="the time between two requests for all squares (%(default)s)")
-    words = parser.parse_args(arguments)
+    args = parser.parse_args(arguments)
     signal.signal(signal.SIGINT, signal.SIG_DFL)
-    engine = Engine(words.port, words.period)
+    engine = Engine(args.port, args.period)
     try:
         _serve(engine)
     finally:

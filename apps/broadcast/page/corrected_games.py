@@ -16,7 +16,7 @@ import dgt
 import collector
 import corrections
 import topics
-from collector import Table, report, said_of
+from collector import Table, observation_of, report
 from corrections import DESK, Entry, Refused
 
 Players = dict[str, tuple[str, str]]
@@ -33,7 +33,7 @@ class Wanted:
     reply: queue.SimpleQueue[str] = field(default_factory=queue.SimpleQueue)
 
 
-class Corrected(collector.Collector):
+class CorrectedGames(collector.Collector):
     """Makes games. `name` gets the players of a round from its file. The side of a clock that has
     White's time is `left` or `right`, or it is learned."""
 
@@ -44,19 +44,19 @@ class Corrected(collector.Collector):
         self.name = name
         self.sides: dict[str, str] = {}  # of clocks with another side than the usual one
         self.targets: dict[str, str] = {}  # the address that gets the games of a round
-        self.late: Corrected | None = None  # makes the same games some time later
+        self.late: CorrectedGames | None = None  # makes the same games some time later
         super().__init__(shelf, tags, side, tell, state, is_last)
 
-    def hear(self, said: collector.Heard) -> None:
-        super().hear(said)
-        if self.late is not None and not callable(said):
-            self.late.hear(said)
+    def hear(self, heard: collector.Heard) -> None:
+        super().hear(heard)
+        if self.late is not None and not isinstance(heard, collector.Call):
+            self.late.hear(heard)
 
     # ---- Keeping a correction
 
     def ask(self, wanted: Wanted) -> None:
         """Stores a correction, if it is possible. Otherwise Refused."""
-        self.hear(functools.partial(self.decide, wanted))
+        self.hear(collector.Call(functools.partial(self.decide, wanted)))
         try:
             fault = wanted.reply.get(timeout=20)
         except queue.Empty:
@@ -111,7 +111,7 @@ class Corrected(collector.Collector):
             raise Refused(f"unknown other board: {other}")
         if table is None or game is None:
             raise Refused(f"board {one} has no game")
-        shown, right = said_of(board, 0.0, 0).letters, game.state.letters
+        shown, right = observation_of(board, 0.0, 0).letters, game.state.letters
         right = right[::-1] if table.games.recogniser.turned else right
         wrong = [dgt.SQUARES[at] for at in range(64) if shown[at] != right[at]]
         if wrong:
@@ -173,7 +173,7 @@ class Corrected(collector.Collector):
         corrections.correct_live(table.games, entry, table.at)
         board = self.shown.get(table.place.board)
         if not table.pending and board is not None and board.is_shown:
-            table.games.see(said_of(board, 0.0, 0).view(), table.at)
+            table.games.see(observation_of(board, 0.0, 0).view(), table.at)
             table.note_beginning()
 
     def set(self, entry: Entry) -> None:
