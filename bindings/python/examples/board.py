@@ -8,7 +8,8 @@ from standard input, one per line:
     e2 .                   removes the piece on e2
     e4 P                   puts a piece on e4 (PRNBKQ white, prnbkq black)
     e2e4                   moves the piece on e2; a piece on e4 is removed
-    turn                   sets up the pieces of a new game the other way round
+    new                    sets up the pieces of a new game
+    turn                   the same, with White on the other side from now on
     clock 1:00:00 0:59:30  sets the times of the clock's first and second side,
                            and stops it
     clock start            starts the clock: White is to move; the first side
@@ -140,6 +141,9 @@ class Port:
         if self.link is None:
             print(name, flush=True)
             return
+        with contextlib.suppress(OSError):
+            if not os.path.exists(self.link):  # the link of a board that was killed
+                os.unlink(self.link)
         try:
             os.symlink(name, self.link)
         except OSError as refused:
@@ -166,6 +170,7 @@ class Simulation:
     def __init__(self, board: dgt.Board, port: Port) -> None:
         self.board, self.port, self.clock = board, port, RunningClock(board)
         self.faults = set[str]()  # by their names in the input
+        self.is_turned = False  # White is on the far side
 
     def say(self, text: str) -> None:
         """Prints a line, but only with LINK."""
@@ -255,8 +260,10 @@ class Simulation:
                 raise ValueError("neither two times nor start or stop after clock")
             case ["raw", text]:
                 self.port.write(bytes.fromhex(text))
-            case ["turn"]:
-                for square, piece in zip(dgt.SQUARES, reversed(dgt.Position.start().letters)):
+            case ["new" | "turn" as how]:
+                self.is_turned ^= how == "turn"
+                letters = dgt.Position.start().letters
+                for square, piece in zip(dgt.SQUARES, letters[::-1 if self.is_turned else 1]):
                     self.board.change(square, piece)
             case ["off"]:
                 self.board.line_lost()
