@@ -22,13 +22,17 @@ ROWS = [
     (["clock 0:00:02 0:00:05", "wait 0.1", "clock start"],
      ["times 0:00:02 0 0:00:05 0 00", "times 0:00:02 0 0:00:05 0 11",
       "times 0:00:01 0 0:00:05 0 11", "times 0:00:00 0 0:00:05 0 10"]),
+    (["clock 1:00:00 0:00:01", "wait 0.1", "clock start", "wait 0.1", "clock press"],
+     ["times 1:00:00 0 0:00:01 0 00", "times 1:00:00 0 0:00:01 0 11",
+      "times 1:00:00 0 0:00:01 0 09", "times 1:00:00 0 0:00:00 0 08"]),
 ]
 # Lines that it refuses, and what it says of them.
 REFUSED = [
     ("clock start", "the clock's first side has no time left"),
-    ("clock", "neither two times nor start or stop after clock"),
-    ("clock go", "neither two times nor start or stop after clock"),
-    ("clock 0:00:01 0:00:02 0:00:03", "neither two times nor start or stop after clock"),
+    ("clock press", "the clock doesn't run"),
+    ("clock", "neither two times nor start, press or stop after clock"),
+    ("clock go", "neither two times nor start, press or stop after clock"),
+    ("clock 0:00:01 0:00:02 0:00:03", "neither two times nor start, press or stop after clock"),
     ("clock 0:00:01 10:00:00", "not a time from 0:00:00 to 9:59:59: 10:00:00"),
     ("clock 1:00 0:00:01", "not a time from 0:00:00 to 9:59:59: 1:00"),
     ("clock 1:60:00 0:00:01", "minutes must be a number from 0 to 59: 60"),

@@ -12,9 +12,11 @@ from standard input, one per line:
     turn                   the same, with White on the other side from now on
     clock 1:00:00 0:59:30  sets the times of the clock's first and second side,
                            and stops it
-    clock start            starts the clock: White is to move; the first side
-                           counts down each second, to 0:00:00
-    clock stop             stops the clock; White stays to move
+    clock start            starts the clock: White is to move, and the first
+                           side counts down each second, to 0:00:00
+    clock press            presses the clock: the other side is to move, and
+                           counts down
+    clock stop             stops the clock; the same side stays to move
     wait 0.5               waits for half a second; 3600 at most
     off                    switches the board off and on; the port stays open.
                            The board logs this, and all changes while no host
@@ -28,8 +30,8 @@ from standard input, one per line:
     mute                   from now on answers nothing
 
 It reports any other line on standard error, and ignores it. The board answers
-the host all the time. With LINK it also prints the host's commands, and `ready`
-at the start and after each line.
+the host all the time. With LINK it also prints each byte of the host's commands
+but zeros, and `ready` at the start and after each line.
 
 With LINK it ends at the end of its input. Otherwise it ends half a second later
 or once the host has read everything. If that takes more than ten seconds, it
@@ -65,32 +67,37 @@ except ImportError as missing:
     sys.exit(f"board.py: {missing}")
 
 
-RUNNING, WHITE_TURN = 0x01, 0x10  # bits of a clock's status
+RUNNING, TURNS = 0x01, (0x10, 0x08)  # bits of a clock's status: it runs; the side to move
 SQUARES = {0x86, 0x8E}  # the first bytes of messages with squares: all of them, and one
 MOVE = re.compile("([a-h][1-8])([a-h][1-8])")
 
 
 class RunningClock:
-    """The clock of a board. While it runs, its first side counts down each second, to 0:00:00. The
-    second side keeps its time."""
+    """The clock of a board. While it runs, the side to move counts down each second, to 0:00:00,
+    and the other one keeps its time."""
 
     def __init__(self, board: dgt.Board) -> None:
-        self.board, self.first, self.second = board, 0, dgt.Time()
+        self.board, self.left = board, [0, 0]  # the seconds of both sides
+        self.side: int | None = None  # to move
         self.due: float | None = None  # when it counts next, if it runs
-        self.turn = 0  # the bit of the side to move
 
     def set(self, first: str, second: str) -> None:
         """Shows these times, and stops. ValueError if one of them isn't valid."""
-        shown, self.second = read_time(first), read_time(second)
-        self.first, self.turn = 3600 * shown.hours + 60 * shown.minutes + shown.seconds, 0
+        self.left, self.side = [read_seconds(first), read_seconds(second)], None
         self.stop()
 
-    def start(self) -> None:
-        """ValueError if the first side has no time left."""
-        if self.first == 0:
-            raise ValueError("the clock's first side has no time left")
-        self.due, self.turn = time.monotonic() + 1, WHITE_TURN
+    def start(self, side: int) -> None:
+        """Runs for this side. ValueError if it has no time left."""
+        if self.left[side] == 0:
+            raise ValueError(f"the clock's {('first', 'second')[side]} side has no time left")
+        self.side, self.due = side, time.monotonic() + 1
         self.show()
+
+    def press(self) -> None:
+        """ValueError if the clock doesn't run, or if the other side has no time left."""
+        if self.side is None or self.due is None:
+            raise ValueError("the clock doesn't run")
+        self.start(1 - self.side)
 
     def stop(self) -> None:
         self.due = None
@@ -98,25 +105,25 @@ class RunningClock:
 
     def count(self) -> None:
         """Counts down the passed seconds."""
-        while self.due is not None and self.due <= time.monotonic():
-            self.first -= 1
-            self.due = self.due + 1 if self.first else None
+        while self.side is not None and self.due is not None and self.due <= time.monotonic():
+            self.left[self.side] -= 1
+            self.due = self.due + 1 if self.left[self.side] else None
             self.show()
 
     def show(self) -> None:
-        minutes, seconds = divmod(self.first, 60)
-        first = dgt.Time(*divmod(minutes, 60), seconds)
-        status = self.turn | (RUNNING if self.due else 0)
-        self.board.hand_clock(dgt.Times(first, self.second, status))
+        status = 0 if self.side is None else TURNS[self.side] | (RUNNING if self.due else 0)
+        minutes = [divmod(each, 60) for each in self.left]
+        times = [dgt.Time(*divmod(each, 60), seconds) for each, seconds in minutes]
+        self.board.hand_clock(dgt.Times(*times, status))
 
 
-def read_time(text: str) -> dgt.Time:
-    """Returns the time of a text such as 1:29:55. ValueError if it isn't valid."""
+def read_seconds(text: str) -> int:
+    """Returns the seconds of a time such as 1:29:55. ValueError if it isn't valid."""
     read = re.fullmatch(r"(\d):(\d\d):(\d\d)", text, re.ASCII)
     if not read:
         raise ValueError(f"not a time from 0:00:00 to 9:59:59: {text}")
-    hours, minutes, seconds = map(int, read.groups())
-    return dgt.Time(hours, minutes, seconds)
+    shown = dgt.Time(*map(int, read.groups()))
+    return 3600 * shown.hours + 60 * shown.minutes + shown.seconds
 
 
 class Port:
@@ -251,13 +258,15 @@ class Simulation:
             case ["wait", _]:
                 raise ValueError("not 0 to 3600 seconds")
             case ["clock", "start"]:
-                self.clock.start()
+                self.clock.start(self.clock.side or 0)
+            case ["clock", "press"]:
+                self.clock.press()
             case ["clock", "stop"]:
                 self.clock.stop()
             case ["clock", first, second]:
                 self.clock.set(first, second)
             case ["clock", *_]:
-                raise ValueError("neither two times nor start or stop after clock")
+                raise ValueError("neither two times nor start, press or stop after clock")
             case ["raw", text]:
                 self.port.write(bytes.fromhex(text))
             case ["new" | "turn" as how]:
