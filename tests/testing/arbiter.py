@@ -16,31 +16,24 @@ import time
 
 import engines
 import games
+from simulated_board import Hands, Line
 from wrong import Wrong, wanted
 
 SETTLE = 0.3
-# How much longer a move rests in each further try, if the machine holds the hands up.
-SLOWER = 4
 # A game that lasts longer is cut off.
 PLIES = 200
 WORTH = dict(zip("PNBRQKpnbrqk", (1, 3, 3, 5, 9, 0) * 2))
 
 
-class Late(Exception):
-    """The machine was so busy that the hands have rested in the middle of a move."""
-
-
 class Game:
     """A game that is played. It counts what it has tried."""
 
-    def __init__(self, dgt, seed, folder, settle):
+    def __init__(self, dgt, seed, folder):
         self.dgt, self.seed = dgt, seed
-        # A hand that the machine holds up for longer than this has made another move meanwhile.
-        self.most_late = settle - 0.05
         self.chance = random.Random(1000 + seed)
-        self.line = engines.Line(dgt, folder)
-        self.hands = engines.Hands(dgt, self.line, seed)
-        options = [("Settle", round(1000 * settle))]
+        self.line = Line(dgt, folder)
+        self.hands = Hands(dgt, self.line, seed)
+        options = [("Settle", round(1000 * SETTLE))]
         self.engine = engines.Engine(self.line.path, "--period", "1", options=options)
         self.counts = dict.fromkeys(["moves", "castlings", "en passant", "promotions", "mates",
                                      "stalemates", "cut off", "early", "faults", "quick answers",
@@ -141,11 +134,7 @@ class Game:
             self.make_early(move)
         if self.chance.random() < 0.2:
             self.ask()
-        try:
-            got = self.engine.move()
-        finally:
-            if self.hands.slowest > self.most_late:
-                raise Late(f"{self.hands.slowest:.2f} s between two steps of a hand")
+        got = self.engine.move()
         wanted(f"the move in {self.state.fen} after {self.engine.lines[-4:]}", got, move)
         self.counts["moves"] += 1
 
@@ -164,9 +153,8 @@ class Game:
         after = self.state.after(move).letters
         for squares in (self.squares(self.state.letters, after),
                         self.squares(self.before.letters, self.state.letters)):
-            for square in sorted(squares, key=lambda each: after[each] != "."):
-                self.hands.put(square, after[square])
-        self.hands.put_at = None
+            changed = sorted(squares, key=lambda each: after[each] != ".")
+            self.hands.put_all((square, after[square]) for square in changed)
 
     def play(self):
         self.begin()
@@ -188,29 +176,22 @@ class Game:
 
 
 def play(dgt, seed):
-    """Plays a game. Returns what is wrong with it, and what was tried."""
-    for number in range(3):
-        with tempfile.TemporaryDirectory() as folder:
-            game = Game(dgt, seed, pathlib.Path(folder), SETTLE * SLOWER ** number)
-            try:
-                game.play()
-                return None, game.counts
-            except Late as late:
-                wrong = f"the machine is too busy: {late}"
-            except (Wrong, OSError) as fault:
-                wrong = str(fault)
-                break
-            finally:
-                game.close()
-    return f"game {seed}: {wrong}", game.counts
+    """Plays a game. Returns what was tried."""
+    with tempfile.TemporaryDirectory() as folder:
+        game = Game(dgt, seed, pathlib.Path(folder))
+        try:
+            game.play()
+            return game.counts
+        except (Wrong, OSError) as fault:
+            raise Wrong(f"game {seed}: {fault}") from fault
+        finally:
+            game.close()
 
 
 def check(dgt, pool, count):
     """Plays `count` games. Returns what was tried."""
     begun, total = time.monotonic(), {}
-    for wrong, counts in pool.map(lambda seed: play(dgt, seed), range(count)):
-        if wrong:
-            raise Wrong(wrong)
+    for counts in pool.map(lambda seed: play(dgt, seed), range(count)):
         for name, number in counts.items():
             total[name] = total.get(name, 0) + number
     quick, answers = total["quick answers"], total["answers"]

@@ -4,7 +4,9 @@ tests/testing/rows.txt."""
 
 import pathlib
 
-from wrong import Wrong, wanted
+import cases
+import dgt
+from wrong import wanted
 
 LINES = pathlib.Path(__file__).resolve().parent / "rows.txt"
 # The call without `send_`, its arguments, and the bytes: the tables of clock messages, segments and
@@ -66,14 +68,14 @@ class Line:
         self.written.append(chunk)
 
 
-def with_times(dgt, arguments):
+def with_times(arguments):
     """The arguments, with a Time instead of each tuple."""
     return [dgt.Time(*each) if isinstance(each, tuple) else each for each in arguments]
 
 
-def made(dgt, call, arguments):
+def made(call, arguments):
     """The bytes of a call of a host, a follower, and a board that is followed."""
-    arguments, line = with_times(dgt, arguments), Line()
+    arguments, line = with_times(arguments), Line()
     with dgt.follow(line) as board:
         wanted(f"what {call} of a board returns", getattr(board, f"send_{call}")(*arguments), None)
     host, follower = (getattr(each, f"send_{call}")(*arguments)
@@ -83,59 +85,43 @@ def made(dgt, call, arguments):
     return host
 
 
-def check_rows(dgt):
-    """Each call has the bytes of its row. A board takes them as one command, and acknowledges
-    it."""
-    for call, arguments, right in ROWS:
-        sent = made(dgt, call, arguments)
-        wanted(f"{call} of {arguments}", sent.hex(" "), right)
-        board = dgt.Board()
-        message = dgt.ClockMessage(sent[3], sent[4:-1])
-        wanted(f"{call}, taken", board.take(sent), (len(sent), message))
-        [answer] = dgt.Decoder().feed(b"".join(board.messages()))
-        wanted(f"{call}, acknowledged", tuple(answer.ack[:2]), (0x10, sent[3]))
-    text = LINES.read_text()
-    wanted("rows that are not shown", [row for row in SHOWN if f"| `{row}` |" not in text], [])
+class ClockCalls(cases.Case):
+    def test_rows(self):
+        """Each call has the bytes of its row. A board takes them as one command, and acknowledges
+        it."""
+        for call, arguments, right in ROWS:
+            sent = made(call, arguments)
+            wanted(f"{call} of {arguments}", sent.hex(" "), right)
+            board = dgt.Board()
+            message = dgt.ClockMessage(sent[3], sent[4:-1])
+            wanted(f"{call}, taken", board.take(sent), (len(sent), message))
+            [answer] = dgt.Decoder().feed(b"".join(board.messages()))
+            wanted(f"{call}, acknowledged", tuple(answer.ack[:2]), (0x10, sent[3]))
+        text = LINES.read_text()
+        wanted("rows that are not shown", [row for row in SHOWN if f"| `{row}` |" not in text], [])
+
+    def test_refusals(self):
+        """A value out of its range is refused, and nothing is sent."""
+        for call, arguments, said in REFUSED:
+            arguments, line = with_times(arguments), Line()
+            for caller in (dgt.Host(), dgt.Follower(), dgt.follow(line)):
+                text = refusal(caller, call, arguments)
+                wanted(f"{call} of {arguments}", text[:len(said)], said)
+            wanted(f"{call} of {arguments}, sent", line.written, [])
+        for wrong in ("text", 5, None, [1]):
+            self.assertRaises(TypeError, dgt.Host().send_icons, wrong)
+
+    def test_closed(self):
+        for caller in (dgt.Host(), dgt.Follower(), dgt.follow(Line())):
+            caller.close()
+            for call, arguments, _ in ROWS:
+                with self.assertRaises(dgt.Closed):
+                    getattr(caller, f"send_{call}")(*with_times(arguments))
 
 
-def check_refusals(dgt):
-    """A value out of its range is refused, and nothing is sent."""
-    for call, arguments, said in REFUSED:
-        arguments, line = with_times(dgt, arguments), Line()
-        for caller in (dgt.Host(), dgt.Follower(), dgt.follow(line)):
-            text = refusal(dgt, caller, call, arguments)
-            wanted(f"{call} of {arguments}", text[:len(said)], said)
-        wanted(f"{call} of {arguments}, sent", line.written, [])
-    for wrong in ("text", 5, None, [1]):
-        try:
-            dgt.Host().send_icons(wrong)
-        except TypeError:
-            continue
-        raise Wrong(f"icons of {wrong!r}")
-
-
-def refusal(dgt, caller, call, arguments):
+def refusal(caller, call, arguments):
     try:
         sent = getattr(caller, f"send_{call}")(*arguments)
     except dgt.BadValue as fault:
         return str(fault)
     return f"taken: {sent!r}"
-
-
-def check_closed(dgt):
-    for caller in (dgt.Host(), dgt.Follower(), dgt.follow(Line())):
-        caller.close()
-        for call, arguments, _ in ROWS:
-            try:
-                getattr(caller, f"send_{call}")(*with_times(dgt, arguments))
-            except dgt.Closed:
-                continue
-            raise Wrong(f"{call} of a {type(caller).__name__} that is closed")
-
-
-def check(dgt):
-    """Returns how many calls were tried."""
-    check_rows(dgt)
-    check_refusals(dgt)
-    check_closed(dgt)
-    return len(ROWS) + len(REFUSED)

@@ -5,11 +5,13 @@ then both are in the same state."""
 from __future__ import annotations
 
 import importlib
+import unittest
 from typing import Any
 
 import dgt
 from hypothesis import strategies as st
-from hypothesis.stateful import RuleBasedStateMachine, initialize, invariant, rule
+from hypothesis.stateful import (RuleBasedStateMachine, initialize, invariant, rule,
+                                 run_state_machine_as_test)
 import strategies as some
 
 # It has no types.
@@ -351,4 +353,9 @@ class FaultyTalk(Ends):
         self.heals()
 
 
-Conversations, Followers = Talk.TestCase, FaultyTalk.TestCase
+class Conversations(unittest.TestCase):
+    def test_host(self) -> None:
+        run_state_machine_as_test(Talk)
+
+    def test_follower(self) -> None:
+        run_state_machine_as_test(FaultyTalk)

@@ -11,12 +11,16 @@ import importlib
 import pathlib
 import pkgutil
 import socket
+import subprocess
 import sys
 import types
 import unittest.mock
 
-from wrong import Wrong
+import cases
+import dgt
+from wrong import Wrong, wanted
 
+PACKAGE = pathlib.Path(dgt.__file__).resolve().parents[1]
 HAPPENINGS = [("e2", "."), ("e4", "P")]
 
 
@@ -90,7 +94,7 @@ async def serve(board, reader, writer):
     writer.close()
 
 
-def stand_ins(dgt):
+def stand_ins():
     """Modules in the place of pyserial and pyserial-asyncio."""
     tasks = set()
 
@@ -106,7 +110,7 @@ def stand_ins(dgt):
     return {"serial": serial, "serial_asyncio": serial_asyncio}
 
 
-def tests(dgt, readme):
+def examples(readme):
     """The examples of each docstring and of README.md, with the names of the package."""
     names = {name: getattr(dgt, name) for name in dgt.__all__} | {"dgt": dgt}
     modules = [dgt] + [importlib.import_module(f"dgt.{each.name}")
@@ -118,23 +122,34 @@ def tests(dgt, readme):
     yield doctest.DocTestParser().get_doctest(text, names, readme.name, str(readme), 1)
 
 
-def check(dgt, folder):
-    """Runs all examples, and returns how many there are. None that a file shows is left out."""
-    class Named(OwnPort):
-        def __init__(self, *_):
-            super().__init__(dgt.Board())
+class Named(OwnPort):
+    """The port that a name stands for."""
 
-    readme = folder / "README.md"
-    runner, told = doctest.DocTestRunner(), []
-    with (unittest.mock.patch.dict(sys.modules, stand_ins(dgt)),
+    def __init__(self, *_):
+        super().__init__(dgt.Board())
+
+
+def run_all():
+    """Runs all examples, of which none that a file shows is left out. Returns what is wrong."""
+    readme, runner, told = PACKAGE / "README.md", doctest.DocTestRunner(verbose=False), []
+    with (unittest.mock.patch.dict(sys.modules, stand_ins()),
           unittest.mock.patch("dgt.following.Port", Named)):
-        for test in tests(dgt, readme):
-            runner.run(test, out=told.append)
-    if runner.failures:
-        raise Wrong("".join(told))
-    sources = [readme, *pathlib.Path(folder, "dgt").glob("*.py")]
+        for example in examples(readme):
+            runner.run(example, out=told.append)
     shown = sum(line.lstrip().startswith(">>> ")
-                for source in sources for line in source.read_text().splitlines())
+                for source in [readme, *PACKAGE.glob("dgt/*.py")]
+                for line in source.read_text().splitlines())
     if runner.tries != shown:
-        raise Wrong(f"{runner.tries} examples were run, of {shown}")
-    return shown
+        told.append(f"{runner.tries} examples were run, of {shown}")
+    return "".join(told)
+
+
+class Docstrings(cases.Case):
+    def test_examples(self):
+        """In a process of its own: it replaces modules, and catches what examples print."""
+        ran = subprocess.run([sys.executable, __file__], capture_output=True, text=True)
+        wanted("examples that fail", (ran.returncode, ran.stderr), (0, ""))
+
+
+if __name__ == "__main__":
+    sys.exit(run_all() or 0)

@@ -1,6 +1,6 @@
 """Programs that follow a board on a port: the trainers and the programs of the pages, in each
 language. tests/libraries/c_library, tests/libraries/cargo, tests/apps/examples and tests/apps/web
-run these cases. The line of the board is that of ports.py; clocks are shown with board.py."""
+run these cases. The board's line is that of simulated_board.py; clocks are shown with board.py."""
 
 import contextlib
 import pathlib

@@ -8,10 +8,10 @@ the other side are the moves that the player has made on the board.
 import asyncio
 import json
 
+from cases import SECONDS
 from wrong import Wrong, wanted
 
 ORIGIN = "https://lichess.org"
-SECONDS = 60
 SETUP = 3  # the id of each setup
 
 

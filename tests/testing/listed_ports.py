@@ -1,12 +1,12 @@
 """Checks the list of serial ports of the package for Python, with folders instead of /dev and
 /sys."""
 
-import contextlib
-import io
 import os
-import pathlib
-import tempfile
+import subprocess
+import sys
 
+import cases
+import dgt
 from wrong import wanted
 
 DEVICES = ["ttyUSB10", "ttyS0", "ttyUSB1", "tty", "rfcomm0", "ttyUSB0", "ttyACM0"]
@@ -53,27 +53,27 @@ def plug_in(dev, sysfs):
             (sysfs / "devices/usb1" / device / name).write_bytes(text)
 
 
-def printed(dgt, **folders):
+def printed(**folders):
     """The lines of `python -m dgt ports`, or what it ends with."""
-    with contextlib.redirect_stdout(io.StringIO()) as output:
-        try:
-            dgt.serial_ports.main([], **folders)
-        except SystemExit as end:
-            return end.code
-    return output.getvalue().splitlines()
+    main = f"import dgt; dgt.serial_ports.main([], **{folders})"
+    ran = subprocess.run([sys.executable, "-c", main], capture_output=True, text=True,
+                         env=os.environ | {"PYTHONPATH": str(cases.ROOT / "bindings/python")})
+    return ran.stderr.rstrip("\n") if ran.returncode else ran.stdout.splitlines()
 
 
-def check(dgt):
-    with tempfile.TemporaryDirectory() as folder:
-        dev, sysfs = pathlib.Path(folder, "dev"), pathlib.Path(folder, "sys")
+class ListedPorts(cases.Case):
+    def test_folders(self):
+        dev, sysfs = self.folder / "dev", self.folder / "sys"
         folders = {"dev": str(dev), "sysfs": str(sysfs)}
-        wanted("ports of no folder", (dgt.ports(**folders), printed(dgt, **folders)), ([], NONE))
+        wanted("ports of no folder", (dgt.ports(**folders), printed(**folders)), ([], NONE))
         (dev / "serial/by-id").mkdir(parents=True)
         wanted("ports of an empty one", dgt.ports(**folders), [])
         plug_in(dev, sysfs)
         right = [dgt.SerialPort(f"{dev}/{name}", *said) for name, *said in RIGHT]
         wanted("ports", dgt.ports(**folders), right)
         lines = [" ".join([f"{dev}/{name}", *filter(None, said)]) for name, *said in RIGHT]
-        wanted("lines", printed(dgt, **folders), lines)
-    for port in dgt.ports():  # of this machine
-        wanted(f"whether {port.path} is there", os.path.exists(port.path), True)
+        wanted("lines", printed(**folders), lines)
+
+    def test_machine(self):
+        for port in dgt.ports():
+            wanted(f"whether {port.path} is there", os.path.exists(port.path), True)

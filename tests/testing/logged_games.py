@@ -10,6 +10,7 @@ import contextlib
 import fcntl
 import os
 import pathlib
+import random
 import re
 import signal
 import subprocess
@@ -17,15 +18,18 @@ import sys
 import tempfile
 import time
 
+import cases
+import dgt
 import pgn_games
-import ports
+import simulated_board
 import tables
+from cases import ROOT, SECONDS
+from dgt._logged import LoggedGames
+from simulated_board import boards
 from wrong import Wrong, wanted
 
-ROOT = pathlib.Path(__file__).resolve().parents[2]
 PROGRAM = [sys.executable, "-m", "dgt"]
 SESSION = ROOT / "tests/sessions/simulated_log.txt"
-SECONDS = 60
 MARKS = {"nothing": 0x00, "on": 0x6A, "end": 0x6B, "rows": 0x6C, "empty": 0x6D, "sent": 0x6E,
          "begin": 0x6F, "turned": 0x7A, "tag": 0x7B, "dog": 0x7C, "erased": 0x7F}
 ON = "broken off: the board was switched on after this"
@@ -140,7 +144,7 @@ TIMED = [
 ]
 
 
-def logged(dgt, text):
+def logged(text):
     """The bytes of a log."""
     body = b""
     for word in text.split():
@@ -158,10 +162,8 @@ def logged(dgt, text):
     return body
 
 
-def read(dgt, body, white_clock="left", tags=None):
+def read(body, white_clock="left", tags=None):
     """The games of a log, the lines, and what is said of it."""
-    from dgt._logged import LoggedGames
-
     told, warned = [], []
     games = LoggedGames(told.append, warned.append, tags or {}, white_clock)
     games.read(body)
@@ -175,57 +177,6 @@ def outside(said):
         words.append(f"{count[0]} changes of squares belong to no game, from byte {count[1]} of "
                      "the log on: the position is unknown there")
     return words
-
-
-def logs(dgt):
-    """Each log has these games, and so has a log with the other bit of the pieces set."""
-    for text, right, said in LOGS:
-        body = logged(dgt, text)
-        for bit in (0, 0x10):
-            games, told, warned = read(dgt, bytes(
-                byte | bit if 0x40 <= byte < 0x60 and at + 1 < len(body) and body[at + 1] < 64
-                else byte for at, byte in enumerate(body)))
-            got = [" ".join([*(made.san for made in game.moves)] + [game.result])
-                   + (f" {game.comment}" if game.comment else "") for game in games]
-            wanted(f"games of {text}", got, [each.strip() for each in right])
-            wanted(f"what is said of {text}", warned, outside(said))
-            broken = sum("broken off" == line for line in told)
-            wanted(f"lines of {text}: {told}", broken, sum(bool(each.comment) for each in games))
-            wanted(f"beginnings of {text}", [line for line in told if line.startswith("game")
-                                             and line != f"game {dgt.START_FEN}"], [])
-    _, told, _ = read(dgt, logged(dgt, "begin e2. e3P e3. e4P e7. e5p g1. f3N"))
-    wanted("lines", told, [f"game {dgt.START_FEN}", "1. e4 e2e4", "1... e5 e7e5", "2. Nf3 g1f3"])
-    [game], *_ = read(dgt, logged(dgt, "begin e2. e4P"), tags={"White": "Ann"})
-    wanted("tags", game.tags, {"Date": "????.??.??", "White": "Ann"})
-
-
-def log_times(dgt):
-    for text, side, right in TIMED:
-        games, *_ = read(dgt, logged(dgt, text), side)
-        got = [str(made.clock or "-") for game in games for made in game.moves]
-        wanted(f"times of {text}, {side}", got, right.split())
-        wanted(f"flags of {text}", {made.clock.flags for game in games for made in game.moves
-                                    if made.clock} <= {0}, True)
-
-
-def any_logs(dgt):
-    """Any bytes, and each cut of a log, are read to their end. No game has a move that its log
-    lacks: as far as the cut goes, the moves are those of the whole."""
-    import random
-
-    chance = random.Random(5)
-    for length in (1, 10, 300, 3000):
-        read(dgt, bytes(chance.choice([chance.randrange(256), 0x6F, 0x40, chance.randrange(64)])
-                        for _ in range(length)))
-    body = logged(dgt, f"on begin {ITALIAN} e1. g1K h1. f1R d7. d6p f3. g5N")
-    whole = [made.move for made in read(dgt, body)[0][0].moves]
-    for at in range(len(body)):
-        games, *_ = read(dgt, body[:at])
-        moves = [made.move for game in games for made in game.moves]
-        wanted(f"moves of {at} bytes", moves, whole[:len(moves)])
-    for at in range(2, len(body)):
-        games, *_ = read(dgt, body[at:])
-        wanted(f"games from byte {at} on", games, [])
 
 
 # ---- The board that keeps a log
@@ -243,117 +194,161 @@ def body_of(board):
     return b"".join(each[3:] for each in messages)
 
 
-def logging_board(dgt):
-    """What a board logs, and when."""
-    board = dgt.LoggingBoard(clock=dgt.NoClock())
-    wanted("a new one", body_of(board), logged(dgt, "on begin end"))
-    board.change("e2", ".")
-    board.change("e2", ".")
-    board.change("e4", "P")
-    wanted("a move", body_of(board), logged(dgt, "on begin sent e2. e4P end"))
-    for mode, is_logged in ((b"\x44", False), (b"\x43", False), (b"\x4b", False), (b"\x40", True)):
+class Logs(cases.Case):
+    """What is read from a log, and the board that keeps one."""
+
+    def test_logs(self):
+        """Each log has these games, and so has a log with the other bit of the pieces set."""
+        for text, right, said in LOGS:
+            body = logged(text)
+            for bit in (0, 0x10):
+                games, told, warned = read(bytes(
+                    byte | bit if 0x40 <= byte < 0x60 and at + 1 < len(body) and body[at + 1] < 64
+                    else byte for at, byte in enumerate(body)))
+                got = [" ".join([*(made.san for made in game.moves)] + [game.result])
+                       + (f" {game.comment}" if game.comment else "") for game in games]
+                wanted(f"games of {text}", got, [each.strip() for each in right])
+                wanted(f"what is said of {text}", warned, outside(said))
+                broken = sum("broken off" == line for line in told)
+                wanted(f"lines of {text}: {told}", broken,
+                       sum(bool(each.comment) for each in games))
+                wanted(f"beginnings of {text}", [line for line in told if line.startswith("game")
+                                                 and line != f"game {dgt.START_FEN}"], [])
+        _, told, _ = read(logged("begin e2. e3P e3. e4P e7. e5p g1. f3N"))
+        wanted("lines", told, [f"game {dgt.START_FEN}", "1. e4 e2e4", "1... e5 e7e5",
+                               "2. Nf3 g1f3"])
+        [game], *_ = read(logged("begin e2. e4P"), tags={"White": "Ann"})
+        wanted("tags", game.tags, {"Date": "????.??.??", "White": "Ann"})
+
+    def test_log_times(self):
+        for text, side, right in TIMED:
+            games, *_ = read(logged(text), side)
+            got = [str(made.clock or "-") for game in games for made in game.moves]
+            wanted(f"times of {text}, {side}", got, right.split())
+            wanted(f"flags of {text}", {made.clock.flags for game in games for made in game.moves
+                                        if made.clock} <= {0}, True)
+
+    def test_any_logs(self):
+        """Any bytes, and each cut of a log, are read to their end. No game has a move that its log
+        lacks: as far as the cut goes, the moves are those of the whole."""
+        chance = random.Random(5)
+        for length in (1, 10, 300, 3000):
+            read(bytes(chance.choice([chance.randrange(256), 0x6F, 0x40, chance.randrange(64)])
+                       for _ in range(length)))
+        body = logged(f"on begin {ITALIAN} e1. g1K h1. f1R d7. d6p f3. g5N")
+        whole = [made.move for made in read(body)[0][0].moves]
+        for at in range(len(body)):
+            games, *_ = read(body[:at])
+            moves = [made.move for game in games for made in game.moves]
+            wanted(f"moves of {at} bytes", moves, whole[:len(moves)])
+        for at in range(2, len(body)):
+            games, *_ = read(body[at:])
+            wanted(f"games from byte {at} on", games, [])
+
+    def test_logging_board(self):
+        """What a board logs, and when."""
+        board = dgt.LoggingBoard(clock=dgt.NoClock())
+        wanted("a new one", body_of(board), logged("on begin end"))
+        board.change("e2", ".")
+        board.change("e2", ".")
+        board.change("e4", "P")
+        wanted("a move", body_of(board), logged("on begin sent e2. e4P end"))
+        for mode, is_logged in ((b"\x44", False), (b"\x43", False), (b"\x4b", False),
+                                (b"\x40", True)):
+            board.clear_log()
+            sent(board, mode)
+            board.change("e7", ".")
+            board.change("e7", "p")
+            board.hand_clock(dgt.Times(dgt.Time(1), status=mode[0] & 1))
+            got = body_of(board)
+            wanted(f"after {mode.hex()}", got, logged("e7. e7p L1:00:00 R0:00:00 end"
+                                                      if is_logged else "end"))
+        board = dgt.LoggingBoard()
         board.clear_log()
-        sent(board, mode)
-        board.change("e7", ".")
-        board.change("e7", "p")
-        board.hand_clock(dgt.Times(dgt.Time(1), status=mode[0] & 1))
-        got = body_of(board)
-        wanted(f"after {mode.hex()}", got, logged(dgt, "e7. e7p L1:00:00 R0:00:00 end"
-                                                  if is_logged else "end"))
-    board = dgt.LoggingBoard()
-    board.clear_log()
-    wanted("the order", [each[0] & 0x7F for each in sent(board, b"\x4d\x49\x4d\x49")],
-           [0x13, 0x0F, 0x13, 0x0F])
-    wanted("no command", sent(board, b"\x2b\x04\x03\x0b\x49\x00")[0][0], 0x8D)
-    board.take(b"\x49")
-    wanted("whether it owes that", (board.owes, board.owed_len), (True, 0))
-    board.line_lost()
-    wanted("and after a loss of power", (board.owes, body_of(board)[-3:]),
-           (False, logged(dgt, "on begin end")))
-    refusals(dgt)
-    marks(dgt)
-    clock_log(dgt)
-    room(dgt)
+        wanted("the order", [each[0] & 0x7F for each in sent(board, b"\x4d\x49\x4d\x49")],
+               [0x13, 0x0F, 0x13, 0x0F])
+        wanted("no command", sent(board, b"\x2b\x04\x03\x0b\x49\x00")[0][0], 0x8D)
+        board.take(b"\x49")
+        wanted("whether it owes that", (board.owes, board.owed_len), (True, 0))
+        board.line_lost()
+        wanted("and after a loss of power", (board.owes, body_of(board)[-3:]),
+               (False, logged("on begin end")))
 
+    def test_refusals(self):
+        """It refuses what a `Board` refuses, with the same errors, open and closed."""
+        def error(call):
+            try:
+                return call()
+            except Exception as fault:
+                return type(fault)
 
-def refusals(dgt):
-    """It refuses what a `Board` refuses, with the same errors, open and closed."""
-    def error(call):
-        try:
-            return call()
-        except Exception as fault:
-            return type(fault)
+        found = {dgt.Board: [], dgt.LoggingBoard: []}
+        for make, errors in found.items():
+            for is_open in (True, False):
+                board = make()
+                _ = is_open or board.close()
+                for square, piece in ((64, "Q"), (-1, "Q"), (None, "Q"), ("e2", "x"), ("e2", None)):
+                    errors.append(error(lambda: board.change(square, piece)))
+                errors += [error(lambda: board.hand_clock(5)), error(lambda: board.take("text"))]
+        wanted("errors", found[dgt.LoggingBoard], found[dgt.Board])
+        wanted("a bad square", found[dgt.Board][0], dgt.BadValue)
+        wanted("no log", error(board.clear_log), dgt.Closed)
+        wanted("again", (error(lambda: board.__init__(room=3)), board._log_room),
+               (RuntimeError, 8192))
 
-    found = {dgt.Board: [], dgt.LoggingBoard: []}
-    for make, errors in found.items():
-        for is_open in (True, False):
-            board = make()
-            _ = is_open or board.close()
-            for square, piece in ((64, "Q"), (-1, "Q"), (None, "Q"), ("e2", "x"), ("e2", None)):
-                errors.append(error(lambda: board.change(square, piece)))
-            errors += [error(lambda: board.hand_clock(5)), error(lambda: board.take("text"))]
-    wanted("errors", found[dgt.LoggingBoard], found[dgt.Board])
-    wanted("a bad square", found[dgt.Board][0], dgt.BadValue)
-    wanted("no log", error(board.clear_log), dgt.Closed)
-    wanted("again", (error(lambda: board.__init__(room=3)), board._log_room), (RuntimeError, 8192))
+    def test_marks(self):
+        """How the pieces stand is logged each time that they do."""
+        start = dgt.Position.start()
+        board = dgt.LoggingBoard(dgt.Position.parse("8/8/8/8/8/8/8/8"))
+        wanted("an empty one", body_of(board), logged("on empty end"))
+        for letters, mark in ((start.letters, "begin"), (start.letters[::-1], "turned"),
+                              (start.letters.swapcase(), "rows"), ("." * 64, "empty")):
+            board.clear_log()
+            for square, piece in zip(dgt.SQUARES, letters):
+                if board.position[square] != ".":
+                    board.change(square, ".")
+            for square, piece in zip(dgt.SQUARES, letters):
+                if piece != ".":
+                    board.change(square, piece)
+            wanted(f"the last mark, {mark}", body_of(board)[-2:], logged(f"{mark} end"))
 
-
-def marks(dgt):
-    """How the pieces stand is logged each time that they do."""
-    start = dgt.Position.start()
-    board = dgt.LoggingBoard(dgt.Position.parse("8/8/8/8/8/8/8/8"))
-    wanted("an empty one", body_of(board), logged(dgt, "on empty end"))
-    for letters, mark in ((start.letters, "begin"), (start.letters[::-1], "turned"),
-                          (start.letters.swapcase(), "rows"), ("." * 64, "empty")):
+    def test_clock_log(self):
+        """A clock is logged once it stands, or is pressed."""
+        board, runs = dgt.LoggingBoard(), []
         board.clear_log()
-        for square, piece in zip(dgt.SQUARES, letters):
-            if board.position[square] != ".":
-                board.change(square, ".")
-        for square, piece in zip(dgt.SQUARES, letters):
-            if piece != ".":
-                board.change(square, piece)
-        wanted(f"the last mark, {mark}", body_of(board)[-2:], logged(dgt, f"{mark} end"))
+        for first, second, status in ((600, 600, 0), (600, 600, 0x11), (599, 600, 0x11),
+                                      (590, 600, 0x11), (595, 600, 0x09), (595, 590, 0x09),
+                                      (595, 580, 0), (595, 580, 0x11)):
+            times = (dgt.Time(0, *divmod(each, 60)) for each in (first, second))
+            board.hand_clock(dgt.Times(*times, status))
+            runs.append(len(body_of(board)))
+        board.hand_clock(dgt.NoClock())
+        got = body_of(board).replace(b"\x6e", b"")
+        wanted("times", got, logged("L0:10:00 R0:10:00 L0:09:55 R0:09:40 end"))
 
-
-def clock_log(dgt):
-    """A clock is logged once it stands, or is pressed."""
-    board, runs = dgt.LoggingBoard(), []
-    board.clear_log()
-    for first, second, status in ((600, 600, 0), (600, 600, 0x11), (599, 600, 0x11),
-                                  (590, 600, 0x11), (595, 600, 0x09), (595, 590, 0x09),
-                                  (595, 580, 0), (595, 580, 0x11)):
-        board.hand_clock(dgt.Times(*(dgt.Time(0, *divmod(each, 60)) for each in (first, second)),
-                                   status))
-        runs.append(len(body_of(board)))
-    board.hand_clock(dgt.NoClock())
-    got = body_of(board).replace(b"\x6e", b"")
-    wanted("times", got, logged(dgt, "L0:10:00 R0:10:00 L0:09:55 R0:09:40 end"))
-
-
-def room(dgt):
-    """The oldest are dropped, each whole, and a long log is several messages."""
-    for size in (3, 4, 10, 200):
-        board, things = dgt.LoggingBoard(room=size), []
-        for number in range(300):
+    def test_room(self):
+        """The oldest are dropped, each whole, and a long log is several messages."""
+        for size in (3, 4, 10, 200):
+            board, things = dgt.LoggingBoard(room=size), []
+            for number in range(300):
+                board.change("e4", "Pp"[number % 2])
+                things.append(logged(f"e4{'Pp'[number % 2]}"))
+                if number % 3 == 0:
+                    left = dgt.Time(0, number // 60, number % 60)
+                    board.hand_clock(dgt.Times(left))
+                    things += [logged(f"L{left}")] + [logged("R0:00:00")] * (number == 0)
+            last = b""
+            while len(things[-1]) + len(last) <= size:
+                last = things.pop() + last
+            wanted(f"the room of {size}", body_of(board), last + logged("end"))
+        board = dgt.LoggingBoard(room=65536)
+        for number in range(20000):
             board.change("e4", "Pp"[number % 2])
-            things.append(logged(dgt, f"e4{'Pp'[number % 2]}"))
-            if number % 3 == 0:
-                left = dgt.Time(0, number // 60, number % 60)
-                board.hand_clock(dgt.Times(left))
-                things += [logged(dgt, f"L{left}")] + [logged(dgt, "R0:00:00")] * (number == 0)
-        last = b""
-        while len(things[-1]) + len(last) <= size:
-            last = things.pop() + last
-        wanted(f"the room of {size}", body_of(board), last + logged(dgt, "end"))
-    board = dgt.LoggingBoard(room=65536)
-    for number in range(20000):
-        board.change("e4", "Pp"[number % 2])
-    messages = sent(board)
-    wanted("the messages", [len(each) - 3 for each in messages], [16380, 16380, 7243])
-    for size in (-1, 2, 65537, 3.5, None):
-        with contextlib.suppress(dgt.BadValue):
-            dgt.LoggingBoard(room=size)
-            raise Wrong(f"a room of {size!r}")
+        messages = sent(board)
+        wanted("the messages", [len(each) - 3 for each in messages], [16380, 16380, 7243])
+        for size in (-1, 2, 65537, 3.5, None):
+            with self.assertRaises(dgt.BadValue):
+                dgt.LoggingBoard(room=size)
 
 
 # ---- Random games
@@ -364,8 +359,8 @@ class LoggedTable(tables.AtGame):
 
     logging = None
 
-    def __init__(self, dgt, *how):
-        super().__init__(dgt, *how)
+    def __init__(self, *how):
+        super().__init__(*how)
         self.logging = dgt.LoggingBoard(self.position())
 
     def show(self):
@@ -386,8 +381,8 @@ class LoggedGame(tables.Played):
 
     def sit_down(self, turned):
         self.side = "left" if self.chance.random() < 0.7 else "right"
-        timer = tables.Timer(self.dgt, is_white_left=self.side == "left")
-        table = LoggedTable(self.dgt, self.state.letters, self.fen, turned, self.file, timer,
+        timer = tables.Timer(is_white_left=self.side == "left")
+        table = LoggedTable(self.state.letters, self.fen, turned, self.file, timer,
                             self.side, {"Round": "1"})
         table.game = self
         timer.run(0, table.time)
@@ -398,17 +393,17 @@ class LoggedGame(tables.Played):
             super().take_back()
 
 
-def play(dgt, seeds, most):
+def play_logged(seeds, most):
     """Plays games, one for each seed, and reads them from the log. Returns how many moves."""
     made = 0
     for seed in seeds:
         with tempfile.TemporaryDirectory(dir=tables.room()) as folder:
-            game = LoggedGame(dgt, seed, None, dgt.PgnFile(str(pathlib.Path(folder, "games.pgn"))))
+            game = LoggedGame(seed, None, dgt.PgnFile(str(pathlib.Path(folder, "games.pgn"))))
             game.takes_back = bool(seed % 2)
             while game.made < most and game.step():
                 pass
             result = game.finish()
-        games, told, warned = read(dgt, body_of(game.hand.logging),
+        games, told, warned = read(body_of(game.hand.logging),
                                    "learn" if seed % 3 == 0 else game.side)
         wanted(f"game {seed}, games and what is said", (len(games), warned), (1, []))
         moves = [each.move for each in games[0].moves]
@@ -439,65 +434,11 @@ def ran(*words, seconds=SECONDS):
 
 
 @contextlib.contextmanager
-def a_line(dgt, board=None):
+def a_line(board=None):
     """A board on a line, and a name for a file of games."""
-    with ports.a_line(dgt) as line, tempfile.TemporaryDirectory() as folder:
+    with simulated_board.a_line(dgt) as line, tempfile.TemporaryDirectory() as folder:
         line.board = board or dgt.LoggingBoard()
         yield line, pathlib.Path(folder, "games.pgn")
-
-
-def program_log(dgt):
-    """The games of a board's log are printed, and added to a file. The board isn't changed."""
-    with a_line(dgt) as (line, path):
-        for word in f"{ITALIAN} e1. e8. d4K d5k".split():
-            line.put((word[:2], word[2]))
-        path.write_text("old *\n")
-        got = ran("game", line.path, "--log", "--pgn", path, "--white", "Ann")
-        wanted(f"its status, {got.stderr}", (got.returncode, got.stderr), (0, ""))
-        wanted("its lines", got.stdout.splitlines()[-2:], ["3... Bc5 f8c5", "result 1/2-1/2 kings"])
-        wanted("the old", path.read_text().partition("\n\n")[0], "old *")
-        [game] = pgn_games.read(dgt, path.read_text().partition("\n\n")[2])
-        wanted("the game", (game.tags["White"], game.tags["Date"], game.result, len(game.moves)),
-               ("Ann", "????.??.??", "1/2-1/2", 6))
-        wanted("the mode", line.board.mode, dgt.Mode.IDLE)
-        full = path.parent / "full"
-        full.symlink_to("/dev/full")
-        for words, status, said in [
-                (("--fen", dgt.START_FEN), 2, "--log takes no --fen and no --period"),
-                (("--period", "3"), 2, "--log takes no --fen and no --period"),
-                (("--pgn", full), 1, "not a file")]:
-            got = ran("game", line.path, "--log", *words)
-            wanted(f"{words}, {got.stderr}", (got.returncode, said in got.stderr), (status, True))
-    with a_line(dgt) as (line, path):
-        line.board.clear_log()
-        line.spoil = lambda message: message.replace(b"\x8f\x00\x04\x6b", b"\x8f\x00\x03")
-        got = ran("game", line.path, "--log", "--pgn", path)
-        wanted("an empty log", (got.returncode, got.stderr, path.exists()),
-               (0, "dgt-game: the log is empty\n", False))
-
-
-def program_long_log(dgt):
-    """A log of several messages, with a pause after each."""
-    board = dgt.LoggingBoard(room=65536)
-    for _ in range(5000):
-        board.change("e5", "X")
-        board.change("e5", ".")
-    for word in ITALIAN.split():
-        board.change(word[:2], word[2])
-    with a_line(dgt, board) as (line, path):
-        line.transmit = slowly(line)
-        got = ran("game", line.path, "--log", "--pgn", path)
-        wanted(f"its lines, {got.stderr}", (got.returncode, len(got.stdout.splitlines())), (0, 7))
-    board = dgt.LoggingBoard()
-    for word in 100 * "g1. f3N g8. f6n f3. g1N f6. g8n ".split():
-        board.change(word[:2], word[2])
-    with a_line(dgt, board) as (line, path), subprocess.Popen(
-            [*PROGRAM, "game", line.path, "--log"], stdout=subprocess.PIPE, text=True, cwd="/",
-            env=os.environ | {"PYTHONPATH": str(ROOT / "bindings/python")}) as got:
-        fcntl.fcntl(got.stdout, fcntl.F_SETPIPE_SZ, 4096)
-        time.sleep(8)
-        lines = got.stdout.read().splitlines()
-        wanted("lines that are read late", (got.wait(SECONDS), len(lines)), (0, 401))
 
 
 def slowly(line):
@@ -514,92 +455,144 @@ def slowly(line):
     return transmit
 
 
-def program_no_log(dgt):
-    """Boards that send no log, a part of one, or one that the line alters; and a signal."""
-    with a_line(dgt, dgt.Board()) as (line, path):
-        begun = time.monotonic()
-        got = ran("game", line.path, "--log", "--pgn", path)
-        passed = time.monotonic() - begun
-        wanted(f"its status, {got.stderr}", (got.returncode, got.stdout, path.exists()),
-               (1, "", False))
-        wanted("what it says", got.stderr,
-               f"dgt-game: {line.path}: the board sent no log within 5 seconds. Not every board "
-               "keeps one. Switch it off and on, and try again; dgt-doctor checks whether it "
-               "answers\n")
-        wanted(f"whether it waits, {passed}", 5 <= passed < 5 + ports.LATE + 3, True)
-    for spoil, said in [(lambda message: message[:-1], "a message was cut off after 7 bytes"),
-                        (lambda message: b"\x8f\x01" + message, "cut 2")]:
-        with a_line(dgt) as (line, path):
-            line.spoil = spoil
+class LogPrograms(cases.Case):
+    """The program, with a board that keeps a log."""
+
+    def test_program_log(self):
+        """The games of a board's log are printed, and added to a file. The board isn't changed."""
+        with a_line() as (line, path):
+            for word in f"{ITALIAN} e1. e8. d4K d5k".split():
+                line.put((word[:2], word[2]))
+            path.write_text("old *\n")
+            got = ran("game", line.path, "--log", "--pgn", path, "--white", "Ann")
+            wanted(f"its status, {got.stderr}", (got.returncode, got.stderr), (0, ""))
+            wanted("its lines", got.stdout.splitlines()[-2:],
+                   ["3... Bc5 f8c5", "result 1/2-1/2 kings"])
+            wanted("the old", path.read_text().partition("\n\n")[0], "old *")
+            [game] = pgn_games.read(dgt, path.read_text().partition("\n\n")[2])
+            wanted("the game", (game.tags["White"], game.tags["Date"], game.result,
+                                len(game.moves)), ("Ann", "????.??.??", "1/2-1/2", 6))
+            wanted("the mode", line.board.mode, dgt.Mode.IDLE)
+            full = path.parent / "full"
+            full.symlink_to("/dev/full")
+            for words, status, said in [
+                    (("--fen", dgt.START_FEN), 2, "--log takes no --fen and no --period"),
+                    (("--period", "3"), 2, "--log takes no --fen and no --period"),
+                    (("--pgn", full), 1, "not a file")]:
+                got = ran("game", line.path, "--log", *words)
+                wanted(f"{words}, {got.stderr}", (got.returncode, said in got.stderr),
+                       (status, True))
+        with a_line() as (line, path):
+            line.board.clear_log()
+            line.spoil = lambda message: message.replace(b"\x8f\x00\x04\x6b", b"\x8f\x00\x03")
             got = ran("game", line.path, "--log", "--pgn", path)
-            wanted(f"{said}, {got.stderr}", (got.returncode, got.stdout, path.exists()),
+            wanted("an empty log", (got.returncode, got.stderr, path.exists()),
+                   (0, "dgt-game: the log is empty\n", False))
+
+    def test_program_long_log(self):
+        """A log of several messages, with a pause after each."""
+        board = dgt.LoggingBoard(room=65536)
+        for _ in range(5000):
+            board.change("e5", "X")
+            board.change("e5", ".")
+        for word in ITALIAN.split():
+            board.change(word[:2], word[2])
+        with a_line(board) as (line, path):
+            line.transmit = slowly(line)
+            got = ran("game", line.path, "--log", "--pgn", path)
+            wanted(f"its lines, {got.stderr}", (got.returncode, len(got.stdout.splitlines())),
+                   (0, 7))
+        board = dgt.LoggingBoard()
+        for word in 100 * "g1. f3N g8. f6n f3. g1N f6. g8n ".split():
+            board.change(word[:2], word[2])
+        with a_line(board) as (line, path), subprocess.Popen(
+                [*PROGRAM, "game", line.path, "--log"], stdout=subprocess.PIPE, text=True, cwd="/",
+                env=os.environ | {"PYTHONPATH": str(ROOT / "bindings/python")}) as got:
+            fcntl.fcntl(got.stdout, fcntl.F_SETPIPE_SZ, 4096)
+            time.sleep(8)
+            lines = got.stdout.read().splitlines()
+            wanted("lines that are read late", (got.wait(SECONDS), len(lines)), (0, 401))
+
+    def test_program_no_log(self):
+        """Boards that send no log, a part of one, or one that the line alters; and a signal."""
+        with a_line(dgt.Board()) as (line, path):
+            begun = time.monotonic()
+            got = ran("game", line.path, "--log", "--pgn", path)
+            passed = time.monotonic() - begun
+            wanted(f"its status, {got.stderr}", (got.returncode, got.stdout, path.exists()),
                    (1, "", False))
-            wanted("what it says", got.stderr.partition(": the line ")[2],
-                   f"altered or lost bytes in each of 3 attempts: {said}. Try another cable or "
-                   "socket, without a hub\n")
-    with a_line(dgt) as (line, path):
-        spoiled = iter([lambda message: message[:-1] + b"\x86", lambda message: b"\x05" + message])
-        line.spoil = lambda message: next(spoiled, bytes)(message)
-        line.board.change("e2", ".")
-        line.board.change("e4", "P")
-        got = ran("game", line.path, "--log")
-        wanted(f"the third time, {got.stderr}", (got.returncode, got.stdout.splitlines()[1:]),
-               (0, ["1. e4 e2e4"]))
-    with a_line(dgt, dgt.Board()) as (line, path):
+            wanted("what it says", got.stderr,
+                   f"dgt-game: {line.path}: the board sent no log within 5 seconds. Not every "
+                   "board keeps one. Switch it off and on, and try again; dgt-doctor checks "
+                   "whether it answers\n")
+            wanted(f"whether it waits, {passed}", 5 <= passed, True)
+        for spoil, said in [(lambda message: message[:-1], "a message was cut off after 7 bytes"),
+                            (lambda message: b"\x8f\x01" + message, "cut 2")]:
+            with a_line() as (line, path):
+                line.spoil = spoil
+                got = ran("game", line.path, "--log", "--pgn", path)
+                wanted(f"{said}, {got.stderr}", (got.returncode, got.stdout, path.exists()),
+                       (1, "", False))
+                wanted("what it says", got.stderr.partition(": the line ")[2],
+                       f"altered or lost bytes in each of 3 attempts: {said}. Try another cable or "
+                       "socket, without a hub\n")
+        with a_line() as (line, path):
+            spoiled = iter([lambda message: message[:-1] + b"\x86", lambda message: b"\x05"
+                            + message])
+            line.spoil = lambda message: next(spoiled, bytes)(message)
+            line.board.change("e2", ".")
+            line.board.change("e4", "P")
+            got = ran("game", line.path, "--log")
+            wanted(f"the third time, {got.stderr}", (got.returncode, got.stdout.splitlines()[1:]),
+                   (0, ["1. e4 e2e4"]))
+        with a_line(dgt.Board()) as (line, path):
+            env = os.environ | {"PYTHONPATH": str(ROOT / "bindings/python")}
+            with subprocess.Popen([*PROGRAM, "game", line.path, "--log"], env=env, cwd="/",
+                                  stderr=subprocess.PIPE, text=True) as got:
+                end = time.monotonic() + SECONDS
+                while not line.asked and time.monotonic() < end:
+                    time.sleep(0.01)
+                got.send_signal(signal.SIGTERM)
+                wanted("after a signal", (got.wait(SECONDS), got.stderr.read()), (1, ""))
+
+    def test_replayed_log(self):
+        """The session of tests/sessions/ with a log."""
         env = os.environ | {"PYTHONPATH": str(ROOT / "bindings/python")}
-        with subprocess.Popen([*PROGRAM, "game", line.path, "--log"], env=env, cwd="/",
-                              stderr=subprocess.PIPE, text=True) as got:
-            end = time.monotonic() + SECONDS
-            while not line.asked and time.monotonic() < end:
-                time.sleep(0.01)
-            got.send_signal(signal.SIGTERM)
-            wanted("after a signal", (got.wait(SECONDS), got.stderr.read()), (1, ""))
+        with subprocess.Popen([*PROGRAM, "replay", "--speed", "100", SESSION], env=env, cwd="/",
+                              stdout=subprocess.PIPE, text=True) as replay:
+            with tempfile.TemporaryDirectory() as folder:
+                path = pathlib.Path(folder, "games.pgn")
+                got = ran("game", replay.stdout.readline().strip(), "--log", "--pgn", path)
+                games = pgn_games.compare(path, dgt)
+            wanted(f"its status, {got.stderr}", (got.returncode, replay.wait(SECONDS)), (0, 0))
+            wanted("its games", [(len(game.moves), game.clocks[-1], game.result) for game in games],
+                   [(7, "0:04:32", "*"), (4, "0:04:42", "0-1")])
+        lines = [line.removeprefix("# prints ") for line in SESSION.read_text().splitlines()
+                 if line.startswith("# prints ")]
+        wanted("its lines", got.stdout.splitlines(), lines)
 
+    def test_example_log(self):
+        """bindings/python/examples/board.py keeps a log."""
+        pipes = {"stdin": subprocess.PIPE, "stdout": subprocess.PIPE}
+        with subprocess.Popen([sys.executable, ROOT / "bindings/python/examples/board.py"],
+                              text=True, **pipes, env=os.environ
+                              | {"PYTHONDONTWRITEBYTECODE": "1"}) as board:
+            board.stdin.write("clock 0:05:00 0:05:00\ne2e4\nclock 0:04:50 0:05:00\ne7e5\n"
+                              "clock 0:04:50 0:04:51\noff\ng1f3\n")
+            board.stdin.flush()
+            port = board.stdout.readline().strip()
+            time.sleep(1)  # for the moves
+            got = ran("game", port, "--log")
+        wanted(f"its lines, {got.stderr}", got.stdout.splitlines()[1:],
+               ["1. e4 e2e4 0:05:00 0:05:00", "1... e5 e7e5 0:04:50 0:05:00", "broken off"])
 
-def replayed_log(dgt):
-    """The session of tests/sessions/ with a log."""
-    env = os.environ | {"PYTHONPATH": str(ROOT / "bindings/python")}
-    with subprocess.Popen([*PROGRAM, "replay", "--speed", "100", SESSION], env=env, cwd="/",
-                          stdout=subprocess.PIPE, text=True) as replay:
+    def test_trial_log(self):
+        """The boards of trials keep a log until a host listens."""
         with tempfile.TemporaryDirectory() as folder:
-            path = pathlib.Path(folder, "games.pgn")
-            got = ran("game", replay.stdout.readline().strip(), "--log", "--pgn", path)
-            games = pgn_games.compare(path, dgt)
-        wanted(f"its status, {got.stderr}", (got.returncode, replay.wait(SECONDS)), (0, 0))
-        wanted("its games", [(len(game.moves), game.clocks[-1], game.result) for game in games],
-               [(7, "0:04:32", "*"), (4, "0:04:42", "0-1")])
-    lines = [line.removeprefix("# prints ") for line in SESSION.read_text().splitlines()
-             if line.startswith("# prints ")]
-    wanted("its lines", got.stdout.splitlines(), lines)
-
-
-def example_log(dgt):
-    """bindings/python/examples/board.py keeps a log."""
-    pipes = {"stdin": subprocess.PIPE, "stdout": subprocess.PIPE}
-    with subprocess.Popen([sys.executable, ROOT / "bindings/python/examples/board.py"], text=True,
-                          **pipes,
-                          env=os.environ | {"PYTHONDONTWRITEBYTECODE": "1"}) as board:
-        board.stdin.write("clock 0:05:00 0:05:00\ne2e4\nclock 0:04:50 0:05:00\ne7e5\n"
-                          "clock 0:04:50 0:04:51\noff\ng1f3\n")
-        board.stdin.flush()
-        port = board.stdout.readline().strip()
-        time.sleep(1)  # for the moves
-        got = ran("game", port, "--log")
-    wanted(f"its lines, {got.stderr}", got.stdout.splitlines()[1:],
-           ["1. e4 e2e4 0:05:00 0:05:00", "1... e5 e7e5 0:04:50 0:05:00", "broken off"])
-
-
-def trial_log(dgt):
-    """The boards of trials keep a log until a host listens."""
-    with tempfile.TemporaryDirectory() as folder:
-        table = ports.boards.Boards(folder, 1)
-        for _ in range(3):
-            table[0].play()
-        got = ran("game", table[0].path, "--log")
-        table.close()
-    wanted(f"its lines, {got.stderr}", got.stdout.splitlines()[1:],
-           ["1. e4 e2e4", "1... e5 e7e5", "2. Nf3 g1f3"])
-
-
-LOGIC = [logs, log_times, any_logs, logging_board]
-CASES = [program_log, program_long_log, program_no_log, replayed_log, example_log, trial_log]
+            table = boards.Boards(folder, 1)
+            for _ in range(3):
+                table[0].play()
+            got = ran("game", table[0].path, "--log")
+            table.close()
+        wanted(f"its lines, {got.stderr}", got.stdout.splitlines()[1:],
+               ["1. e4 e2e4", "1... e5 e7e5", "2. Nf3 g1f3"])

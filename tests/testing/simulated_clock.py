@@ -6,11 +6,11 @@ import subprocess
 import sys
 import time
 
-import late
-from wrong import Wrong
+import cases
+import dgt
+from wrong import wanted
 
 BOARD = pathlib.Path(__file__).resolve().parents[2] / "bindings/python/examples/board.py"
-SECONDS = 20
 # Lines of its input, and the texts of the clock that follow them, in order.
 ROWS = [
     (["clock 1:00:00 0:59:30"], ["times 1:00:00 0 0:59:30 0 00"]),
@@ -40,11 +40,6 @@ REFUSED = [
 ]
 
 
-def started():
-    pipes = dict.fromkeys(["stdin", "stdout", "stderr"], subprocess.PIPE)
-    return subprocess.Popen([sys.executable, BOARD], text=True, bufsize=1, **pipes)
-
-
 def clocks(following, count, end):
     """The texts of the next changes of the clock, at most `count` of them, up to a time."""
     texts, shown = [], following.view.clock
@@ -55,48 +50,31 @@ def clocks(following, count, end):
     return texts
 
 
-def check_row(following, board, lines, right):
-    """The clock shows what is right for these lines, a second apart where it runs, and after that
-    nothing else if it has stopped. Returns what is wrong."""
-    begun = time.monotonic()
-    board.stdin.write("".join(f"{line}\n" for line in lines))
-    texts = clocks(following, len(right), begun + SECONDS)
-    passed = time.monotonic() - begun
-    least = len({text.split()[1] for text in right if text.endswith("11")}) - 1
-    if texts == right and not right[-1].endswith("11"):
-        texts += clocks(following, 1, time.monotonic() + 1.2)
-    if texts != right:
-        return f"{lines}: {texts} instead of {right}"
-    return None if passed > least - 0.1 else f"{lines}: {passed} seconds"
+class SimulatedClock(cases.Case):
+    def board(self):
+        pipes = dict.fromkeys(["stdin", "stdout", "stderr"], subprocess.PIPE)
+        return self.start(sys.executable, BOARD, text=True, bufsize=1, **pipes)
 
+    def test_rows(self):
+        """The clock shows what is right for the lines of each row, a second apart while it runs,
+        and after that nothing else if it has stopped."""
+        board = self.board()
+        port = board.stdout.readline().strip()
+        following = self.enterContext(dgt.follow(port, 60, mode=dgt.Mode.UPDATE_NICE))
+        wanted("the clock at first, of zeros", following.wait(cases.SECONDS).clock, None)
+        for lines, right in ROWS:
+            begun = time.monotonic()
+            board.stdin.write("".join(f"{line}\n" for line in lines))
+            texts = clocks(following, len(right), begun + cases.SECONDS)
+            passed = time.monotonic() - begun
+            if texts == right and not right[-1].endswith("11"):
+                texts += clocks(following, 1, time.monotonic() + 1.2)
+            wanted(f"the clock after {lines}", texts, right)
+            least = len({text.split()[1] for text in right if text.endswith("11")}) - 1
+            self.assertGreater(passed, least - 0.1, lines)
 
-def check_rows(dgt):
-    """Returns what is wrong with the first row that is not right."""
-    with started() as board:
-        try:
-            port = board.stdout.readline().strip()
-            with dgt.follow(port, 60, mode=dgt.Mode.UPDATE_NICE) as following:
-                first = following.wait(SECONDS)
-                if first is None or first.clock is not None:  # it sends zeros alone
-                    return f"the board at first: {first}"
-                wrongs = (check_row(following, board, *row) for row in ROWS)
-                return next(filter(None, wrongs), None)
-        finally:
-            board.kill()
-
-
-def check_refusals():
-    with started() as board:
-        _, told = board.communicate("".join(f"{line}\n" for line, _ in REFUSED), timeout=60)
-    right = [f"board.py: {line!r}: {said}" for line, said in REFUSED]
-    if told.splitlines() != right:
-        raise Wrong(f"what board.py says: {told.splitlines()} instead of {right}")
-
-
-def check(dgt):
-    """Returns how many lines were tried."""
-    if wrong := late.tried("the clock of bindings/python/examples/board.py",
-                           lambda: check_rows(dgt)):
-        raise Wrong(f"the clock of bindings/python/examples/board.py: {wrong}")
-    check_refusals()
-    return sum(len(lines) for lines, _ in ROWS) + len(REFUSED)
+    def test_refusals(self):
+        _, told = self.board().communicate("".join(f"{line}\n" for line, _ in REFUSED),
+                                           timeout=cases.SECONDS)
+        right = [f"board.py: {line!r}: {said}" for line, said in REFUSED]
+        wanted("what board.py says", told.splitlines(), right)

@@ -10,10 +10,14 @@ import os
 import pathlib
 import tempfile
 
+import cases  # the path of the package
+import dgt
 import games
 import pgn_games
+from dgt import following, game
 from wrong import Wrong
 
+START_LETTERS = "rnbqkbnrpppppppp" + "." * 32 + "PPPPPPPPRNBQKBNR"
 INCREMENT = 5
 MOST_STEPS = 1000  # this number of steps without any time between them are a busy wait
 CENTRE = {"1-0": ("e4", "d5"), "0-1": ("e5", "d4"), "1/2-1/2": ("d4", "d5")}
@@ -27,8 +31,8 @@ COUNTED = ["games", "moves", "castlings", "captures in passing", "promotions",
 class Timer:
     """A clock of two sides. One of them may run."""
 
-    def __init__(self, dgt, left=(5400, 5400), is_white_left=True):
-        self.dgt, self.left, self.is_white_left = dgt, list(left), is_white_left
+    def __init__(self, left=(5400, 5400), is_white_left=True):
+        self.left, self.is_white_left = list(left), is_white_left
         self.runs, self.due = None, None  # the side that runs, White's is 0, and its next second
 
     def run(self, side, time):
@@ -41,13 +45,13 @@ class Timer:
 
     def time(self, side):
         minutes, seconds = divmod(self.left[side], 60)
-        return self.dgt.Time(*divmod(minutes, 60), seconds)
+        return dgt.Time(*divmod(minutes, 60), seconds)
 
     @property
     def times(self):
         turn = {0: RUNS | WHITE_TURN, 1: RUNS | BLACK_TURN, None: 0}[self.runs]
         sides = [self.time(0), self.time(1)]
-        return self.dgt.Times(*(sides if self.is_white_left else sides[::-1]), turn)
+        return dgt.Times(*(sides if self.is_white_left else sides[::-1]), turn)
 
 
 class Compared:
@@ -70,11 +74,9 @@ class Table(games.Hand):
     """A board, a clock and the program. `told` has its lines, and `warned` what standard error
     gets. `spoil` is what the line makes of each message."""
 
-    def __init__(self, dgt, letters=None, fen=None, turned=False, file=None, timer=None,
+    def __init__(self, letters=None, fen=None, turned=False, file=None, timer=None,
                  white_clock="left", tags=None):
-        from dgt import following, game
-
-        self.dgt, self.turned, self.time, self.timer = dgt, turned, 1000.0, timer
+        self.turned, self.time, self.timer = turned, 1000.0, timer
         self.told, self.warned, self.spoil, self.is_plugged = [], [], bytes, True
         self.asked = None
         self.squares = list(letters or dgt.Position.start().letters)
@@ -91,7 +93,7 @@ class Table(games.Hand):
 
     def position(self):
         letters = "".join(reversed(self.squares) if self.turned else self.squares)
-        return self.dgt.Position.of_letters(letters)
+        return dgt.Position.of_letters(letters)
 
     def show(self):
         for square, letter in self.board.position.changes(self.position()).items():
@@ -163,7 +165,7 @@ class Table(games.Hand):
     def puts(self, text):
         """Puts pieces by a text such as `e2. e4P`."""
         for step in text.split():
-            self.put(self.dgt.square_number(step[:2]), step[2])
+            self.put(dgt.square_number(step[:2]), step[2])
 
     def moves(self, text, state=None):
         """Makes moves by their long names, a second after each other, from the state of the game or
@@ -192,15 +194,15 @@ class Played(games.Game):
     long = 3.2
     most_fast = 2  # how often in a row moves are made before the last ones have rested
 
-    def __init__(self, dgt, seed, fen, file):
+    def __init__(self, seed, fen, file):
         self.file, self.clocks, self.pending = file, [], None
         self.looked = self.unresolved = self.fast = self.backs = 0
         super().__init__(dgt, seed, fen)
 
     def sit_down(self, turned):
         is_white_left = self.chance.random() < 0.7
-        timer = Timer(self.dgt, is_white_left=is_white_left)
-        table = AtGame(self.dgt, self.state.letters, self.fen, turned, self.file, timer,
+        timer = Timer(is_white_left=is_white_left)
+        table = AtGame(self.state.letters, self.fen, turned, self.file, timer,
                        "left" if is_white_left else "right", {"Round": "1"})
         table.game = self
         timer.run(0 if self.state.white else 1, table.time)
@@ -319,7 +321,7 @@ def room():
     return memory if os.access(memory, os.W_OK) else None
 
 
-def play(dgt, seeds, most):
+def play(seeds, most):
     """Plays games, one for each seed, into one file, and compares them with what the file has.
     Returns how many of each of `COUNTED` there were."""
     with tempfile.TemporaryDirectory(dir=room()) as folder:
@@ -327,15 +329,15 @@ def play(dgt, seeds, most):
         played, results = [], []
         for seed in seeds:
             fen = games.PERFT[seed % 16][0] if 0 < seed % 16 < len(games.PERFT) else None
-            file = dgt._pgn_file.PgnFile(str(path))
-            game = Played(dgt, seed, fen, file)
+            file = dgt.PgnFile(str(path))
+            game = Played(seed, fen, file)
             while game.made < most and game.step():
                 pass
             results.append(game.finish())
             if not game.hand.keeper.close():
                 raise Wrong(f"game {seed}: {game.hand.warned}")
             played.append(game)
-        compare(dgt, seeds, path, played, results)
+        compare(seeds, path, played, results)
     return [sum(each) for each in zip(*map(counts, played))]
 
 
@@ -347,7 +349,7 @@ def counts(game):
             len(promoted) - promoted.count("q"), game.backs, game.looked, game.unresolved)
 
 
-def compare(dgt, seeds, path, played, results):
+def compare(seeds, path, played, results):
     found = pgn_games.compare(path, dgt)
     if len(found) != len(played):
         raise Wrong(f"games {seeds}: the file has {len(found)} games of {len(played)}")

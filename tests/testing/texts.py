@@ -3,9 +3,11 @@ tests/testing/rows.txt."""
 
 import typing
 
+import cases
+import dgt
 import model
 import worked
-from wrong import Wrong
+from wrong import wanted
 
 
 def messages():
@@ -17,15 +19,11 @@ def messages():
         yield bytes.fromhex(row.cells[0]), [text for text in texts if text[:10] != "unfinished"]
 
 
-def check(dgt):
-    """Returns how many texts there are. Each kind of event has one."""
-    count, kinds = 0, set()
-    for data, texts in messages():
-        events = dgt.Decoder().feed(data)
-        told = [str(event) for event in events]
-        if told != texts:
-            raise Wrong(f"the texts of {data.hex(' ')}: {told} instead of {texts}")
-        count, kinds = count + len(texts), kinds | {type(event) for event in events}
-    if missing := set(typing.get_args(dgt.Event)) - kinds:
-        raise Wrong(f"no text of {missing}")
-    return count
+class Texts(cases.Case):
+    def test_rows(self):
+        kinds = set()
+        for data, texts in messages():
+            events = dgt.Decoder().feed(data)
+            wanted(f"the texts of {data.hex(' ')}", [str(event) for event in events], texts)
+            kinds |= {type(event) for event in events}
+        wanted("events without a text", set(typing.get_args(dgt.Event)) - kinds, set())

@@ -10,6 +10,8 @@ import math
 import operator
 import pickle
 
+import cases
+import dgt
 from wrong import Wrong, wanted
 
 START = "rnbqkbnr/pppppppp/8/8/8/8/PPPPPPPP/RNBQKBNR"
@@ -28,30 +30,143 @@ def refusal(what, error, call):
 # ---- Positions
 
 
-def check_position(dgt):
-    position, letters = dgt.Position.parse(START), list(LETTERS)
-    for what, got, right in [
-        ("kind", isinstance(position, collections.abc.Sequence), True),
-        ("letters", (list(position), [*reversed(position)]), (letters, letters[::-1])),
-        ("length", len(position), 64),
-        ("by number", [position[at] for at in range(-64, 64)], letters + letters),
-        ("by name", [position[name] for name in dgt.SQUARES], letters),
-        ("parts", (position[8:16], position[60:], position[::-63]), ("pppppppp", "KBNR", "Rr")),
-        ("what it has", ["P" in position, "X" in position, "PP" in position, 1 in position],
-         [True, False, False, False]),
-        ("what it has of one", (position.count("P"), position.index("K")), (8, 60)),
-        ("a list", position == letters, False),
-        ("copies", [copy.deepcopy(position), pickle.loads(pickle.dumps(position))], 2 * [position]),
-        ("a set", len({position, dgt.Position.start()}), 1),
-    ]:
-        wanted(f"position, {what}", got, right)
-    for wrong in (64, -65, 2**70):
-        refusal(f"square {wrong}", IndexError, lambda: position[wrong])
-    for wrong in ("e9", "P", "", None, 1.5, b"e4"):
-        refusal(f"square {wrong!r}", dgt.BadValue, lambda: position[wrong])
-    refusal("a square that is set", TypeError, lambda: operator.setitem(position, 0, "P"))
-    refusal("codes that are set", dataclasses.FrozenInstanceError,
-            lambda: setattr(position, "codes", bytes(64)))
+class Values(cases.Case):
+    def test_position(self):
+        position, letters = dgt.Position.parse(START), list(LETTERS)
+        for what, got, right in [
+            ("kind", isinstance(position, collections.abc.Sequence), True),
+            ("letters", (list(position), [*reversed(position)]), (letters, letters[::-1])),
+            ("length", len(position), 64),
+            ("by number", [position[at] for at in range(-64, 64)], letters + letters),
+            ("by name", [position[name] for name in dgt.SQUARES], letters),
+            ("parts", (position[8:16], position[60:], position[::-63]), ("pppppppp", "KBNR", "Rr")),
+            ("what it has", ["P" in position, "X" in position, "PP" in position, 1 in position],
+             [True, False, False, False]),
+            ("what it has of one", (position.count("P"), position.index("K")), (8, 60)),
+            ("a list", position == letters, False),
+            ("copies", [copy.deepcopy(position), pickle.loads(pickle.dumps(position))],
+             2 * [position]),
+            ("a set", len({position, dgt.Position.start()}), 1),
+        ]:
+            wanted(f"position, {what}", got, right)
+        for wrong in (64, -65, 2**70):
+            refusal(f"square {wrong}", IndexError, lambda: position[wrong])
+        for wrong in ("e9", "P", "", None, 1.5, b"e4"):
+            refusal(f"square {wrong!r}", dgt.BadValue, lambda: position[wrong])
+        refusal("a square that is set", TypeError, lambda: operator.setitem(position, 0, "P"))
+        refusal("codes that are set", dataclasses.FrozenInstanceError,
+                lambda: setattr(position, "codes", bytes(64)))
+
+    def test_fields(self):
+        for name, field, taken, refused, said in FIELDS:
+            kind = getattr(dgt, name)
+            for value in taken:
+                wanted(f"{name}, {field}", getattr(kind(**{field: value}), field), value)
+            for value in refused:
+                what = f"{name} with {field} {value!r}"
+                text = refusal(what, dgt.BadValue, lambda: kind(**{field: value}))
+                is_named = text.startswith(f"{field} must be ") and said in text
+                wanted(f"{what}: {text}", (is_named, text.endswith(f": {value!r}")), (True, True))
+
+    def test_calls(self):
+        """Each argument is one of another type, or out of range. """
+        for call, *right in calls():
+            for at in range(len(right)):
+                for wrong in WRONG:
+                    try:
+                        call(*right[:at], wrong, *right[at + 1:])
+                    except (dgt.DgtError, TypeError, OSError):
+                        continue
+                    except Exception as fault:
+                        what = f"{call} with {wrong!r:.40} as its argument {at}"
+                        raise Wrong(f"{what}: {fault!r}") from fault
+
+    def test_refusals(self):
+        """What is said of some of them."""
+        for call, error, said in [
+            (lambda: dgt.Follower(patience=1.5), dgt.BadValue,
+             "patience must be a number from 0 to 4294967295: 1.5"),
+            (lambda: dgt.Follower(mode=7), dgt.BadValue, "mode must be a number from 0 to 3: 7"),
+            (lambda: dgt.Follower(mode=0), dgt.BadValue,
+             "a follower needs a mode in which the board reports changes, not IDLE"),
+            (lambda: dgt.Follower("text"), dgt.BadValue,
+             "period must be a number of seconds, 1.0 or more: 'text'"),
+            (lambda: dgt.Follower(0.999), dgt.BadValue,
+             "period must be a number of seconds, 1.0 or more: 0.999"),
+            (lambda: dgt.Follower(confirm=1), TypeError, "not a bool: 1"),
+            (lambda: dgt.Follower().ask(2.0**64), dgt.BadValue,
+             "a time must be below 2**64 milliseconds: 1.8446744073709552e+19"),
+            (lambda: dgt.follow(5), TypeError,
+             "port must be a port's name, or an open port of pyserial: 5"),
+            (lambda: dgt.follow("/", None), dgt.BadValue,
+             "period must be a number of seconds, 1.0 or more: None"),
+            (lambda: dgt.Follower(10.0, 6), TypeError,
+             "Follower.__init__() takes from 1 to 2 positional arguments but 3 were given"),
+            (lambda: dgt.MoveRecogniser(5), dgt.BadFen, "not a text: 5"),
+            (lambda: dgt.GameState.parse(f"{KINGS} w - - 0 {LONG}"), dgt.BadFen,
+             f"not two numbers at the end: '{KINGS} w - - 0 {LONG}'"),
+            (lambda: dgt.MoveRecogniser(settle=-1), dgt.BadValue,
+             "settle must be a number of seconds, 0.0 or more: -1"),
+            (lambda: dgt.MoveRecogniser().see(None, 0.0), TypeError, "not a Position: None"),
+            (lambda: dgt.Games(len, len, white_clock="top"), dgt.BadValue,
+             "white_clock must be left, right or learn: 'top'"),
+            (lambda: dgt.PgnGame(result=1).text(), dgt.BadValue,
+             "result must be one of 1-0, 0-1, 1/2-1/2, *: 1"),
+            (lambda: dgt.PgnFile("\0"), OSError,
+             "[Errno 2] the name contains a zero byte: '\\x00'"),
+            (lambda: dgt.PgnGame({"Round": 3}).text(), dgt.BadValue,
+             "the tag Round must be a text: 3"),
+        ]:
+            wanted("what is said", refusal(said, error, call), said)
+
+    def test_copies(self):
+        """Objects that would share a part with their copy can't be copied."""
+        for kind in (dgt.World, dgt.Host, dgt.Follower, dgt.Decoder, dgt.CommandDecoder, dgt.Board,
+                     dgt.Following, dgt.Games, dgt.PgnFile):
+            for how in (copy.copy, copy.deepcopy, pickle.dumps):
+                said = f"a {kind.__name__} can't be copied"
+                wanted(f"{how}", refusal(said, TypeError, lambda: how(kind.__new__(kind))), said)
+        first = dgt.MoveRecogniser()
+        first.see(dgt.Position.start(), now=0.0)
+        for how in (copy.copy, copy.deepcopy, lambda it: pickle.loads(pickle.dumps(it))):
+            other = how(first)
+            after = dgt.Position.of_letters(dgt.GameState.start().after("e2e4").letters)
+            wanted("a copy's events", (other.see(after, 1.0), len(other.tick(now=2.0))), ([], 1))
+            wanted("the moves", (other.moves, first.moves, first.due), (["e2e4"], [], None))
+
+    def test_names(self):
+        time, mark, button = dgt.Time, dgt.Mark, dgt.Button
+        body = bytes.fromhex("6f 40 34 51 24 61 30 05 71 29 00 00 41 7c 6b 7d 80 41")
+        wanted("what is stored", dgt.read_stored(body), [
+            mark.BEGIN, dgt.StoredPiece("e2", "."), dgt.StoredPiece("e4", "P", True),
+            dgt.StoredTime(time(1, 30, 5, 6)), dgt.StoredTime(time(1, 29, 0, 7)), mark.NOTHING,
+            dgt.UnknownByte(0x41), mark.WATCHDOG, mark.END, dgt.UnknownByte(0x7D),
+            dgt.UnknownByte(0x80), dgt.UnknownByte(0x41)])
+        wanted("nothing", dgt.read_stored(b""), [])
+        for ack, signal in [
+            ("10 88 02 33", dgt.Pressed(button.RUN)), ("10 08 44 31", dgt.Pressed(button.BACK)),
+            ("10 88 45 35", dgt.Off()), ("10 88 41 35", dgt.Pressed(button.OK)),
+            ("10 08 00 00", dgt.Done(dgt.ClockId.BUTTON)),
+            ("10 0c 01 02", dgt.Done(dgt.ClockId.TEXT)),
+            ("10 09 21 00", dgt.ClockVersion(2, 1)), ("10 81 00 00", dgt.Ready()),
+            ("11 09 21 00", None), ("10 88 02 36", None), ("10 04 00 00", None), ("10 09 21", None),
+        ]:
+            wanted(f"signal {ack}", dgt.Ack(bytes.fromhex(ack), 0).signal, signal)
+        for body, state in [
+            ("40 7f 3b 01 02 03 04 05 02",
+             dgt.BatteryState(64, None, 59, 1, 2, 3, 4, 5, charging=False, discharging=True)),
+            ("7f 00 7f 00 00 00 00 00 7d",
+             dgt.BatteryState(None, 0, None, 0, 0, 0, 0, 0, charging=True, discharging=False)),
+            ("40", None), ("", None),
+        ]:
+            wanted(f"battery {body}", dgt.Battery(bytes.fromhex(body)).state, state)
+        for carried, text in [(b"00001", "00001"), (b" ~", " ~"), (b"", None), (b"a\x7f", None),
+                              (b"\x1f", None)]:
+            wanted(f"text {carried}", (dgt.Serial(carried).text, dgt.Trademark(carried).text,
+                                       dgt.LongSerial(carried).text), 3 * (text,))
+        flags = [(one.blocked, one.per_move, one.fallen)
+                 for one in (time(flags=n) for n in range(8))]
+        wanted("flags", flags, [(n % 2 == 1, n // 2 % 2 == 1, n > 3) for n in range(8)])
 
 
 # ---- Values that are checked when they are made
@@ -84,29 +199,13 @@ FIELDS = [
 ]
 
 
-def check_fields(dgt):
-    """Returns how many values were tried."""
-    count = 0
-    for name, field, taken, refused, said in FIELDS:
-        kind = getattr(dgt, name)
-        for value in taken:
-            wanted(f"{name}, {field}", getattr(kind(**{field: value}), field), value)
-        for value in refused:
-            what = f"{name} with {field} {value!r}"
-            text = refusal(what, dgt.BadValue, lambda: kind(**{field: value}))
-            is_named = text.startswith(f"{field} must be ") and said in text
-            wanted(f"{what}: {text}", (is_named, text.endswith(f": {value!r}")), (True, True))
-        count += len(taken) + len(refused)
-    return count
-
-
 # ---- Calls with wrong arguments, and copies
 
 KINGS, LONG = "k7/8/8/8/8/8/8/K7", 5000 * "9"
 WRONG = (None, 5, -1, 1.5, math.nan, math.inf, 2**70, "text", "\0", LONG, b"text", [1], {})
 
 
-def calls(dgt):
+def calls():
     """Calls, each with right arguments."""
     position, state, times = dgt.Position.start(), dgt.GameState.start(), dgt.Times()
     world, board, host, follower = dgt.World(), dgt.Board(), dgt.Host(), dgt.Follower()
@@ -150,117 +249,4 @@ def calls(dgt):
     ]
 
 
-def check_calls(dgt):
-    """Each argument is one of another type, or out of range. Returns how many calls were tried."""
-    count = 0
-    for call, *right in calls(dgt):
-        for at in range(len(right)):
-            for wrong in WRONG:
-                count += 1
-                try:
-                    call(*right[:at], wrong, *right[at + 1:])
-                except (dgt.DgtError, TypeError, OSError):
-                    continue
-                except Exception as fault:
-                    what = f"{call} with {wrong!r:.40} as its argument {at}"
-                    raise Wrong(f"{what}: {fault!r}") from fault
-    return count
-
-
-def check_refusals(dgt):
-    """What is said of some of them."""
-    for call, error, said in [
-        (lambda: dgt.Follower(patience=1.5), dgt.BadValue,
-         "patience must be a number from 0 to 4294967295: 1.5"),
-        (lambda: dgt.Follower(mode=7), dgt.BadValue, "mode must be a number from 0 to 3: 7"),
-        (lambda: dgt.Follower(mode=0), dgt.BadValue,
-         "a follower needs a mode in which the board reports changes, not IDLE"),
-        (lambda: dgt.Follower("text"), dgt.BadValue,
-         "period must be a number of seconds, 1.0 or more: 'text'"),
-        (lambda: dgt.Follower(0.999), dgt.BadValue,
-         "period must be a number of seconds, 1.0 or more: 0.999"),
-        (lambda: dgt.Follower(confirm=1), TypeError, "not a bool: 1"),
-        (lambda: dgt.Follower().ask(2.0**64), dgt.BadValue,
-         "a time must be below 2**64 milliseconds: 1.8446744073709552e+19"),
-        (lambda: dgt.follow(5), TypeError,
-         "port must be a port's name, or an open port of pyserial: 5"),
-        (lambda: dgt.follow("/", None), dgt.BadValue,
-         "period must be a number of seconds, 1.0 or more: None"),
-        (lambda: dgt.Follower(10.0, 6), TypeError,
-         "Follower.__init__() takes from 1 to 2 positional arguments but 3 were given"),
-        (lambda: dgt.MoveRecogniser(5), dgt.BadFen, "not a text: 5"),
-        (lambda: dgt.GameState.parse(f"{KINGS} w - - 0 {LONG}"), dgt.BadFen,
-         f"not two numbers at the end: '{KINGS} w - - 0 {LONG}'"),
-        (lambda: dgt.MoveRecogniser(settle=-1), dgt.BadValue,
-         "settle must be a number of seconds, 0.0 or more: -1"),
-        (lambda: dgt.MoveRecogniser().see(None, 0.0), TypeError, "not a Position: None"),
-        (lambda: dgt.Games(len, len, white_clock="top"), dgt.BadValue,
-         "white_clock must be left, right or learn: 'top'"),
-        (lambda: dgt.PgnGame(result=1).text(), dgt.BadValue,
-         "result must be one of 1-0, 0-1, 1/2-1/2, *: 1"),
-        (lambda: dgt.PgnFile("\0"), OSError, "[Errno 2] the name contains a zero byte: '\\x00'"),
-        (lambda: dgt.PgnGame({"Round": 3}).text(), dgt.BadValue,
-         "the tag Round must be a text: 3"),
-    ]:
-        wanted("what is said", refusal(said, error, call), said)
-
-
-def check_copies(dgt):
-    """Objects that would share a part with their copy can't be copied."""
-    for kind in (dgt.World, dgt.Host, dgt.Follower, dgt.Decoder, dgt.CommandDecoder, dgt.Board,
-                 dgt.Following, dgt.Games, dgt.PgnFile):
-        for how in (copy.copy, copy.deepcopy, pickle.dumps):
-            said = f"a {kind.__name__} can't be copied"
-            wanted(f"{how}", refusal(said, TypeError, lambda: how(kind.__new__(kind))), said)
-    first = dgt.MoveRecogniser()
-    first.see(dgt.Position.start(), now=0.0)
-    for how in (copy.copy, copy.deepcopy, lambda it: pickle.loads(pickle.dumps(it))):
-        other = how(first)
-        after = dgt.Position.of_letters(dgt.GameState.start().after("e2e4").letters)
-        wanted("a copy's events", (other.see(after, 1.0), len(other.tick(now=2.0))), ([], 1))
-        wanted("the moves", (other.moves, first.moves, first.due), (["e2e4"], [], None))
-
-
 # ---- Names of bytes
-
-
-def check_names(dgt):
-    time, mark, button = dgt.Time, dgt.Mark, dgt.Button
-    body = bytes.fromhex("6f 40 34 51 24 61 30 05 71 29 00 00 41 7c 6b 7d 80 41")
-    wanted("what is stored", dgt.read_stored(body), [
-        mark.BEGIN, dgt.StoredPiece("e2", "."), dgt.StoredPiece("e4", "P", True),
-        dgt.StoredTime(time(1, 30, 5, 6)), dgt.StoredTime(time(1, 29, 0, 7)), mark.NOTHING,
-        dgt.UnknownByte(0x41), mark.WATCHDOG, mark.END, dgt.UnknownByte(0x7D),
-        dgt.UnknownByte(0x80), dgt.UnknownByte(0x41)])
-    wanted("nothing", dgt.read_stored(b""), [])
-    for ack, signal in [
-        ("10 88 02 33", dgt.Pressed(button.RUN)), ("10 08 44 31", dgt.Pressed(button.BACK)),
-        ("10 88 45 35", dgt.Off()), ("10 88 41 35", dgt.Pressed(button.OK)),
-        ("10 08 00 00", dgt.Done(dgt.ClockId.BUTTON)), ("10 0c 01 02", dgt.Done(dgt.ClockId.TEXT)),
-        ("10 09 21 00", dgt.ClockVersion(2, 1)), ("10 81 00 00", dgt.Ready()),
-        ("11 09 21 00", None), ("10 88 02 36", None), ("10 04 00 00", None), ("10 09 21", None),
-    ]:
-        wanted(f"signal {ack}", dgt.Ack(bytes.fromhex(ack), 0).signal, signal)
-    for body, state in [
-        ("40 7f 3b 01 02 03 04 05 02",
-         dgt.BatteryState(64, None, 59, 1, 2, 3, 4, 5, charging=False, discharging=True)),
-        ("7f 00 7f 00 00 00 00 00 7d",
-         dgt.BatteryState(None, 0, None, 0, 0, 0, 0, 0, charging=True, discharging=False)),
-        ("40", None), ("", None),
-    ]:
-        wanted(f"battery {body}", dgt.Battery(bytes.fromhex(body)).state, state)
-    for carried, text in [(b"00001", "00001"), (b" ~", " ~"), (b"", None), (b"a\x7f", None),
-                          (b"\x1f", None)]:
-        wanted(f"text {carried}", (dgt.Serial(carried).text, dgt.Trademark(carried).text,
-                                   dgt.LongSerial(carried).text), 3 * (text,))
-    flags = [(one.blocked, one.per_move, one.fallen) for one in (time(flags=n) for n in range(8))]
-    wanted("flags", flags, [(n % 2 == 1, n // 2 % 2 == 1, n > 3) for n in range(8)])
-
-
-def check(dgt):
-    """Returns how many values were tried."""
-    check_position(dgt)
-    check_names(dgt)
-    check_refusals(dgt)
-    check_copies(dgt)
-    return check_fields(dgt) + check_calls(dgt)

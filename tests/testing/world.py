@@ -1,10 +1,16 @@
 """Checks the world of the package for Python: the outcome of each act, and the closing states of
 board and host, are those of `dgt simulate --faults` for the same acts."""
 
+import pathlib
 import random
 import subprocess
 
+import cases
+import dgt
 from wrong import Wrong, wanted
+
+LAUNCHER = pathlib.Path(__file__).resolve().parents[2] / "dgt"
+PROGRAM = LAUNCHER if LAUNCHER.exists() else "dgt"  # packaging/deb/trial tests the installed one
 
 SCRIPTS, ACTS, SEED = 150, 60, 14
 SQUARES = [f"{file}{rank}" for rank in "87654321" for file in "abcdefgh"]
@@ -20,7 +26,7 @@ GARBAGE = ("8e000534", "860043080909", "8e00052401", "8e000534008e000540", "05",
 # ---- The acts of a script, each with its line
 
 
-def any_command(dgt, chance):
+def any_command(chance):
     """A command for the host, and its bytes."""
     kind = chance.randrange(8)
     if kind == 0:
@@ -33,7 +39,7 @@ def any_command(dgt, chance):
     return dgt.Ask(code), bytes([code])
 
 
-def any_clock(dgt, chance):
+def any_clock(chance):
     """A clock, and the bytes of its report."""
     if chance.random() < 0.2:
         return dgt.NoClock(bytes(6), 0x20), bytes(6) + b"\x20"
@@ -43,17 +49,17 @@ def any_clock(dgt, chance):
     return dgt.Times(*(dgt.Time(*side) for side in sides), 0x11), bytes([*digits, 0x11])
 
 
-def any_act(dgt, world, chance, weights):
+def any_act(world, chance, weights):
     """The line of an act, and the call that does it."""
     kind = chance.choices(range(9), weights)[0]
     if kind == 0:
         square, letter = chance.choice(SQUARES), chance.choice(LETTERS)
         return f"change {square} {letter}", lambda: world.change(square, letter)
     if kind == 1:
-        clock, data = any_clock(dgt, chance)
+        clock, data = any_clock(chance)
         return f"clock {data.hex()}", lambda: world.hand_clock(clock)
     if kind == 2:
-        command, data = any_command(dgt, chance)
+        command, data = any_command(chance)
         return f"host {data.hex()}", lambda: world.host_sends(command)
     if kind == 3:
         return "send", world.board_sends
@@ -95,19 +101,19 @@ def closing(world):
             f"quiet {'yes' if world.quiet else 'no'}"]
 
 
-def check_script(dgt, program, chance):
+def check_script(chance):
     """One script, by the package and by the program."""
     up, down = chance.choice((67, 68, 150, 1024)), chance.choice((257, 258, 600, 1024))
     world, lines, outcomes = dgt.World(up=up, down=down), [], []
     weights = chance.choice(WEIGHTS)
     for _ in range(ACTS):
-        line, act = any_act(dgt, world, chance, weights)
+        line, act = any_act(world, chance, weights)
         before = closing(world), world.up, world.down
         outcomes.append(str(act()))
         lines.append(line)
         if outcomes[-1] != "done":
             wanted(f"what {line} left", (closing(world), world.up, world.down), before)
-    words = [program, "simulate", "--faults", "--up", str(up), "--down", str(down)]
+    words = [PROGRAM, "simulate", "--faults", "--up", str(up), "--down", str(down)]
     text = "".join(f"{line}\n" for line in lines)
     ran = subprocess.run(words, input=text, capture_output=True, text=True, check=True, timeout=30)
     wanted(f"of {' '.join(words[1:])}:\n{text}", [*outcomes, *closing(world)],
@@ -118,44 +124,32 @@ def check_script(dgt, program, chance):
     return outcomes
 
 
-def check_settled(dgt):
-    """A restart, and all that is left: the picture is the board's."""
-    world = dgt.World(dgt.Position.parse("8/8/8/8/8/8/8/K6k"))
-    world.garble_up(b"\x86\x00\x43")
-    world.to_host(65535)
-    wanted("a restart", world.host_restarts(), dgt.Outcome.DONE)
-    world.change("e4", "Q")
-    wanted("acts that settle", (world.settle(), world.settle(), world.quiet), (3, 0, True))
-    wanted("the picture", world.host.picture, dgt.Position.parse("8/8/8/8/4Q3/8/8/K6k"))
+class Worlds(cases.Case):
+    def test_scripts(self):
+        """Each outcome has to come often."""
+        chance, count = random.Random(SEED), dict.fromkeys(map(str, dgt.Outcome), 0)
+        for _ in range(SCRIPTS):
+            for outcome in check_script(chance):
+                count[outcome] += 1
+        if rare := {outcome for outcome, times in count.items() if times < SCRIPTS // 10}:
+            raise Wrong(f"outcomes that came seldom: {rare} ({count})")
 
+    def test_settled(self):
+        """A restart, and all that is left: the picture is the board's."""
+        world = dgt.World(dgt.Position.parse("8/8/8/8/8/8/8/K6k"))
+        world.garble_up(b"\x86\x00\x43")
+        world.to_host(65535)
+        wanted("a restart", world.host_restarts(), dgt.Outcome.DONE)
+        world.change("e4", "Q")
+        wanted("acts that settle", (world.settle(), world.settle(), world.quiet), (3, 0, True))
+        wanted("the picture", world.host.picture, dgt.Position.parse("8/8/8/8/4Q3/8/8/K6k"))
 
-def check_refusals(dgt):
-    """Capacities, counts and commands that are none."""
-    for make in (lambda: dgt.World(up=66), lambda: dgt.World(up=65536),
-                 lambda: dgt.World(down=256), lambda: dgt.World(down="257"),
-                 lambda: dgt.World().to_host(-1), lambda: dgt.World().to_board(65536),
-                 lambda: dgt.World().host_sends(256), lambda: dgt.World().change("e9", "P")):
-        try:
-            made = make()
-        except dgt.BadValue:
-            continue
-        raise Wrong(f"{made!r} instead of a BadValue")
-    for command in 0x46, dgt.Leds(bytes(256)), dgt.ClockMessage(1, bytes(253)):
-        try:
-            made = dgt.World().host_sends(command)
-        except dgt.NoSuchCommand:
-            continue
-        raise Wrong(f"{made!r} instead of a NoSuchCommand")
-
-
-def check(dgt, program):
-    """Returns how many acts were done. Each outcome has to come often."""
-    chance, count = random.Random(SEED), dict.fromkeys(map(str, dgt.Outcome), 0)
-    for _ in range(SCRIPTS):
-        for outcome in check_script(dgt, program, chance):
-            count[outcome] += 1
-    if rare := {outcome for outcome, times in count.items() if times < SCRIPTS // 10}:
-        raise Wrong(f"outcomes that came seldom: {rare} ({count})")
-    check_settled(dgt)
-    check_refusals(dgt)
-    return sum(count.values())
+    def test_refusals(self):
+        """Capacities, counts and commands that are none."""
+        for make in (lambda: dgt.World(up=66), lambda: dgt.World(up=65536),
+                     lambda: dgt.World(down=256), lambda: dgt.World(down="257"),
+                     lambda: dgt.World().to_host(-1), lambda: dgt.World().to_board(65536),
+                     lambda: dgt.World().host_sends(256), lambda: dgt.World().change("e9", "P")):
+            self.assertRaises(dgt.BadValue, make)
+        for command in 0x46, dgt.Leds(bytes(256)), dgt.ClockMessage(1, bytes(253)):
+            self.assertRaises(dgt.NoSuchCommand, dgt.World().host_sends, command)
