@@ -74,7 +74,7 @@ def alive(pids):
     return [pid for pid in pids if os.path.exists(f"/proc/{pid}/exe")]
 
 
-def holds(what, seconds=20):
+def holds(what, seconds=60):
     """Waits until this holds, and says whether it did in time."""
     end = time.monotonic() + seconds
     while not what():
