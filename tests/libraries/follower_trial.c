@@ -1,7 +1,6 @@
 /* Plays a host and a simulated board over two lines of 9600 baud, in simulated time. The lines
  * lose, repeat, alter and insert bytes, and the board loses its power. tests/libraries/following
- * builds and runs this program. tests/libraries/follower_trial.py plays the same in Python, and
- * prints the same.
+ * builds and runs this program.
  *
  *     follower_trial GAMES SEED HOST HOURS RUNS
  *
