@@ -1,23 +1,23 @@
 -- The events of whole chunks, and their listeners.
 use Rattle.std.proofs.Common.{◌≡◌, ℕ, ◌+◌, ◌-◌, ◌<◌, ◌≤◌, List, [], ◌∷◌, ◌++◌, length, map, take, drop, Option, Some, None, refl, sym, ap, subst, ◌∙◌, append_assoc, arith, inl, inr, rules}
 use Rattle.std.{proofs.{Math.Seq.{drop-length, take-add}, lemmas.{Bool.{cases_lt}, Grind.{common_steps}, List.{append-nil, length-append, length-drop, length-take-le}}}, specs.List.{FoldsTo, concat}}
-use Rattle.dgt_decode.specs.{Feeding.{FirstEvent, at_place_if_any, chunk_events}, Grammar.{Event, Placed, at_place, events, shifted, unfinished_message, segment_events, verdict}, Laws.{Call}}
+use Rattle.dgt_decode.specs.{Feeding.{FirstEvent, at_place_if_any, chunk_events}, Grammar.{Event, Stray, Placed, at_place, events, shifted, unfinished_message, segment_events, verdict}, Laws.{Call}}
 use Rattle.dgt_decode.{specs.Laws.{UnfinishedIsQuiet, ChunksAdd, events_of_chunks}, proofs.{AnyChunks.{call_reported}, Appending.{events-append}, Places.{shifted-append, shifted-shifted}}}
-use Rattle.dgt_decode.proofs.{Places.{shifted-zero}, Steps.{IsHeld, IsHeld-unfinished, next-begins, next-seven, verdict-new}, UnfinishedLemmas.{IsUnfinished, nothing, waiting}}
+use Rattle.dgt_decode.proofs.{Steps.{IsHeld, IsHeld-unfinished, first-begins, first-stray, next-begins, next-seven, verdict-new}, UnfinishedLemmas.{IsUnfinished, nothing, waiting}}
 use Rattle.dgt_decode.proofs.UnfinishedLemmas.{IsUnfinished-unfinished, events-of_unfinished, length-unfinished, unfinished-append}
 
--- These are events after n bytes.
-record IsBehind (n : ℕ) (reported : List Placed) : Type 0 where
-  early : List Placed
-  is : reported ≡ shifted n early
+-- The byte after n others completes these: one event at most.
+pub record IsBehind (n : ℕ) (reported : List Placed) : Type 0 where
+  pub event : Option Event
+  pub is : reported ≡ shifted n (at_place_if_any 1 event)
 
 -- an event at the next byte
 behind_one : (n m : ℕ) (event : Event) → m ≡ n + 1 → IsBehind n (at_place m event ∷ [])
 behind_one n m event e =
-    record { early = at_place 1 event ∷ []; is = ap (λ (k : ℕ). at_place k event ∷ []) e }
+    record { event = Some event; is = ap (λ (k : ℕ). at_place k event ∷ []) e }
 
 behind_none : (n : ℕ) → IsBehind n []
-behind_none n = record { early = []; is = refl }
+behind_none n = record { event = None; is = refl }
 
 -- the event of a byte after an unfinished message
 behind_verdict : (h : List ℕ) (b : ℕ) → verdict h ≡ None → (v : Option Placed)
@@ -30,8 +30,10 @@ behind_verdict h b e (Some x) f =
 
 behind_byte_held : (held : List ℕ) (b : ℕ) → IsHeld held → IsUnfinished held
     → IsBehind (length held) (events (held ++ b ∷ []))
-behind_byte_held held b h nothing =
-    record { early = events (b ∷ []); is = sym (shifted-zero (events (b ∷ []))) }
+behind_byte_held held b h nothing = elim (cases_lt b 128) [
+  | inl seven ↦ rw (first-stray b seven).reported (behind_one 0 1 (Stray b) refl)
+  | inr top ↦ rw (first-begins b top).reported (behind_none 0)
+]
 behind_byte_held held b h (waiting [] alone e) = absurd (let no = alone.one in cc)
 behind_byte_held held b h (waiting (x ∷ g) alone e) =
     let some : 0 < length (x ∷ g) = omega arith in
@@ -42,6 +44,12 @@ behind_byte_held held b h (waiting (x ∷ g) alone e) =
           (behind_one (length (x ∷ g)) (length (x ∷ g) + 1) _ refl)
     ]
 
+-- the byte after an unfinished message
+pub behind_byte : (s : List ℕ) (b : ℕ)
+    → IsBehind (length (unfinished_message s)) (events (unfinished_message s ++ b ∷ []))
+behind_byte s b =
+    behind_byte_held (unfinished_message s) b (IsHeld-unfinished s) (IsUnfinished-unfinished s)
+
 -- the events of more bytes after any
 record AreBehind (s p : List ℕ) : Type 0 where
   early : List Placed
@@ -50,9 +58,11 @@ record AreBehind (s p : List ℕ) : Type 0 where
 -- one byte
 one_behind : (s : List ℕ) (b : ℕ) → AreBehind s (b ∷ [])
 one_behind s b =
-    let o = unfinished_message s in
-    let byte = behind_byte_held o b (IsHeld-unfinished s) (IsUnfinished-unfinished s) in
-    search (rules, length-unfinished, events-append, shifted-shifted)
+    let byte = behind_byte s b in
+    record {
+      early = at_place_if_any 1 byte.event;
+      is = search (rules, length-unfinished, events-append, shifted-shifted);
+    }
 
 -- any bytes, one after another
 all_behind : (s p : List ℕ) → AreBehind s p

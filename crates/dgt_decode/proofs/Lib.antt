@@ -15,6 +15,7 @@ pub mod Division
 pub mod Framing
 pub mod AnyChunks
 pub mod ChunkEvents
+pub mod Answering
 pub mod Cutting
 pub mod Chunks
 pub mod BodyRuns

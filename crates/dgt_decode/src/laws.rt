@@ -1,7 +1,7 @@
 //! Laws of lists of bytes that a board sends. Each function does nothing at run time: its contract
 //! states a fact.
 
-ghost use Rattle.std.specs.Prelude.{◌≡◌, ◌<◌, ◌≤◌, ◌+◌, ℕ, List, [], ◌∷◌, ◌++◌, length, Option};
+ghost use Rattle.std.specs.Prelude.{◌≡◌, ◌<◌, ◌≤◌, ◌+◌, ℕ, List, [], ◌∷◌, ◌++◌, length, map, Option};
 ghost use Rattle.std.specs.List.{AllByRecursion, concat};
 ghost use Rattle.dgt_values.specs.Equality.{CloneIsSame, EqualIsSame, EqualIsSameRead};
 ghost use Rattle.dgt_message.specs.Content.{Content, IsMessage};
@@ -150,4 +150,14 @@ pub fn chunks_in_a_row()
     ensures add { ChunksAdd }
     ensures any { (s : List ℕ) (chunks : List (List ℕ)) → events (s ++ concat chunks)
         ≡ events s ++ events_of_chunks (length s) (unfinished_message s) chunks }
+{}
+
+/// A reader that holds an unfinished message has one answer to any chunks: there are calls with
+/// these chunks, and no others.
+pub fn one_answer_in_chunks()
+    ensures some { (s : List ℕ) (chunks : List (List ℕ)) → (calls : List Call)
+        × (map (λ call. call.chunk) calls ≡ chunks) × AreCalls (unfinished_message s) calls }
+    ensures one { (held : List ℕ) (first second : List Call) →
+        AreCalls held first → AreCalls held second →
+        map (λ call. call.chunk) first ≡ map (λ call. call.chunk) second → first ≡ second }
 {}

@@ -75,6 +75,14 @@ view_reads code body (Ok message) small carried h =
 view_reads code body (Err why) small carried h =
     fault_is code body (reading code body) why (reading_says code body small carried) h
 
+-- and the reading is a view
+pub reads_view : (code : ℕ) (body : List ℕ) (r : Result Message BodyFault) → code < 128
+    → IsCarried body → reading code body ≡ result_map_both content (λ why. why) r
+    → Views code body r
+reads_view code body (Ok message) small carried e =
+    (reading-Ok code body (content message) small carried).0 e
+reads_view code body (Err why) small carried e = (reading-Err code body why small carried).0 e
+
 -- ---- Of whole encodings
 
 -- bytes from the second on are seven-bit, so bytes from the fourth on are

@@ -2,15 +2,17 @@
 //! states a fact.
 
 ghost use Rattle.std.specs.Prelude.{◌≡◌, ◌≢◌, ◌<◌, ◌+◌, ◌-◌, ◌*◌, ◌∷◌, ◌++◌, ◌↔◌, ◌⊎◌, ℕ, List, [], drop, length, map};
-ghost use Rattle.std.specs.Prelude.{slice_index, None, Some, Ok, Err};
+ghost use Rattle.std.specs.Prelude.{slice_index, None, Some, Result, Ok, Err};
+ghost use Rattle.std.specs.Result.{result_map_both};
 ghost use Rattle.dgt_values.specs.Bytes.{AreSevenBit};
 ghost use Rattle.dgt_values.specs.declared.kinds.Kind.{Kind};
 ghost use Rattle.dgt_values.specs.Equality.{CloneIsSame, EqualIsSame, EqualIsSameRead};
 ghost use Rattle.dgt_message.specs.declared.known.KnownCode.{KnownCode};
+ghost use Rattle.dgt_message.specs.declared.message.Message.{Message as MessageSaid};
 ghost use Rattle.dgt_message.specs.declared.viewing.BodyFault.{BodyFault};
 ghost use Rattle.dgt_message.specs.Code.{known_number, known_with};
 ghost use Rattle.dgt_message.specs.Content.{absence_seen, answer_seen, answered_kind, clock_seen, code_number, code_of, content, status_code, time_seen, times_seen, Content, IsCarried, IsMessage};
-ghost use Rattle.dgt_message.specs.Reading.{reading, IsFaultOf};
+ghost use Rattle.dgt_message.specs.Reading.{reading, IsFaultOf, Views};
 ghost use Rattle.dgt_message.specs.Encoding.{message_bytes, encoding, Fits, Encodes};
 
 use crate::clock::{Clock, ClockAck, NoClock, NotThisKind, Times};
@@ -147,4 +149,12 @@ pub fn kinds_by_code()
         ∷ Kind.Trademark ∷ Kind.Version ∷ Kind.Battery ∷ Kind.LongSerial ∷ []) }
     ensures none { (body : List ℕ) → map (λ code. answered_kind (Content.carried code body))
         (0x0d ∷ 0x0e ∷ 0x23 ∷ []) ≡ None ∷ None ∷ None ∷ [] }
+{}
+
+/// A result views a code and a body exactly if it is their reading.
+pub fn views_are_readings()
+    ensures { (code : ℕ) (body : List ℕ) (result : Result MessageSaid BodyFault)
+        → code < 128 → IsCarried body
+        → Views code body result
+        ↔ (reading code body ≡ result_map_both content (λ why. why) result) }
 {}

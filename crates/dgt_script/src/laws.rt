@@ -1,12 +1,14 @@
 //! Facts about the lines of a script. Nothing here runs: the contract of each function states a
 //! fact.
 
-ghost use Rattle.std.specs.Prelude.{◌≡◌, ◌≢◌, ◌↔◌, ◌∷◌, ℕ, List};
+ghost use Rattle.std.specs.Prelude.{◌≡◌, ◌≢◌, ◌↔◌, ◌∷◌, ℕ, List, length, nat_lt, if◌then◌else◌, option_map, Option, Some, None};
+ghost use Rattle.std.specs.Borrow.{Bor};
 ghost use Rattle.dgt_values.specs.Equality.{CloneIsSame, EqualIsSame};
 ghost use Rattle.dgt_link.specs.Act.{ActContent};
 ghost use Rattle.dgt_link.specs.Faults.{FaultyContent};
 ghost use Rattle.dgt_script.specs.FaultyScript.{AsksFaulty, faulty_kinds, faulty_text, faulty_words};
 ghost use Rattle.dgt_script.specs.Script.{AreOf, Asks, AsksFor, IsBadAt, IsSingleValued, kinds_after, plain_words};
+ghost use Rattle.dgt_script.specs.ScriptLines.{IsShort};
 ghost use Rattle.dgt_script.specs.ScriptWords.{verb_text};
 ghost use Rattle.dgt_script.specs.declared.script_words.FaultyVerb.{FaultyVerb};
 ghost use Rattle.dgt_script.specs.declared.script_words.Verb.{Verb};
@@ -58,4 +60,11 @@ pub fn kinds_are_asked_for()
     ensures faulty { (verb : FaultyVerb) (rest : List (List ℕ)) →
         AreOf (faulty_kinds verb) rest
         ↔ ((act : FaultyContent) × AsksFaulty (faulty_text verb ∷ rest) act) }
+{}
+
+/// A line of at most 519 bytes is given whole, and a longer one not at all.
+pub fn short_lines_are_given()
+    ensures { (line : List ℕ) (given : Option (Bor (List ℕ))) →
+        IsShort line given ↔ (option_map (λ bytes. bytes.now) given
+        ≡ (if nat_lt 519 (length line) then None else Some line)) }
 {}
