@@ -484,7 +484,7 @@ void followers() {
     CHECK(lines == (std::vector{"67 dump " + std::string(START), std::string("5 version 1.3")}));
     CHECK(follower.last_heard() == dgt::Milliseconds(5) && follower.in_doubt());
     CHECK(follower.placement() == START && follower.picture() == dgt::Position::start());
-    CHECK(follower.due_at() == dgt::Milliseconds(250) && follower.heartbeats_left() == 1);
+    CHECK(follower.due_at() == dgt::Milliseconds(500) && follower.heartbeats_left() == 1);
     CHECK(follower.mode() == dgt::Mode::update_board && refuses([&] {
         follower.set_mode(dgt::Mode::idle);
     }));
@@ -538,15 +538,15 @@ void confirmations() {
     CHECK(follower.due_at() == seconds(4));
     follower.set_confirm(false);
     follower.line_disturbed();
-    CHECK(follower.in_doubt() && follower.due_at() == dgt::Milliseconds(4500));
+    CHECK(follower.in_doubt() && follower.due_at() == dgt::Milliseconds(2500));
     follower.line_lost();
     follower.set_identify(false);
     CHECK(ask(follower, board, seconds(5)) == 258 && ask(follower, board, seconds(5)) == 0);
     CHECK(!follower.serial());
     follower.hear(seconds(5), dgt::Bytes{0x8e, 0}); // a message that stays unfinished
     CHECK(!follower.in_doubt() && follower.due_at() == seconds(6));
-    CHECK(ask(follower, board, seconds(6)) == 0 && follower.in_doubt());
-    CHECK(follower.due_at() == dgt::Milliseconds(7500) && ask(follower, board, seconds(8)) == 258);
+    CHECK(follower.ask(seconds(6)).size() == 258 && follower.in_doubt());
+    CHECK(follower.due_at() == seconds(7) && ask(follower, board, seconds(8)) == 258);
     dgt::Follower confirming(seconds(10), 6, dgt::Mode::update_board, true);
     CHECK(ask(confirming, board, seconds(0)) == 258 && ask(confirming, board, seconds(0)) == 0);
     CHECK(confirming.due_at() == seconds(1));

@@ -158,7 +158,7 @@ class Misused(cases.Case):
             ("a heartbeat", (follower.ask(10.25), follower.heartbeats_left), (b"\x43\x42\x41", 0)),
             ("each event", list(follower.hear_each(11.0, dump + b"\x8e")), [dgt.Dump(start)]),
             ("a disturbance", (list(follower.hear_each(11.5, b"\x8e")), follower.in_doubt,
-                               follower.due_at), ([dgt.Cut(1)], True, 12.5)),
+                               follower.due_at), ([dgt.Cut(1)], True, 10.75)),
             ("anew", (follower.ask(12.75), follower.placement), (anew, START)),
             ("another mode", (setattr(follower, "mode", dgt.Mode.UPDATE_NICE), follower.mode),
              (None, dgt.Mode.UPDATE_NICE)),

@@ -63,7 +63,7 @@ static void send_to_clock_or_leds(uint8_t how) {
 }
 
 static void pass_time(void) {
-    static const uint64_t some[] = {1, 2, 3, 250, 999, 1000, 10000, UINT64_MAX / 2};
+    static const uint64_t some[] = {1, 2, 3, 500, 999, 1000, 10000, UINT64_MAX / 2};
     uint8_t which = input_byte();
     uint64_t wait = some[which % (sizeof some / sizeof *some)];
     if (which >= 0xc0) now = wait < now ? now - wait : 0; /* the clock goes back */

@@ -120,6 +120,7 @@ typedef struct model_follower {
     bool confirms, identifies;
     bool has_asked, has_heard, has_changed, has_serial;
     uint64_t asked, heard, changed;
+    uint64_t timeout;    /* milliseconds from a request without an answer to the next one */
     bool is_unfinished;  /* the last bytes left a message unfinished, */
     uint64_t unfinished; /* and were received at this time */
     uint8_t serial[5];

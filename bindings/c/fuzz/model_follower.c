@@ -4,6 +4,7 @@
 
 enum {
     OVERDUE = 1000,    /* milliseconds until a missing answer is a doubt */
+    RETRY = 500,       /* milliseconds between two requests after a disturbance */
     UNFINISHED = 1000, /* milliseconds until an unfinished message is one */
     SETTLED = 1000,    /* milliseconds from a change or a request to a confirming request */
     TRIES = 3          /* the most requests of the serial number */
@@ -26,6 +27,7 @@ void model_follower_line_lost(model_follower *follower) {
     follower->confirms = told.confirms;
     follower->identifies = told.identifies;
     follower->tries = TRIES;
+    follower->timeout = OVERDUE;
 }
 
 /* ---- What it hears. */
@@ -101,6 +103,7 @@ static void note(model_follower *follower, uint64_t now, const dgt_event *event,
         follower->has_heard = true;
         follower->heard = now;
     }
+    follower->timeout = OVERDUE;
     note_content(follower, event);
 }
 
@@ -155,10 +158,8 @@ static bool wants_serial(const model_follower *follower) {
 }
 
 static uint64_t wait_of(const model_follower *follower) {
-    uint64_t quarter = follower->period / 4;
-    if (follower->is_disturbed) return quarter;
-    if (!is_unanswered(follower)) return follower->period;
-    return quarter > OVERDUE ? quarter : OVERDUE; /* the period is not shorter */
+    if (follower->is_disturbed) return RETRY; /* the period is not shorter */
+    return is_unanswered(follower) ? follower->timeout : follower->period;
 }
 
 /* The first time at which a request is due. */
@@ -168,7 +169,7 @@ static moment asks_at(const model_follower *follower) {
     if (is_wanted || !follower->has_asked) return (moment){false, 0};
     moment due = after(follower->asked, wait_of(follower));
     if (!follower->confirms || follower->is_confirmed || follower->is_disturbed || is_owed)
-        return due;
+        return due; /* after a disturbance that is sooner */
     bool has_later = follower->has_changed && follower->changed > follower->asked;
     return earlier(due, after(has_later ? follower->changed : follower->asked, SETTLED));
 }
@@ -237,12 +238,19 @@ static void note_time(model_follower *follower, uint64_t now) {
     }
 }
 
+/* While nothing is heard, a follower waits twice as long for each answer, up to a period. */
+static uint64_t next_timeout(const model_follower *follower) {
+    if (!is_unanswered(follower) || follower->is_disturbed) return OVERDUE;
+    return follower->timeout > follower->period / 2 ? follower->period : 2 * follower->timeout;
+}
+
 /* Records that it has requested a dump. */
 static void note_asking(model_follower *follower, asking asking, uint64_t now) {
     bool is_new = asking == ANEW;
     follower->pardons = is_new && is_calm(follower);
     follower->left = is_new ? follower->patience : follower->left - 1;
     if (is_new) follower->is_settling = true;
+    follower->timeout = next_timeout(follower);
     if (is_unanswered(follower)) doubt(follower);
     follower->has_asked = true;
     follower->asked = now;

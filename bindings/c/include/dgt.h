@@ -593,10 +593,9 @@ void dgt_follower_init(dgt_follower *follower) DGT_NONNULL_(1);
 
 /* Makes a follower as new: it has sent no request, knows no picture, and has this period, this
  * patience and the mode DGT_MODE_UPDATE_BOARD. It neither confirms nor identifies. `period` is the
- * time from one request to the next, in milliseconds. One below DGT_LEAST_PERIOD counts as that: a
- * new start and its dump occupy the line for a third of a second, so that shorter periods would
- * fill it. `patience` is how many heartbeats may follow one another before the follower starts
- * over, whatever it has heard; with 0 it always starts over. */
+ * time from one request to the next, in milliseconds. One below DGT_LEAST_PERIOD counts as that.
+ * `patience` is how many heartbeats may follow one another before the follower starts over,
+ * whatever it has heard; with 0 it always starts over. */
 void dgt_follower_start(dgt_follower *follower, uint64_t period, uint32_t patience) DGT_NONNULL_(1);
 
 /* Both calls. Returns false and does nothing if the sizes differ, as with dgt_host_new, or if the
@@ -626,11 +625,15 @@ void dgt_follower_hear_all(dgt_follower *follower, uint64_t now, const uint8_t *
  * request, and nothing changed. There is no other status. The picture stays known, and a dump is
  * then awaited (or a serial number, see dgt_follower_set_identify). The first request is due at any
  * time. Each other one is due a period after the last request, or earlier:
- *  - after a disturbance, a quarter of the period after the last request, rounded down;
- *  - if the last request has no answer, at the same time, but no less than a second after it;
+ *  - after a disturbance, half a second after the last request;
+ *  - if the last request has no answer, a second after it. On a silent line this doubles with each
+ *    request, up to the period, until an event is heard;
  *  - if the picture is to be confirmed, a second after it changed and after the last request;
  *  - after dgt_follower_ask_now, at once, or once the last request is answered;
  *  - if `now` is before the last request, since your clock was set back.
+ * So two requests are at least half a second apart, except in the last two cases and for the serial
+ * number. In that time a line of 9600 baud carries 480 bytes. The longest request and its replies
+ * are 336, so they never pile up.
  * If an answer is a second late, the next call puts the picture in doubt, whether it writes or not,
  * unless it returns DGT_NO_ROOM. The same happens if a message is unfinished for a second, which is
  * also a disturbance; the rest of it is still heard if it arrives later. */

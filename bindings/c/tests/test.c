@@ -407,15 +407,15 @@ static void follower(void) {
     dgt_follower_hear_all(follower, 1010, dump, sizeof dump);
     CHECK(asks(follower, 2007, ANEW) && !dgt_follower_in_doubt(follower));
 
-    /* A stray byte disturbs: the next asking is due after a quarter of the period. */
+    /* A stray byte disturbs: the next asking is due half a second after the last one. */
     dgt_follower_hear_all(follower, 2010, dump, sizeof dump);
     dgt_follower_hear_all(follower, 2011, BYTES(5, 0x8e));
     CHECK(dgt_follower_in_doubt(follower) && dgt_follower_unread(follower) == 1);
-    CHECK(dgt_follower_due_at(follower, &time) && time == 2257);
+    CHECK(dgt_follower_due_at(follower, &time) && time == 2507);
     CHECK(dgt_follower_placement(follower, text) && !strcmp(text, "8/8/8/8/8/8/4P3/8"));
-    CHECK(asks(follower, 2256, 0) && asks(follower, 2257, ANEW));
+    CHECK(asks(follower, 2506, 0) && asks(follower, 2507, ANEW));
     CHECK(dgt_follower_picture(follower, pieces) && pieces[52] == 1);
-    CHECK(asks(follower, 3257, ANEW));
+    CHECK(asks(follower, 3507, ANEW));
 
     CHECK(dgt_follower_mode(follower) == DGT_MODE_UPDATE_BOARD);
     CHECK(!dgt_follower_set_mode(follower, DGT_MODE_IDLE));
@@ -432,7 +432,7 @@ static void follower(void) {
 
     /* In this mode each asking requests the clock. A reading that doesn't come is no doubt. The
      * first dump cuts the message that was begun above. */
-    dgt_follower_hear_all(follower, 3260, dump, sizeof dump);
+    dgt_follower_hear_all(follower, 3510, dump, sizeof dump);
     asked = dgt_follower_ask(follower, 4257, out, 257);
     CHECK(asked.status == DGT_NO_ROOM && asked.bytes == CLOCK_ANEW);
     CHECK(asks(follower, 4257, CLOCK_ANEW));
@@ -496,19 +496,19 @@ static void confirming(void) {
     CHECK(is_due_at(follower, 0) && asks(follower, 5000, HEARTBEAT));
     hear_dump(follower, 5010, 1);
     CHECK(!dgt_follower_confirmed(follower) && dgt_follower_in_doubt(follower));
-    CHECK(is_due_at(follower, 7500) && asks(follower, 7500, ANEW));
-    hear_dump(follower, 7510, 1);
+    CHECK(is_due_at(follower, 5500) && asks(follower, 5500, ANEW));
+    hear_dump(follower, 5510, 1);
     CHECK(!dgt_follower_confirmed(follower) && !dgt_follower_in_doubt(follower));
-    CHECK(is_due_at(follower, 8500));
+    CHECK(is_due_at(follower, 6500));
     dgt_follower_set_confirm(follower, false);
-    CHECK(is_due_at(follower, 17500));
+    CHECK(is_due_at(follower, 15500));
 
     /* So does a line that is reported to lose bytes, until the next dump. */
     dgt_follower_line_disturbed(follower);
     CHECK(!dgt_follower_confirmed(follower) && dgt_follower_in_doubt(follower));
-    CHECK(is_due_at(follower, 10000) && asks(follower, 9999, 0) && asks(follower, 10000, ANEW));
-    hear_dump(follower, 10010, 1);
-    CHECK(!dgt_follower_in_doubt(follower) && is_due_at(follower, 20000));
+    CHECK(is_due_at(follower, 6000) && asks(follower, 5999, 0) && asks(follower, 6000, ANEW));
+    hear_dump(follower, 6010, 1);
+    CHECK(!dgt_follower_in_doubt(follower) && is_due_at(follower, 16000));
     free(follower);
 }
 
@@ -516,14 +516,20 @@ static void overdue(void) {
     dgt_follower *follower = room(dgt_follower_size());
     CHECK(dgt_follower_new(follower, 10000, 6) && asks(follower, 5, ANEW));
     CHECK(is_due_at(follower, 1005) && asks(follower, 1004, 0) && !dgt_follower_in_doubt(follower));
-    CHECK(asks(follower, 1005, 0) && dgt_follower_in_doubt(follower));
-    CHECK(is_due_at(follower, 2505) && asks(follower, 2504, 0) && asks(follower, 2505, ANEW));
+    CHECK(asks(follower, 1005, ANEW) && dgt_follower_in_doubt(follower));
+
+    /* On a silent line it waits twice as long each time, up to its period. */
+    CHECK(is_due_at(follower, 3005) && asks(follower, 3004, 0) && asks(follower, 3005, ANEW));
+    CHECK(asks(follower, 7005, ANEW) && asks(follower, 15005, ANEW));
+    CHECK(is_due_at(follower, 25005) && asks(follower, 25005, ANEW));
+    dgt_follower_hear_all(follower, 26000, BYTES(0x92, 0, 5, 'A', 'B'));
+    CHECK(is_due_at(follower, 25505) && asks(follower, 26000, ANEW));
     dgt_follower_ask_now(follower);
-    CHECK(is_due_at(follower, 5005)); /* it is in doubt before */
-    hear_dump(follower, 2600, 1);
-    CHECK(is_due_at(follower, 0) && asks(follower, 2600, HEARTBEAT));
-    hear_dump(follower, 2610, 1);
-    CHECK(is_due_at(follower, 12600) && asks(follower, 2599, HEARTBEAT)); /* the clock went back */
+    CHECK(is_due_at(follower, 27000));
+    hear_dump(follower, 26100, 1);
+    CHECK(is_due_at(follower, 0) && asks(follower, 26100, HEARTBEAT));
+    hear_dump(follower, 26110, 1);
+    CHECK(is_due_at(follower, 36100) && asks(follower, 26099, HEARTBEAT)); /* it went back */
 
     /* A period below the least one counts as that. */
     dgt_follower_start(follower, DGT_LEAST_PERIOD - 1, 1);
@@ -558,17 +564,17 @@ static void unfinished(void) {
     dgt_follower_hear_all(follower, 10900, NULL, 0); /* without bytes nothing changes */
     CHECK(is_due_at(follower, 11200) && asks(follower, 11199, 0));
     CHECK(dgt_follower_confirmed(follower) && !dgt_follower_in_doubt(follower));
-    CHECK(asks(follower, 11200, 0) && is_due_at(follower, 12500));
+    CHECK(asks(follower, 11200, ANEW) && is_due_at(follower, 12200));
     CHECK(!dgt_follower_confirmed(follower) && dgt_follower_in_doubt(follower));
     dgt_follower_hear_all(follower, 11300, BYTES(52, 0));
     CHECK(dgt_follower_picture(follower, pieces) && pieces[52] == 0);
-    CHECK(is_due_at(follower, 12500) && asks(follower, 12500, ANEW));
+    CHECK(is_due_at(follower, 12200) && asks(follower, 12200, ANEW));
     hear_dump(follower, 12600, 0);
-    CHECK(!dgt_follower_in_doubt(follower) && is_due_at(follower, 22500));
+    CHECK(!dgt_follower_in_doubt(follower) && is_due_at(follower, 22200));
     free(follower);
 }
 
-/* Without room nothing is noted of it. It asks at once after a quarter of the period. */
+/* Without room nothing is noted of it. It asks at once, long after its last asking. */
 static void unfinished_without_room(void) {
     dgt_follower *follower = room(dgt_follower_size());
     uint8_t out[DGT_MAX_ASKING];
@@ -580,12 +586,13 @@ static void unfinished_without_room(void) {
     CHECK(asked.status == DGT_NO_ROOM && asked.bytes == ANEW);
     CHECK(!dgt_follower_in_doubt(follower) && is_due_at(follower, 15000));
     CHECK(asks(follower, 15000, ANEW) && dgt_follower_in_doubt(follower));
-    CHECK(is_due_at(follower, 17500) && dgt_follower_unread(follower) == 1);
-    dgt_follower_hear_all(follower, 15100, BYTES(0));
-    CHECK(is_due_at(follower, 16100) && asks(follower, 16100, 0) && is_due_at(follower, 17500));
-    dgt_follower_hear_all(follower, 16200, BYTES(5));
+    CHECK(is_due_at(follower, 16000) && dgt_follower_unread(follower) == 1);
+    dgt_follower_hear_all(follower, 15900, BYTES(0));
+    CHECK(is_due_at(follower, 16000) && asks(follower, 16000, ANEW));
+    CHECK(is_due_at(follower, 16900) && asks(follower, 16900, ANEW) && is_due_at(follower, 17900));
+    dgt_follower_hear_all(follower, 16950, BYTES(5));
     dgt_follower_line_lost(follower);
-    CHECK(is_due_at(follower, 0) && asks(follower, 16300, ANEW) && is_due_at(follower, 17300));
+    CHECK(is_due_at(follower, 0) && asks(follower, 17000, ANEW) && is_due_at(follower, 18000));
 
     /* A second that ends past all time never ends. */
     dgt_follower_start(follower, UINT64_MAX, 1);

@@ -154,7 +154,7 @@ static void turning(dgt_follower *follower) {
     CHECK(dgt_port_turn(port, follower, &input) && input.event.square == 36);
     CHECK(dgt_follower_in_doubt(follower) && dgt_port_turn(port, follower, &input));
     CHECK(input.event.kind == DGT_EVENT_DUMP && dgt_follower_in_doubt(follower));
-    nanosleep(&(struct timespec){0, 300000000}, NULL); /* a quarter of the period, and more */
+    nanosleep(&(struct timespec){0, 600000000}, NULL); /* half a second, and more */
     CHECK(write(line, dump, sizeof dump) == sizeof dump && dgt_port_turn(port, follower, &input));
     CHECK(input.event.kind == DGT_EVENT_DUMP && !dgt_follower_in_doubt(follower));
 }

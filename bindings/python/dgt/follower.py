@@ -111,8 +111,9 @@ class Follower(EventReader, Asker):
         overdue, if nothing is heard before. It is 0 if a request is due at once, and `None` if the
         time is too great.
 
-        After a disturbance, or without an answer, a request is due a quarter of the period after
-        the last one; without an answer it is due at least a second after it."""
+        After a disturbance a request is due half a second after the last one, and without an
+        answer a second after it. On a silent line that second doubles with each request, up to the
+        period, until something is heard."""
         return self._time("due_at")
 
     @property

@@ -3,5 +3,6 @@ mod Hearing
 mod ManyCalls
 mod OneStretch
 mod Overdue
+mod Retries
 mod Slices
 mod WhenDue

@@ -1,7 +1,7 @@
 -- An overdue answer is a doubt, and is soon requested again. A confirmed picture is not in doubt.
-use Rattle.std.proofs.{Common.{◌≡◌, ◌≤◌, ◌/◌, Bool, true, false, not, ◌&&◌, ◌||◌, if◌then◌else◌, min, max, ℕ, arith, rules}, lemmas.Bool.Decides.{nat_tests}}
+use Rattle.std.proofs.{Common.{◌≡◌, ◌≤◌, Bool, true, false, not, ◌&&◌, ◌||◌, if◌then◌else◌, min, max, ℕ, arith, rules}, lemmas.Bool.Decides.{nat_tests}}
 use Rattle.dgt_follow.specs.{Follower.{DisturbedIsAskedAnew, OverdueIsAskedAnew, OverdueIsDoubt, SureStaysSure, is_sure}, Pace.{PaceView, asking, is_calm, is_due, is_unanswered, pace_after_asking}}
-use Rattle.dgt_follow.specs.{Pace.{pace_at, time_after, wait}, declared.{asking.Asking.{Asking}, pace.TheConstants.{OVERDUE}}}
+use Rattle.dgt_follow.specs.{Pace.{pace_at, time_after, wait}, declared.{asking.Asking.{Asking}, pace.TheConstants.{OVERDUE, RETRY}}}
 
 -- ---- an overdue answer is a doubt
 
@@ -15,12 +15,12 @@ no_later : (once confirming : Bool) (usual settled : ℕ)
 no_later once confirming usual settled = grind arith
 
 soon : (pace : PaceView) → is_unanswered pace ≡ true
-    → time_after pace.asked (wait pace) ≤ time_after pace.asked (max OVERDUE (pace.period / 4))
+    → time_after pace.asked (wait pace) ≤ time_after pace.asked (max OVERDUE pace.timeout)
 soon pace owed = grind (arith, nat_tests)
 
-quarter : (pace : PaceView) → pace.disturbed ≡ true
-    → time_after pace.asked (wait pace) ≤ time_after pace.asked (pace.period / 4)
-quarter pace disturbed = grind (arith, nat_tests)
+retry : (pace : PaceView) → pace.disturbed ≡ true
+    → time_after pace.asked (wait pace) ≤ time_after pace.asked RETRY
+retry pace disturbed = grind (arith, nat_tests)
 
 -- a pace that isn't calm and is due by then starts over
 anew : (pace : PaceView) (full : Bool) (now : ℕ) → is_calm pace ≡ false → is_due pace now ≡ true
@@ -46,7 +46,7 @@ pub is_asked_when_disturbed : DisturbedIsAskedAnew
 is_asked_when_disturbed pace full now disturbed late =
     let by_then = pace_at pace now in
     due_anew by_then full now (not_calm by_then disturbed)
-    (omega (arith, quarter by_then disturbed, late))
+    (omega (arith, retry by_then disturbed, late))
 
 -- ---- a confirmed picture is not in doubt
 

@@ -2,8 +2,8 @@
 -- idle.
 use Rattle.std.proofs.{Common.{◌≡◌, ◌≢◌, ◌↔◌, ◌≤◌, ◌<◌, ◌^◌, Bool, true, false, not, ◌&&◌, ◌||◌, if◌then◌else◌, is_some, nat_le, min, Option, Some, refl, ap, ℕ, arith}, lemmas.Grind.{common_steps}}
 use Rattle.{std.{proofs.lemmas.Bool.Decides.{nat_tests}, specs.Prelude.{IfSome}}, dgt_values.specs.declared.kinds.Kind.{Kind}, dgt_host.specs.Host.{awaits_too_many}}
-use Rattle.dgt_follow.specs.{Calls.{DueAtIsFirst, follower_asking}, Follower.{FollowerView, HasReason, asking_of, is_sure}, Pace.{PaceView, asking, counted, doubt_time, due_time, is_due, is_overdue}}
-use Rattle.dgt_follow.specs.{Pace.{is_stuck, next_due, pace_at, time_after, wait}, declared.asking.Asking.{Asking}}
+use Rattle.dgt_follow.specs.{Calls.{DueAtIsFirst, follower_asking}, Follower.{FollowerView, HasReason, asking_of, is_sure}, Pace.{PaceView, asking, asks_at_once, counted, doubt_time, due_time}}
+use Rattle.dgt_follow.specs.{Pace.{is_before, is_due, is_overdue, is_stuck, next_due, pace_at, settled_time, time_after, usual_time, wait, wants_confirming}, declared.asking.Asking.{Asking}}
 
 -- ---- its reasons
 
@@ -16,13 +16,44 @@ no_later pace = grind (arith, nat_tests)
 waits : (pace : PaceView) → time_after pace.asked (wait pace) ≤ time_after pace.asked pace.period
 waits pace = grind (arith, nat_tests)
 
+one_of : {R : Type 0} (usual settled now : ℕ) (first : Bool) → nat_le usual now ≡ first
+    → (usual ≤ now → R) → (settled ≤ now → R) → min usual settled ≤ now → R
+one_of usual settled now true e u s due = u (grind (arith, nat_tests))
+one_of usual settled now false e u s due = s (grind (arith, nat_tests))
+
+for_any : {R : Type 0} (once confirming back : Bool) (usual settled now : ℕ) → (once ≡ true → R)
+    → (usual ≤ now → R) → (confirming ≡ true → settled ≤ now → R) → (back ≡ true → R)
+    → (nat_le (if once then 0 else if confirming then min usual settled else usual) now || back)
+    ≡ true → R
+for_any once confirming true usual settled now o u s b due = b refl
+for_any true confirming false usual settled now o u s b due = o refl
+for_any false false false usual settled now o u s b due = u (grind (arith, nat_tests))
+for_any false true false usual settled now o u s b due =
+    one_of usual settled now (nat_le usual now) refl u (s refl) (grind (arith, nat_tests))
+
+once : (pace : PaceView) (now : ℕ) → asks_at_once pace ≡ true → HasReason pace now
+once pace now e = grind (arith, nat_tests)
+
+usual : (pace : PaceView) (now : ℕ) → usual_time pace ≤ now → HasReason pace now
+usual pace now e = grind (arith, nat_tests)
+
+settled : (pace : PaceView) (now : ℕ) → wants_confirming pace ≡ true → settled_time pace ≤ now
+    → HasReason pace now
+settled pace now e late = grind (arith, nat_tests)
+
+back : (pace : PaceView) (now : ℕ) → is_before now pace.asked ≡ true → HasReason pace now
+back pace now e = grind (arith, nat_tests)
+
 reason : (pace : PaceView) (now : ℕ) → is_due pace now ≡ true → HasReason pace now
-reason pace now due = grind (arith, nat_tests)
+reason pace now due =
+    for_any (asks_at_once pace) (wants_confirming pace) (is_before now pace.asked)
+    (usual_time pace) (settled_time pace) now (once pace now) (usual pace now) (settled pace now)
+    (back pace now) due
 
 due_for : (pace : PaceView) (now : ℕ) → HasReason pace now → is_due pace now ≡ true
 due_for pace now why = grind (arith, nat_tests, reached, no_later pace, waits pace)
 
-writes : (pace : PaceView) (full : Bool) (now : ℕ)
+pub writes : (pace : PaceView) (full : Bool) (now : ℕ)
     → (asking pace full now ≢ Asking.Nothing) ↔ (is_due pace now ≡ true)
 writes pace full now = (λ asks. grind (arith, nat_tests), λ due. grind (arith, nat_tests))
 

@@ -1,5 +1,5 @@
 -- How contracts see a follower, how heard bytes change it, and what it requests.
-use Rattle.std.specs.Prelude.{◌≡◌, ◌⊎◌, ◌≤◌, ◌<◌, ◌/◌, Option, Bool, if◌then◌else◌, max, not, ◌&&◌, ◌||◌, is_some, IsSome, IsSomeAnd, IsNone, IsTrue, IsFalse, ℕ, List, [], ◌∷◌, ◌++◌, None, Some, false, Result, Ok, Err}
+use Rattle.std.specs.Prelude.{◌≡◌, ◌≢◌, ◌⊎◌, ◌≤◌, ◌<◌, Option, Bool, if◌then◌else◌, max, not, ◌&&◌, ◌||◌, is_some, IsSome, IsSomeAnd, IsNone, IsTrue, IsFalse, ℕ, List, [], ◌∷◌, ◌++◌, None, Some, false, Result, Ok, Err}
 use Rattle.dgt_values.specs.Bytes.{WritesPrefix}
 use Rattle.dgt_values.specs.declared.kinds.Kind.{Kind}
 use Rattle.dgt_values.specs.declared.refusals.NoRoom.{NoRoom}
@@ -11,8 +11,8 @@ use Rattle.dgt_host.specs.Confirmed.{confirmed_after_all, messages}
 use Rattle.dgt_host.specs.Host.{HostView, awaits_too_many, host_after_event, host_awaiting, new_host, without_awaited}
 use Rattle.dgt_follow.specs.declared.asking.Asking.{Asking}
 use Rattle.dgt_follow.specs.declared.asking.UpdateMode.{UpdateMode}
-use Rattle.dgt_follow.specs.declared.pace.TheConstants.{OVERDUE, SETTLED}
-use Rattle.dgt_follow.specs.Pace.{PaceView, asking, asking_bytes, is_overdue, is_stuck, is_unanswered, new_pace, pace_after_asking, pace_after_event, pace_at, pace_disturbed, time_after, unfinished_by}
+use Rattle.dgt_follow.specs.declared.pace.TheConstants.{OVERDUE, RETRY, SETTLED}
+use Rattle.dgt_follow.specs.Pace.{PaceView, asking, asking_bytes, asks_at_once, due_time, is_before, is_overdue, is_stuck, is_unanswered, new_pace, pace_after_asking, pace_after_event, pace_at, pace_disturbed, time_after, unfinished_by}
 
 pub record FollowerView : Type 0 where
   pub host : HostView
@@ -94,20 +94,53 @@ OverdueIsDoubt =
     let after = pace_after_asking what (pace_at pace now) now in
     IsTrue after.doubtful × IsFalse after.confirmed
 
--- If a request has no answer, the follower starts over when the answer is overdue and a quarter of
--- the period has passed.
+-- If a request has no answer, the follower starts over after its timeout, when the answer is
+-- overdue.
 abbrev pub OverdueIsAskedAnew : Type 0
 OverdueIsAskedAnew =
     (pace : PaceView) (full : Bool) (now : ℕ) → IsTrue (is_unanswered pace) →
-    time_after pace.asked (max OVERDUE (pace.period / 4)) ≤ now →
+    time_after pace.asked (max OVERDUE pace.timeout) ≤ now →
     asking (pace_at pace now) full now ≡ Asking.Anew
 
--- A follower starts over when a quarter of the period has passed after a disturbance. So does one
--- with a message that is unfinished for a second.
+-- After a disturbance a follower starts over half a second after its last request, whatever the
+-- period is. So does one with a message that is unfinished for a second.
 abbrev pub DisturbedIsAskedAnew : Type 0
 DisturbedIsAskedAnew =
     (pace : PaceView) (full : Bool) (now : ℕ) → IsTrue (pace.disturbed || is_stuck pace now) →
-    time_after pace.asked (pace.period / 4) ≤ now → asking (pace_at pace now) full now ≡ Asking.Anew
+    time_after pace.asked RETRY ≤ now → asking (pace_at pace now) full now ≡ Asking.Anew
+
+-- A doubt has a cause since the last request: a disturbance, or no answer so far. A timeout is at
+-- least a second, and at most a period.
+abbrev pub IsTimed : PaceView → Type 0
+IsTimed pace =
+    IsTrue (not pace.doubtful || (pace.disturbed || is_unanswered pace))
+    × (OVERDUE ≤ pace.timeout) × (pace.timeout ≤ pace.period)
+
+abbrev pub TimedStaysTimed : Type 0
+TimedStaysTimed =
+    ((period patience : ℕ) (mode : UpdateMode) (confirm identify : Bool) →
+    IsTimed (new_pace period patience mode confirm identify))
+    × ((pace : PaceView) (now : ℕ) → IsTimed pace →
+    ((awaited : List Kind) (picture : Option (List Piece)) (event : Event) →
+    IsTimed (pace_after_event pace now awaited picture event))
+    × ((what : Asking) → IsTimed (pace_after_asking what (pace_at pace now) now))
+    × IsTimed (pace_disturbed pace))
+
+-- In doubt a request is due half a second after the last one if there was a disturbance since, and
+-- after the timeout otherwise.
+abbrev pub DoubtIsAskedAgain : Type 0
+DoubtIsAskedAgain =
+    (pace : PaceView) → IsTimed pace → IsTrue pace.doubtful →
+    due_time pace ≤ time_after pace.asked (if pace.disturbed then RETRY else pace.timeout)
+
+-- Two requests are at least half a second apart, in which the line carries the longest request and
+-- its replies. A request that is due at once waits only for the last answer. Or the time is before
+-- the last request.
+abbrev pub RequestsAreApart : Type 0
+RequestsAreApart =
+    (pace : PaceView) (full : Bool) (now : ℕ) → IsTimed pace → IsFalse (asks_at_once pace) →
+    IsFalse (is_before now pace.asked) → asking pace full now ≢ Asking.Nothing →
+    time_after pace.asked RETRY ≤ now
 
 -- A confirmed picture is not in doubt.
 abbrev pub is_sure : PaceView → Bool
@@ -129,17 +162,17 @@ asking_of follower now =
     asking (pace_at follower.pace now) (awaits_too_many follower.host (Some Kind.Dump)) now
 
 -- Why a request is due at this time. A period has passed since the last one, or there was none.
--- After a disturbance a quarter is enough, and for an owed answer a quarter, but at least a second.
--- Other reasons are a call of `ask_now`, a picture that is to be confirmed and didn't change for a
--- second, and an unknown serial number. The last one is a time before the last request.
+-- After a disturbance half a second is enough, and without an answer the timeout. Other reasons are
+-- a call of `ask_now`, a picture that is to be confirmed and didn't change for a second, and an
+-- unknown serial number. The last one is a time before the last request.
 abbrev pub HasReason : PaceView → ℕ → Type 0
 HasReason pace now =
     let owed = is_some pace.asked && not pace.answered in
     (time_after pace.asked pace.period ≤ now)
-    ⊎ (IsTrue pace.disturbed × (time_after pace.asked (pace.period / 4) ≤ now))
-    ⊎ (IsTrue owed × (time_after pace.asked (max OVERDUE (pace.period / 4)) ≤ now))
+    ⊎ (IsTrue pace.disturbed × (time_after pace.asked RETRY ≤ now))
+    ⊎ (IsTrue owed × IsFalse pace.disturbed × (time_after pace.asked pace.timeout ≤ now))
     ⊎ (IsFalse owed × IsTrue pace.wanted)
-    ⊎ (IsFalse (owed || pace.disturbed) × IsTrue (pace.confirm && not pace.confirmed)
+    ⊎ (IsFalse owed × IsTrue (pace.confirm && not pace.confirmed)
     × (time_after pace.asked SETTLED ≤ now) × (time_after pace.changed SETTLED ≤ now))
     ⊎ (IsFalse (owed || pace.disturbed) × IsSome pace.asked × IsNone pace.serial
     × IsTrue (pace.identify && not pace.requested) × (0 < pace.tries))

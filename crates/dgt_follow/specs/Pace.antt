@@ -1,5 +1,5 @@
 -- When a follower sends a request, and which: what it counts and what it records of the messages.
-use Rattle.std.specs.Prelude.{◌≡◌, ℕ, ◌+◌, ◌-◌, ◌/◌, ◌^◌, max, min, nat_le, nat_lt, List, [], ◌∷◌, ◌++◌, Option, Some, None, is_some, Bool, false, true, not, ◌==◌, ◌&&◌, ◌||◌, if◌then◌else◌, flat_map}
+use Rattle.std.specs.Prelude.{◌≡◌, ℕ, ◌+◌, ◌-◌, ◌*◌, ◌^◌, max, min, nat_le, nat_lt, List, [], ◌∷◌, ◌++◌, Option, Some, None, is_some, Bool, false, true, not, ◌==◌, ◌&&◌, ◌||◌, if◌then◌else◌, flat_map}
 use Rattle.dgt_values.specs.declared.kinds.Kind.{Kind}
 use Rattle.dgt_message.specs.declared.known.KnownCode.{KnownCode}
 use Rattle.dgt_message.specs.Clock.{Time, Times}
@@ -13,7 +13,7 @@ use Rattle.dgt_decode.specs.Grammar.{Event, Message, Refused}
 use Rattle.dgt_host.specs.Confirmed.{changes, changes_by, confirmed_after}
 use Rattle.dgt_host.specs.Host.{is_same_kind, restart_bytes}
 use Rattle.dgt_follow.specs.declared.asking.Asking.{Asking}
-use Rattle.dgt_follow.specs.declared.pace.TheConstants.{LEAST_PERIOD, OVERDUE, SETTLED, TRIES, UNFINISHED}
+use Rattle.dgt_follow.specs.declared.pace.TheConstants.{LEAST_PERIOD, OVERDUE, RETRY, SETTLED, TRIES, UNFINISHED}
 use Rattle.dgt_follow.specs.declared.asking.UpdateMode.{UpdateMode}
 
 pub record PaceView : Type 0 where
@@ -33,6 +33,7 @@ pub record PaceView : Type 0 where
   pub answered : Bool  -- whether an awaited dump was heard
   pub disturbed : Bool  -- whether anything was heard that a sound line and board don't send
   pub pardons : Bool  -- whether the last new start gave up replies that may yet arrive
+  pub timeout : ℕ  -- milliseconds from a request without an answer to the next one
   -- what it recorded in all
   pub settling : Bool  -- whether no awaited dump was heard since the last new start
   pub heard : Option ℕ  -- the time of the last whole message
@@ -45,8 +46,7 @@ pub record PaceView : Type 0 where
   pub serial : Option (List ℕ)  -- the serial number that was last reported
   pub unreadable : Bool  -- whether the last report of the clock contained no reading
 
--- A pace without requests and records. A period is at least a second: a new start and its dump
--- occupy the line for a third of that.
+-- a pace without requests and records, whose period is at least a second
 abbrev pub new_pace : ℕ → ℕ → UpdateMode → Bool → Bool → PaceView
 new_pace period patience mode confirm identify =
     record {
@@ -63,6 +63,7 @@ new_pace period patience mode confirm identify =
       answered = false;
       disturbed = false;
       pardons = false;
+      timeout = OVERDUE;
       settling = false;
       heard = None;
       unfinished = None;
@@ -154,6 +155,7 @@ pace_after_event pace now awaited picture event =
     record pace {
       answered = is_answer awaited event || pace.answered;
       disturbed = disturbs pace.pardons awaited picture event || pace.disturbed;
+      timeout = OVERDUE;
       settling = pace.settling && not (is_answer awaited event);
       heard = heard_at pace.heard now event;
       doubtful =
@@ -222,12 +224,12 @@ pace_at pace now =
       confirmed = (pace.confirmed && not (is_overdue pace now)) && not (is_stuck pace now);
     }
 
--- The time between two requests: a period, and a quarter of it after a disturbance. An unanswered
--- request is repeated after a quarter, but not before it is overdue.
+-- The time between two requests: a period, and at most half a second after a disturbance. An
+-- unanswered request is repeated after its timeout.
 abbrev pub wait : PaceView → ℕ
 wait pace =
-    if pace.disturbed then pace.period / 4
-    else if is_unanswered pace then min pace.period (max OVERDUE (pace.period / 4))
+    if pace.disturbed then min pace.period RETRY
+    else if is_unanswered pace then min pace.period pace.timeout
     else pace.period
 
 -- the later of two times, as far as they are known
@@ -236,11 +238,9 @@ later None second = second
 later first None = first
 later (Some first) (Some second) = Some (max first second)
 
--- A picture that isn't confirmed is to be requested again. After a disturbance a quarter of the
--- period is soon enough.
+-- A picture that isn't confirmed is to be requested again, unless an answer is owed.
 abbrev pub wants_confirming : PaceView → Bool
-wants_confirming pace =
-    (pace.confirm && not pace.confirmed) && (not pace.disturbed && not (is_unanswered pace))
+wants_confirming pace = (pace.confirm && not pace.confirmed) && not (is_unanswered pace)
 
 -- The serial number is to be requested: it is unknown, and was not requested since the last request
 -- of a dump.
@@ -344,6 +344,13 @@ asking_bytes mode Asking.Heartbeat =
 asking_bytes mode Asking.Anew =
     restart_bytes ++ command_encoding (mode_command mode) ++ clock_request mode
 
+-- The timeout of the next request: a second. If the line is silent it is twice the last one, at
+-- most a period: nothing answered the last request, and nothing disturbed since.
+abbrev pub next_timeout : PaceView → ℕ
+next_timeout pace =
+    if is_unanswered pace && not pace.disturbed then min (2 * pace.timeout) pace.period
+    else OVERDUE
+
 -- the pace that has requested a dump at this time: a dump that is owed then is a doubt
 abbrev pub pace_asked : PaceView → ℕ → PaceView
 pace_asked pace now =
@@ -354,6 +361,7 @@ pace_asked pace now =
       answered = false;
       disturbed = false;
       pardons = false;
+      timeout = next_timeout pace;
       doubtful = pace.doubtful || is_unanswered pace;
       confirmed = pace.confirmed && not (is_unanswered pace);
     }

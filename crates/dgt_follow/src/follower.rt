@@ -150,8 +150,8 @@ impl Follower {
     ///
     /// An awaited dump answers the last request. Disturbances are a cut or refused message, a bad
     /// length, a stray byte, an unasked message, and a dump that differs from the known picture.
-    /// After a disturbance the next request starts over. It is due at once, but not before a
-    /// quarter of the period after the last one.
+    /// After a disturbance the next request starts over. It is due at once, but not before half a
+    /// second ([`RETRY`](crate::RETRY)) after the last one.
     ///
     /// Two things are not disturbances. One is a clock without digits, as while it is being set.
     /// The other is an unasked message after a new start without a disturbance, until the next
@@ -223,9 +223,10 @@ impl Follower {
     /// The first request is due at any time, and each other one a period after the last. It is due
     /// earlier:
     ///
-    /// - after a disturbance: a quarter of the period after the last request;
-    /// - if the last request has no answer: a quarter of the period after it, but no less than a
-    ///   second ([`OVERDUE`](crate::OVERDUE));
+    /// - after a disturbance: half a second ([`RETRY`](crate::RETRY)) after the last request;
+    /// - if the last request has no answer: a second ([`OVERDUE`](crate::OVERDUE)) after it. On a
+    ///   silent line this timeout doubles with each request, up to the period, until an event is
+    ///   heard;
     /// - after [`Follower::set_confirm`], until the picture is confirmed: a second after the
     ///   picture last changed and after the last request;
     /// - after [`Follower::ask_now`]: at once, or when the last request is answered;
@@ -283,7 +284,7 @@ impl Follower {
     ///
     /// The mode's command follows an LED frame and a clock message, as one byte more, since the
     /// board may read a frame that lost a byte as other commands, `Reset` among them. After `Reset`
-    /// the board reports no change until the next request.
+    /// the board reports no change until the next request, LED frame or clock message.
     pub fn send(&mut self, command: &Command<'_>, out: &mut [u8]) -> Result<usize, SendFault>
         ensures sends { let said = command_content command.now in
             Sends (record {

@@ -14,13 +14,14 @@ ghost use Rattle.dgt_values.specs.Equality.{CloneIsSame, EqualIsSame};
 ghost use Rattle.dgt_host.specs.Host.{HostView, Request, Sends, host_after};
 ghost use Rattle.dgt_host.specs.Confirmed.{changes, repeats};
 ghost use Rattle.dgt_follow.specs.Calls.{Call, ConfirmedOverCalls, DueAtIsFirst, OneStretchIsSeen, bytes_heard, follower_after_call, follower_after_calls};
-ghost use Rattle.dgt_follow.specs.Follower.{Asks, AskingsConfirmNothing, ConfirmedAsHeard, DisturbedIsAskedAnew, FollowedInChunks, FollowerView, HasReason, OverdueIsAskedAnew, OverdueIsDoubt, SureStaysSure, asking_of, clock_known, follower_after, following};
+ghost use Rattle.dgt_follow.specs.Follower.{Asks, AskingsConfirmNothing, ConfirmedAsHeard, DisturbedIsAskedAnew, DoubtIsAskedAgain, FollowedInChunks, FollowerView, HasReason, OverdueIsAskedAnew, OverdueIsDoubt, RequestsAreApart, SureStaysSure, TimedStaysTimed, asking_of, clock_known, follower_after, following};
 ghost use Rattle.dgt_follow.specs.Pace.{KeepsCount, PaceView, asking, asking_bytes, forgetting, is_blank, is_overdue, is_stuck, mode_command, new_pace, next_due, pace_after_asking, pace_after_event, pace_at, sent_bytes, unfinished_by};
 ghost use Rattle.dgt_follow.specs.declared.asking.Asking.{Asking};
 ghost use Rattle.dgt_follow.specs.declared.asking.UpdateMode.{UpdateMode};
 
 use crate::{
-    Asking, Followed, LEAST_PERIOD, MAX_ASKING, OVERDUE, SETTLED, TRIES, UNFINISHED, UpdateMode,
+    Asking, Followed, LEAST_PERIOD, MAX_ASKING, OVERDUE, RETRY, SETTLED, TRIES, UNFINISHED,
+    UpdateMode,
 };
 
 /// The limits by their numbers, and that no request is longer.
@@ -28,6 +29,7 @@ pub fn limits()
     ensures max_asking { MAX_ASKING ≡ 259 }
     ensures least_period { LEAST_PERIOD ≡ 1000 }
     ensures overdue { OVERDUE ≡ 1000 }
+    ensures retry { RETRY ≡ 500 }
     ensures unfinished { UNFINISHED ≡ 1000 }
     ensures settled { SETTLED ≡ 1000 }
     ensures tries { TRIES ≡ 3 }
@@ -118,6 +120,45 @@ pub fn overdue_is_doubt()
     ensures disturbed { DisturbedIsAskedAnew }
 {}
 
+/// In doubt a request is due half a second after the last one if there was a disturbance since, and
+/// after the timeout otherwise, whatever the period is. Two requests are at least half a second
+/// apart: the line then carries both, if they start over. [`Follower::ask_now`] and an unknown
+/// serial number wait only for the last answer.
+///
+/// `timed` says that this holds for each follower, after any calls.
+///
+/// [`Follower::ask_now`]: crate::Follower::ask_now
+pub fn doubt_is_asked_again()
+    ensures timed { TimedStaysTimed }
+    ensures again { DoubtIsAskedAgain }
+    ensures apart { RequestsAreApart }
+{}
+
+/// If a follower with a period of 10,000 hears nothing after its first request at 0, it asks again
+/// at 1,000, 3,000, 7,000, 15,000, and then each period. A message at 26,000 makes it ask at once.
+/// After a disturbance the timeout is a second again.
+pub fn silence_is_asked_less()
+    ensures waits { (mode : UpdateMode) →
+        let asked = λ (pace : PaceView) (now : ℕ).
+        pace_after_asking Asking.Anew (pace_at pace now) now in
+        let first = asked (new_pace 10000 6 mode false false) 0 in
+        let second = asked first 1000 in
+        let third = asked second 3000 in
+        let fourth = asked third 7000 in
+        let fifth = asked fourth 15000 in
+        let sixth = asked fifth 25000 in
+        (next_due first ≡ Some 1000) × (next_due second ≡ Some 3000) × (next_due third ≡ Some 7000)
+        × (next_due fourth ≡ Some 15000) × (next_due fifth ≡ Some 25000)
+        × (next_due sixth ≡ Some 35000) }
+    ensures heard { (pace : PaceView) (now : ℕ) (awaited : List Kind)
+        (picture : Option (List Piece)) (event : Event) →
+        (pace_after_event pace now awaited picture event).timeout ≡ OVERDUE }
+    ensures disturbed { (pace : PaceView) (now : ℕ) → pace.disturbed ≡ true →
+        (pace_after_asking Asking.Anew pace now).timeout ≡ OVERDUE }
+    ensures answered { (pace : PaceView) (now : ℕ) → pace.answered ≡ true →
+        (pace_after_asking Asking.Heartbeat pace now).timeout ≡ OVERDUE }
+{}
+
 /// A follower asks at once, then each period, and earlier exactly for the reasons that
 /// [`Follower::ask`](crate::Follower::ask) lists. The time of
 /// [`Follower::due_at`](crate::Follower::due_at) is the first at which a call of `ask` writes or
@@ -145,8 +186,8 @@ pub fn hearing_is_the_hosts()
 /// When a follower sends a request, and which, with a period of 10,000 and a patience of 6. It
 /// starts over at first. If its request at 1,000 was answered, it sends a heartbeat from 11,000 on.
 /// It starts over then if no more replies can be awaited or no heartbeat is left. After a
-/// disturbance or without an answer it starts over from 3,500 on, and with a period of 2,000 from
-/// 2,000 on.
+/// disturbance it starts over from 1,500 on, and without an answer from 2,000 on, after the timeout
+/// of a second. No timeout is longer than the period.
 pub fn askings_by_time()
     ensures first { (mode : UpdateMode) → asking (new_pace 10000 6 mode false false) false 0
         ≡ Asking.Anew }
@@ -171,24 +212,26 @@ pub fn askings_by_time()
       asked = Some 1000;
       answered = true;
       disturbed = true;
-    }) false 3499 ≡ Asking.Nothing }
+    }) false 1499 ≡ Asking.Nothing }
     ensures disturbed { (mode : UpdateMode) → asking (record (new_pace 10000 6 mode false false) {
       asked = Some 1000;
       answered = true;
       disturbed = true;
-    }) false 3500 ≡ Asking.Anew }
+    }) false 1500 ≡ Asking.Anew }
     ensures owed { (mode : UpdateMode) → asking (record (new_pace 10000 6 mode false false) {
       asked = Some 1000;
-    }) false 3499 ≡ Asking.Nothing }
+    }) false 1999 ≡ Asking.Nothing }
     ensures unanswered { (mode : UpdateMode) → asking (record (new_pace 10000 6 mode false false) {
       asked = Some 1000;
-    }) false 3500 ≡ Asking.Anew }
-    ensures late { (mode : UpdateMode) → asking (record (new_pace 2000 6 mode false false) {
-      asked = Some 1000;
-    }) false 1999 ≡ Asking.Nothing }
-    ensures overdue { (mode : UpdateMode) → asking (record (new_pace 2000 6 mode false false) {
-      asked = Some 1000;
     }) false 2000 ≡ Asking.Anew }
+    ensures silent { (mode : UpdateMode) → asking (record (new_pace 10000 6 mode false false) {
+      asked = Some 1000;
+      timeout = 4000;
+    }) false 4999 ≡ Asking.Nothing }
+    ensures period { (mode : UpdateMode) → asking (record (new_pace 2000 6 mode false false) {
+      asked = Some 1000;
+      timeout = 4000;
+    }) false 3000 ≡ Asking.Anew }
     ensures stuck { (mode : UpdateMode) → asking (pace_at (record
         (new_pace 10000 6 mode false false) {
           asked = Some 1000;
@@ -234,8 +277,8 @@ pub fn what_time_brings()
 
 /// When a follower sends a request before its period is over. It does so at once after `ask_now`,
 /// if no answer is owed. To confirm a picture that changed at 3,000 it does so from 4,000 on. A
-/// picture that hasn't changed is requested a second after the last request. Neither happens after
-/// a disturbance or while an answer is owed. The serial number is requested once after each answer,
+/// picture that hasn't changed is requested a second after the last request. Neither happens while
+/// an answer is owed. The serial number is requested once after each answer,
 /// three times in all.
 pub fn askings_out_of_turn()
     ensures now { (mode : UpdateMode) → asking (record (new_pace 10000 6 mode false false) {
@@ -270,14 +313,10 @@ pub fn askings_out_of_turn()
       answered = true;
       confirmed = true;
     }) false 10999 ≡ Asking.Nothing }
-    ensures quarter { (mode : UpdateMode) → asking (record (new_pace 10000 6 mode true false) {
-      asked = Some 1000;
-      answered = true;
-      disturbed = true;
-    }) false 3499 ≡ Asking.Nothing }
     ensures owed { (mode : UpdateMode) → asking (record (new_pace 10000 6 mode true false) {
       asked = Some 1000;
-    }) false 3499 ≡ Asking.Nothing }
+      timeout = 4000;
+    }) false 4999 ≡ Asking.Nothing }
     ensures unknown { (mode : UpdateMode) → asking (record (new_pace 10000 6 mode false true) {
       asked = Some 1000;
       answered = true;
@@ -299,7 +338,7 @@ pub fn askings_out_of_turn()
     }) false 10999 ≡ Asking.Nothing }
     ensures unheard { (mode : UpdateMode) → asking (record (new_pace 10000 6 mode false true) {
       asked = Some 1000;
-    }) false 3499 ≡ Asking.Nothing }
+    }) false 1999 ≡ Asking.Nothing }
     ensures full { (mode : UpdateMode) → asking (record (new_pace 10000 6 mode false true) {
       asked = Some 1000;
       answered = true;
@@ -315,9 +354,9 @@ pub fn askings_out_of_turn()
 {}
 
 /// When a follower with a period of 10,000 is due after a request at 1,000: at 11,000 if it was
-/// answered, and otherwise at 2,000 to find the answer overdue, and then at 3,500. If the last byte
-/// of an unfinished message was received at 3,000, it is due at 4,000. A period of less than a
-/// second counts as a second.
+/// answered, and otherwise at 2,000 to find the answer overdue, and then after the timeout. If the
+/// last byte of an unfinished message was received at 3,000, it is due at 4,000. A period of less
+/// than a second counts as a second.
 pub fn due_times()
     ensures answered { (mode : UpdateMode) → next_due (record (new_pace 10000 6 mode false false) {
       asked = Some 1000;
@@ -325,11 +364,13 @@ pub fn due_times()
     }) ≡ Some 11000 }
     ensures owed { (mode : UpdateMode) → next_due (record (new_pace 10000 6 mode false false) {
       asked = Some 1000;
+      timeout = 4000;
     }) ≡ Some 2000 }
     ensures doubtful { (mode : UpdateMode) → next_due (record (new_pace 10000 6 mode false false) {
       asked = Some 1000;
+      timeout = 4000;
       doubtful = true;
-    }) ≡ Some 3500 }
+    }) ≡ Some 5000 }
     ensures wanted { (mode : UpdateMode) → next_due (record (new_pace 10000 6 mode false false) {
       asked = Some 1000;
       answered = true;

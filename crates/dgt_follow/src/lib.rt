@@ -14,7 +14,8 @@
 //! dumps. A follower compares them. Its picture is
 //! - *in doubt* ([`Follower::in_doubt`]): there was a disturbance, a dump differed from the known
 //!   picture, an answer is a second late, or a message is unfinished for a second. The follower
-//!   asks again after a quarter of the period.
+//!   asks again half a second after its last request, or when the answer is overdue. On a silent
+//!   line it asks less and less often, down to once per period.
 //! - *confirmed* ([`Follower::confirmed`]): a dump repeated it. It is then what the board had
 //!   reported, up to that dump or including it, if the line had at most one fault since the last
 //!   whole dump before ([`dgt_host::laws::one_fault_is_seen`]).
@@ -57,4 +58,4 @@ mod times;
 
 pub use asking::{Asking, UpdateMode};
 pub use follower::{Followed, Follower, MAX_ASKING};
-pub use pace::{LEAST_PERIOD, OVERDUE, Pace, SETTLED, TRIES, UNFINISHED};
+pub use pace::{LEAST_PERIOD, OVERDUE, Pace, RETRY, SETTLED, TRIES, UNFINISHED};

@@ -6,7 +6,7 @@ ghost use Rattle.dgt_values.specs.declared.pieces.Piece.{Piece};
 ghost use Rattle.dgt_decode.specs.Feeding.{event_content, event_content_if_any};
 ghost use Rattle.dgt_host.specs.Confirmed.{changes_by};
 ghost use Rattle.dgt_host.specs.Host.{IsUnasked};
-ghost use Rattle.dgt_follow.specs.Pace.{asking, asks_at_once, counted, doubt_time, due_time, forgetting, is_calm, is_due as is_due_at, is_overdue as is_overdue_at, is_stuck as is_stuck_at, is_unanswered, new_pace, next_due, pace_after_asking, pace_after_event, pace_after_event_if_any, pace_asked, pace_at, pace_disturbed, trusts, unfinished_by, wait, wants_confirming, wants_serial};
+ghost use Rattle.dgt_follow.specs.Pace.{asking, asks_at_once, counted, doubt_time, due_time, forgetting, is_calm, is_due as is_due_at, is_overdue as is_overdue_at, is_stuck as is_stuck_at, is_unanswered, new_pace, next_due, next_timeout, pace_after_asking, pace_after_event, pace_after_event_if_any, pace_asked, pace_at, pace_disturbed, trusts, unfinished_by, wait, wants_confirming, wants_serial};
 
 use crate::asking::{Asking, UpdateMode};
 use crate::notes::{
@@ -17,12 +17,16 @@ use crate::times::{due_after, earlier, later_of, precedes};
 use dgt_host::Event;
 use std::marker::Model;
 
-/// The least period, in milliseconds. A new start and its dump occupy the line for a third of it:
-/// shorter periods would fill the line of a sound board.
+/// The least period, in milliseconds. If every request starts over, its bytes occupy the line for a
+/// quarter of it.
 pub const LEAST_PERIOD: u64 = 1000;
 
 /// An answer is overdue this many milliseconds after the request.
 pub const OVERDUE: u64 = 1000;
+
+/// After a disturbance a request is due this many milliseconds after the last one. At 9600 baud a
+/// new start and its replies occupy the line for 350 ms.
+pub const RETRY: u64 = 500;
 
 /// An unfinished message is a disturbance this many milliseconds after its last byte.
 pub const UNFINISHED: u64 = 1000;
@@ -42,6 +46,7 @@ pub struct Pace {
     heard: Option<u64>,
     unfinished: Option<u64>,
     changed: Option<u64>,
+    timeout: u64,
     patience: u32,
     left: u32,
     tries: u32,
@@ -80,6 +85,7 @@ impl Model for Pace {
       answered = pace.answered;
       disturbed = pace.disturbed;
       pardons = pace.pardons;
+      timeout = pace.timeout;
       settling = pace.settling;
       heard = pace.heard;
       unfinished = pace.unfinished;
@@ -113,6 +119,7 @@ impl Pace {
             answered: false,
             disturbed: false,
             pardons: false,
+            timeout: OVERDUE,
             settling: false,
             heard: None,
             unfinished: None,
@@ -163,11 +170,22 @@ impl Pace {
         ensures { result ≡ wait self.now }
     {
         if self.disturbed {
-            self.period / 4
+            self.period.min(RETRY)
         } else if self.awaits_answer() {
-            self.period.min(OVERDUE.max(self.period / 4))
+            self.period.min(self.timeout)
         } else {
             self.period
+        }
+    }
+
+    // The timeout of the next request.
+    fn next_timeout(&self) -> u64
+        ensures { result ≡ next_timeout self.now }
+    {
+        if self.awaits_answer() && !self.disturbed {
+            self.timeout.saturating_mul(2).min(self.period)
+        } else {
+            OVERDUE
         }
     }
 
@@ -175,7 +193,7 @@ impl Pace {
     fn wants_confirming(&self) -> bool
         ensures { result ≡ wants_confirming self.now }
     {
-        self.confirm && !self.confirmed && !self.disturbed && !self.awaits_answer()
+        self.confirm && !self.confirmed && !self.awaits_answer()
     }
 
     // Whether the serial number is to be requested.
@@ -294,6 +312,7 @@ impl Pace {
         ensures { self.new ≡ pace_asked self.old now }
     {
         let owed = self.awaits_answer();
+        self.timeout = self.next_timeout();
         self.doubtful = either(self.doubtful, owed);
         self.confirmed = unless(self.confirmed, owed);
         self.asked = Some(now);
@@ -344,6 +363,7 @@ impl Pace {
         self.confirmed = is_confirmed(self.confirmed, self.settling, event, seen);
         self.answered = either(answers, self.answered);
         self.disturbed = either(disturbs, self.disturbed);
+        self.timeout = OVERDUE;
         self.settling = unless(self.settling, answers);
         self.heard = last_heard(self.heard, now, event);
         self.doubtful = either(disturbs, still);

@@ -31,17 +31,17 @@ const ROWS: [Row; 17] = [
     // the patience has run out
     (3005, NOTHING, 258, 4005, false),
     (3010, &START_DUMP, 0, 4005, false),
-    // a disturbance makes the next request due a quarter of the period after the last one
-    (3020, STRAY, 0, 3255, true),
-    (3254, NOTHING, 0, 3255, true),
-    (3255, NOTHING, 258, 4255, true),
-    (3300, &START_DUMP, 0, 4255, false),
-    (4255, NOTHING, 2, 5255, false),
+    // a disturbance makes the next request due half a second after the last one
+    (3020, STRAY, 0, 3505, true),
+    (3504, NOTHING, 0, 3505, true),
+    (3505, NOTHING, 258, 4505, true),
+    (3550, &START_DUMP, 0, 4505, false),
+    (4505, NOTHING, 2, 5505, false),
     // the heartbeat had no answer
-    (5255, NOTHING, 258, 6255, true),
+    (5505, NOTHING, 258, 6505, true),
     // the caller's clock was set back
-    (5254, NOTHING, 258, 6254, true),
-    (5260, &START_DUMP, 0, 6254, false),
+    (5504, NOTHING, 258, 6504, true),
+    (5510, &START_DUMP, 0, 6504, false),
 ];
 
 fn is_row(follower: &mut Follower, out: &mut [u8], row: Row) -> bool {
