@@ -39,7 +39,7 @@ breathe_doxygen_config_options = {
 GROUPS = {
     "Use": ["docs/GUIDE", "docs/PROGRAM", "docs/USING", "bindings/*", "apps/*", "packaging/*"],
     "Look up": ["docs/site/*", "docs/PROTOCOL", "tests/sessions/*"],
-    "Trust": ["docs/PROMISES", "crates/*", "docs/ARCHITECTURE", "docs/TESTING", "tests/*"],
+    "Trust": ["docs/PROMISES", "crates/*", "docs/ARCHITECTURE", "tests/*"],
     "Take part": ["CONTRIBUTING", "*"],
 }
 # What Sphinx doesn't make.
