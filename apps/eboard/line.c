@@ -106,7 +106,7 @@ void line_ask_texts(line *line) {
     for (size_t each = 0; each < sizeof codes && line->port >= 0; each++) {
         uint8_t out[1];
         dgt_sent sent = dgt_follower_send(&line->follower, codes[each], out, sizeof out);
-        if (sent.status == DGT_SENT && !write_all(line->port, out, sent.bytes)) lose(line);
+        if (sent.status == DGT_DONE && !write_all(line->port, out, sent.bytes)) lose(line);
     }
 }
 
@@ -118,7 +118,7 @@ void line_hurry(line *line) {
 bool line_open(line *line, const char *name) {
     *line = (struct line){.name = name, .port = -1, .serial = "unknown", .version = "unknown",
                           .trademark = "unknown"};
-    if (!dgt_follower_new(&line->follower, PERIOD, HEARTBEATS)) {
+    if (!dgt_follower_init(&line->follower, PERIOD, HEARTBEATS)) {
         errno = ELIBBAD;
         return false;
     }

@@ -17,8 +17,8 @@
  */
 
 import { ASK, BATTERY_UNKNOWN, BUTTONS, CALLS, CLOCKS, EVENTS, FAULTS, FLAGS, IDS, LEAST_PERIOD,
-         MARKS, MAX_BODY, MODES, NO_COMMAND, NO_SUCH, NOT_ENCODED, PLACEMENT_ROOM, SIGNALS, STATUS,
-         STORED, STRUCTS, TOO_MANY, VERSION, WORDS, WROTE } from "./header.js";
+         MARKS, MAX_BODY, MODES, REFUSED, NO_SUCH, REFUSED, PLACEMENT_ROOM, SIGNALS, STATUS,
+         STORED, STRUCTS, TOO_MANY_AWAITED, VERSION, WORDS, WROTE } from "./header.js";
 
 export { ASK, FLAGS, IDS, MODES, STATUS };
 
@@ -485,7 +485,7 @@ export class Library {
    * @param {Struct<"encoded">} encoded
    */
   #encoded({ status, bytes }) {
-    if (status === NOT_ENCODED) throw new BadValue("a member is out of its range");
+    if (status === REFUSED) throw new BadValue("a member is out of its range");
     return this.bytes(this.out, bytes);
   }
 
@@ -787,7 +787,7 @@ class Handle {
     this.kind = kind;
     this.#size = dgt.calls[/** @type {`${Kind}_size`} */ (`${kind}_size`)]();
     this.#at = dgt.take(this.#size);
-    dgt.calls[/** @type {`${Kind}_init`} */ (`${kind}_init`)](this.#at);
+    dgt.calls[/** @type {`${Kind}_make`} */ (`${kind}_make`)](this.#at);
     forgotten.register(this, { dgt, at: this.#at, size: this.#size }, this);
   }
 
@@ -821,7 +821,7 @@ class Reader extends Handle {
 
   /**
    * The events of a chunk.
-   * @param {"feed_all" | "hear_all"} name  of the call
+   * @param {"feed_many" | "hear_many"} name  of the call
    * @param {Uint8Array} bytes
    * @returns {Event[]}
    */
@@ -871,7 +871,7 @@ export class Decoder extends Reader {
 
   /** @param {Uint8Array} bytes */
   feed(bytes) {
-    return this.all("feed_all", bytes);
+    return this.all("feed_many", bytes);
   }
 
   /** @param {Uint8Array} bytes */
@@ -880,8 +880,8 @@ export class Decoder extends Reader {
   }
 
   /** The number of bytes received of an unfinished message. */
-  get rest() {
-    return this.call("rest");
+  get unread() {
+    return this.call("unread");
   }
 
   /** Returns the same at the end of the bytes, and resets the decoder. */
@@ -911,8 +911,8 @@ class Sender extends Reader {
   sent(name, ...values) {
     const { dgt } = this, given = /** @type {any} */ ([...values, dgt.out, ROOM]);
     const { status, bytes } = /** @type {Struct<"sent">} */ (this.call(name, ...given));
-    if (status === TOO_MANY) throw new TooManyAwaited("16 replies are awaited already");
-    if (status === NO_COMMAND) throw new BadValue("no command has this code, text or payload");
+    if (status === TOO_MANY_AWAITED) throw new TooManyAwaited("16 replies are awaited already");
+    if (status === REFUSED) throw new BadValue("no command has this code, text or payload");
     return dgt.bytes(dgt.out, bytes);
   }
 
@@ -1041,7 +1041,7 @@ export class Host extends Sender {
 
   /** @param {Uint8Array} bytes */
   hear(bytes) {
-    return this.all("hear_all", bytes);
+    return this.all("hear_many", bytes);
   }
 
   /** @param {Uint8Array} bytes */
@@ -1210,8 +1210,8 @@ export class CommandDecoder extends Handle {
   }
 
   /** The number of bytes received of an unfinished command. */
-  get rest() {
-    return this.call("rest");
+  get unread() {
+    return this.call("unread");
   }
 
   /** Returns the same at the end of the bytes, and resets the decoder. */
@@ -1324,8 +1324,8 @@ export class Board extends Handle {
   }
 
   /** The number of bytes received of an unfinished command. */
-  get partial() {
-    return this.call("partial");
+  get unread() {
+    return this.call("unread");
   }
 
   get mode() {

@@ -67,7 +67,7 @@ export class World {
   /** Whether nothing is in transit or left to send. */
   get isQuiet() {
     const { up, down, board, host } = this;
-    return !up.length && !down.length && !board.partial && !host.unread && !board.owes;
+    return !up.length && !down.length && !board.unread && !host.unread && !board.owes;
   }
 
   /** The acts that deliver everything, and make the board send all that it has to send. */

@@ -448,18 +448,18 @@ void exceptions() {
 
 void decoders() {
     dgt::Decoder decoder;
-    CHECK(decoder.feed_one(dgt::Bytes{0x8e, 0}).used == 2 && decoder.rest() == 2);
+    CHECK(decoder.feed_one(dgt::Bytes{0x8e, 0}).used == 2 && decoder.unread() == 2);
     CHECK(decoder.finish() == 2 && decoder.finish() == 0);
     CHECK(decoder.feed_one(dgt::Bytes{0x8e, 0}).used == 2);
     decoder.reset();
-    CHECK(decoder.rest() == 0);
+    CHECK(decoder.unread() == 0);
     std::vector<std::string> words;
     dgt::CommandDecoder reader;
     reader.feed(dgt::Bytes{0x2b, 4, 3, 0x0b, 9, 0, 0x60, 1, 2, 0x46, 0x2b, 2, 0x42},
                 [&](const dgt::Word &word) { words.push_back(text(word)); });
     CHECK(words == (std::vector<std::string>{"clock 0b09", "leds 02", "stray 46", "badsize",
                                              "dump"}));
-    CHECK(reader.feed_one(dgt::Bytes{0x60}).used == 1 && reader.rest() == 1);
+    CHECK(reader.feed_one(dgt::Bytes{0x60}).used == 1 && reader.unread() == 1);
     reader.reset();
     CHECK(reader.finish() == 0);
 }
@@ -571,13 +571,13 @@ void boards() {
     CHECK(sent == "8e00053005 8e00053800 " && !board.poll());
     CHECK(board.position() == dgt::Position("8/8/8/8/8/8/K7/7k"));
     for (int i = 0; i < 8; i++) CHECK(board.take(dgt::Bytes{0x42}).used == 1);
-    CHECK(board.owed_len() == 8 && board.partial() == 0);
+    CHECK(board.owed_len() == 8 && board.unread() == 0);
     dgt::Taken busy = board.take(dgt::Bytes{0x42});
     CHECK(busy.busy && busy.used == 0 && !busy.word);
     board.line_lost();
     CHECK(!board.owes() && board.mode() == dgt::Mode::idle);
-    CHECK(board.take(dgt::Bytes{0x2b, 4}).used == 2 && board.partial() == 2);
-    CHECK(board.take(dgt::Bytes{3, 0x0b, 1, 0}).used == 4 && board.partial() == 0);
+    CHECK(board.take(dgt::Bytes{0x2b, 4}).used == 2 && board.unread() == 2);
+    CHECK(board.take(dgt::Bytes{3, 0x0b, 1, 0}).used == 4 && board.unread() == 0);
     board.hand_clock(dgt::Times{{9, 59, 59, 7}, {}, 0x5f});
     CHECK(refuses([&] { board.hand_clock(dgt::Times{{10}, {}, 0}); }));
     CHECK(refuses([&] { board.hand_clock(dgt::Times{{}, {}, 0x20}); }));

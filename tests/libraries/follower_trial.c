@@ -226,7 +226,7 @@ static void ask_follower(void) {
     uint8_t out[DGT_MAX_ASKING];
     uint64_t due = ask_due();
     dgt_sent sent = dgt_follower_ask(&world.follower, world.now / MILLISECOND, out, sizeof out);
-    check(sent.status == DGT_SENT, "a request has no room");
+    check(sent.status == DGT_DONE, "a request has no room");
     bool is_done = sent.bytes > 0 || (dgt_follower_in_doubt(&world.follower) && ask_due() > due);
     check(is_done == (due <= world.now), "what is due isn't done, or what isn't is");
     if (sent.bytes == 0) return;
@@ -237,7 +237,7 @@ static void ask_follower(void) {
 static void begin_anew(uint8_t *out, size_t room) {
     dgt_host_give_up_awaited(&world.host);
     dgt_sent sent = dgt_host_restart(&world.host, out, room);
-    check(sent.status == DGT_SENT && sent.bytes == DGT_RESTART_LENGTH, "a restart is refused");
+    check(sent.status == DGT_DONE && sent.bytes == DGT_RESTART_LENGTH, "a restart is refused");
 }
 
 /* A host that begins anew when it notices a fault. It waits until its last asking is sent. */
@@ -334,7 +334,7 @@ static void send_leds(void) {
     dgt_sent sent = is_follower()
         ? dgt_follower_send_leds(&world.follower, leds, count, out, sizeof out)
         : dgt_host_send_leds(&world.host, leds, count, out, sizeof out);
-    check(sent.status == DGT_SENT, "LEDs are refused");
+    check(sent.status == DGT_DONE, "LEDs are refused");
     put(&world.down, world.now, out, sent.bytes);
 }
 
@@ -350,7 +350,7 @@ static void send_frame(void) {
         sent = is_follower()
             ? dgt_follower_show_digits(&world.follower, "------", 0, 0, out, sizeof out)
             : dgt_host_show_digits(&world.host, "------", 0, 0, out, sizeof out);
-    check(sent.status == DGT_SENT, "a frame is refused");
+    check(sent.status == DGT_DONE, "a frame is refused");
     put(&world.down, world.now, out, sent.bytes);
     world.frame_due += 3 * SECOND;
 }
@@ -516,8 +516,8 @@ static void start(int kind, uint64_t seed, uint64_t number) {
     world.up.chance = chance, world.down.chance = chance + 1, world.hand_chance = chance + 2;
     world.power_chance = chance + 3, world.leds_chance = chance + 4;
     world.trouble_chance = chance + 5;
-    check(dgt_board_new(&world.board) && dgt_host_new(&world.host) &&
-          dgt_follower_new(&world.follower, PERIOD, PATIENCE), "the library has other sizes");
+    check(dgt_board_init(&world.board) && dgt_host_init(&world.host) &&
+          dgt_follower_init(&world.follower, PERIOD, PATIENCE), "the library has other sizes");
     memcpy(world.pieces, first_pieces, 64);
     begin_game(true);
     for (uint8_t square = 0; square < 64; square++)
@@ -760,7 +760,7 @@ int main(int argc, char **argv) {
     int kind = 0;
     while (kind < HOSTS && strcmp(argv[3], host_names[kind])) kind++;
     check(kind < HOSTS, "no such host");
-    check(dgt_board_new(&world.board), "the library has other sizes");
+    check(dgt_board_init(&world.board), "the library has other sizes");
     dgt_board_position(&world.board, first_pieces);
     read_games(argv[1]);
     for (size_t i = 0; i < sizeof rows / sizeof *rows; i++)

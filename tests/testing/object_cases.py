@@ -116,7 +116,7 @@ class Known(cases.Case):
         board = dgt.Board()
         board.take(b"\x42")
         board.take(b"\x2b\x04")
-        wanted("owed and partial", (board.owed_len, board.partial), (1, 2))
+        wanted("owed and partial", (board.owed_len, board.unread), (1, 2))
         board = dgt.Board()
         board.take(b"\x42")
         wanted("pending reply", [each[0] for each in board.answers(b"\x4d")], [0x86, 0x93])
@@ -234,7 +234,7 @@ class Misused(cases.Case):
         self.assertRaises(dgt.Closed, lambda: host.hear(b""))
         self.assertRaises(dgt.Closed, lambda: host.picture)
         self.assertRaises(dgt.Closed, board.poll)
-        self.assertRaises(dgt.Closed, lambda: decoder.rest)
+        self.assertRaises(dgt.Closed, lambda: decoder.unread)
         self.assertRaises(dgt.BadPlacement, lambda: dgt.Position.parse("8/8"))
 
     def test_types(self):

@@ -37,10 +37,10 @@ class Chunks(unittest.TestCase):
             right = [text for text in map(plain.take, chunk) if text]
             self.assertEqual(texts(by_list.feed(chunk)), right)
             self.assertEqual(texts(list(one_by_one.feed_each(chunk))), right)
-            self.assertEqual(by_list.rest, len(plain.unfinished))
+            self.assertEqual(by_list.unread, len(plain.unfinished))
             self.assertEqual(by_list.offset, one_by_one.offset)
         self.assertEqual(one_by_one.finish(), len(plain.unfinished))
-        self.assertEqual(one_by_one.rest, 0)
+        self.assertEqual(one_by_one.unread, 0)
 
     @given(some.chunks(some.BOARDS_BYTES))
     def test_offsets(self, chunks: list[bytes]) -> None:
@@ -82,9 +82,9 @@ class Chunks(unittest.TestCase):
                     word = b""
             self.assertEqual(word_texts(by_list.feed(chunk)), right)
             self.assertEqual(word_texts(list(one_by_one.feed_each(chunk))), right)
-            self.assertEqual(by_list.rest, len(word))
+            self.assertEqual(by_list.unread, len(word))
         self.assertEqual(one_by_one.finish(), len(word))
-        self.assertEqual(one_by_one.rest, 0)
+        self.assertEqual(one_by_one.unread, 0)
 
     @given(some.chunks(some.HOSTS_BYTES), some.POSITIONS)
     def test_board(self, chunks: list[bytes], position: dgt.Position) -> None:
@@ -93,7 +93,7 @@ class Chunks(unittest.TestCase):
         self.assertEqual(answers, model.serve(b"".join(chunks), list(position.codes)))
         reader = dgt.CommandDecoder()
         reader.feed(b"".join(chunks))
-        self.assertEqual((board.partial, board.owed_len), (reader.rest, 0))
+        self.assertEqual((board.unread, board.owed_len), (reader.unread, 0))
 
 
 class Messages(unittest.TestCase):
@@ -176,7 +176,7 @@ class Commands(unittest.TestCase):
 
     def check(self, sent: bytes, right: dgt.Word) -> None:
         reader = dgt.CommandDecoder()
-        self.assertEqual((reader.feed(sent), reader.rest), ([right], 0))
+        self.assertEqual((reader.feed(sent), reader.unread), ([right], 0))
         self.assertEqual(dgt.view_command(sent), right)
         self.assertIsNone(dgt.view_command(sent + b"\x42"))
         self.assertEqual(dgt.encode_command(cast(dgt.Command, right)), sent)

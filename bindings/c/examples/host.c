@@ -41,7 +41,7 @@ static bool ask(board *board) {
 static bool ask_trademark(board *board) {
     uint8_t out[1];
     dgt_sent sent = dgt_follower_send(&board->follower, DGT_SEND_TRADEMARK, out, sizeof out);
-    return sent.status == DGT_SENT && dgt_port_write(board->line, out, sent.bytes);
+    return sent.status == DGT_DONE && dgt_port_write(board->line, out, sent.bytes);
 }
 
 /* Prints the position, and whether it may be wrong, if either has changed. */
@@ -104,7 +104,7 @@ int main(int count, char **words) {
     uint64_t silence = count == 3 ? milliseconds(words[2]) : 0;
     if (count < 2 || count > 3 || (count == 3 && silence == 0))
         return fprintf(stderr, "usage: host LINE [SECONDS], from 1 to 1000000\n"), 2;
-    if (!dgt_follower_new(&board.follower, PERIOD, PATIENCE))
+    if (!dgt_follower_init(&board.follower, PERIOD, PATIENCE))
         return fprintf(stderr, "this library has another header\n"), 1;
     board.line = dgt_port_open(words[1]);
     if (board.line < 0 || !follow(&board, silence)) return complain(words[1]);

@@ -26,7 +26,7 @@ static void show(dgt_follower *board, int port) {
 
 int main(int count, char **words) {
     static dgt_follower board;
-    if (count != 2 || !dgt_follower_new(&board, 10000, 6)) return 2;
+    if (count != 2 || !dgt_follower_init(&board, 10000, 6)) return 2;
     dgt_follower_set_mode(&board, DGT_MODE_UPDATE_NICE); /* it reports its clock, too */
     setlinebuf(stdout);
     for (int port; /* ever */; dgt_port_close(port), dgt_follower_line_lost(&board)) {

@@ -36,7 +36,7 @@ static bool poll(size_t room) {
     size_t n = model_next(&model, message);
     dgt_polled polled = dgt_board_poll(board, out, room);
     CHECK(polled.bytes == n);
-    CHECK(polled.status == (n == 0 ? DGT_NOTHING : room < n ? DGT_NEED_ROOM : DGT_WROTE));
+    CHECK(polled.status == (n == 0 ? DGT_NOTHING : room < n ? DGT_NO_ROOM : DGT_WROTE));
     check_written(out, room, message, polled.status == DGT_WROTE ? n : 0);
     if (polled.status == DGT_WROTE) model_sent(&model, message, n);
     return polled.status == DGT_WROTE;
@@ -145,14 +145,14 @@ static void look(void) {
     CHECK_SAME(clock, &model.clock);
     CHECK(dgt_board_mode(board) == model.mode);
     CHECK(dgt_board_owed_len(board) == model.owed_n);
-    CHECK(dgt_board_partial(board) == model.reader.n);
+    CHECK(dgt_board_unread(board) == model.reader.n);
     CHECK(dgt_board_owes(board) == (model_next(&model, message) > 0));
 }
 
 int LLVMFuzzerTestOneInput(const uint8_t *data, size_t n) {
     input_begin(data, n);
     board = guarded(HANDLE, sizeof *board);
-    CHECK(dgt_board_new(board));
+    CHECK(dgt_board_init(board));
     model_board_init(&model);
     look();
     while (input_is_left()) {

@@ -22,7 +22,7 @@ static void feed_chunk(void) {
     chunk given = input_chunk();
     for (size_t at = 0, used = 1; used > 0; at += used) {
         used = feed(given.bytes + at, given.n - at);
-        CHECK(dgt_command_decoder_rest(reader) == model.n);
+        CHECK(dgt_command_decoder_unread(reader) == model.n);
     }
     check_same_chunk(given);
 }
@@ -30,7 +30,7 @@ static void feed_chunk(void) {
 int LLVMFuzzerTestOneInput(const uint8_t *data, size_t n) {
     input_begin(data, n);
     reader = guarded(HANDLE, sizeof *reader);
-    CHECK(dgt_command_decoder_new(reader));
+    CHECK(dgt_command_decoder_init(reader));
     model.n = 0;
     while (input_is_left()) {
         uint8_t act = input_byte() % 8;
@@ -41,7 +41,7 @@ int LLVMFuzzerTestOneInput(const uint8_t *data, size_t n) {
         if (act == 6) CHECK(dgt_command_decoder_finish(reader) == model.n);
         if (act == 7) dgt_command_decoder_reset(reader);
         model.n = 0;
-        CHECK(dgt_command_decoder_rest(reader) == 0);
+        CHECK(dgt_command_decoder_unread(reader) == 0);
     }
     return 0;
 }

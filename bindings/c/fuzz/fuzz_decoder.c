@@ -22,7 +22,7 @@ static size_t feed_all(const uint8_t *bytes, size_t n) {
     size_t room = input_room(DGT_MAX_BODY), capacity = input_room(20), count = 0, used = 0;
     uint8_t *body = guarded(BODY, room);
     dgt_event *events = guarded(EVENTS, capacity * sizeof *events);
-    dgt_told told = dgt_decoder_feed_all(decoder, bytes, n, events, capacity, body, room);
+    dgt_told told = dgt_decoder_feed_many(decoder, bytes, n, events, capacity, body, room);
     for (right.body_len = 0; used < n && count < capacity && right.body_len == 0;) {
         used += model_feed(&model, bytes + used, n - used, &right, right_body);
         if (right.kind == DGT_EVENT_NONE) break;
@@ -39,7 +39,7 @@ static void feed_chunk(bool by_events) {
     chunk given = input_chunk();
     for (size_t at = 0, used = 1; used > 0; at += used) {
         used = (by_events ? feed : feed_all)(given.bytes + at, given.n - at);
-        CHECK(dgt_decoder_rest(decoder) == model.n);
+        CHECK(dgt_decoder_unread(decoder) == model.n);
     }
     check_same_chunk(given);
 }
@@ -47,7 +47,7 @@ static void feed_chunk(bool by_events) {
 int LLVMFuzzerTestOneInput(const uint8_t *data, size_t n) {
     input_begin(data, n);
     decoder = guarded(HANDLE, sizeof *decoder);
-    CHECK(dgt_decoder_new(decoder));
+    CHECK(dgt_decoder_init(decoder));
     model.n = 0;
     while (input_is_left()) {
         uint8_t act = input_byte() % 8;
@@ -58,7 +58,7 @@ int LLVMFuzzerTestOneInput(const uint8_t *data, size_t n) {
         if (act == 6) CHECK(dgt_decoder_finish(decoder) == model.n);
         if (act == 7) dgt_decoder_reset(decoder);
         model.n = 0;
-        CHECK(dgt_decoder_rest(decoder) == 0);
+        CHECK(dgt_decoder_unread(decoder) == 0);
     }
     return 0;
 }

@@ -154,7 +154,7 @@ static void look(void) {
 int LLVMFuzzerTestOneInput(const uint8_t *data, size_t n) {
     input_begin(data, n);
     follower = guarded(HANDLE, sizeof *follower);
-    dgt_follower_init(follower);
+    dgt_follower_make(follower);
     CHECK(dgt_follower_size() == sizeof *follower);
     model_follower_start(&model, 10000, 6);
     now = 0;

@@ -31,7 +31,7 @@ static size_t hear_all(const uint8_t *bytes, size_t n) {
     size_t room = input_room(DGT_MAX_BODY), capacity = input_room(20), count = 0, used = 0;
     uint8_t *body = guarded(BODY, room);
     dgt_event *events = guarded(EVENTS, capacity * sizeof *events);
-    dgt_told told = dgt_host_hear_all(host, bytes, n, events, capacity, body, room);
+    dgt_told told = dgt_host_hear_many(host, bytes, n, events, capacity, body, room);
     for (right.body_len = 0; used < n && count < capacity && right.body_len == 0;) {
         used += model_hear(&model, bytes + used, n - used, &right, right_body);
         if (right.kind == DGT_EVENT_NONE) break;
@@ -96,7 +96,7 @@ static void look(void) {
 int LLVMFuzzerTestOneInput(const uint8_t *data, size_t n) {
     input_begin(data, n);
     host = guarded(HANDLE, sizeof *host);
-    CHECK(dgt_host_new(host));
+    CHECK(dgt_host_init(host));
     model_host_init(&model);
     while (input_is_left()) {
         uint8_t act = input_byte() % 16;

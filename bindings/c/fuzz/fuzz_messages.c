@@ -79,8 +79,8 @@ static void encode_message(void) {
     uint8_t *out = guarded(OUT, room);
     dgt_encoded encoded = dgt_encode_message(said, body.bytes, body.n, out, room);
     CHECK(encoded.bytes == n);
-    CHECK(encoded.status == (n == 0 ? DGT_NOT_ENCODED : room < n ? DGT_TOO_SHORT : DGT_ENCODED));
-    check_written(out, room, right_bytes, encoded.status == DGT_ENCODED ? n : 0);
+    CHECK(encoded.status == (n == 0 ? DGT_REFUSED : room < n ? DGT_NO_ROOM : DGT_DONE));
+    check_written(out, room, right_bytes, encoded.status == DGT_DONE ? n : 0);
 }
 
 static void view_message(void) {
@@ -112,8 +112,8 @@ static void encode_command(void) {
     dgt_encoded encoded = dgt_encode_command(code, id, carried, carried_n, out, room);
     bool fits = right.n <= room;
     CHECK(encoded.bytes == right.n);
-    CHECK(encoded.status == (right.n == 0 ? DGT_NOT_ENCODED : fits ? DGT_ENCODED : DGT_TOO_SHORT));
-    check_written(out, room, right.bytes, encoded.status == DGT_ENCODED ? right.n : 0);
+    CHECK(encoded.status == (right.n == 0 ? DGT_REFUSED : fits ? DGT_DONE : DGT_NO_ROOM));
+    check_written(out, room, right.bytes, encoded.status == DGT_DONE ? right.n : 0);
 }
 
 static void view_command(void) {

@@ -69,14 +69,14 @@ typedef struct model_host {
     size_t awaited_n;
 } model_host;
 
-/* As dgt_host_init, and as dgt_host_line_lost. */
+/* As dgt_host_make, and as dgt_host_line_lost. */
 void model_host_init(model_host *host);
 
 /* As dgt_host_hear, with the whole body. */
 size_t model_hear(model_host *host, const uint8_t *bytes, size_t n, dgt_event *event,
                   uint8_t body[DGT_MAX_BODY]);
 
-/* What a host can send: bytes, or DGT_NO_COMMAND if there are none. */
+/* What a host can send: bytes, or DGT_REFUSED if there are none. */
 typedef struct model_sending {
     uint8_t bytes[DGT_MAX_ASKING];
     size_t n;
@@ -164,7 +164,7 @@ typedef struct model_board {
     size_t owed_n;
 } model_board;
 
-/* As dgt_board_init, dgt_board_start and dgt_board_line_lost. */
+/* As dgt_board_make, dgt_board_start and dgt_board_line_lost. */
 void model_board_init(model_board *board);
 uint8_t model_board_start(model_board *board, const uint8_t pieces[64], const dgt_clock *clock,
                           const dgt_identity *identity);

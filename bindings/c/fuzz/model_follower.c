@@ -268,7 +268,7 @@ dgt_sent model_ask(model_follower *follower, uint64_t now, size_t room, model_se
         *follower = before;
         return (dgt_sent){DGT_NO_ROOM, sending->n};
     }
-    if (asking == NOTHING) return (dgt_sent){DGT_SENT, 0};
+    if (asking == NOTHING) return (dgt_sent){DGT_DONE, 0};
     if (asking == ANEW) host->awaited_n = 0;
     host->awaited[host->awaited_n++] = asking == IDENTIFY ? DGT_SEND_SERIAL : DGT_SEND_DUMP;
     if (asking == IDENTIFY) {
@@ -277,5 +277,5 @@ dgt_sent model_ask(model_follower *follower, uint64_t now, size_t room, model_se
     } else {
         note_asking(follower, asking, now);
     }
-    return (dgt_sent){DGT_SENT, sending->n};
+    return (dgt_sent){DGT_DONE, sending->n};
 }

@@ -81,10 +81,10 @@ model_sending model_follow(size_t zeros) {
 }
 
 dgt_sent model_send(model_host *host, const model_sending *sending, size_t room) {
-    if (sending->n == 0) return (dgt_sent){DGT_NO_COMMAND, 0};
+    if (sending->n == 0) return (dgt_sent){DGT_REFUSED, 0};
     if (sending->asks_for != 0 && host->awaited_n == DGT_MAX_AWAITED)
-        return (dgt_sent){DGT_TOO_MANY, 0};
+        return (dgt_sent){DGT_TOO_MANY_AWAITED, 0};
     if (room < sending->n) return (dgt_sent){DGT_NO_ROOM, sending->n};
     if (sending->asks_for != 0) host->awaited[host->awaited_n++] = sending->asks_for;
-    return (dgt_sent){DGT_SENT, sending->n};
+    return (dgt_sent){DGT_DONE, sending->n};
 }

@@ -4,7 +4,7 @@
 static void check_sent(dgt_sent sent, dgt_sent right, const uint8_t *out, size_t room,
                        const model_sending *sending) {
     CHECK(sent.status == right.status && sent.bytes == right.bytes);
-    check_written(out, room, sending->bytes, sent.status == DGT_SENT ? sent.bytes : 0);
+    check_written(out, room, sending->bytes, sent.status == DGT_DONE ? sent.bytes : 0);
 }
 
 static dgt_sent send_by_meaning(const model_clock_call *it, uint8_t *out, size_t n) {

@@ -10,7 +10,7 @@
  *     static dgt_follower follower;                 // 23 KiB
  *     uint8_t out[DGT_MAX_ASKING], chunk[256];
  *     uint64_t due;
- *     if (!dgt_follower_new(&follower, 10000, 6)) return 1; // header and library don't match
+ *     if (!dgt_follower_init(&follower, 10000, 6)) return 1; // header and library don't match
  *     for (;;) {
  *         dgt_sent asked = dgt_follower_ask(&follower, now(), out, sizeof out);
  *         write(line, out, asked.bytes);            // 0 bytes if none is due
@@ -23,7 +23,7 @@
  *
  * WHAT IS PROVED, AND YOUR PART. The Rattle code of the library is proved to keep its contracts: if
  * you keep to the rules below, each call returns, and accesses only its stack and the memory you
- * pass, whatever the bytes. This header's comments and inline functions, such as dgt_host_new, are
+ * pass, whatever the bytes. This header's comments and inline functions, such as dgt_host_init, are
  * tested and not proved. If you break a rule, nothing is guaranteed. Unless NDEBUG is defined, each
  * call asserts that its handle is where it was made. Nothing checks the other rules at run time.
  *
@@ -32,7 +32,7 @@
  *    read or written: for an array of events, `capacity` times sizeof(dgt_event) bytes. An array
  *    parameter has its declared length. Everything that a call reads is initialised.
  *  - A handle is a dgt_host, a dgt_follower, a dgt_decoder, a dgt_command_decoder or a dgt_board.
- *    Its _new or its _init is called before any other call. Afterwards it is never copied or moved,
+ *    Its _init or its _make is called before any other call. Afterwards it is never copied or moved,
  *    neither by assignment nor by memcpy or realloc: it points into itself. Don't touch its
  *    members. There is nothing to free: stop using it, and its memory is yours again.
  *  - The arguments of one call don't overlap: not a slice and a struct, not a slice and the handle.
@@ -156,7 +156,7 @@ uint32_t dgt_version(void);
 /* ---- Handles. Their members are private. */
 
 /* Their sizes in bytes, as the linked library's dgt_host_size() and the other such calls return
- * them, and as each _new checks. They are more than the library needs today, so that a handle can
+ * them, and as each _init checks. They are more than the library needs today, so that a handle can
  * grow within its size. */
 #define DGT_HOST_SIZE 22528
 #define DGT_FOLLOWER_SIZE 23552
@@ -346,7 +346,7 @@ typedef struct dgt_command {
  *     static dgt_host host;                         // 22 KiB
  *     uint8_t out[DGT_RESTART_LENGTH], body[DGT_MAX_BODY];
  *     dgt_event event;
- *     if (!dgt_host_new(&host)) return 1;           // header and library don't match
+ *     if (!dgt_host_init(&host)) return 1;           // header and library don't match
  *     dgt_sent sent = dgt_host_restart(&host, out, sizeof out);
  *     write(line, out, sent.bytes);
  *     while ((n = read(line, chunk, sizeof chunk)) > 0)
@@ -362,13 +362,13 @@ size_t dgt_host_size(void);
 
 /* Makes a host that knows nothing and awaits nothing in the memory at `host`: dgt_host_size()
  * bytes, aligned to 8. */
-void dgt_host_init(dgt_host *host) DGT_NONNULL_(1);
+void dgt_host_make(dgt_host *host) DGT_NONNULL_(1);
 
 /* The same. Returns false and does nothing if the linked library's size is different. */
 DGT_MUST_USE_ DGT_NONNULL_(1)
-static inline bool dgt_host_new(dgt_host *host) {
+static inline bool dgt_host_init(dgt_host *host) {
     if (dgt_host_size() != sizeof *host) return false;
-    dgt_host_init(host);
+    dgt_host_make(host);
     return true;
 }
 
@@ -381,7 +381,7 @@ size_t dgt_host_hear(dgt_host *host, const uint8_t *bytes, size_t n, dgt_event *
                      uint8_t *body, size_t room)
     DGT_MUST_USE_ DGT_NONNULL_(1, 4) DGT_READS_(2, 3) DGT_WRITES_(4) DGT_WRITES_(5, 6);
 
-/* The result of dgt_host_hear_all and dgt_decoder_feed_all. */
+/* The result of dgt_host_hear_many and dgt_decoder_feed_many. */
 typedef struct dgt_told {
     size_t used;  /* how many bytes of the chunk were used */
     size_t count; /* how many events there were: the first ones of `events` */
@@ -394,16 +394,16 @@ typedef struct dgt_told {
  * an event with a body (body_len > 0). As much of that body as fits is written to the beginning of
  * `body`. Call again with the remaining bytes: at least 1 is used if n > 0 and capacity > 0. The
  * structs after those written are unchanged, and so is `body` if no event has a body. */
-dgt_told dgt_host_hear_all(dgt_host *host, const uint8_t *bytes, size_t n, dgt_event *events,
+dgt_told dgt_host_hear_many(dgt_host *host, const uint8_t *bytes, size_t n, dgt_event *events,
                            size_t capacity, uint8_t *body, size_t room)
     DGT_MUST_USE_ DGT_NONNULL_(1) DGT_READS_(2, 3) DGT_WRITES_(4, 5) DGT_WRITES_(6, 7);
 
 /* The status of a dgt_sent. */
 enum {
-    DGT_SENT = 0,      /* `bytes` bytes were written to the buffer: send them on the line */
-    DGT_TOO_MANY = 1,  /* 16 replies are awaited already: nothing changed, and bytes is 0 */
+    DGT_DONE = 0,      /* `bytes` bytes were written to the buffer: send them on the line */
+    DGT_TOO_MANY_AWAITED = 1,  /* 16 replies are awaited already: nothing changed, and bytes is 0 */
     DGT_NO_ROOM = 2,   /* the buffer is shorter than `bytes`: nothing changed */
-    DGT_NO_COMMAND = 3 /* there is no such command: nothing changed, and bytes is 0 */
+    DGT_REFUSED = 3 /* there is no such command: nothing changed, and bytes is 0 */
 };
 
 typedef struct dgt_sent {
@@ -412,7 +412,7 @@ typedef struct dgt_sent {
 } dgt_sent;
 
 /* Requests each change from now on, and all squares: writes 44 42. A dump is then awaited.
- * DGT_TOO_MANY is checked before DGT_NO_ROOM, here and below. */
+ * DGT_TOO_MANY_AWAITED is checked before DGT_NO_ROOM, here and below. */
 dgt_sent dgt_host_follow(dgt_host *host, uint8_t *out, size_t n)
     DGT_MUST_USE_ DGT_NONNULL_(1) DGT_WRITES_(2, 3);
 
@@ -423,12 +423,12 @@ dgt_sent dgt_host_restart(dgt_host *host, uint8_t *out, size_t n)
 
 /* Sends the command of the single byte `code`, DGT_SEND_RESET to DGT_SEND_LONG_SERIAL. A requested
  * dump, serial number, trademark, battery state, version or long serial number is then awaited.
- * DGT_NO_COMMAND is checked first. */
+ * DGT_REFUSED is checked first. */
 dgt_sent dgt_host_send(dgt_host *host, uint8_t code, uint8_t *out, size_t n)
     DGT_MUST_USE_ DGT_NONNULL_(1) DGT_WRITES_(3, 4);
 
 /* Sends the clock message with this id and this payload; dgt_host_send with DGT_SEND_CLOCK requests
- * the times. Returns DGT_NO_COMMAND if the payload is longer than DGT_MAX_PAYLOAD bytes. */
+ * the times. Returns DGT_REFUSED if the payload is longer than DGT_MAX_PAYLOAD bytes. */
 dgt_sent dgt_host_send_clock(dgt_host *host, uint8_t id, const uint8_t *payload, size_t payload_len,
                              uint8_t *out, size_t n)
     DGT_MUST_USE_ DGT_NONNULL_(1) DGT_READS_(3, 4) DGT_WRITES_(5, 6);
@@ -436,7 +436,7 @@ dgt_sent dgt_host_send_clock(dgt_host *host, uint8_t id, const uint8_t *payload,
 /* Clock messages by their meaning. Each number is sent as it is: the clock interprets `dots`,
  * `beep`, `duration` and `control`. A board with a clock acknowledges each by a DGT_EVENT_ACK. */
 
-/* Shows six digits, spaces and hyphens, from left to right. Returns DGT_NO_COMMAND for any other
+/* Shows six digits, spaces and hyphens, from left to right. Returns DGT_REFUSED for any other
  * character, before all other checks. It reads six bytes without a final zero byte:
  * dgt_host_show_digits takes a text such as "12-34". */
 dgt_sent dgt_host_send_display(dgt_host *host, const uint8_t text[DGT_LEAST_ 6], uint8_t dots,
@@ -461,23 +461,23 @@ static inline bool dgt_pad_(const char *text, uint8_t *padded, size_t room) {
 }
 
 /* Shows a text of at most six digits, spaces and hyphens, which ends with a zero byte. Spaces are
- * added after a short one. Returns DGT_NO_COMMAND if it is longer or contains another character,
+ * added after a short one. Returns DGT_REFUSED if it is longer or contains another character,
  * before all other checks. */
 DGT_MUST_USE_ DGT_NONNULL_(1, 2) DGT_WRITES_(5, 6)
 static inline dgt_sent dgt_host_show_digits(dgt_host *host, const char *text, uint8_t dots,
                                             uint8_t beep, uint8_t *out, size_t n) {
-    const dgt_sent refused = {DGT_NO_COMMAND, 0};
+    const dgt_sent refused = {DGT_REFUSED, 0};
     uint8_t padded[6];
     if (!dgt_pad_(text, padded, sizeof padded)) return refused;
     return dgt_host_send_display(host, padded, dots, beep, out, n);
 }
 
 /* Shows a text of at most eight ASCII characters, which ends with a zero byte. Spaces are added
- * after a short one. Returns DGT_NO_COMMAND if it is longer or not ASCII, before other checks. */
+ * after a short one. Returns DGT_REFUSED if it is longer or not ASCII, before other checks. */
 DGT_MUST_USE_ DGT_NONNULL_(1, 2) DGT_WRITES_(4, 5)
 static inline dgt_sent dgt_host_show_text(dgt_host *host, const char *text, uint8_t beep,
                                           uint8_t *out, size_t n) {
-    const dgt_sent refused = {DGT_NO_COMMAND, 0};
+    const dgt_sent refused = {DGT_REFUSED, 0};
     uint8_t padded[8];
     if (!dgt_pad_(text, padded, sizeof padded)) return refused;
     return dgt_host_send_text(host, padded, beep, out, n);
@@ -492,7 +492,7 @@ dgt_sent dgt_host_send_set_and_run(dgt_host *host, const uint8_t left[3], const 
                                    uint8_t control, uint8_t *out, size_t n)
     DGT_MUST_USE_ DGT_NONNULL_(1, 2, 3) DGT_READS_(2) DGT_READS_(3) DGT_WRITES_(5, 6);
 
-/* Shows the icons of these bytes. Returns DGT_NO_COMMAND for more than DGT_MAX_PAYLOAD bytes. */
+/* Shows the icons of these bytes. Returns DGT_REFUSED for more than DGT_MAX_PAYLOAD bytes. */
 dgt_sent dgt_host_send_icons(dgt_host *host, const uint8_t *icons, size_t icons_len, uint8_t *out,
                              size_t n)
     DGT_MUST_USE_ DGT_NONNULL_(1) DGT_READS_(2, 3) DGT_WRITES_(4, 5);
@@ -509,7 +509,7 @@ dgt_sent dgt_host_send_button(dgt_host *host, uint8_t *out, size_t n)
 dgt_sent dgt_host_send_clock_version(dgt_host *host, uint8_t *out, size_t n)
     DGT_MUST_USE_ DGT_NONNULL_(1) DGT_WRITES_(2, 3);
 
-/* Sends an LED frame, such as that of dgt_lighting. Returns DGT_NO_COMMAND for more than
+/* Sends an LED frame, such as that of dgt_lighting. Returns DGT_REFUSED for more than
  * DGT_MAX_LEDS bytes. */
 dgt_sent dgt_host_send_leds(dgt_host *host, const uint8_t *leds, size_t leds_len, uint8_t *out,
                             size_t n)
@@ -535,7 +535,7 @@ size_t dgt_host_awaited(dgt_host *host, uint8_t codes[DGT_MAX_AWAITED])
 /* Removes all awaited replies from the list, and returns how many there were. Nothing else changes:
  * the host keeps its picture, its clock and the bytes of an unfinished message. Call it when a
  * reply is overdue. A lost reply stays the next one awaited: each reply after it is `unasked`, and
- * once 16 are awaited, each further request returns DGT_TOO_MANY. A reply that arrives after this
+ * once 16 are awaited, each further request returns DGT_TOO_MANY_AWAITED. A reply that arrives after this
  * call is `unasked` as well. Ask again next, with dgt_host_restart or dgt_host_send. */
 size_t dgt_host_give_up_awaited(dgt_host *host) DGT_NONNULL_(1);
 
@@ -589,7 +589,7 @@ size_t dgt_follower_size(void);
 /* Makes a follower that has sent no request in the memory at `follower`: dgt_follower_size() bytes,
  * aligned to 8. It has a period of 10000 milliseconds, a patience of 6, and the mode
  * DGT_MODE_UPDATE_BOARD. */
-void dgt_follower_init(dgt_follower *follower) DGT_NONNULL_(1);
+void dgt_follower_make(dgt_follower *follower) DGT_NONNULL_(1);
 
 /* Makes a follower as new: it has sent no request, knows no picture, and has this period, this
  * patience and the mode DGT_MODE_UPDATE_BOARD. It neither confirms nor identifies. `period` is the
@@ -598,12 +598,12 @@ void dgt_follower_init(dgt_follower *follower) DGT_NONNULL_(1);
  * whatever it has heard; with 0 it always starts over. */
 void dgt_follower_start(dgt_follower *follower, uint64_t period, uint32_t patience) DGT_NONNULL_(1);
 
-/* Both calls. Returns false and does nothing if the sizes differ, as with dgt_host_new, or if the
+/* Both calls. Returns false and does nothing if the sizes differ, as with dgt_host_init, or if the
  * period is below DGT_LEAST_PERIOD: it may be in seconds. */
 DGT_MUST_USE_ DGT_NONNULL_(1)
-static inline bool dgt_follower_new(dgt_follower *follower, uint64_t period, uint32_t patience) {
+static inline bool dgt_follower_init(dgt_follower *follower, uint64_t period, uint32_t patience) {
     if (dgt_follower_size() != sizeof *follower || period < DGT_LEAST_PERIOD) return false;
-    dgt_follower_init(follower);
+    dgt_follower_make(follower);
     dgt_follower_start(follower, period, patience);
     return true;
 }
@@ -620,7 +620,7 @@ size_t dgt_follower_hear(dgt_follower *follower, uint64_t now, const uint8_t *by
 void dgt_follower_hear_all(dgt_follower *follower, uint64_t now, const uint8_t *bytes, size_t n)
     DGT_NONNULL_(1) DGT_READS_(3, 4);
 
-/* Writes a request, if one is due at this time. DGT_SENT: `bytes` bytes are at the beginning of the
+/* Writes a request, if one is due at this time. DGT_DONE: `bytes` bytes are at the beginning of the
  * buffer, 0 if none is due. DGT_NO_ROOM: the buffer is shorter than the `bytes` bytes of the
  * request, and nothing changed. There is no other status. The picture stays known, and a dump is
  * then awaited (or a serial number, see dgt_follower_set_identify). The first request is due at any
@@ -694,7 +694,7 @@ DGT_MUST_USE_ DGT_NONNULL_(1, 2) DGT_WRITES_(5, 6)
 static inline dgt_sent dgt_follower_show_digits(dgt_follower *follower, const char *text,
                                                 uint8_t dots, uint8_t beep, uint8_t *out,
                                                 size_t n) {
-    const dgt_sent refused = {DGT_NO_COMMAND, 0};
+    const dgt_sent refused = {DGT_REFUSED, 0};
     uint8_t padded[6];
     if (!dgt_pad_(text, padded, sizeof padded)) return refused;
     return dgt_follower_send_display(follower, padded, dots, beep, out, n);
@@ -702,7 +702,7 @@ static inline dgt_sent dgt_follower_show_digits(dgt_follower *follower, const ch
 DGT_MUST_USE_ DGT_NONNULL_(1, 2) DGT_WRITES_(4, 5)
 static inline dgt_sent dgt_follower_show_text(dgt_follower *follower, const char *text,
                                               uint8_t beep, uint8_t *out, size_t n) {
-    const dgt_sent refused = {DGT_NO_COMMAND, 0};
+    const dgt_sent refused = {DGT_REFUSED, 0};
     uint8_t padded[8];
     if (!dgt_pad_(text, padded, sizeof padded)) return refused;
     return dgt_follower_send_text(follower, padded, beep, out, n);
@@ -781,13 +781,13 @@ void dgt_follower_line_lost(dgt_follower *follower) DGT_NONNULL_(1);
 size_t dgt_decoder_size(void);
 
 /* Makes a decoder that holds nothing at `decoder`: dgt_decoder_size() bytes, aligned to 8. */
-void dgt_decoder_init(dgt_decoder *decoder) DGT_NONNULL_(1);
+void dgt_decoder_make(dgt_decoder *decoder) DGT_NONNULL_(1);
 
-/* The same. Returns false and does nothing if the sizes differ, as with dgt_host_new. */
+/* The same. Returns false and does nothing if the sizes differ, as with dgt_host_init. */
 DGT_MUST_USE_ DGT_NONNULL_(1)
-static inline bool dgt_decoder_new(dgt_decoder *decoder) {
+static inline bool dgt_decoder_init(dgt_decoder *decoder) {
     if (dgt_decoder_size() != sizeof *decoder) return false;
-    dgt_decoder_init(decoder);
+    dgt_decoder_make(decoder);
     return true;
 }
 
@@ -796,13 +796,13 @@ size_t dgt_decoder_feed(dgt_decoder *decoder, const uint8_t *bytes, size_t n, dg
                         uint8_t *body, size_t room)
     DGT_MUST_USE_ DGT_NONNULL_(1, 4) DGT_READS_(2, 3) DGT_WRITES_(4) DGT_WRITES_(5, 6);
 
-/* The same as dgt_host_hear_all, without the state of a host. `unasked` is 0 in each event. */
-dgt_told dgt_decoder_feed_all(dgt_decoder *decoder, const uint8_t *bytes, size_t n,
+/* The same as dgt_host_hear_many, without the state of a host. `unasked` is 0 in each event. */
+dgt_told dgt_decoder_feed_many(dgt_decoder *decoder, const uint8_t *bytes, size_t n,
                               dgt_event *events, size_t capacity, uint8_t *body, size_t room)
     DGT_MUST_USE_ DGT_NONNULL_(1) DGT_READS_(2, 3) DGT_WRITES_(4, 5) DGT_WRITES_(6, 7);
 
 /* How many bytes of an unfinished message were received: at most 16382. */
-size_t dgt_decoder_rest(dgt_decoder *decoder) DGT_NONNULL_(1);
+size_t dgt_decoder_unread(dgt_decoder *decoder) DGT_NONNULL_(1);
 
 /* The same, at the end of the bytes. The decoder is then as new. */
 size_t dgt_decoder_finish(dgt_decoder *decoder) DGT_NONNULL_(1);
@@ -817,13 +817,13 @@ size_t dgt_command_decoder_size(void);
 
 /* Makes a decoder of commands that holds nothing in the memory at `decoder`:
  * dgt_command_decoder_size() bytes, aligned to 8. */
-void dgt_command_decoder_init(dgt_command_decoder *decoder) DGT_NONNULL_(1);
+void dgt_command_decoder_make(dgt_command_decoder *decoder) DGT_NONNULL_(1);
 
-/* The same. Returns false and does nothing if the sizes differ, as with dgt_host_new. */
+/* The same. Returns false and does nothing if the sizes differ, as with dgt_host_init. */
 DGT_MUST_USE_ DGT_NONNULL_(1)
-static inline bool dgt_command_decoder_new(dgt_command_decoder *decoder) {
+static inline bool dgt_command_decoder_init(dgt_command_decoder *decoder) {
     if (dgt_command_decoder_size() != sizeof *decoder) return false;
-    dgt_command_decoder_init(decoder);
+    dgt_command_decoder_make(decoder);
     return true;
 }
 
@@ -835,7 +835,7 @@ size_t dgt_command_decoder_feed(dgt_command_decoder *decoder, const uint8_t *byt
     DGT_MUST_USE_ DGT_NONNULL_(1, 4) DGT_READS_(2, 3) DGT_WRITES_(4) DGT_WRITES_(5, 6);
 
 /* How many bytes of an unfinished command were received: at most 256. */
-size_t dgt_command_decoder_rest(dgt_command_decoder *decoder) DGT_NONNULL_(1);
+size_t dgt_command_decoder_unread(dgt_command_decoder *decoder) DGT_NONNULL_(1);
 
 /* The same, at the end of the bytes. The decoder is then as new. */
 size_t dgt_command_decoder_finish(dgt_command_decoder *decoder) DGT_NONNULL_(1);
@@ -850,13 +850,13 @@ size_t dgt_board_size(void);
 
 /* Makes a board in the memory at `board`: dgt_board_size() bytes, aligned to 8. It has the starting
  * position, a clock that shows 0:00:00 twice, and the identity of a simulated board. */
-void dgt_board_init(dgt_board *board) DGT_NONNULL_(1);
+void dgt_board_make(dgt_board *board) DGT_NONNULL_(1);
 
-/* The same. Returns false and does nothing if the sizes differ, as with dgt_host_new. */
+/* The same. Returns false and does nothing if the sizes differ, as with dgt_host_init. */
 DGT_MUST_USE_ DGT_NONNULL_(1)
-static inline bool dgt_board_new(dgt_board *board) {
+static inline bool dgt_board_init(dgt_board *board) {
     if (dgt_board_size() != sizeof *board) return false;
-    dgt_board_init(board);
+    dgt_board_make(board);
     return true;
 }
 
@@ -925,7 +925,7 @@ enum {
     DGT_NOTHING = 0,  /* nothing is to be sent, and bytes is 0 */
     DGT_WROTE = 1,    /* `bytes` bytes at the beginning of the buffer are a message: write them to
                          the line */
-    DGT_NEED_ROOM = 2 /* the next message takes `bytes` bytes, and the buffer is shorter: nothing
+    DGT_NO_ROOM = 2 /* the next message takes `bytes` bytes, and the buffer is shorter: nothing
                          changed */
 };
 
@@ -969,7 +969,7 @@ bool dgt_board_owes(dgt_board *board) DGT_NONNULL_(1);
 size_t dgt_board_owed_len(dgt_board *board) DGT_NONNULL_(1);
 
 /* How many bytes of an unfinished command were received: at most 256. */
-size_t dgt_board_partial(dgt_board *board) DGT_NONNULL_(1);
+size_t dgt_board_unread(dgt_board *board) DGT_NONNULL_(1);
 
 /* The results of dgt_board_mode: which changes the board reports by itself. */
 enum {
@@ -992,10 +992,10 @@ void dgt_board_clock(dgt_board *board, dgt_clock *clock) DGT_NONNULL_(1, 2) DGT_
 
 /* The status of a dgt_encoded. */
 enum {
-    DGT_ENCODED = 0,    /* `bytes` bytes were written at the beginning of the buffer */
-    DGT_TOO_SHORT = 1,  /* the buffer is shorter than the `bytes` bytes that it takes: nothing was
+    DGT_DONE = 0,    /* `bytes` bytes were written at the beginning of the buffer */
+    DGT_NO_ROOM = 1,  /* the buffer is shorter than the `bytes` bytes that it takes: nothing was
                            written */
-    DGT_NOT_ENCODED = 2 /* there is no such message or command: nothing was written, and bytes is 0
+    DGT_REFUSED = 2 /* there is no such message or command: nothing was written, and bytes is 0
                          */
 };
 
@@ -1010,7 +1010,7 @@ typedef struct dgt_encoded {
  * `clock` has to be that of the event. A message takes 3 to 16383 bytes: DGT_MAX_BODY + 3 bytes are
  * room for any. An acknowledgement has several encodings: this is the one with both marks, and
  * without D6 in them.
- * DGT_NOT_ENCODED is checked before DGT_TOO_SHORT. It is returned if the kind isn't a message's, if
+ * DGT_REFUSED is checked before DGT_NO_ROOM. It is returned if the kind isn't a message's, if
  * a member is out of range, or if dgt_board_start would refuse `clock`. It is returned if a body
  * has more than DGT_MAX_BODY bytes, or a byte above 127. It is also returned if the code of a
  * DGT_EVENT_OTHER is above 127, or belongs to another kind. */
@@ -1028,7 +1028,7 @@ bool dgt_view_message(uint8_t code, const uint8_t *body, size_t body_len, dgt_ev
 /* Writes the text of an event, such as "field e4 P", and a zero byte: the text that `dgt monitor`
  * prints after the offset of the event. The event is read as dgt_encode_message reads it, and may
  * also be a fault. 80 bytes are room for any event without a body; each byte of a body takes two
- * more. `bytes` counts the zero byte. DGT_NOT_ENCODED is checked before DGT_TOO_SHORT. It is
+ * more. `bytes` counts the zero byte. DGT_REFUSED is checked before DGT_NO_ROOM. It is
  * returned for the kind DGT_EVENT_NONE, for a kind that isn't listed here, and for a member out of
  * range. */
 dgt_encoded dgt_event_text(const dgt_event *event, const uint8_t *body, size_t body_len, char *text,
@@ -1039,7 +1039,7 @@ dgt_encoded dgt_event_text(const dgt_event *event, const uint8_t *body, size_t b
  * carries `carried_len` bytes: the payload of the clock message with this id, at most
  * DGT_MAX_PAYLOAD; the bytes of an LED frame, at most DGT_MAX_LEDS; and none in every other
  * command. The id is ignored except for a clock message. DGT_MAX_WORD bytes are room for any
- * command. DGT_NOT_ENCODED is checked before DGT_TOO_SHORT. It is returned if no command has this
+ * command. DGT_REFUSED is checked before DGT_NO_ROOM. It is returned if no command has this
  * code, or if there are more bytes than it can carry. No reply is awaited: for that use
  * dgt_host_send and the other calls of a host. */
 dgt_encoded dgt_encode_command(uint8_t code, uint8_t id, const uint8_t *carried,
@@ -1273,7 +1273,7 @@ static inline dgt_host *dgt_host_(dgt_host *handle) {
     return handle;
 }
 #define dgt_host_hear(it, ...) dgt_host_hear(dgt_host_(it), __VA_ARGS__)
-#define dgt_host_hear_all(it, ...) dgt_host_hear_all(dgt_host_(it), __VA_ARGS__)
+#define dgt_host_hear_many(it, ...) dgt_host_hear_many(dgt_host_(it), __VA_ARGS__)
 #define dgt_host_follow(it, ...) dgt_host_follow(dgt_host_(it), __VA_ARGS__)
 #define dgt_host_restart(it, ...) dgt_host_restart(dgt_host_(it), __VA_ARGS__)
 #define dgt_host_send(it, ...) dgt_host_send(dgt_host_(it), __VA_ARGS__)
@@ -1345,8 +1345,8 @@ static inline dgt_decoder *dgt_decoder_(dgt_decoder *handle) {
     return handle;
 }
 #define dgt_decoder_feed(it, ...) dgt_decoder_feed(dgt_decoder_(it), __VA_ARGS__)
-#define dgt_decoder_feed_all(it, ...) dgt_decoder_feed_all(dgt_decoder_(it), __VA_ARGS__)
-#define dgt_decoder_rest(it) dgt_decoder_rest(dgt_decoder_(it))
+#define dgt_decoder_feed_many(it, ...) dgt_decoder_feed_many(dgt_decoder_(it), __VA_ARGS__)
+#define dgt_decoder_unread(it) dgt_decoder_unread(dgt_decoder_(it))
 #define dgt_decoder_finish(it) dgt_decoder_finish(dgt_decoder_(it))
 #define dgt_decoder_reset(it) dgt_decoder_reset(dgt_decoder_(it))
 
@@ -1357,7 +1357,7 @@ static inline dgt_command_decoder *dgt_command_decoder_(dgt_command_decoder *han
 }
 #define dgt_command_decoder_feed(it, ...) \
     dgt_command_decoder_feed(dgt_command_decoder_(it), __VA_ARGS__)
-#define dgt_command_decoder_rest(it) dgt_command_decoder_rest(dgt_command_decoder_(it))
+#define dgt_command_decoder_unread(it) dgt_command_decoder_unread(dgt_command_decoder_(it))
 #define dgt_command_decoder_finish(it) dgt_command_decoder_finish(dgt_command_decoder_(it))
 #define dgt_command_decoder_reset(it) dgt_command_decoder_reset(dgt_command_decoder_(it))
 
@@ -1375,7 +1375,7 @@ static inline dgt_board *dgt_board_(dgt_board *handle) {
 #define dgt_board_answer(it, ...) dgt_board_answer(dgt_board_(it), __VA_ARGS__)
 #define dgt_board_owes(it) dgt_board_owes(dgt_board_(it))
 #define dgt_board_owed_len(it) dgt_board_owed_len(dgt_board_(it))
-#define dgt_board_partial(it) dgt_board_partial(dgt_board_(it))
+#define dgt_board_unread(it) dgt_board_unread(dgt_board_(it))
 #define dgt_board_mode(it) dgt_board_mode(dgt_board_(it))
 #define dgt_board_position(it, ...) dgt_board_position(dgt_board_(it), __VA_ARGS__)
 #define dgt_board_clock(it, ...) dgt_board_clock(dgt_board_(it), __VA_ARGS__)

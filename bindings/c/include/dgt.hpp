@@ -490,8 +490,8 @@ inline std::optional<Word> read_word(const dgt_command &command, const std::uint
 template <class Send> Commands sent(Send &&send) {
     Commands out;
     dgt_sent done = send(out.room(), std::size_t{DGT_MAX_ASKING});
-    if (done.status == DGT_TOO_MANY) throw TooManyAwaited();
-    if (done.status != DGT_SENT) throw std::invalid_argument("too many bytes for one command");
+    if (done.status == DGT_TOO_MANY_AWAITED) throw TooManyAwaited();
+    if (done.status != DGT_DONE) throw std::invalid_argument("too many bytes for one command");
     out.resize(done.bytes);
     return out;
 }
@@ -573,7 +573,7 @@ inline ByteView write_event(const Event &event, dgt_event &out) {
 template <class Out = Bytes, class Encode> Out encoded(Encode &&encode) {
     using Unit = typename Out::value_type;
     dgt_encoded done = encode(static_cast<Unit *>(nullptr), std::size_t{0});
-    if (done.status == DGT_NOT_ENCODED)
+    if (done.status == DGT_REFUSED)
         throw std::invalid_argument("not an event or a command: a part is out of range");
     Out out(done.bytes, Unit{});
     done = encode(out.data(), out.size());
@@ -904,7 +904,7 @@ class Host : public ClockCommands<Host> {
 public:
     /// A host that knows nothing and awaits nothing. Throws WrongLibrary.
     Host() {
-        if (!dgt_host_new(&host_)) throw WrongLibrary();
+        if (!dgt_host_init(&host_)) throw WrongLibrary();
     }
     Host(const Host &) = delete;
     Host &operator=(const Host &) = delete;
@@ -1019,7 +1019,7 @@ public:
                       bool identify = false) {
         if (period.count() < DGT_LEAST_PERIOD)
             throw std::invalid_argument("a period is less than a second");
-        if (!dgt_follower_new(&follower_, detail::count(period), patience)) throw WrongLibrary();
+        if (!dgt_follower_init(&follower_, detail::count(period), patience)) throw WrongLibrary();
         set_mode(mode);
         set_confirm(confirm);
         set_identify(identify);
@@ -1170,7 +1170,7 @@ class Decoder {
 public:
     /// A decoder that holds nothing. Throws WrongLibrary.
     Decoder() {
-        if (!dgt_decoder_new(&decoder_)) throw WrongLibrary();
+        if (!dgt_decoder_init(&decoder_)) throw WrongLibrary();
     }
     Decoder(const Decoder &) = delete;
     Decoder &operator=(const Decoder &) = delete;
@@ -1187,7 +1187,7 @@ public:
     }
 
     /// How many bytes of an unfinished message were received.
-    std::size_t rest() { return dgt_decoder_rest(&decoder_); }
+    std::size_t unread() { return dgt_decoder_unread(&decoder_); }
 
     /// The same, at the end of the bytes. The decoder is then as new.
     std::size_t finish() { return dgt_decoder_finish(&decoder_); }
@@ -1205,7 +1205,7 @@ class CommandDecoder {
 public:
     /// A decoder that holds nothing. Throws WrongLibrary.
     CommandDecoder() {
-        if (!dgt_command_decoder_new(&decoder_)) throw WrongLibrary();
+        if (!dgt_command_decoder_init(&decoder_)) throw WrongLibrary();
     }
     CommandDecoder(const CommandDecoder &) = delete;
     CommandDecoder &operator=(const CommandDecoder &) = delete;
@@ -1230,7 +1230,7 @@ public:
     }
 
     /// How many bytes of an unfinished command were received.
-    std::size_t rest() { return dgt_command_decoder_rest(&decoder_); }
+    std::size_t unread() { return dgt_command_decoder_unread(&decoder_); }
 
     /// The same, at the end of the bytes. The decoder is then as new.
     std::size_t finish() { return dgt_command_decoder_finish(&decoder_); }
@@ -1266,7 +1266,7 @@ public:
     /// A board in the initial position, with a clock that shows 0:00:00 twice, and the identity of
     /// a simulated board. Throws WrongLibrary.
     Board() {
-        if (!dgt_board_new(&board_)) throw WrongLibrary();
+        if (!dgt_board_init(&board_)) throw WrongLibrary();
     }
 
     /// Throws WrongLibrary, and std::invalid_argument if the clock or the identity is out of range.
@@ -1334,7 +1334,7 @@ public:
     std::size_t owed_len() { return dgt_board_owed_len(&board_); }
 
     /// How many bytes of an unfinished command were received.
-    std::size_t partial() { return dgt_board_partial(&board_); }
+    std::size_t unread() { return dgt_board_unread(&board_); }
 
     Mode mode() { return static_cast<Mode>(dgt_board_mode(&board_)); }
 

@@ -74,7 +74,7 @@ static void bring(dgt_board *board, const uint8_t *bytes, size_t n) {
 static void host_and_board(void) {
     dgt_host *host = room(dgt_host_size());
     dgt_board *board = room(dgt_board_size());
-    CHECK(dgt_host_new(host) && dgt_board_new(board));
+    CHECK(dgt_host_init(host) && dgt_board_init(board));
     uint8_t pieces[64], out[DGT_RESTART_LENGTH], codes[DGT_MAX_AWAITED];
     char *text = room(DGT_PLACEMENT_ROOM);
     dgt_clock clock;
@@ -85,17 +85,17 @@ static void host_and_board(void) {
     dgt_sent sent = dgt_host_restart(host, out, DGT_RESTART_LENGTH - 1);
     CHECK(sent.status == DGT_NO_ROOM && sent.bytes == DGT_RESTART_LENGTH);
     sent = dgt_host_restart(host, out, sizeof out);
-    CHECK(sent.status == DGT_SENT && sent.bytes == sizeof out && out[254] == 0 && out[255] == 0x44);
+    CHECK(sent.status == DGT_DONE && sent.bytes == sizeof out && out[254] == 0 && out[255] == 0x44);
     dgt_host_line_lost(host);
     sent = dgt_host_follow(host, out, 2);
-    CHECK(sent.status == DGT_SENT && sent.bytes == 2 && !memcmp(out, "\x44\x42", 2));
+    CHECK(sent.status == DGT_DONE && sent.bytes == 2 && !memcmp(out, "\x44\x42", 2));
     CHECK(dgt_host_awaited(host, codes) == 1 && codes[0] == DGT_SEND_DUMP);
     bring(board, out, 2);
     CHECK(dgt_board_mode(board) == DGT_MODE_UPDATE_BOARD);
     CHECK(dgt_board_change(board, 52, 0) && dgt_board_change(board, 36, 1));
     CHECK(!dgt_board_change(board, 64, 1) && !dgt_board_change(board, 0, 16));
     dgt_polled polled = dgt_board_poll(board, out, 66);
-    CHECK(polled.status == DGT_NEED_ROOM && polled.bytes == 67);
+    CHECK(polled.status == DGT_NO_ROOM && polled.bytes == 67);
     pass_on(board, host);
     CHECK(dgt_host_placement(host, text));
     CHECK(!strcmp(text, "rnbqkbnr/pppppppp/8/8/4P3/8/PPPP1PPP/RNBQKBNR"));
@@ -108,7 +108,7 @@ static void host_and_board(void) {
     clock.first.hours = 10;
     CHECK(!dgt_board_hand_clock(board, &clock));
     sent = dgt_host_send(host, DGT_SEND_CLOCK, out, 1);
-    CHECK(sent.status == DGT_SENT);
+    CHECK(sent.status == DGT_DONE);
     bring(board, out, 1);
     pass_on(board, host);
     CHECK(heard.kind == DGT_EVENT_TIMES && heard.clock.first.flags == 4 && heard.clock.status == 9);
@@ -118,20 +118,20 @@ static void host_and_board(void) {
     CHECK(!memcmp(&clock, &heard.clock, sizeof clock));
 
     sent = dgt_host_send_clock(host, DGT_ID_VERSION, out, 0, out + 1, 5);
-    CHECK(sent.status == DGT_SENT && sent.bytes == 5);
+    CHECK(sent.status == DGT_DONE && sent.bytes == 5);
     bring(board, out + 1, 5);
     pass_on(board, host);
     CHECK(heard.kind == DGT_EVENT_ACK && !memcmp(heard.ack, "\x10\x09\x14\x00", 4));
     uint8_t leds[DGT_MAX_LEDS + 1] = {1};
-    CHECK(dgt_host_send_leds(host, leds, sizeof leds, out, sizeof out).status == DGT_NO_COMMAND);
+    CHECK(dgt_host_send_leds(host, leds, sizeof leds, out, sizeof out).status == DGT_REFUSED);
     sent = dgt_host_send_leds(host, leds, DGT_MAX_LEDS, out, sizeof out);
-    CHECK(sent.status == DGT_SENT && sent.bytes == DGT_MAX_WORD && out[2] == 1);
+    CHECK(sent.status == DGT_DONE && sent.bytes == DGT_MAX_WORD && out[2] == 1);
     bring(board, out, sent.bytes);
-    CHECK(dgt_host_send_clock(host, 1, leds, 253, out, sizeof out).status == DGT_NO_COMMAND);
-    CHECK(dgt_host_send(host, 0x46, out, sizeof out).status == DGT_NO_COMMAND);
+    CHECK(dgt_host_send_clock(host, 1, leds, 253, out, sizeof out).status == DGT_REFUSED);
+    CHECK(dgt_host_send(host, 0x46, out, sizeof out).status == DGT_REFUSED);
     for (int i = 0; i < 16; i++)
-        CHECK(dgt_host_send(host, DGT_SEND_VERSION, out, 1).status == DGT_SENT);
-    CHECK(dgt_host_send(host, DGT_SEND_VERSION, out, 0).status == DGT_TOO_MANY);
+        CHECK(dgt_host_send(host, DGT_SEND_VERSION, out, 1).status == DGT_DONE);
+    CHECK(dgt_host_send(host, DGT_SEND_VERSION, out, 0).status == DGT_TOO_MANY_AWAITED);
     CHECK(dgt_host_send(host, DGT_SEND_RESET, out, 0).status == DGT_NO_ROOM);
 
     CHECK(dgt_host_give_up_awaited(host) == 16 && dgt_host_give_up_awaited(host) == 0);
@@ -142,9 +142,9 @@ static void host_and_board(void) {
     for (int i = 0; i < DGT_MAX_OWED - 1; i++) bring(board, BYTES(DGT_SEND_SERIAL));
     dgt_command command;
     CHECK(dgt_board_take(board, BYTES(0x2b, 4, 3), &command, out, 0).used == 3);
-    CHECK(dgt_board_owed_len(board) == DGT_MAX_OWED - 1 && dgt_board_partial(board) == 3);
+    CHECK(dgt_board_owed_len(board) == DGT_MAX_OWED - 1 && dgt_board_unread(board) == 3);
     CHECK(dgt_board_take(board, BYTES(DGT_ID_BEEP, 1, 0), &command, out, 0).used == 3);
-    CHECK(dgt_board_owed_len(board) == DGT_MAX_OWED && dgt_board_partial(board) == 0);
+    CHECK(dgt_board_owed_len(board) == DGT_MAX_OWED && dgt_board_unread(board) == 0);
     dgt_taken taken = dgt_board_take(board, BYTES(DGT_SEND_SERIAL), &command, out, 0);
     CHECK(taken.busy && taken.used == 0 && command.kind == DGT_NO_WORD);
     dgt_board_line_lost(board);
@@ -156,20 +156,20 @@ static void host_and_board(void) {
 static void lost_reply(void) {
     dgt_host *host = room(dgt_host_size());
     dgt_board *board = room(dgt_board_size());
-    CHECK(dgt_host_new(host) && dgt_board_new(board));
+    CHECK(dgt_host_init(host) && dgt_board_init(board));
     uint8_t out[2], codes[DGT_MAX_AWAITED], pieces[64];
     dgt_clock clock, before = {DGT_CLOCK_TIMES, 9, {0}, {1, 2, 3, 4}, {5, 6, 7, 0}};
     CHECK(dgt_board_hand_clock(board, &before));
-    CHECK(dgt_host_send(host, DGT_SEND_VERSION, out, sizeof out).status == DGT_SENT);
+    CHECK(dgt_host_send(host, DGT_SEND_VERSION, out, sizeof out).status == DGT_DONE);
     bring(board, BYTES(DGT_SEND_CLOCK));
     pass_on(board, host);
     for (int i = 0; i < 15; i++) {
-        CHECK(dgt_host_send(host, DGT_SEND_DUMP, out, sizeof out).status == DGT_SENT);
+        CHECK(dgt_host_send(host, DGT_SEND_DUMP, out, sizeof out).status == DGT_DONE);
         bring(board, out, 1);
         pass_on(board, host);
         CHECK(heard.kind == DGT_EVENT_DUMP && heard.unasked == 1);
     }
-    CHECK(dgt_host_send(host, DGT_SEND_DUMP, out, sizeof out).status == DGT_TOO_MANY);
+    CHECK(dgt_host_send(host, DGT_SEND_DUMP, out, sizeof out).status == DGT_TOO_MANY_AWAITED);
     hear_one(host, BYTES(0x93, 0), 0);
     CHECK(dgt_host_give_up_awaited(host) == 16 && dgt_host_awaited(host, codes) == 0);
     CHECK(dgt_host_picture(host, pieces) && pieces[0] == 8 && dgt_host_unread(host) == 2);
@@ -177,7 +177,7 @@ static void lost_reply(void) {
     CHECK(!memcmp(&clock, &before, sizeof clock));
     hear_one(host, BYTES(5, 1, 3), 0);
     CHECK(heard.kind == DGT_EVENT_VERSION && heard.unasked == 1);
-    CHECK(dgt_host_send(host, DGT_SEND_DUMP, out, sizeof out).status == DGT_SENT);
+    CHECK(dgt_host_send(host, DGT_SEND_DUMP, out, sizeof out).status == DGT_DONE);
     bring(board, out, 1);
     pass_on(board, host);
     CHECK(heard.kind == DGT_EVENT_DUMP && heard.unasked == 0);
@@ -186,7 +186,7 @@ static void lost_reply(void) {
 
 static void start(void) {
     dgt_board *board = room(dgt_board_size());
-    dgt_board_init(board);
+    dgt_board_make(board);
     uint8_t pieces[64] = {12, [63] = 6};
     dgt_clock clock = {DGT_CLOCK_NONE, DGT_STATUS_ABSENT, {1, 2, 3, 4, 5, 6}, {0}, {0}};
     dgt_identity identity = {{1, 2, 3, 4, 5}, 6, 7, 8, {64, {9}}, {0, {0}}, {1, {127}}, {0}};
@@ -215,23 +215,23 @@ static void answers(void) {
     dgt_board *board = room(dgt_board_size());
     uint8_t *asked = copy("\x44MMMMMMMMMM\x42\x4d", 13), *out = room(DGT_MAX_SENT);
     size_t used = 0, count = 0;
-    CHECK(dgt_board_new(board) && dgt_board_answer(board, asked, 1, &used, out) == 0 && used == 1);
+    CHECK(dgt_board_init(board) && dgt_board_answer(board, asked, 1, &used, out) == 0 && used == 1);
     CHECK(dgt_board_change(board, 52, 0) && dgt_board_answer(board, asked, 13, &used, out) == 5);
     CHECK(used == 1 && !memcmp(out, "\x8e\0\5\x34\0", 5));
     for (; dgt_board_answer(board, asked, 12, &used, out) == 5; count++)
         CHECK(!memcmp(out, "\x93\0\5\1\3", 5) && used == 2 + count);
-    CHECK(count == 10 && used == 12 && out[0] == 0x86 && dgt_board_partial(board) == 0);
+    CHECK(count == 10 && used == 12 && out[0] == 0x86 && dgt_board_unread(board) == 0);
     CHECK(dgt_board_answer(board, asked, 12, &used, out) == 0 && !dgt_board_owes(board));
     used = 0;
     CHECK(dgt_board_answer(board, NULL, 0, &used, out) == 0 && used == 0);
     CHECK(dgt_board_answer(board, BYTES(DGT_SEND_CLOCK_MESSAGE, 4), &used, out) == 0 && used == 2);
-    CHECK(dgt_board_partial(board) == 2);
+    CHECK(dgt_board_unread(board) == 2);
     free(board), free(asked), free(out);
 }
 
 static void events(void) {
     dgt_host *host = room(dgt_host_size());
-    CHECK(dgt_host_new(host));
+    CHECK(dgt_host_init(host));
     hear_one(host, BYTES(0x92, 0, 6, 'D', 'G', 'T'), 2);
     CHECK(heard.kind == DGT_EVENT_TRADEMARK && heard.unasked == 1 && heard.code == 0x12);
     CHECK(heard.body_len == 3 && !memcmp(body, "DG", 2));
@@ -282,7 +282,7 @@ static dgt_told hear_all(dgt_host *host, const uint8_t *bytes, size_t n, size_t 
     free(told), free(told_body);
     uint8_t *given = copy(bytes, n);
     told = room(capacity * sizeof *told), told_body = room(body_room);
-    dgt_told all = dgt_host_hear_all(host, given, n, told, capacity, told_body, body_room);
+    dgt_told all = dgt_host_hear_many(host, given, n, told, capacity, told_body, body_room);
     CHECK(all.used <= n && all.count <= capacity);
     const uint8_t *behind = (const uint8_t *)(told + all.count);
     for (size_t i = 0; i < (capacity - all.count) * sizeof *told; i++) CHECK(behind[i] == 0xa5);
@@ -292,11 +292,11 @@ static dgt_told hear_all(dgt_host *host, const uint8_t *bytes, size_t n, size_t 
 
 static void chunks(void) {
     dgt_host *host = room(dgt_host_size());
-    CHECK(dgt_host_new(host));
+    CHECK(dgt_host_init(host));
     uint8_t out[2], dump[67] = {0x86, 0, 67, [3 + 52] = 1};
     const uint8_t fields[] = {0x8e, 0, 5, 52, 0, 0x8e, 0, 5, 36, 1, 0x31, 0x85, 0, 3, 0x8e, 0};
     char text[DGT_PLACEMENT_ROOM];
-    CHECK(dgt_host_send(host, DGT_SEND_DUMP, out, sizeof out).status == DGT_SENT);
+    CHECK(dgt_host_send(host, DGT_SEND_DUMP, out, sizeof out).status == DGT_DONE);
 
     dgt_told all = hear_all(host, dump, sizeof dump, 2, 0);
     CHECK(all.used == 67 && all.count == 1 && told[0].kind == DGT_EVENT_DUMP);
@@ -333,16 +333,16 @@ static void chunks(void) {
     free(host), free(told), free(told_body);
 
     dgt_decoder *decoder = room(dgt_decoder_size());
-    CHECK(dgt_decoder_new(decoder));
+    CHECK(dgt_decoder_init(decoder));
     dgt_event events[3];
-    all = dgt_decoder_feed_all(decoder, BYTES(7, 0x93, 0, 5, 1, 3, 0xa0, 0, 4, 0x64, 7), events, 3,
+    all = dgt_decoder_feed_many(decoder, BYTES(7, 0x93, 0, 5, 1, 3, 0xa0, 0, 4, 0x64, 7), events, 3,
                                out, 2);
     CHECK(all.used == 10 && all.count == 3 && events[0].byte == 7 && out[0] == 0x64);
     CHECK(events[1].kind == DGT_EVENT_VERSION && events[1].unasked == 0);
     CHECK(events[2].kind == DGT_EVENT_BATTERY && events[2].body_len == 1);
     CHECK(events[0].place == 1 && events[1].place == 6 && events[2].place == 10);
-    all = dgt_decoder_feed_all(decoder, BYTES(0x8e, 0), events, 3, out, 2);
-    CHECK(all.used == 2 && all.count == 0 && dgt_decoder_rest(decoder) == 2);
+    all = dgt_decoder_feed_many(decoder, BYTES(0x8e, 0), events, 3, out, 2);
+    CHECK(all.used == 2 && all.count == 0 && dgt_decoder_unread(decoder) == 2);
     free(decoder);
 }
 
@@ -366,7 +366,7 @@ static bool asks(dgt_follower *follower, uint64_t now, size_t bytes) {
     dgt_sent asked = dgt_follower_ask(follower, now, out, DGT_MAX_ASKING);
     const char *end = wanted_end(bytes);
     size_t zeros = bytes - strlen(end);
-    bool right = asked.status == DGT_SENT && asked.bytes == bytes;
+    bool right = asked.status == DGT_DONE && asked.bytes == bytes;
     for (size_t i = 0; i < zeros; i++) right = right && out[i] == 0;
     right = right && !memcmp(out + zeros, end, strlen(end));
     for (size_t i = bytes; i < DGT_MAX_ASKING; i++) right = right && out[i] == 0xa5;
@@ -376,15 +376,15 @@ static bool asks(dgt_follower *follower, uint64_t now, size_t bytes) {
 
 /* Whether a command was sent that is these bytes. Fills the slice with rubbish afterwards. */
 static bool is_sent(dgt_sent sent, uint8_t *out, const uint8_t *bytes, size_t n) {
-    bool right = sent.status == DGT_SENT && sent.bytes == n && !memcmp(out, bytes, n);
+    bool right = sent.status == DGT_DONE && sent.bytes == n && !memcmp(out, bytes, n);
     memset(out, 0xa5, n);
     return right;
 }
 
 static void follower(void) {
     dgt_follower *follower = room(dgt_follower_size());
-    CHECK(!dgt_follower_new(follower, DGT_LEAST_PERIOD - 1, 1));
-    CHECK(dgt_follower_new(follower, 1000, 1));
+    CHECK(!dgt_follower_init(follower, DGT_LEAST_PERIOD - 1, 1));
+    CHECK(dgt_follower_init(follower, 1000, 1));
     uint8_t dump[67] = {0x86, 0, 67, [3 + 52] = 1}, out[DGT_MAX_WORD], pieces[64];
     char text[DGT_PLACEMENT_ROOM];
     dgt_clock clock;
@@ -426,7 +426,7 @@ static void follower(void) {
                   BYTES(0x2b, 4, 3, 0x0b, 9, 0, 0x4b)));
     CHECK(is_sent(dgt_follower_send_leds(follower, BYTES(1, 2), out, sizeof out), out,
                   BYTES(0x60, 2, 1, 2, 0x4b)));
-    CHECK(dgt_follower_send(follower, 0x46, out, sizeof out).status == DGT_NO_COMMAND);
+    CHECK(dgt_follower_send(follower, 0x46, out, sizeof out).status == DGT_REFUSED);
     dgt_follower_clock(follower, &clock);
     CHECK(clock.kind == DGT_CLOCK_UNKNOWN);
 
@@ -477,7 +477,7 @@ static void hear_dump(dgt_follower *follower, uint64_t now, uint8_t piece) {
 
 static void confirming(void) {
     dgt_follower *follower = room(dgt_follower_size());
-    CHECK(dgt_follower_new(follower, 10000, 6));
+    CHECK(dgt_follower_init(follower, 10000, 6));
     dgt_follower_set_confirm(follower, true);
     CHECK(asks(follower, 0, ANEW));
     hear_dump(follower, 10, 1);
@@ -514,7 +514,7 @@ static void confirming(void) {
 
 static void overdue(void) {
     dgt_follower *follower = room(dgt_follower_size());
-    CHECK(dgt_follower_new(follower, 10000, 6) && asks(follower, 5, ANEW));
+    CHECK(dgt_follower_init(follower, 10000, 6) && asks(follower, 5, ANEW));
     CHECK(is_due_at(follower, 1005) && asks(follower, 1004, 0) && !dgt_follower_in_doubt(follower));
     CHECK(asks(follower, 1005, ANEW) && dgt_follower_in_doubt(follower));
 
@@ -554,7 +554,7 @@ static void overdue(void) {
 static void unfinished(void) {
     dgt_follower *follower = room(dgt_follower_size());
     uint8_t pieces[64];
-    CHECK(dgt_follower_new(follower, 10000, 6) && asks(follower, 0, ANEW));
+    CHECK(dgt_follower_init(follower, 10000, 6) && asks(follower, 0, ANEW));
     hear_dump(follower, 10, 1);
     CHECK(asks(follower, 10000, HEARTBEAT));
     hear_dump(follower, 10010, 1);
@@ -579,7 +579,7 @@ static void unfinished_without_room(void) {
     dgt_follower *follower = room(dgt_follower_size());
     uint8_t out[DGT_MAX_ASKING];
     uint64_t time;
-    CHECK(dgt_follower_new(follower, 10000, 6) && asks(follower, 12500, ANEW));
+    CHECK(dgt_follower_init(follower, 10000, 6) && asks(follower, 12500, ANEW));
     hear_dump(follower, 12600, 0);
     dgt_follower_hear_all(follower, 14000, BYTES(0x8e));
     dgt_sent asked = dgt_follower_ask(follower, 15000, out, ANEW - 1);
@@ -608,7 +608,7 @@ static void unfinished_without_room(void) {
 static void identifying(void) {
     dgt_follower *follower = room(dgt_follower_size());
     uint8_t serial[5], letters[2] = "xx";
-    CHECK(dgt_follower_new(follower, 1000, 6));
+    CHECK(dgt_follower_init(follower, 1000, 6));
     dgt_follower_set_identify(follower, true);
     CHECK(asks(follower, 0, ANEW) && is_due_at(follower, 1000));
     hear_dump(follower, 5, 1);
@@ -635,7 +635,7 @@ static void identifying(void) {
 static void setting_a_clock(void) {
     dgt_follower *follower = room(dgt_follower_size());
     dgt_clock clock;
-    CHECK(dgt_follower_new(follower, 1000, 6) && asks(follower, 0, ANEW));
+    CHECK(dgt_follower_init(follower, 1000, 6) && asks(follower, 0, ANEW));
     hear_dump(follower, 1, 1);
     for (int time = 0; time < 2; time++) {
         dgt_follower_hear_all(follower, 2, BYTES(0x8d, 0, 10, 1, 2, 3, 4, 5, 6, 9));
@@ -677,7 +677,7 @@ static void setting_a_clock(void) {
 static void clock_commands(void) {
     dgt_host *host = room(dgt_host_size());
     dgt_follower *follower = room(dgt_follower_size());
-    CHECK(dgt_host_new(host) && dgt_follower_new(follower, 1000, 1));
+    CHECK(dgt_host_init(host) && dgt_follower_init(follower, 1000, 1));
     uint8_t *out = room(DGT_MAX_WORD + 1), *many = room(DGT_MAX_PAYLOAD + 1);
     uint8_t *left = copy("\1\0\0", 3), *right = copy("\0\73\36", 3);
     uint8_t *digits = copy("-12345", 6), *other = copy("12345a", 6);
@@ -685,7 +685,7 @@ static void clock_commands(void) {
 
     SENDS(send_display, BYTES(0x2b, 11, 3, 1, 0x5b, 6, 0x40, 0x6d, 0x66, 0x4f, 1, 2, 0), digits, 1,
           2, out, 13 + more);
-    REFUSES(send_display, DGT_NO_COMMAND, 0, other, 0, 0, out, 0 + more);
+    REFUSES(send_display, DGT_REFUSED, 0, other, 0, 0, out, 0 + more);
     REFUSES(send_display, DGT_NO_ROOM, 13 + more, digits, 0, 0, out, 12 + more);
     SENDS(send_text, BYTES(0x2b, 12, 3, 12, 'R', 'e', 's', 'u', 'm', 'e', '!', 255, 7, 0), letters,
           7, out, 14 + more);
@@ -694,10 +694,10 @@ static void clock_commands(void) {
           12 + more);
     SENDS(send_icons, BYTES(0x2b, 5, 3, 2, 8, 9, 0), BYTES(8, 9), out, 7 + more);
     dgt_sent sent = dgt_host_send_icons(host, many, DGT_MAX_PAYLOAD, out, DGT_MAX_WORD);
-    CHECK(sent.status == DGT_SENT && sent.bytes == DGT_MAX_WORD && out[1] == 255 && out[4] == 0xa5);
+    CHECK(sent.status == DGT_DONE && sent.bytes == DGT_MAX_WORD && out[1] == 255 && out[4] == 0xa5);
     sent = dgt_follower_send_icons(follower, many, DGT_MAX_PAYLOAD, out, DGT_MAX_WORD + 1);
-    CHECK(sent.status == DGT_SENT && sent.bytes == DGT_MAX_WORD + 1 && out[1] == 255);
-    REFUSES(send_icons, DGT_NO_COMMAND, 0, many, DGT_MAX_PAYLOAD + 1, out, DGT_MAX_WORD + more);
+    CHECK(sent.status == DGT_DONE && sent.bytes == DGT_MAX_WORD + 1 && out[1] == 255);
+    REFUSES(send_icons, DGT_REFUSED, 0, many, DGT_MAX_PAYLOAD + 1, out, DGT_MAX_WORD + more);
     SENDS(send_end, BYTES(0x2b, 3, 3, 3, 0), out, 5 + more);
     SENDS(send_button, BYTES(0x2b, 3, 3, 8, 0), out, 5 + more);
     SENDS(send_clock_version, BYTES(0x2b, 3, 3, 9, 0), out, 5 + more);
@@ -710,7 +710,7 @@ static void clock_commands(void) {
 static void texts(void) {
     dgt_host *host = room(dgt_host_size());
     dgt_follower *follower = room(dgt_follower_size());
-    CHECK(dgt_host_new(host) && dgt_follower_new(follower, 1000, 1));
+    CHECK(dgt_host_init(host) && dgt_follower_init(follower, 1000, 1));
     uint8_t out[15];
     char *five = (char *)copy("hello", 6), *none = (char *)copy("", 1); /* no byte after them */
     SENDS(show_text, BYTES(0x2b, 12, 3, 12, 'h', 'e', 'l', 'l', 'o', ' ', ' ', ' ', 7, 0), five, 7,
@@ -719,22 +719,22 @@ static void texts(void) {
           "in eight", 0, out, 14 + more);
     SENDS(show_text, BYTES(0x2b, 12, 3, 12, ' ', ' ', ' ', ' ', ' ', ' ', ' ', ' ', 0, 0), none, 0,
           out, 14 + more);
-    REFUSES(show_text, DGT_NO_COMMAND, 0, "nine char", 0, out, 14 + more);
-    REFUSES(show_text, DGT_NO_COMMAND, 0, "R\xc3\xa9sum\xc3\xa9", 0, out, 14 + more);
+    REFUSES(show_text, DGT_REFUSED, 0, "nine char", 0, out, 14 + more);
+    REFUSES(show_text, DGT_REFUSED, 0, "R\xc3\xa9sum\xc3\xa9", 0, out, 14 + more);
     REFUSES(show_text, DGT_NO_ROOM, 14 + more, five, 0, out, 13 + more);
     SENDS(show_digits, BYTES(0x2b, 11, 3, 1, 0x40, 0x5b, 6, 0, 0, 0x4f, 1, 2, 0), "12-3", 1, 2, out,
           13 + more);
     SENDS(show_digits, BYTES(0x2b, 11, 3, 1, 0, 0, 0, 0, 0, 0, 0, 0, 0), none, 0, 0, out,
           13 + more);
-    REFUSES(show_digits, DGT_NO_COMMAND, 0, "1234567", 0, 0, out, 14 + more);
-    REFUSES(show_digits, DGT_NO_COMMAND, 0, five, 0, 0, out, 14 + more);
+    REFUSES(show_digits, DGT_REFUSED, 0, "1234567", 0, 0, out, 14 + more);
+    REFUSES(show_digits, DGT_REFUSED, 0, five, 0, 0, out, 14 + more);
     REFUSES(show_digits, DGT_NO_ROOM, 13 + more, "123456", 0, 0, out, 12 + more);
     free(host), free(follower), free(five), free(none);
 }
 
 static void decoders(void) {
     dgt_decoder *decoder = room(dgt_decoder_size());
-    CHECK(dgt_decoder_new(decoder));
+    CHECK(dgt_decoder_init(decoder));
     dgt_event event;
     uint8_t out[4];
     CHECK(dgt_decoder_feed(decoder, BYTES(0x8e, 0, 5, 36, 1, 7), &event, out, 4) == 5);
@@ -742,15 +742,15 @@ static void decoders(void) {
           !event.unasked);
     CHECK(dgt_decoder_feed(decoder, BYTES(0x8e, 0), &event, out, 4) == 2 &&
           event.kind == DGT_EVENT_NONE);
-    CHECK(dgt_decoder_rest(decoder) == 2 && dgt_decoder_finish(decoder) == 2);
+    CHECK(dgt_decoder_unread(decoder) == 2 && dgt_decoder_finish(decoder) == 2);
     CHECK(dgt_decoder_finish(decoder) == 0);
     CHECK(dgt_decoder_feed(decoder, BYTES(0x8e, 0), &event, out, 4) == 2);
     dgt_decoder_reset(decoder);
-    CHECK(dgt_decoder_rest(decoder) == 0);
+    CHECK(dgt_decoder_unread(decoder) == 0);
     free(decoder);
 
     dgt_command_decoder *reader = room(dgt_command_decoder_size());
-    CHECK(dgt_command_decoder_new(reader));
+    CHECK(dgt_command_decoder_init(reader));
     dgt_command command;
     CHECK(dgt_command_decoder_feed(reader, BYTES(0x2b, 4, 3, 0x0b, 9, 0, 7), &command, out,
           4) == 6);
@@ -765,9 +765,9 @@ static void decoders(void) {
     CHECK(dgt_command_decoder_feed(reader, BYTES(0x2b, 3, 3, 9, 1), &command, out, 4) == 5);
     CHECK(command.kind == DGT_BAD_END);
     CHECK(dgt_command_decoder_feed(reader, BYTES(0x60, 5), &command, out, 4) == 2);
-    CHECK(dgt_command_decoder_rest(reader) == 2 && dgt_command_decoder_finish(reader) == 2);
+    CHECK(dgt_command_decoder_unread(reader) == 2 && dgt_command_decoder_finish(reader) == 2);
     dgt_command_decoder_reset(reader);
-    CHECK(dgt_command_decoder_rest(reader) == 0);
+    CHECK(dgt_command_decoder_unread(reader) == 0);
     free(reader);
 }
 
@@ -858,9 +858,9 @@ static bool is_encoded(const dgt_event *said, const uint8_t *carried, size_t car
                        const uint8_t *bytes, size_t n) {
     uint8_t *out = room(n + 1), *read = copy(carried, carried_len), *whole = copy(bytes + 3, n - 3);
     dgt_encoded encoded = dgt_encode_message(said, read, carried_len, out, n - 1);
-    bool right = encoded.status == DGT_TOO_SHORT && encoded.bytes == n && out[0] == 0xa5;
+    bool right = encoded.status == DGT_NO_ROOM && encoded.bytes == n && out[0] == 0xa5;
     encoded = dgt_encode_message(said, read, carried_len, out, n + 1);
-    right = right && encoded.status == DGT_ENCODED && encoded.bytes == n && out[n] == 0xa5;
+    right = right && encoded.status == DGT_DONE && encoded.bytes == n && out[n] == 0xa5;
     right = right && !memcmp(out, bytes, n);
     dgt_event *viewed = room(sizeof *viewed);
     right = right && dgt_view_message(bytes[0] - 128, whole, n - 3, viewed);
@@ -915,11 +915,11 @@ static bool has_text(dgt_event said, const uint8_t *carried, size_t carried_len,
     uint8_t *out = room(n), *read = copy(carried, carried_len);
     *event = said;
     dgt_encoded done = dgt_event_text(event, read, carried_len, (char *)out, n - 1);
-    bool right = done.status == DGT_TOO_SHORT && done.bytes == n && out[0] == 0xa5;
+    bool right = done.status == DGT_NO_ROOM && done.bytes == n && out[0] == 0xa5;
     done = dgt_event_text(event, read, carried_len, NULL, 0);
-    right = right && done.status == DGT_TOO_SHORT && done.bytes == n;
+    right = right && done.status == DGT_NO_ROOM && done.bytes == n;
     done = dgt_event_text(event, read, carried_len, (char *)out, n);
-    right = right && done.status == DGT_ENCODED && done.bytes == n && !memcmp(out, text, n);
+    right = right && done.status == DGT_DONE && done.bytes == n && !memcmp(out, text, n);
     free(event), free(read), free(out);
     return right;
 }
@@ -927,7 +927,7 @@ static bool has_text(dgt_event said, const uint8_t *carried, size_t carried_len,
 static bool has_no_text(dgt_event said) {
     char text[100] = "?";
     dgt_encoded done = dgt_event_text(&said, NO_BODY, text, sizeof text);
-    return done.status == DGT_NOT_ENCODED && done.bytes == 0 && text[0] == '?';
+    return done.status == DGT_REFUSED && done.bytes == 0 && text[0] == '?';
 }
 
 #define EVENT(...) ((dgt_event){__VA_ARGS__})
@@ -963,10 +963,10 @@ static void event_texts(void) {
 static bool says_nothing(const dgt_event *said, const uint8_t *carried, size_t carried_len) {
     uint8_t *out = room(10);
     dgt_encoded encoded = dgt_encode_message(said, carried, carried_len, out, 10);
-    bool right = encoded.status == DGT_NOT_ENCODED && encoded.bytes == 0 && out[0] == 0xa5;
+    bool right = encoded.status == DGT_REFUSED && encoded.bytes == 0 && out[0] == 0xa5;
     encoded = dgt_encode_message(said, carried, carried_len, NULL, 0);
     free(out);
-    return right && encoded.status == DGT_NOT_ENCODED && encoded.bytes == 0;
+    return right && encoded.status == DGT_REFUSED && encoded.bytes == 0;
 }
 
 static void no_messages(void) {
@@ -1019,9 +1019,9 @@ static bool is_command(uint8_t code, uint8_t id, const uint8_t *carried, size_t 
                        const uint8_t *bytes, size_t n) {
     uint8_t *out = room(n + 1), *read = copy(carried, carried_len), *word = copy(bytes, n);
     dgt_encoded encoded = dgt_encode_command(code, id, read, carried_len, out, n - 1);
-    bool right = encoded.status == DGT_TOO_SHORT && encoded.bytes == n && out[0] == 0xa5;
+    bool right = encoded.status == DGT_NO_ROOM && encoded.bytes == n && out[0] == 0xa5;
     encoded = dgt_encode_command(code, id, read, carried_len, out, n + 1);
-    right = right && encoded.status == DGT_ENCODED && encoded.bytes == n && out[n] == 0xa5;
+    right = right && encoded.status == DGT_DONE && encoded.bytes == n && out[n] == 0xa5;
     right = right && !memcmp(out, bytes, n);
     dgt_command command;
     right = right && dgt_view_command(word, n, &command) && command.kind == DGT_COMMAND;
@@ -1046,12 +1046,12 @@ static void commands(void) {
     const uint8_t codes[] = {0, 0x2a, 0x3f, 0x46, 0x56, 0x5f, 0x61, 0xff};
     for (size_t i = 0; i < sizeof codes; i++) {
         dgt_encoded encoded = dgt_encode_command(codes[i], 1, NULL, 0, out, sizeof out);
-        CHECK(encoded.status == DGT_NOT_ENCODED && encoded.bytes == 0);
+        CHECK(encoded.status == DGT_REFUSED && encoded.bytes == 0);
     }
-    CHECK(dgt_encode_command(0x42, 0, bytes, 1, out, 1).status == DGT_NOT_ENCODED);
-    CHECK(dgt_encode_command(0x2b, 2, bytes, 253, out, 257).status == DGT_NOT_ENCODED);
-    CHECK(dgt_encode_command(0x60, 0, bytes, 256, NULL, 0).status == DGT_NOT_ENCODED);
-    CHECK(dgt_encode_command(0x60, 0, NULL, 0, NULL, 0).status == DGT_TOO_SHORT);
+    CHECK(dgt_encode_command(0x42, 0, bytes, 1, out, 1).status == DGT_REFUSED);
+    CHECK(dgt_encode_command(0x2b, 2, bytes, 253, out, 257).status == DGT_REFUSED);
+    CHECK(dgt_encode_command(0x60, 0, bytes, 256, NULL, 0).status == DGT_REFUSED);
+    CHECK(dgt_encode_command(0x60, 0, NULL, 0, NULL, 0).status == DGT_NO_ROOM);
 
     dgt_command command = {9, 9, 9, 9, {9}, 9};
     CHECK(!dgt_view_command(NULL, 0, &command) && !dgt_view_command(BYTES(0x42, 0x42), &command));
@@ -1075,16 +1075,16 @@ static void differing(void) {
 static void no_bytes_of_hosts(void) {
     dgt_host *host = room(dgt_host_size());
     dgt_decoder *decoder = room(dgt_decoder_size());
-    CHECK(dgt_host_new(host) && dgt_decoder_new(decoder));
+    CHECK(dgt_host_init(host) && dgt_decoder_init(decoder));
     dgt_event event;
     CHECK(dgt_host_hear(host, NULL, 0, &event, NULL, 0) == 0 && event.kind == DGT_EVENT_NONE);
     CHECK(dgt_host_hear(host, BYTES(0x92, 0, 4, 'D'), &event, NULL, 0) == 4);
     CHECK(event.kind == DGT_EVENT_TRADEMARK && event.body_len == 1);
-    dgt_told all = dgt_host_hear_all(host, NULL, 0, NULL, 0, NULL, 0);
+    dgt_told all = dgt_host_hear_many(host, NULL, 0, NULL, 0, NULL, 0);
     CHECK(all.used == 0 && all.count == 0);
-    all = dgt_host_hear_all(host, BYTES(0x92, 0, 4, 'D'), &event, 1, NULL, 0);
+    all = dgt_host_hear_many(host, BYTES(0x92, 0, 4, 'D'), &event, 1, NULL, 0);
     CHECK(all.used == 4 && all.count == 1 && event.body_len == 1);
-    all = dgt_host_hear_all(host, BYTES(0x92, 0, 4, 'D'), NULL, 0, NULL, 0);
+    all = dgt_host_hear_many(host, BYTES(0x92, 0, 4, 'D'), NULL, 0, NULL, 0);
     CHECK(all.used == 0 && all.count == 0);
     CHECK(dgt_host_follow(host, NULL, 0).status == DGT_NO_ROOM);
     CHECK(dgt_host_restart(host, NULL, 0).status == DGT_NO_ROOM);
@@ -1092,9 +1092,9 @@ static void no_bytes_of_hosts(void) {
     CHECK(dgt_decoder_feed(decoder, NULL, 0, &event, NULL, 0) == 0 && event.kind == 0);
     CHECK(dgt_decoder_feed(decoder, BYTES(0x92, 0, 4, 'D'), &event, NULL, 0) == 4);
     CHECK(event.kind == DGT_EVENT_TRADEMARK && event.body_len == 1);
-    all = dgt_decoder_feed_all(decoder, NULL, 0, NULL, 0, NULL, 0);
+    all = dgt_decoder_feed_many(decoder, NULL, 0, NULL, 0, NULL, 0);
     CHECK(all.used == 0 && all.count == 0);
-    all = dgt_decoder_feed_all(decoder, BYTES(0x92, 0, 4, 'D'), &event, 1, NULL, 0);
+    all = dgt_decoder_feed_many(decoder, BYTES(0x92, 0, 4, 'D'), &event, 1, NULL, 0);
     CHECK(all.used == 4 && all.count == 1 && event.body_len == 1);
     free(host), free(decoder);
 }
@@ -1103,7 +1103,7 @@ static void no_bytes_of_hosts(void) {
 static void no_bytes_for_commands(void) {
     dgt_host *host = room(dgt_host_size());
     dgt_follower *follower = room(dgt_follower_size());
-    CHECK(dgt_host_new(host) && dgt_follower_new(follower, 1000, 1));
+    CHECK(dgt_host_init(host) && dgt_follower_init(follower, 1000, 1));
     const uint8_t time[3] = {0}, digits[6] = {'1', '2', '3', '4', '5', '6'}, text[8] = {0};
     uint8_t out[6];
     REFUSES(send, DGT_NO_ROOM, 1, DGT_SEND_DUMP, NULL, 0);
@@ -1125,8 +1125,8 @@ static void no_bytes_for_commands(void) {
 
 static void no_bytes_of_followers(void) {
     dgt_follower *follower = room(dgt_follower_size());
-    CHECK(!dgt_follower_new(follower, DGT_LEAST_PERIOD - 1, 1));
-    CHECK(dgt_follower_new(follower, 1000, 1));
+    CHECK(!dgt_follower_init(follower, DGT_LEAST_PERIOD - 1, 1));
+    CHECK(dgt_follower_init(follower, 1000, 1));
     CHECK(dgt_follower_hear(follower, 1, NULL, 0, &heard, NULL, 0) == 0);
     CHECK(heard.kind == DGT_EVENT_NONE && heard.place == 0);
     dgt_follower_hear_all(follower, 1, NULL, 0);
@@ -1138,7 +1138,7 @@ static void no_bytes_of_followers(void) {
 static void no_bytes_of_boards(void) {
     dgt_command_decoder *reader = room(dgt_command_decoder_size());
     dgt_board *board = room(dgt_board_size());
-    CHECK(dgt_command_decoder_new(reader) && dgt_board_new(board));
+    CHECK(dgt_command_decoder_init(reader) && dgt_board_init(board));
     dgt_command command;
     CHECK(dgt_command_decoder_feed(reader, NULL, 0, &command, NULL, 0) == 0);
     CHECK(command.kind == DGT_NO_WORD);
@@ -1150,7 +1150,7 @@ static void no_bytes_of_boards(void) {
     taken = dgt_board_take(board, BYTES(DGT_SEND_VERSION), &command, NULL, 0);
     CHECK(!taken.busy && taken.used == 1 && command.code == DGT_SEND_VERSION);
     dgt_polled polled = dgt_board_poll(board, NULL, 0);
-    CHECK(polled.status == DGT_NEED_ROOM && polled.bytes == 5);
+    CHECK(polled.status == DGT_NO_ROOM && polled.bytes == 5);
     dgt_board_line_lost(board);
     CHECK(dgt_board_poll(board, NULL, 0).status == DGT_NOTHING);
 

@@ -163,7 +163,7 @@ static void exchanging(void) {
     static dgt_follower follower;
     const uint8_t dump[67] = {0x86, 0, 67, [3 + 52] = 1};
     char text[DGT_PLACEMENT_ROOM];
-    CHECK(dgt_follower_new(&follower, DGT_LEAST_PERIOD, 6));
+    CHECK(dgt_follower_init(&follower, DGT_LEAST_PERIOD, 6));
     uint64_t start = dgt_port_now(), due;
     CHECK(dgt_port_exchange(port, &follower, bytes, sizeof bytes) == 0);
     CHECK(dgt_port_now() - start >= 999 && dgt_port_now() - start < 5000);
@@ -176,7 +176,7 @@ static void exchanging(void) {
     turning(&follower);
 
     /* A follower that asks never again waits for bytes. */
-    CHECK(dgt_follower_new(&follower, UINT64_MAX, 6));
+    CHECK(dgt_follower_init(&follower, UINT64_MAX, 6));
     CHECK(write(line, dump, sizeof dump) == sizeof dump);
     CHECK(dgt_port_exchange(port, &follower, bytes, sizeof bytes) == sizeof dump);
     dgt_follower_hear_all(&follower, dgt_port_now(), bytes, sizeof dump);

@@ -149,6 +149,6 @@ async function settled(promise) {
   board.change("e2", ".");
   const asked = Uint8Array.of(...Array(10).fill(0x4d), 0x42, 0x2b, 4);
   assert.deepEqual(codes(asked), [0x8e, ...Array(10).fill(0x93), 0x86]);
-  assert.deepEqual([board.partial, board.owes, codes(new Uint8Array())], [2, false, []]);
+  assert.deepEqual([board.unread, board.owes, codes(new Uint8Array())], [2, false, []]);
   assert.throws(() => codes("text"), BadValue);
 }

@@ -74,8 +74,8 @@ static void say_command(const dgt_command *c, const uint8_t *word) {
 }
 
 static void say_sent(dgt_sent sent) {
-    say(sent.status == DGT_TOO_MANY ? "many " : sent.status ? "bad " : "ok ");
-    if (sent.status == DGT_SENT) say_bytes(out, sent.bytes);
+    say(sent.status == DGT_TOO_MANY_AWAITED ? "many " : sent.status ? "bad " : "ok ");
+    if (sent.status == DGT_DONE) say_bytes(out, sent.bytes);
 }
 
 static void say_whether(bool is_right) { say(is_right ? "ok " : "bad "); }
@@ -122,7 +122,7 @@ static void look(void) {
     dgt_follower_clock(&follower, &clock), say_clock(&clock);
     say_number(dgt_follower_unread(&follower));
     say_bytes(codes, dgt_host_awaited(&host, codes));
-    say_number(dgt_decoder_rest(&decoder)), say_number(dgt_command_decoder_rest(&reader));
+    say_number(dgt_decoder_unread(&decoder)), say_number(dgt_command_decoder_unread(&reader));
     if (dgt_follower_due_at(&follower, &time)) say_number(time);
     if (dgt_follower_last_heard(&follower, &time)) say_number(time);
     say("ok ");
@@ -132,7 +132,7 @@ static void look(void) {
     dgt_board_position(&board, pieces), say_bytes(pieces, 64);
     dgt_board_clock(&board, &clock), say_clock(&clock);
     say("%d %zu %zu %d ", dgt_board_owes(&board), dgt_board_owed_len(&board),
-        dgt_board_partial(&board), dgt_board_mode(&board));
+        dgt_board_unread(&board), dgt_board_mode(&board));
 }
 
 /* Of both handles, the call of this name. */
@@ -160,14 +160,14 @@ static void clock_command(void) {
 
 static void encode(const dgt_event *event, const uint8_t *carried, size_t n) {
     dgt_encoded made = dgt_encode_message(event, carried, n, out, sizeof out);
-    say_whether(made.status == DGT_ENCODED);
-    if (made.status == DGT_ENCODED) say_bytes(out, made.bytes);
+    say_whether(made.status == DGT_DONE);
+    if (made.status == DGT_DONE) say_bytes(out, made.bytes);
 }
 
 static void say_text(const dgt_event *event, const uint8_t *carried, size_t n) {
     static char text[1024];
     dgt_encoded made = dgt_event_text(event, carried, n, text, sizeof text);
-    if (made.status == DGT_ENCODED) say("%s", text);
+    if (made.status == DGT_DONE) say("%s", text);
 }
 
 static void view_message(void) {
@@ -191,7 +191,7 @@ static void any_message(void) {
     event.main_number = n[0], event.sub_number = n[1];
     memcpy(event.ack, n, 4), event.ack_status = n[4], memcpy(event.serial, n, 5);
     encode(&event, NULL, 0);
-    say_whether(dgt_event_text(&event, NULL, 0, (char *)text, sizeof text).status == DGT_ENCODED);
+    say_whether(dgt_event_text(&event, NULL, 0, (char *)text, sizeof text).status == DGT_DONE);
     say_text(&event, NULL, 0);
 }
 
@@ -200,8 +200,8 @@ static void view_command(void) {
     uint8_t code = (uint8_t)get(1), id = (uint8_t)get(1);
     size_t n = get_bytes(1);
     dgt_encoded made = dgt_encode_command(code, id, bytes, n, out, sizeof out);
-    say_whether(made.status == DGT_ENCODED);
-    if (made.status == DGT_ENCODED) say_bytes(out, made.bytes);
+    say_whether(made.status == DGT_DONE);
+    if (made.status == DGT_DONE) say_bytes(out, made.bytes);
     n = get_bytes(1);
     if (dgt_view_command(bytes, n, &command)) say_command(&command, bytes);
 }
@@ -274,8 +274,8 @@ static int begin(void) {
     uint64_t period = get(4);
     uint32_t patience = get(1);
     unsigned says = get(1);
-    if (!dgt_decoder_new(&decoder) || !dgt_host_new(&host) || !dgt_board_new(&board) ||
-        !dgt_command_decoder_new(&reader) || !dgt_follower_new(&follower, period, patience))
+    if (!dgt_decoder_init(&decoder) || !dgt_host_init(&host) || !dgt_board_init(&board) ||
+        !dgt_command_decoder_init(&reader) || !dgt_follower_init(&follower, period, patience))
         return 1;
     dgt_follower_set_confirm(&follower, says & 1);
     dgt_follower_set_identify(&follower, says >> 1 & 1);

@@ -394,14 +394,14 @@ function look() {
     sayNumbers(it.unread);
   }
   sayBytes(host.awaited);
-  sayNumbers(decoder.rest, reader.rest);
+  sayNumbers(decoder.unread, reader.unread);
   if (follower.dueAt !== Infinity) sayNumbers(follower.dueAt);
   if (follower.lastHeard !== null) sayNumbers(follower.lastHeard);
   sayResult(() => follower.serial);
   sayNumbers(follower.inDoubt, follower.confirmed, follower.heartbeatsLeft, follower.mode);
   sayBytes(board.position);
   sayClock(board.clock);
-  sayNumbers(board.owes, board.owedLength, board.partial, board.mode);
+  sayNumbers(board.owes, board.owedLength, board.unread, board.mode);
 }
 
 const hashes = [];

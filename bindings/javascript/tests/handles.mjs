@@ -30,7 +30,7 @@ const dgt = await load(bytes);
   old.close();
   old.close();
   new Decoder(dgt).feed(Uint8Array.of(0x8e));
-  for (const act of [() => old.feed(new Uint8Array(1)), () => old.rest, () => old.reset()]) {
+  for (const act of [() => old.feed(new Uint8Array(1)), () => old.unread, () => old.reset()]) {
     assert.throws(act, Closed);
   }
 }

@@ -6,7 +6,7 @@ from collections.abc import Callable
 from ctypes import byref, c_char, c_uint8
 from typing import Any
 
-from ._c import MAX_ASKING, MAX_WORD, PLACEMENT_ROOM, SENT, TOO_MANY, ClockStruct, SentStruct
+from ._c import MAX_ASKING, MAX_WORD, PLACEMENT_ROOM, DONE, TOO_MANY_AWAITED, ClockStruct, SentStruct
 from ._handle import Bytes, Handle, readable, writable
 from ._library import dgt
 from .clock_commands import ClockCommands
@@ -30,9 +30,9 @@ class Asker(Handle, ClockCommands[bytes]):
 
     def _send(self, at: int, send: Callable[..., SentStruct], what: tuple[int, ...]) -> bytes:
         sent = send(at, *what, self._out_at, len(self._out))
-        if sent.status == TOO_MANY:
+        if sent.status == TOO_MANY_AWAITED:
             raise TooManyAwaited("16 replies are awaited already")
-        if sent.status != SENT:
+        if sent.status != DONE:
             raise NoSuchCommand("no command has this code or payload")
         return bytes(self._out[:sent.bytes])
 

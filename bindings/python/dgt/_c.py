@@ -80,7 +80,7 @@ ID_SET_AND_RUN = 0x0a
 ID_BEEP = 0x0b
 ID_TEXT = 0x0c
 SENT = 0
-TOO_MANY = 1
+TOO_MANY_AWAITED = 1
 NO_ROOM = 2
 NO_COMMAND = 3
 STARTED = 0
@@ -296,9 +296,9 @@ SIZES = {"dgt_host": HOST_SIZE, "dgt_follower": FOLLOWER_SIZE, "dgt_decoder": DE
 CALLS: dict[str, tuple[Any, ...]] = {
     "dgt_version": (c_uint32,),
     "dgt_host_size": (c_size_t,),
-    "dgt_host_init": (None, c_void_p),
+    "dgt_host_make": (None, c_void_p),
     "dgt_host_hear": (c_size_t, c_void_p, c_void_p, c_size_t, c_void_p, c_void_p, c_size_t),
-    "dgt_host_hear_all": (ToldStruct, c_void_p, c_void_p, c_size_t, c_void_p, c_size_t, c_void_p,
+    "dgt_host_hear_many": (ToldStruct, c_void_p, c_void_p, c_size_t, c_void_p, c_size_t, c_void_p,
                           c_size_t),
     "dgt_host_follow": (SentStruct, c_void_p, c_void_p, c_size_t),
     "dgt_host_restart": (SentStruct, c_void_p, c_void_p, c_size_t),
@@ -322,7 +322,7 @@ CALLS: dict[str, tuple[Any, ...]] = {
     "dgt_host_unread": (c_size_t, c_void_p),
     "dgt_host_line_lost": (None, c_void_p),
     "dgt_follower_size": (c_size_t,),
-    "dgt_follower_init": (None, c_void_p),
+    "dgt_follower_make": (None, c_void_p),
     "dgt_follower_start": (None, c_void_p, c_uint64, c_uint32),
     "dgt_follower_hear": (c_size_t, c_void_p, c_uint64, c_void_p, c_size_t, c_void_p, c_void_p,
                           c_size_t),
@@ -360,22 +360,22 @@ CALLS: dict[str, tuple[Any, ...]] = {
     "dgt_follower_line_disturbed": (None, c_void_p),
     "dgt_follower_line_lost": (None, c_void_p),
     "dgt_decoder_size": (c_size_t,),
-    "dgt_decoder_init": (None, c_void_p),
+    "dgt_decoder_make": (None, c_void_p),
     "dgt_decoder_feed": (c_size_t, c_void_p, c_void_p, c_size_t, c_void_p, c_void_p, c_size_t),
-    "dgt_decoder_feed_all": (ToldStruct, c_void_p, c_void_p, c_size_t, c_void_p, c_size_t, c_void_p,
+    "dgt_decoder_feed_many": (ToldStruct, c_void_p, c_void_p, c_size_t, c_void_p, c_size_t, c_void_p,
                              c_size_t),
-    "dgt_decoder_rest": (c_size_t, c_void_p),
+    "dgt_decoder_unread": (c_size_t, c_void_p),
     "dgt_decoder_finish": (c_size_t, c_void_p),
     "dgt_decoder_reset": (None, c_void_p),
     "dgt_command_decoder_size": (c_size_t,),
-    "dgt_command_decoder_init": (None, c_void_p),
+    "dgt_command_decoder_make": (None, c_void_p),
     "dgt_command_decoder_feed": (c_size_t, c_void_p, c_void_p, c_size_t, POINTER(CommandStruct),
                                  c_void_p, c_size_t),
-    "dgt_command_decoder_rest": (c_size_t, c_void_p),
+    "dgt_command_decoder_unread": (c_size_t, c_void_p),
     "dgt_command_decoder_finish": (c_size_t, c_void_p),
     "dgt_command_decoder_reset": (None, c_void_p),
     "dgt_board_size": (c_size_t,),
-    "dgt_board_init": (None, c_void_p),
+    "dgt_board_make": (None, c_void_p),
     "dgt_board_start": (c_uint8, c_void_p, c_void_p, POINTER(ClockStruct), POINTER(IdentityStruct)),
     "dgt_board_change": (c_bool, c_void_p, c_uint8, c_uint8),
     "dgt_board_hand_clock": (c_bool, c_void_p, POINTER(ClockStruct)),
@@ -385,7 +385,7 @@ CALLS: dict[str, tuple[Any, ...]] = {
     "dgt_board_poll": (PolledStruct, c_void_p, c_void_p, c_size_t),
     "dgt_board_owes": (c_bool, c_void_p),
     "dgt_board_owed_len": (c_size_t, c_void_p),
-    "dgt_board_partial": (c_size_t, c_void_p),
+    "dgt_board_unread": (c_size_t, c_void_p),
     "dgt_board_mode": (c_uint8, c_void_p),
     "dgt_board_position": (None, c_void_p, c_void_p),
     "dgt_board_clock": (None, c_void_p, POINTER(ClockStruct)),

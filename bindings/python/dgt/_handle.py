@@ -52,7 +52,7 @@ class Handle(Uncopied):
         self._running = False
         size = getattr(dgt, f"{self._prefix}_size")()
         self._room = (c_uint64 * ((size + 7) // 8))()
-        getattr(dgt, f"{self._prefix}_init")(self._room)
+        getattr(dgt, f"{self._prefix}_make")(self._room)
         self._at = ctypes.addressof(self._room)
 
     def _call(self, use: Callable[..., _Answer], *arguments: Any) -> _Answer:

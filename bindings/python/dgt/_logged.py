@@ -80,11 +80,11 @@ def _heard(port: Port, stop: int) -> tuple[bytes, str]:
     decoder, bodies, fault = Decoder(), list[bytes](), ""
     port.write(_BEGINS + STORED_REQUEST)
     begun = heard = now = time.monotonic()
-    while now < min(begun + _LONGEST, heard + (_AFTER if bodies and not decoder.rest else SILENCE)):
+    while now < min(begun + _LONGEST, heard + (_AFTER if bodies and not decoder.unread else SILENCE)):
         try:
             chunk = port.exchange(_LOOK)
         except OSError:
-            if bodies and not decoder.rest:
+            if bodies and not decoder.unread:
                 break  # the log was complete
             raise
         if has_input(stop, 0.0):
@@ -99,8 +99,8 @@ def _heard(port: Port, stop: int) -> tuple[bytes, str]:
                 fault = str(event)
         if port.is_disturbed(now):
             fault = "the system has counted errors"
-    if decoder.rest:
-        fault = fault or f"a message was cut off after {decoder.rest} bytes"
+    if decoder.unread:
+        fault = fault or f"a message was cut off after {decoder.unread} bytes"
     if not bodies and not fault:
         raise NoLog(f"the board sent no log within {SILENCE:g} seconds. Not every board keeps one. "
                     "Switch it off and on, and try again; dgt-doctor checks whether it answers")

@@ -163,9 +163,9 @@ class Board(Handle):
         return int(self._call(dgt.dgt_board_owed_len))
 
     @property
-    def partial(self) -> int:
+    def unread(self) -> int:
         """The number of bytes received of an unfinished command."""
-        return int(self._call(dgt.dgt_board_partial))
+        return int(self._call(dgt.dgt_board_unread))
 
     @property
     def mode(self) -> Mode:

@@ -102,7 +102,7 @@ class Decoder(EventReader):
     >>> decoder = Decoder()
     >>> decoder.feed(b"\x8e\x00\x05\x24")
     []
-    >>> decoder.rest
+    >>> decoder.unread
     4
     >>> decoder.feed(b"\x01")
     [Field(square='e4', piece='P')]
@@ -128,12 +128,12 @@ class Decoder(EventReader):
         return self._each(chunk)
 
     @property
-    def rest(self) -> int:
+    def unread(self) -> int:
         """The number of bytes received of an unfinished message."""
-        return int(self._call(dgt.dgt_decoder_rest))
+        return int(self._call(dgt.dgt_decoder_unread))
 
     def finish(self) -> int:
-        """Returns `rest` at the end of the bytes, and resets the decoder."""
+        """Returns `unread` at the end of the bytes, and resets the decoder."""
         return int(self._call(self._made_new, dgt.dgt_decoder_finish))
 
     def reset(self) -> None:
@@ -190,12 +190,12 @@ class CommandDecoder(Handle):
         return used, read_word(self._told, self._word) if self._told.kind else None
 
     @property
-    def rest(self) -> int:
+    def unread(self) -> int:
         """The number of bytes received of an unfinished command."""
-        return int(self._call(dgt.dgt_command_decoder_rest))
+        return int(self._call(dgt.dgt_command_decoder_unread))
 
     def finish(self) -> int:
-        """Returns `rest` at the end of the bytes, and resets the reader."""
+        """Returns `unread` at the end of the bytes, and resets the reader."""
         return int(self._call(dgt.dgt_command_decoder_finish))
 
     def reset(self) -> None:

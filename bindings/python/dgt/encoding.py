@@ -92,7 +92,7 @@ def _encoded(encode: Callable[..., EncodedStruct], room: int, what: object,
              *arguments: object) -> bytes:
     out, out_at = writable(room)
     encoded = encode(*arguments, out_at, room)
-    if encoded.status != _c.ENCODED:
+    if encoded.status != _c.DONE:
         raise BadValue(f"a member is out of its range: {what!r}")
     return bytes(out[:encoded.bytes])
 

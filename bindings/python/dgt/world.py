@@ -24,11 +24,11 @@ class Outcome(StrEnum):
     NOTHING = "nothing"
     NO_ROOM = "noroom"
     BUSY = "busy"
-    TOO_MANY = "toomany"
+    TOO_MANY_AWAITED = "toomany"
 
 
-_SENDING = {_c.SENT: Outcome.DONE, _c.TOO_MANY: Outcome.TOO_MANY, _c.NO_ROOM: Outcome.NO_ROOM}
-_POLLING = {_c.NOTHING: Outcome.NOTHING, _c.WROTE: Outcome.DONE, _c.NEED_ROOM: Outcome.NO_ROOM}
+_SENDING = {_c.DONE: Outcome.DONE, _c.TOO_MANY_AWAITED: Outcome.TOO_MANY_AWAITED, _c.NO_ROOM: Outcome.NO_ROOM}
+_POLLING = {_c.NOTHING: Outcome.NOTHING, _c.WROTE: Outcome.DONE, _c.NO_ROOM: Outcome.NO_ROOM}
 
 
 class World(Uncopied):
@@ -85,7 +85,7 @@ class World(Uncopied):
     def quiet(self) -> bool:
         """Whether nothing is in transit or left to send: both lines are empty, neither side has a
         part of a message or command, and the board has nothing to send."""
-        held = self._up or self._down or self._board.partial or self._host.unread
+        held = self._up or self._down or self._board.unread or self._host.unread
         return not held and not self._board.owes
 
     # ---- Changes on the board, and what both sides send
@@ -101,7 +101,7 @@ class World(Uncopied):
         return Outcome.DONE
 
     def host_sends(self, command: Ask | Command) -> Outcome:
-        """The host sends a command. `TOO_MANY` if it requests a reply and 16 are awaited already,
+        """The host sends a command. `TOO_MANY_AWAITED` if it requests a reply and 16 are awaited already,
         `NO_ROOM` if the line has no room for all its bytes. `NoSuchCommand` if it isn't one of
         `Ask`, or is too long for a command."""
         if isinstance(command, ClockMessage):
@@ -117,9 +117,9 @@ class World(Uncopied):
     def _sent(self, send: Callable[..., Any], *what: int) -> Outcome:
         room = min(self._down_room - len(self._down), len(self._out))
         sent = self._host._call(send, *what, self._out_at, room)
-        if sent.status == _c.NO_COMMAND:
+        if sent.status == _c.REFUSED:
             raise NoSuchCommand("no command has this code or payload")
-        self._down += self._out[:sent.bytes] if sent.status == _c.SENT else b""
+        self._down += self._out[:sent.bytes] if sent.status == _c.DONE else b""
         return _SENDING[sent.status]
 
     def board_sends(self) -> Outcome:

@@ -9,7 +9,7 @@ use Rattle.dgt_c.specs.Commands.{CommandReporting, ReportsCommand}
 use Rattle.dgt_c.specs.Reading.{ReadsWord}
 use Rattle.dgt_c.specs.declared.header.DgtPolled.{DgtPolled}
 use Rattle.dgt_c.specs.declared.header.DgtTaken.{DgtTaken}
-use Rattle.dgt_c.specs.declared.header.TheConstants.{MODE_IDLE, MODE_UPDATE, MODE_UPDATE_BOARD, MODE_UPDATE_NICE, POLLED_NEED_ROOM, POLLED_NOTHING, POLLED_WROTE}
+use Rattle.dgt_c.specs.declared.header.TheConstants.{MODE_IDLE, MODE_UPDATE, MODE_UPDATE_BOARD, MODE_UPDATE_NICE, NO_ROOM, POLLED_NOTHING, POLLED_WROTE}
 
 abbrev pub mode_number : Mode → ℕ
 mode_number Mode.Idle = MODE_IDLE
@@ -34,7 +34,7 @@ Takes before chunk taken reported after =
 abbrev pub polled_reported : Polled → DgtPolled
 polled_reported Polled.Nothing = record { status = POLLED_NOTHING; bytes = 0 }
 polled_reported (Polled.Wrote bytes) = record { status = POLLED_WROTE; bytes = bytes }
-polled_reported (Polled.NeedRoom bytes) = record { status = POLLED_NEED_ROOM; bytes = bytes }
+polled_reported (Polled.NeedRoom bytes) = record { status = NO_ROOM; bytes = bytes }
 
 -- the struct contains the result of polling: the board before and after, the slice before and after
 abbrev pub PollsReported : DgtPolled → BoardView → BoardView → List ℕ → List ℕ → Type 0

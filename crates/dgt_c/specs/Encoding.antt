@@ -14,13 +14,13 @@ use Rattle.dgt_decode.specs.Grammar.{reading_event}
 use Rattle.dgt_c.specs.Clocks.{SaysClock}
 use Rattle.dgt_c.specs.Reported.{event_reported, message_reported}
 use Rattle.dgt_c.specs.declared.header.DgtEncoded.{DgtEncoded}
-use Rattle.dgt_c.specs.declared.header.TheConstants.{ENCODED, NOTHING_ENCODED, TOO_SHORT}
+use Rattle.dgt_c.specs.declared.header.TheConstants.{DONE, NOTHING_ENCODED, NO_ROOM}
 use Rattle.dgt_c.specs.declared.header.DgtEvent.{DgtEvent}
 use Rattle.dgt_c.specs.declared.header.TheConstants.{EVENT_DUMP, EVENT_FIELD, EVENT_TIMES, EVENT_NO_CLOCK, EVENT_ACK, EVENT_SERIAL, EVENT_TRADEMARK, EVENT_VERSION, EVENT_BATTERY, EVENT_LONG_SERIAL, EVENT_OTHER}
 
 abbrev pub encoded_reported : Result ℕ NoRoom → DgtEncoded
-encoded_reported (Ok bytes) = record { status = ENCODED; bytes = bytes }
-encoded_reported (Err fault) = record { status = TOO_SHORT; bytes = fault.need }
+encoded_reported (Ok bytes) = record { status = DONE; bytes = bytes }
+encoded_reported (Err fault) = record { status = NO_ROOM; bytes = fault.need }
 
 -- These bytes are written at the beginning of the slice; or it is too short for them, and
 -- unchanged.

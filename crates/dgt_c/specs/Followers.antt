@@ -5,17 +5,17 @@ use Rattle.dgt_follow.specs.declared.asking.UpdateMode.{UpdateMode}
 use Rattle.dgt_follow.specs.Follower.{Asks, FollowerView, asking_of}
 use Rattle.dgt_c.specs.declared.header.TheConstants.{MODE_UPDATE, MODE_UPDATE_BOARD, MODE_UPDATE_NICE}
 use Rattle.dgt_c.specs.declared.header.DgtSent.{DgtSent}
-use Rattle.dgt_c.specs.declared.header.TheConstants.{SENT, SENT_NO_ROOM}
+use Rattle.dgt_c.specs.declared.header.TheConstants.{DONE, NO_ROOM}
 
 -- the number of an update mode in C
 abbrev pub update_mode_number : UpdateMode → ℕ
-update_mode_number UpdateMode.Squares = MODE_UPDATE_BOARD
-update_mode_number UpdateMode.Clock = MODE_UPDATE
-update_mode_number UpdateMode.ClockChanges = MODE_UPDATE_NICE
+update_mode_number UpdateMode.UpdateBoard = MODE_UPDATE_BOARD
+update_mode_number UpdateMode.Update = MODE_UPDATE
+update_mode_number UpdateMode.UpdateNice = MODE_UPDATE_NICE
 
 abbrev pub asked_reported : Result ℕ NoRoom → DgtSent
-asked_reported (Ok bytes) = record { status = SENT; bytes = bytes }
-asked_reported (Err fault) = record { status = SENT_NO_ROOM; bytes = fault.need }
+asked_reported (Ok bytes) = record { status = DONE; bytes = bytes }
+asked_reported (Err fault) = record { status = NO_ROOM; bytes = fault.need }
 
 -- the struct contains the result of `ask`: the follower before and after, the slice before and
 -- after

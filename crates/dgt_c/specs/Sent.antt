@@ -4,12 +4,12 @@ use Rattle.dgt_host.specs.declared.sending.SendFault.{SendFault}
 use Rattle.dgt_host.specs.declared.sending.SendFault.TheVariants.{TooMany, NoRoom}
 use Rattle.dgt_host.specs.Host.{HostView, Request, Sends}
 use Rattle.dgt_c.specs.declared.header.DgtSent.{DgtSent}
-use Rattle.dgt_c.specs.declared.header.TheConstants.{NO_SUCH_COMMAND, SENT, SENT_NO_ROOM, SENT_TOO_MANY}
+use Rattle.dgt_c.specs.declared.header.TheConstants.{NO_SUCH_COMMAND, DONE, NO_ROOM, TOO_MANY_AWAITED}
 
 abbrev pub sent_reported : Result ℕ SendFault → DgtSent
-sent_reported (Ok bytes) = record { status = SENT; bytes = bytes }
-sent_reported (Err TooMany) = record { status = SENT_TOO_MANY; bytes = 0 }
-sent_reported (Err (NoRoom need)) = record { status = SENT_NO_ROOM; bytes = need }
+sent_reported (Ok bytes) = record { status = DONE; bytes = bytes }
+sent_reported (Err TooMany) = record { status = TOO_MANY_AWAITED; bytes = 0 }
+sent_reported (Err (NoRoom need)) = record { status = NO_ROOM; bytes = need }
 
 -- the struct contains the result of sending: the host before and after, the slice before and after
 abbrev pub SendsReported : Request → HostView → HostView → List ℕ → List ℕ → DgtSent → Type 0

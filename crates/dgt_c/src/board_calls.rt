@@ -17,7 +17,7 @@ use crate::commands::report_command;
 use crate::handles::DgtBoard;
 use crate::header::{
     DgtClock, DgtCommand, DgtPolled, DgtTaken, MODE_IDLE, MODE_UPDATE, MODE_UPDATE_BOARD,
-    MODE_UPDATE_NICE, NO_WORD, POLLED_NEED_ROOM, POLLED_NOTHING, POLLED_WROTE,
+    MODE_UPDATE_NICE, NO_WORD, NO_ROOM, POLLED_NOTHING, POLLED_WROTE,
 };
 use dgt_board::{MAX_OWED, MAX_SENT, Mode, Polled};
 use dgt_command::MAX_WORD;
@@ -113,12 +113,12 @@ pub extern "C" fn dgt_board_poll(board: &mut DgtBoard, out: &mut [u8]) -> DgtPol
         ↔ (left_to_send board.old.inside.state ≡ 0) }
     ensures bound { left_to_send board.old.inside.state
         ≤ length board.old.inside.state.owed + 65 }
-    ensures room { result.status ≡ POLLED_NEED_ROOM → length out.old < MAX_SENT }
+    ensures room { result.status ≡ NO_ROOM → length out.old < MAX_SENT }
 {
     let (status, bytes) = match board.get().poll(out) {
         Polled::Nothing => (POLLED_NOTHING, 0),
         Polled::Wrote(bytes) => (POLLED_WROTE, bytes),
-        Polled::NeedRoom(bytes) => (POLLED_NEED_ROOM, bytes),
+        Polled::NeedRoom(bytes) => (NO_ROOM, bytes),
     };
     DgtPolled { status, bytes }
 }
@@ -146,7 +146,7 @@ pub extern "C" fn dgt_board_owed_len(board: &mut DgtBoard) -> usize
 
 /// How many bytes of an unfinished command are held.
 #[unsafe(no_mangle)]
-pub extern "C" fn dgt_board_partial(board: &mut DgtBoard) -> usize
+pub extern "C" fn dgt_board_unread(board: &mut DgtBoard) -> usize
     ensures place { board.new.at ≡ board.old.at }
     ensures same { board.new.inside ≡ board.old.inside }
     ensures length { result ≡ length board.old.inside.partial }

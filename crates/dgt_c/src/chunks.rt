@@ -60,7 +60,7 @@ fn hear_each(host: &mut Host, chunk: &[u8], reported: &mut [DgtEvent], body: &mu
 /// Hears a chunk up to and including the event that fills the array or has a body, or all of it.
 /// The events are written to the array in order. As much of the last one's body is copied as fits.
 #[unsafe(no_mangle)]
-pub extern "C" fn dgt_host_hear_all(
+pub extern "C" fn dgt_host_hear_many(
     host: &mut DgtHost,
     chunk: &[u8],
     reported: &mut [DgtEvent],
@@ -121,7 +121,7 @@ fn feed_each(
 /// Reads a chunk up to and including the event that fills the array or has a body, or all of it.
 /// The events are written to the array in order. As much of the last one's body is copied as fits.
 #[unsafe(no_mangle)]
-pub extern "C" fn dgt_decoder_feed_all(
+pub extern "C" fn dgt_decoder_feed_many(
     decoder: &mut DgtDecoder,
     chunk: &[u8],
     reported: &mut [DgtEvent],

@@ -10,9 +10,9 @@ use crate::checking::{read_position, read_seven_bits};
 use crate::clocks::read_clock;
 use crate::events::report;
 use crate::header::{
-    DgtEncoded, DgtEvent, ENCODED, EVENT_ACK, EVENT_BATTERY, EVENT_DUMP, EVENT_FIELD,
+    DgtEncoded, DgtEvent, DONE, EVENT_ACK, EVENT_BATTERY, EVENT_DUMP, EVENT_FIELD,
     EVENT_LONG_SERIAL, EVENT_NO_CLOCK, EVENT_OTHER, EVENT_SERIAL, EVENT_TIMES, EVENT_TRADEMARK,
-    EVENT_VERSION, NOTHING_ENCODED, TOO_SHORT,
+    EVENT_VERSION, NOTHING_ENCODED, NO_ROOM,
 };
 use dgt_decode::Event;
 use dgt_message::{Clock, ClockAck, Message, OtherCode, encode, view};
@@ -22,8 +22,8 @@ pub(crate) fn encoded_for_c(outcome: Result<usize, NoRoom>) -> DgtEncoded
     ensures { result ≡ encoded_reported outcome }
 {
     let (status, bytes) = match outcome {
-        Ok(bytes) => (ENCODED, bytes),
-        Err(NoRoom { need }) => (TOO_SHORT, need),
+        Ok(bytes) => (DONE, bytes),
+        Err(NoRoom { need }) => (NO_ROOM, need),
     };
     DgtEncoded { status, bytes }
 }

@@ -22,7 +22,7 @@ use dgt_values::NoRoom;
 #[unsafe(no_mangle)]
 pub extern "C" fn dgt_follower_start(follower: &mut DgtFollower, period: u64, patience: u32)
     ensures place { follower.new.at ≡ follower.old.at }
-    ensures started { follower.new.inside ≡ new_follower period patience UpdateMode.Squares }
+    ensures started { follower.new.inside ≡ new_follower period patience UpdateMode.UpdateBoard }
 {
     *follower.get() = Follower::new(period, patience);
 }
@@ -167,9 +167,9 @@ pub extern "C" fn dgt_follower_mode(follower: &mut DgtFollower) -> u8
     ensures mode { result ≡ update_mode_number follower.old.inside.pace.mode }
 {
     match follower.get().mode() {
-        UpdateMode::Squares => MODE_UPDATE_BOARD,
-        UpdateMode::Clock => MODE_UPDATE,
-        UpdateMode::ClockChanges => MODE_UPDATE_NICE,
+        UpdateMode::UpdateBoard => MODE_UPDATE_BOARD,
+        UpdateMode::Update => MODE_UPDATE,
+        UpdateMode::UpdateNice => MODE_UPDATE_NICE,
     }
 }
 
@@ -179,9 +179,9 @@ fn read_mode(mode: u8) -> Option<UpdateMode>
         (λ read. update_mode_number read ≡ mode) }
 {
     match mode {
-        MODE_UPDATE_BOARD => Some(UpdateMode::Squares),
-        MODE_UPDATE => Some(UpdateMode::Clock),
-        MODE_UPDATE_NICE => Some(UpdateMode::ClockChanges),
+        MODE_UPDATE_BOARD => Some(UpdateMode::UpdateBoard),
+        MODE_UPDATE => Some(UpdateMode::Update),
+        MODE_UPDATE_NICE => Some(UpdateMode::UpdateNice),
         _ => None,
     }
 }

@@ -87,13 +87,13 @@ pub const COMMAND_BAD_END: u8 = 4;
 
 pub const COMMAND_STRAY: u8 = 5;
 
-pub const SENT: u8 = 0;
+pub const DONE: u8 = 0;
 
-pub const SENT_TOO_MANY: u8 = 1;
+pub const TOO_MANY_AWAITED: u8 = 1;
 
-pub const SENT_NO_ROOM: u8 = 2;
+pub const NO_ROOM: u8 = 2;
 
-pub const SENT_NO_COMMAND: u8 = 3;
+pub const REFUSED: u8 = 3;
 
 pub const STARTED: u8 = 0;
 
@@ -103,17 +103,17 @@ pub const START_BAD_CLOCK: u8 = 2;
 
 pub const START_BAD_IDENTITY: u8 = 3;
 
-pub const ENCODED: u8 = 0;
+pub const DONE: u8 = 0;
 
-pub const TOO_SHORT: u8 = 1;
+pub const NO_ROOM: u8 = 1;
 
-pub const NOT_ENCODED: u8 = 2;
+pub const REFUSED: u8 = 2;
 
 pub const POLLED_NOTHING: u8 = 0;
 
 pub const POLLED_WROTE: u8 = 1;
 
-pub const POLLED_NEED_ROOM: u8 = 2;
+pub const NO_ROOM: u8 = 2;
 
 pub const MODE_IDLE: u8 = 0;
 
@@ -269,7 +269,7 @@ pub struct DgtSent {
 
 /// There is no such command.
 pub const NO_SUCH_COMMAND: DgtSent = DgtSent {
-    status: SENT_NO_COMMAND,
+    status: REFUSED,
     bytes: 0,
 };
 
@@ -283,7 +283,7 @@ pub struct DgtEncoded {
 
 /// There is no such message or command.
 pub const NOTHING_ENCODED: DgtEncoded = DgtEncoded {
-    status: NOT_ENCODED,
+    status: REFUSED,
     bytes: 0,
 };
 

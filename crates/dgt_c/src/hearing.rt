@@ -106,7 +106,7 @@ pub extern "C" fn dgt_decoder_feed(
 
 /// How many bytes of an unfinished message were received.
 #[unsafe(no_mangle)]
-pub extern "C" fn dgt_decoder_rest(decoder: &mut DgtDecoder) -> usize
+pub extern "C" fn dgt_decoder_unread(decoder: &mut DgtDecoder) -> usize
     ensures place { decoder.new.at ≡ decoder.old.at }
     ensures same { decoder.new.inside ≡ decoder.old.inside }
     ensures length { result ≡ length decoder.old.inside }
@@ -162,7 +162,7 @@ pub extern "C" fn dgt_command_decoder_feed(
 
 /// How many bytes of an unfinished command are held.
 #[unsafe(no_mangle)]
-pub extern "C" fn dgt_command_decoder_rest(command_decoder: &mut DgtCommandDecoder) -> usize
+pub extern "C" fn dgt_command_decoder_unread(command_decoder: &mut DgtCommandDecoder) -> usize
     ensures place { command_decoder.new.at ≡ command_decoder.old.at }
     ensures same { command_decoder.new.inside ≡ command_decoder.old.inside }
     ensures length { result ≡ length command_decoder.old.inside }

@@ -24,7 +24,7 @@
 //! Each call therefore states the clauses of the call that it wraps, for `inside`: `dgt_host_hear`
 //! states those of `Host::hear`. Clauses that follow from another one or from a type are omitted:
 //! `dgt_board_poll` doesn't repeat that the board was well-formed before. The clause `place` says
-//! that the handle still points to its own room. `dgt_host_hear_all` and `dgt_decoder_feed_all`
+//! that the handle still points to its own room. `dgt_host_hear_many` and `dgt_decoder_feed_many`
 //! wrap as many calls as a chunk takes, and state the list of their results (`specs/Chunks.antt`).
 //!
 //! | In Rust | In C |
@@ -34,7 +34,7 @@
 //! | a result | a status and a number |
 //! | a clock, an identity, pieces | accepted if they are valid (`SaysClock`, `IsIdentity`) |
 //!
-//! `dgt_host_init` and the other four such calls make a handle in C's memory, which is
+//! `dgt_host_make` and the other four such calls make a handle in C's memory, which is
 //! uninitialised before. No other call has a `requires`. A caller in C has to ensure the facts that
 //! the type of a Rust reference ensures: it points to an object, and no other reference points
 //! there.

@@ -46,7 +46,7 @@ pub struct HostPlace {
 
 /// Makes a host that knows nothing yet and awaits nothing. `host` points to room for a `dgt_host`.
 #[unsafe(no_mangle)]
-pub unsafe extern "C" fn dgt_host_init(host: *mut DgtHost)
+pub unsafe extern "C" fn dgt_host_make(host: *mut DgtHost)
     requires* { sem 𝓛 (room_at host_place host) }
     ensures* { sem 𝓛 (lies_at host_handle full_share host
         (record { at = host +ₚ 8; inside = new_host })) }
@@ -73,7 +73,7 @@ pub struct FollowerPlace {
 /// Makes a follower that has sent no request, with a period of ten seconds and a patience of six
 /// heartbeats. `follower` points to room for a `dgt_follower`.
 #[unsafe(no_mangle)]
-pub unsafe extern "C" fn dgt_follower_init(follower: *mut DgtFollower)
+pub unsafe extern "C" fn dgt_follower_make(follower: *mut DgtFollower)
     requires* { sem 𝓛 (room_at follower_place follower) }
     ensures* { sem 𝓛 (lies_at follower_handle full_share follower
         (record { at = follower +ₚ 8; inside = plain_follower })) }
@@ -99,7 +99,7 @@ pub struct DecoderPlace {
 
 /// Makes a decoder that has read nothing. `decoder` points to room for a `dgt_decoder`.
 #[unsafe(no_mangle)]
-pub unsafe extern "C" fn dgt_decoder_init(decoder: *mut DgtDecoder)
+pub unsafe extern "C" fn dgt_decoder_make(decoder: *mut DgtDecoder)
     requires* { sem 𝓛 (room_at decoder_place decoder) }
     ensures* { sem 𝓛 (lies_at decoder_handle full_share decoder
         (record { at = decoder +ₚ 8; inside = [] })) }
@@ -126,7 +126,7 @@ pub struct CommandDecoderPlace {
 /// Makes a decoder of commands that holds nothing. `command_decoder` points to room for a
 /// `dgt_command_decoder`.
 #[unsafe(no_mangle)]
-pub unsafe extern "C" fn dgt_command_decoder_init(command_decoder: *mut DgtCommandDecoder)
+pub unsafe extern "C" fn dgt_command_decoder_make(command_decoder: *mut DgtCommandDecoder)
     requires* { sem 𝓛 (room_at command_decoder_place command_decoder) }
     ensures* { sem 𝓛 (lies_at command_decoder_handle full_share command_decoder
         (record { at = command_decoder +ₚ 8; inside = [] })) }
@@ -153,7 +153,7 @@ pub struct BoardPlace {
 /// Makes a board in the initial position of a game, with the clock and the identity of the board of
 /// the program `dgt`. `board` points to room for a `dgt_board`.
 #[unsafe(no_mangle)]
-pub unsafe extern "C" fn dgt_board_init(board: *mut DgtBoard)
+pub unsafe extern "C" fn dgt_board_make(board: *mut DgtBoard)
     requires* { sem 𝓛 (room_at board_place board) }
     ensures* { sem 𝓛 (lies_at board_handle full_share board
         (record { at = board +ₚ 8; inside = plain_board })) }

@@ -13,7 +13,7 @@ ghost use Rattle.dgt_command.specs.declared.ids.KnownId.{KnownId};
 ghost use Rattle.dgt_c.specs.ClockSending.{SendsClock, SendsDisplay, SendsMessage};
 
 use crate::handles::{DgtFollower, DgtHost};
-use crate::header::{DgtSent, SENT, SENT_NO_ROOM, SENT_TOO_MANY};
+use crate::header::{DgtSent, DONE, NO_ROOM, TOO_MANY_AWAITED};
 use crate::sender::{send_clock, send_display, send_leds, send_message, send_word};
 use dgt_command::{ClockCommand, KnownId};
 use dgt_host::SendFault;
@@ -22,9 +22,9 @@ pub(crate) fn sent_for_c(outcome: Result<usize, SendFault>) -> DgtSent
     ensures { result ≡ sent_reported outcome }
 {
     let (status, bytes) = match outcome {
-        Ok(bytes) => (SENT, bytes),
-        Err(SendFault::TooMany) => (SENT_TOO_MANY, 0),
-        Err(SendFault::NoRoom { need }) => (SENT_NO_ROOM, need),
+        Ok(bytes) => (DONE, bytes),
+        Err(SendFault::TooMany) => (TOO_MANY_AWAITED, 0),
+        Err(SendFault::NoRoom { need }) => (NO_ROOM, need),
     };
     DgtSent { status, bytes }
 }

@@ -80,13 +80,13 @@ fn follows(rt: HostRuntime) -> Result<(), Fail> {
 fn asks_when_due(rt: HostRuntime) -> Result<(), Fail> {
     // what follows the 255 zeros: the rest of a new start, and a heartbeat
     let modes: [(UpdateMode, &'static [u8]); 3] = [
-        (UpdateMode::Squares, &[0x44, 0x42, 0x44, 0x44, 0x42]),
+        (UpdateMode::UpdateBoard, &[0x44, 0x42, 0x44, 0x44, 0x42]),
         (
-            UpdateMode::Clock,
+            UpdateMode::Update,
             &[0x44, 0x42, 0x43, 0x41, 0x43, 0x42, 0x41],
         ),
         (
-            UpdateMode::ClockChanges,
+            UpdateMode::UpdateNice,
             &[0x44, 0x42, 0x4b, 0x41, 0x4b, 0x42, 0x41],
         ),
     ];

@@ -311,9 +311,9 @@ asking pace full now =
 
 -- the command for this mode
 abbrev pub mode_command : UpdateMode → CommandContent
-mode_command UpdateMode.Squares = CommandContent.UpdateBoard
-mode_command UpdateMode.Clock = CommandContent.Update
-mode_command UpdateMode.ClockChanges = CommandContent.UpdateNice
+mode_command UpdateMode.UpdateBoard = CommandContent.UpdateBoard
+mode_command UpdateMode.Update = CommandContent.Update
+mode_command UpdateMode.UpdateNice = CommandContent.UpdateNice
 
 -- What is sent for a command of the caller's. The board may read a frame that lost a byte as other
 -- commands, of which 40, Reset, ends its reports. So the mode's command follows a frame.
@@ -328,9 +328,9 @@ sent_bytes mode said = flat_map command_encoding (sent_commands mode said)
 
 -- the request of a reading of the clock, in the modes that report it
 abbrev pub clock_request : UpdateMode → List ℕ
-clock_request UpdateMode.Squares = []
-clock_request UpdateMode.Clock = command_encoding CommandContent.Clock
-clock_request UpdateMode.ClockChanges = command_encoding CommandContent.Clock
+clock_request UpdateMode.UpdateBoard = []
+clock_request UpdateMode.Update = command_encoding CommandContent.Clock
+clock_request UpdateMode.UpdateNice = command_encoding CommandContent.Clock
 
 -- The bytes of a request. A heartbeat is the mode's command and a dump request, and a new start is
 -- a host's restart and the mode's command. If the mode reports the clock, a reading of it is also

@@ -24,11 +24,11 @@ pub enum Asking {
 #[derive(Clone, Copy, Debug, PartialEq, Eq)]
 pub enum UpdateMode {
     /// Each changed square: the command `44`, `UpdateBoard`.
-    Squares,
+    UpdateBoard,
     /// Each changed square and each reading of the clock: the command `43`, `Update`.
-    Clock,
+    Update,
     /// Each changed square, and the clock when it changes: the command `4b`, `UpdateNice`.
-    ClockChanges,
+    UpdateNice,
 }
 
 impl UpdateMode {
@@ -37,9 +37,9 @@ impl UpdateMode {
         ensures { command_encoding (mode_command self) ≡ result ∷ [] }
     {
         match self {
-            UpdateMode::Squares => 0x44,
-            UpdateMode::Clock => 0x43,
-            UpdateMode::ClockChanges => 0x4b,
+            UpdateMode::UpdateBoard => 0x44,
+            UpdateMode::Update => 0x43,
+            UpdateMode::UpdateNice => 0x4b,
         }
     }
 
@@ -48,9 +48,9 @@ impl UpdateMode {
         ensures { clock_request self ≡ (if result then 0x41 ∷ [] else []) }
     {
         match self {
-            UpdateMode::Squares => false,
-            UpdateMode::Clock => true,
-            UpdateMode::ClockChanges => true,
+            UpdateMode::UpdateBoard => false,
+            UpdateMode::Update => true,
+            UpdateMode::UpdateNice => true,
         }
     }
 

@@ -127,7 +127,7 @@ fn report<L: Listener>(listener: &mut L, place: usize, event: &Option<Event<'_>>
 }
 
 impl Follower {
-    /// A follower that has never sent a request. Its mode is [`UpdateMode::Squares`].
+    /// A follower that has never sent a request. Its mode is [`UpdateMode::UpdateBoard`].
     ///
     /// `period` is the time from one request to the next, in milliseconds. A period below
     /// [`LEAST_PERIOD`](crate::LEAST_PERIOD) counts as that.
@@ -136,11 +136,11 @@ impl Follower {
     /// whatever it has heard; with 0 it always starts over. A board that is out of step may keep
     /// sending replies that nobody requested, so no reply proves that the heartbeats are read.
     pub fn new(period: u64, patience: u32) -> Self
-        ensures { result ≡ new_follower period patience UpdateMode.Squares }
+        ensures { result ≡ new_follower period patience UpdateMode.UpdateBoard }
     {
         Follower {
             host: Host::new(),
-            pace: Pace::new(period, patience, UpdateMode::Squares, false, false),
+            pace: Pace::new(period, patience, UpdateMode::UpdateBoard, false, false),
         }
     }
 
@@ -250,7 +250,7 @@ impl Follower {
     /// would stay unread until the next message.
     ///
     /// Returns `NoRoom` if the slice is shorter than what is due in this mode; then nothing
-    /// changes. A heartbeat takes 2 bytes with [`UpdateMode::Squares`] and 3 in the other modes,
+    /// changes. A heartbeat takes 2 bytes with [`UpdateMode::UpdateBoard`] and 3 in the other modes,
     /// and a new start 258 and 259.
     pub fn ask(&mut self, now: u64, out: &mut [u8]) -> Result<usize, NoRoom>
         ensures { Asks (asking_of self.old now) now self.old self.new out.old out.new result }

@@ -395,12 +395,12 @@ pub fn due_times()
 /// The bytes of a heartbeat in each mode, and the number of bytes of a new start. A heartbeat uses
 /// up one of those left, and a new start restores all of them.
 pub fn askings_in_bytes()
-    ensures squares { asking_bytes UpdateMode.Squares Asking.Heartbeat ≡ 0x44 ∷ 0x42 ∷ [] }
-    ensures clock { asking_bytes UpdateMode.Clock Asking.Heartbeat
+    ensures squares { asking_bytes UpdateMode.UpdateBoard Asking.Heartbeat ≡ 0x44 ∷ 0x42 ∷ [] }
+    ensures clock { asking_bytes UpdateMode.Update Asking.Heartbeat
         ≡ 0x43 ∷ 0x42 ∷ 0x41 ∷ [] }
-    ensures changes { asking_bytes UpdateMode.ClockChanges Asking.Heartbeat
+    ensures changes { asking_bytes UpdateMode.UpdateNice Asking.Heartbeat
         ≡ 0x4b ∷ 0x42 ∷ 0x41 ∷ [] }
-    ensures anew { asking_bytes UpdateMode.ClockChanges Asking.Anew
+    ensures anew { asking_bytes UpdateMode.UpdateNice Asking.Anew
         ≡ replicate 255 0 ++ 0x44 ∷ 0x42 ∷ 0x4b ∷ 0x41 ∷ [] }
     ensures serial { (mode : UpdateMode) → asking_bytes mode Asking.Identify ≡ 0x45 ∷ [] }
     ensures heartbeat { (pace : PaceView) (now : ℕ) → pace.left ≡ 3

@@ -74,19 +74,19 @@ module _
       (ap (λ (p : PaceView). p.patience) pace) (ap (λ (p : PaceView). p.left) pace) since
       (λ e promised. kept_by_all (asking_acts mode Asking.Identify) before.world after.world
       ((refl, refl), tt) promised runs) hopes
-  ask_hope UpdateMode.Squares Asking.Heartbeat now before after e runs pace since hopes =
+  ask_hope UpdateMode.UpdateBoard Asking.Heartbeat now before after e runs pace since hopes =
       inr (rw (pace, since) (omega (arith, hopes.left)))
-  ask_hope UpdateMode.Squares Asking.Anew now before after e runs pace since hopes =
+  ask_hope UpdateMode.UpdateBoard Asking.Anew now before after e runs pace since hopes =
       inr (rw (pace, since) (omega arith))
-  ask_hope UpdateMode.Clock Asking.Heartbeat now before after e runs pace since hopes =
+  ask_hope UpdateMode.Update Asking.Heartbeat now before after e runs pace since hopes =
       heartbeat_keeps CommandContent.Update refl now before after e runs pace since hopes
-  ask_hope UpdateMode.Clock Asking.Anew now before after e runs pace since hopes =
+  ask_hope UpdateMode.Update Asking.Anew now before after e runs pace since hopes =
       inl
       (anew_promises CommandContent.Update Mode.Update refl refl before.world after.world hopes.sane
       runs)
-  ask_hope UpdateMode.ClockChanges Asking.Heartbeat now before after e runs pace since hopes =
+  ask_hope UpdateMode.UpdateNice Asking.Heartbeat now before after e runs pace since hopes =
       heartbeat_keeps CommandContent.UpdateNice refl now before after e runs pace since hopes
-  ask_hope UpdateMode.ClockChanges Asking.Anew now before after e runs pace since hopes =
+  ask_hope UpdateMode.UpdateNice Asking.Anew now before after e runs pace since hopes =
       inl
       (anew_promises CommandContent.UpdateNice Mode.UpdateNice refl refl before.world after.world
       hopes.sane runs)

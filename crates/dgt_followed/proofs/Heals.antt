@@ -10,9 +10,9 @@ count followed = followed.since
 
 -- after the mode's command and the clock's request the board keeps reporting its changes
 mode_is_calm : (mode : UpdateMode) → AreCalm (sends (mode_command mode) ∷ reading_acts mode)
-mode_is_calm UpdateMode.Squares = ((refl, refl), tt)
-mode_is_calm UpdateMode.Clock = ((refl, refl), ((refl, refl), tt))
-mode_is_calm UpdateMode.ClockChanges = ((refl, refl), ((refl, refl), tt))
+mode_is_calm UpdateMode.UpdateBoard = ((refl, refl), tt)
+mode_is_calm UpdateMode.Update = ((refl, refl), ((refl, refl), tt))
+mode_is_calm UpdateMode.UpdateNice = ((refl, refl), ((refl, refl), tt))
 
 heartbeat_is_calm : (mode : UpdateMode) → AreCalm (asking_acts mode Asking.Heartbeat)
 heartbeat_is_calm mode = let reported = mode_is_calm mode in

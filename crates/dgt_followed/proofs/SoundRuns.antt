@@ -40,10 +40,10 @@ module _
 
   reading_restates : (mode : UpdateMode) (world after : WorldView) → IsRestatedWorld world
       → RunsDone (reading_acts mode) world after → IsRestatedWorld after
-  reading_restates UpdateMode.Squares world after is same = rw same is
-  reading_restates UpdateMode.Clock world after is (between, step, same) =
+  reading_restates UpdateMode.UpdateBoard world after is same = rw same is
+  reading_restates UpdateMode.Update world after is (between, step, same) =
       rw same (sent_restates CommandContent.Clock world between is step)
-  reading_restates UpdateMode.ClockChanges world after is (between, step, same) =
+  reading_restates UpdateMode.UpdateNice world after is (between, step, same) =
       rw same (sent_restates CommandContent.Clock world between is step)
 
   asked_restates : (mode : UpdateMode) (what : Asking) (world after : WorldView)

@@ -16,9 +16,9 @@ use Rattle.dgt_link.specs.View.{LineContents, WorldView, with_bytes}
 
 -- the acts that request a reading of the clock, in the modes that report it
 abbrev pub reading_acts : UpdateMode → List FaultyContent
-reading_acts UpdateMode.Squares = []
-reading_acts UpdateMode.Clock = sends CommandContent.Clock ∷ []
-reading_acts UpdateMode.ClockChanges = sends CommandContent.Clock ∷ []
+reading_acts UpdateMode.UpdateBoard = []
+reading_acts UpdateMode.Update = sends CommandContent.Clock ∷ []
+reading_acts UpdateMode.UpdateNice = sends CommandContent.Clock ∷ []
 
 -- the acts of a request
 abbrev pub asking_acts : UpdateMode → Asking → List FaultyContent
@@ -86,7 +86,7 @@ clock_count_after act since = if unsettles_clock act then 0 else since
 abbrev pub clock_count_after_asking : UpdateMode → Asking → ℕ → ℕ
 clock_count_after_asking mode Asking.Nothing since = since
 clock_count_after_asking mode Asking.Identify since = since
-clock_count_after_asking UpdateMode.Squares _ since = 0
+clock_count_after_asking UpdateMode.UpdateBoard _ since = 0
 clock_count_after_asking _ _ since = since + 1
 
 -- the patience, and how much of it is left, are the same

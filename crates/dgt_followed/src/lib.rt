@@ -137,7 +137,7 @@ pub fn askings_heal()
 /// and whatever else is sent, delivered and recorded. If the world is quiet, the host's clock is
 /// the board's.
 ///
-/// A request with `Squares` restarts the count, and so does any other act that unsettles the clock:
+/// A request with `UpdateBoard` restarts the count, and so does any other act that unsettles the clock:
 /// a fault, a break, a restart, a reset or the command `UpdateBoard`.
 pub fn clocks_heal()
     ensures clock_promised { AfterAskings (λ followed. followed.clock_since) IsClockPromisedWorld }
@@ -161,7 +161,7 @@ pub fn askings_count()
     ensures kept { (act : FaultyContent) (since : ℕ) → is_fault act ≡ false → stops act ≡ false →
         count_after act since ≡ since }
     ensures clock_asking { (mode : UpdateMode) (what : Asking) (since : ℕ) →
-        what ≢ Asking.Nothing → what ≢ Asking.Identify → mode ≢ UpdateMode.Squares →
+        what ≢ Asking.Nothing → what ≢ Asking.Identify → mode ≢ UpdateMode.UpdateBoard →
         clock_count_after_asking mode what since ≡ since + 1 }
     ensures clock_kept { (act : FaultyContent) (since : ℕ) → is_fault act ≡ false →
         stops_clock act ≡ false → clock_count_after act since ≡ since }

@@ -6,7 +6,7 @@ use std::{env, error::Error, thread, time::Duration};
 
 fn follow(path: &str) -> Result<(), Box<dyn Error>> {
     let mut board = dgt::follow(path)?;
-    board.follower().set_mode(UpdateMode::ClockChanges);
+    board.follower().set_mode(UpdateMode::UpdateNice);
     let (mut picture, mut clock, mut changes) = (None, None, 0);
     while let Some(view) = board.next() {
         if let Some(away) = view.away {

@@ -41,8 +41,8 @@ fn values_are_texts() {
 fn modes_and_kinds_are_names() {
     assert_eq!(Written(Kind::Dump).to_string(), "Dump");
     assert_eq!(Written(Mode::UpdateNice).to_string(), "UpdateNice");
-    assert_eq!(Written(UpdateMode::ClockChanges).to_string(), "ClockChanges");
-    assert_eq!(read::<UpdateMode>("Squares"), Ok(UpdateMode::Squares));
+    assert_eq!(Written(UpdateMode::UpdateNice).to_string(), "UpdateNice");
+    assert_eq!(read::<UpdateMode>("UpdateBoard"), Ok(UpdateMode::UpdateBoard));
 }
 
 fn number<T: for<'a> Deserialize<'a>>(value: u8) -> Result<T, Error> {

@@ -95,7 +95,7 @@ fn start_without(square: &str) -> Position {
 fn each_change_is_a_view() {
     let line = Line::new();
     let mut views = Views::new(|| line.open()).unwrap();
-    views.follower().set_mode(UpdateMode::ClockChanges);
+    views.follower().set_mode(UpdateMode::UpdateNice);
     let first = views.next().unwrap();
     assert_eq!((first.picture, first.in_doubt), (Some(Position::start()), false));
     assert_eq!((first.confirmed, first.away, first.clock), (false, None, None));
@@ -126,7 +126,7 @@ fn commands_are_sent() {
 fn a_port_that_goes_is_found_again() {
     let line = Line::new();
     let mut views = Views::new(|| line.open()).unwrap();
-    views.follower().set_mode(UpdateMode::Clock);
+    views.follower().set_mode(UpdateMode::Update);
     assert_eq!(views.next().unwrap().picture, Some(Position::start()));
     assert_eq!(views.next().unwrap().clock, Some(clock()));
     line.unplug();

@@ -80,7 +80,7 @@ fn asks(follower: &mut Follower, now: u64, bytes: &[u8]) -> bool {
 #[test]
 fn a_picture_is_confirmed_and_a_serial_number_requested(rt: HostRuntime) {
     let mut follower = Follower::new(10_000, 6);
-    follower.set_mode(UpdateMode::ClockChanges);
+    follower.set_mode(UpdateMode::UpdateNice);
     follower.set_confirm(true);
     follower.set_identify(true);
     let mut anew = [0; 259];
@@ -105,7 +105,7 @@ fn a_picture_is_confirmed_and_a_serial_number_requested(rt: HostRuntime) {
     follower.line_lost();
     assert_that(&rt, follower.picture().is_none(), "no picture");
     assert_that(&rt, follower.serial().is_none(), "no number");
-    assert_that(&rt, follower.mode() == UpdateMode::ClockChanges, "the mode");
+    assert_that(&rt, follower.mode() == UpdateMode::UpdateNice, "the mode");
 }
 
 #[test]

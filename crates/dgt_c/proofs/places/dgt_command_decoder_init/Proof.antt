@@ -1,9 +1,0 @@
--- `dgt_command_decoder_init` makes the handle and its value.
-use Rattle.{std.proofs.Common.{[]}, dgt_command.proofs.decoder.CommandDecoder.new.{Met.{met}, Symbol.{name as new}}, dgt_c.specs.contracts.places.CommandDecoderPlace.{struct}}
-use Rattle.dgt_c.{specs.contracts.places.dgt_command_decoder_init.Key.{name}, proofs.{EachHandle.{command_decoder}, HandleMaking.{makes}, places.dgt_command_decoder_init.Statement.{statement}}}
-use Rattle.dgt_c.proofs.places.dgt_command_decoder_init.Code as code
-
-pub dgt_command_decoder_init_spec : {M : Type 1} → statement M
-dgt_command_decoder_init_spec 𝓤 𝓛 𝓜 𝓡 wired =
-    makes command_decoder struct.name new [] 𝓤 𝓛 𝓜 𝓡 name (code.unfolded 𝓤 𝓛.H 𝓜 𝓡 wired)
-    (met 𝓤 𝓛 𝓜 𝓡 (code.calls-dgt_command::decoder::CommandDecoder::new 𝓡.env wired))
