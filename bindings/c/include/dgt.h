@@ -32,8 +32,8 @@
  *    read or written: for an array of events, `capacity` times sizeof(dgt_event) bytes. An array
  *    parameter has its declared length. Everything that a call reads is initialised.
  *  - A handle is a dgt_host, a dgt_follower, a dgt_decoder, a dgt_command_decoder or a dgt_board.
- *    Its _init or its _make is called before any other call. Afterwards it is never copied or moved,
- *    neither by assignment nor by memcpy or realloc: it points into itself. Don't touch its
+ *    Its _init or its _make is called before any other call. Afterwards it is never copied or
+ *    moved, neither by assignment nor by memcpy or realloc: it points into itself. Don't touch its
  *    members. There is nothing to free: stop using it, and its memory is yours again.
  *  - The arguments of one call don't overlap: not a slice and a struct, not a slice and the handle.
  *    Until the call returns, nobody else writes to its arguments, or reads what it writes.
@@ -360,11 +360,12 @@ typedef struct dgt_command {
 /* The size of a dgt_host in bytes, according to the linked library. */
 size_t dgt_host_size(void);
 
-/* Makes a host that knows nothing and awaits nothing in the memory at `host`: dgt_host_size()
- * bytes, aligned to 8. */
+/* Makes a host in the memory at `host`: dgt_host_size() bytes, aligned to 8. It knows nothing and
+ * awaits nothing. dgt_host_init compares the sizes first. */
 void dgt_host_make(dgt_host *host) DGT_NONNULL_(1);
 
-/* The same. Returns false and does nothing if the linked library's size is different. */
+/* The same for a dgt_host of this header. Returns false and does nothing if the linked library's
+ * size is different. */
 DGT_MUST_USE_ DGT_NONNULL_(1)
 static inline bool dgt_host_init(dgt_host *host) {
     if (dgt_host_size() != sizeof *host) return false;
@@ -398,14 +399,16 @@ dgt_told dgt_host_hear_many(dgt_host *host, const uint8_t *bytes, size_t n, dgt_
                            size_t capacity, uint8_t *body, size_t room)
     DGT_MUST_USE_ DGT_NONNULL_(1) DGT_READS_(2, 3) DGT_WRITES_(4, 5) DGT_WRITES_(6, 7);
 
-/* The status of a dgt_sent. */
+/* The status of a dgt_sent or a dgt_encoded. A dgt_polled may also be DGT_NO_ROOM. */
 enum {
-    DGT_DONE = 0,      /* `bytes` bytes were written to the buffer: send them on the line */
-    DGT_TOO_MANY_AWAITED = 1,  /* 16 replies are awaited already: nothing changed, and bytes is 0 */
-    DGT_NO_ROOM = 2,   /* the buffer is shorter than `bytes`: nothing changed */
-    DGT_REFUSED = 3 /* there is no such command: nothing changed, and bytes is 0 */
+    DGT_DONE = 0,             /* `bytes` bytes were written at the beginning of the buffer */
+    DGT_TOO_MANY_AWAITED = 1, /* 16 replies are awaited already: nothing changed, and bytes is 0 */
+    DGT_NO_ROOM = 2,          /* the buffer is shorter than `bytes` bytes: nothing changed */
+    DGT_REFUSED = 3           /* there is no such command or message: nothing changed, and bytes is
+                                 0 */
 };
 
+/* The result of a call that sends: write these bytes to the line. */
 typedef struct dgt_sent {
     uint8_t status;
     size_t bytes;
@@ -535,8 +538,8 @@ size_t dgt_host_awaited(dgt_host *host, uint8_t codes[DGT_MAX_AWAITED])
 /* Removes all awaited replies from the list, and returns how many there were. Nothing else changes:
  * the host keeps its picture, its clock and the bytes of an unfinished message. Call it when a
  * reply is overdue. A lost reply stays the next one awaited: each reply after it is `unasked`, and
- * once 16 are awaited, each further request returns DGT_TOO_MANY_AWAITED. A reply that arrives after this
- * call is `unasked` as well. Ask again next, with dgt_host_restart or dgt_host_send. */
+ * once 16 are awaited, each further request returns DGT_TOO_MANY_AWAITED. A reply that arrives
+ * after this call is `unasked` as well. Ask again next, with dgt_host_restart or dgt_host_send. */
 size_t dgt_host_give_up_awaited(dgt_host *host) DGT_NONNULL_(1);
 
 /* How many bytes of an unfinished message were heard: at most 16382. */
@@ -920,13 +923,11 @@ dgt_taken dgt_board_take(dgt_board *board, const uint8_t *bytes, size_t n, dgt_c
                          uint8_t *word, size_t room)
     DGT_MUST_USE_ DGT_NONNULL_(1, 4) DGT_READS_(2, 3) DGT_WRITES_(4) DGT_WRITES_(5, 6);
 
-/* The status of a dgt_polled. */
+/* The status of a dgt_polled: one of these, or DGT_NO_ROOM. */
 enum {
-    DGT_NOTHING = 0,  /* nothing is to be sent, and bytes is 0 */
-    DGT_WROTE = 1,    /* `bytes` bytes at the beginning of the buffer are a message: write them to
-                         the line */
-    DGT_NO_ROOM = 2 /* the next message takes `bytes` bytes, and the buffer is shorter: nothing
-                         changed */
+    DGT_NOTHING = 0, /* nothing is to be sent, and bytes is 0 */
+    DGT_WROTE = 1    /* `bytes` bytes at the beginning of the buffer are a message: write them to
+                        the line */
 };
 
 typedef struct dgt_polled {
@@ -990,17 +991,8 @@ void dgt_board_clock(dgt_board *board, dgt_clock *clock) DGT_NONNULL_(1, 2) DGT_
 
 /* ---- Messages and commands, encoded and viewed without a handle. */
 
-/* The status of a dgt_encoded. */
-enum {
-    DGT_DONE = 0,    /* `bytes` bytes were written at the beginning of the buffer */
-    DGT_NO_ROOM = 1,  /* the buffer is shorter than the `bytes` bytes that it takes: nothing was
-                           written */
-    DGT_REFUSED = 2 /* there is no such message or command: nothing was written, and bytes is 0
-                         */
-};
-
 typedef struct dgt_encoded {
-    uint8_t status;
+    uint8_t status; /* DGT_DONE, DGT_NO_ROOM or DGT_REFUSED */
     size_t bytes;
 } dgt_encoded;
 

@@ -6,7 +6,8 @@ from collections.abc import Callable
 from ctypes import byref, c_char, c_uint8
 from typing import Any
 
-from ._c import MAX_ASKING, MAX_WORD, PLACEMENT_ROOM, DONE, TOO_MANY_AWAITED, ClockStruct, SentStruct
+from ._c import (DONE, MAX_ASKING, MAX_WORD, PLACEMENT_ROOM, TOO_MANY_AWAITED, ClockStruct,
+                 SentStruct)
 from ._handle import Bytes, Handle, readable, writable
 from ._library import dgt
 from .clock_commands import ClockCommands

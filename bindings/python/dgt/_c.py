@@ -79,24 +79,20 @@ ID_VERSION = 0x09
 ID_SET_AND_RUN = 0x0a
 ID_BEEP = 0x0b
 ID_TEXT = 0x0c
-SENT = 0
+DONE = 0
 TOO_MANY_AWAITED = 1
 NO_ROOM = 2
-NO_COMMAND = 3
+REFUSED = 3
 STARTED = 0
 START_BAD_PIECES = 1
 START_BAD_CLOCK = 2
 START_BAD_IDENTITY = 3
 NOTHING = 0
 WROTE = 1
-NEED_ROOM = 2
 MODE_IDLE = 0
 MODE_UPDATE = 1
 MODE_UPDATE_BOARD = 2
 MODE_UPDATE_NICE = 3
-ENCODED = 0
-TOO_SHORT = 1
-NOT_ENCODED = 2
 STORED_PIECE = 1
 STORED_TIME = 2
 STORED_MARK = 3
@@ -299,7 +295,7 @@ CALLS: dict[str, tuple[Any, ...]] = {
     "dgt_host_make": (None, c_void_p),
     "dgt_host_hear": (c_size_t, c_void_p, c_void_p, c_size_t, c_void_p, c_void_p, c_size_t),
     "dgt_host_hear_many": (ToldStruct, c_void_p, c_void_p, c_size_t, c_void_p, c_size_t, c_void_p,
-                          c_size_t),
+                           c_size_t),
     "dgt_host_follow": (SentStruct, c_void_p, c_void_p, c_size_t),
     "dgt_host_restart": (SentStruct, c_void_p, c_void_p, c_size_t),
     "dgt_host_send": (SentStruct, c_void_p, c_uint8, c_void_p, c_size_t),
@@ -362,8 +358,8 @@ CALLS: dict[str, tuple[Any, ...]] = {
     "dgt_decoder_size": (c_size_t,),
     "dgt_decoder_make": (None, c_void_p),
     "dgt_decoder_feed": (c_size_t, c_void_p, c_void_p, c_size_t, c_void_p, c_void_p, c_size_t),
-    "dgt_decoder_feed_many": (ToldStruct, c_void_p, c_void_p, c_size_t, c_void_p, c_size_t, c_void_p,
-                             c_size_t),
+    "dgt_decoder_feed_many": (ToldStruct, c_void_p, c_void_p, c_size_t, c_void_p, c_size_t,
+                              c_void_p, c_size_t),
     "dgt_decoder_unread": (c_size_t, c_void_p),
     "dgt_decoder_finish": (c_size_t, c_void_p),
     "dgt_decoder_reset": (None, c_void_p),

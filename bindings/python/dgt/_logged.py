@@ -80,7 +80,8 @@ def _heard(port: Port, stop: int) -> tuple[bytes, str]:
     decoder, bodies, fault = Decoder(), list[bytes](), ""
     port.write(_BEGINS + STORED_REQUEST)
     begun = heard = now = time.monotonic()
-    while now < min(begun + _LONGEST, heard + (_AFTER if bodies and not decoder.unread else SILENCE)):
+    while now < min(begun + _LONGEST,
+                    heard + (_AFTER if bodies and not decoder.unread else SILENCE)):
         try:
             chunk = port.exchange(_LOOK)
         except OSError:

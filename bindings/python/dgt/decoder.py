@@ -19,6 +19,7 @@ class EventReader(Handle):
     """Reads events from chunks of bytes: a host, a follower or a decoder."""
 
     _feed_name: str
+    _chunk_name: str
     _most = 256  # events that one call of the library reports
 
     def __init__(self) -> None:
@@ -28,7 +29,7 @@ class EventReader(Handle):
         self._told = EventStruct.from_buffer(self._events)
         self._body, self._body_at = writable(MAX_BODY)
         self._feed = getattr(dgt, f"{self._prefix}_{self._feed_name}")
-        self._feed_all = getattr(dgt, f"{self._prefix}_{self._feed_name}_all")
+        self._feed_chunk = getattr(dgt, f"{self._prefix}_{self._chunk_name}")
 
     @property
     def offset(self) -> int:
@@ -50,8 +51,8 @@ class EventReader(Handle):
         events: list[Event] = []
         while address < end:
             # One call reports all events of a chunk, unless there are many, or one has a body.
-            told = self._feed_all(at, address, end - address, self._events_at, self._most,
-                                  self._body_at, MAX_BODY)
+            told = self._feed_chunk(at, address, end - address, self._events_at, self._most,
+                                    self._body_at, MAX_BODY)
             address += told.used
             if offsets is not None:
                 offsets += read_offsets(self._events, told.count, self._offset)
@@ -108,7 +109,7 @@ class Decoder(EventReader):
     [Field(square='e4', piece='P')]
     """
 
-    _prefix, _feed_name = "dgt_decoder", "feed"
+    _prefix, _feed_name, _chunk_name = "dgt_decoder", "feed", "feed_many"
 
     def feed(self, chunk: Bytes) -> list[Event]:
         """Returns the events of a chunk of bytes."""

@@ -62,7 +62,7 @@ class Follower(EventReader, Asker):
     b'`\\x02@@D'
     """
 
-    _prefix, _feed_name, _most = "dgt_follower", "hear", 1
+    _prefix, _feed_name, _chunk_name, _most = "dgt_follower", "hear", "hear_all", 1
 
     def __init__(self, period: float = 10.0, *, patience: int = 6, mode: Mode = Mode.UPDATE_BOARD,
                  confirm: bool = False, identify: bool = False) -> None:
@@ -81,7 +81,7 @@ class Follower(EventReader, Asker):
         self._call(self._hear, time, address, len(held))
 
     def _hear(self, at: int, time: int, address: int, count: int) -> None:
-        self._feed_all(at, time, address, count)
+        self._feed_chunk(at, time, address, count)
         self._offset += count
 
     def hear_each(self, now: float, chunk: Bytes) -> Iterator[Event]:

@@ -25,7 +25,7 @@ class Host(EventReader, Asker):
     Dump rnbqkbnr/pppppppp/8/8/8/8/PPPPPPPP/RNBQKBNR
     """
 
-    _prefix, _feed_name = "dgt_host", "hear"
+    _prefix, _feed_name, _chunk_name = "dgt_host", "hear", "hear_many"
 
     def hear(self, chunk: Bytes) -> list[Event]:
         """Hears a chunk of bytes, and returns its events. The host's picture is then the picture

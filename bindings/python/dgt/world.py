@@ -27,7 +27,8 @@ class Outcome(StrEnum):
     TOO_MANY_AWAITED = "toomany"
 
 
-_SENDING = {_c.DONE: Outcome.DONE, _c.TOO_MANY_AWAITED: Outcome.TOO_MANY_AWAITED, _c.NO_ROOM: Outcome.NO_ROOM}
+_SENDING = {_c.DONE: Outcome.DONE, _c.TOO_MANY_AWAITED: Outcome.TOO_MANY_AWAITED,
+            _c.NO_ROOM: Outcome.NO_ROOM}
 _POLLING = {_c.NOTHING: Outcome.NOTHING, _c.WROTE: Outcome.DONE, _c.NO_ROOM: Outcome.NO_ROOM}
 
 
@@ -101,9 +102,9 @@ class World(Uncopied):
         return Outcome.DONE
 
     def host_sends(self, command: Ask | Command) -> Outcome:
-        """The host sends a command. `TOO_MANY_AWAITED` if it requests a reply and 16 are awaited already,
-        `NO_ROOM` if the line has no room for all its bytes. `NoSuchCommand` if it isn't one of
-        `Ask`, or is too long for a command."""
+        """The host sends a command. `TOO_MANY_AWAITED` if it requests a reply and 16 are awaited
+        already, `NO_ROOM` if the line has no room for all its bytes. `NoSuchCommand` if it isn't
+        one of `Ask`, or is too long for a command."""
         if isinstance(command, ClockMessage):
             held, address = readable(command.payload)
             id = byte(command.id, "an id")

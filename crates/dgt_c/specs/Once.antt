@@ -161,7 +161,7 @@ abbrev pub NothingIsEncoded : Type 0
 NothingIsEncoded =
     (said : DgtEvent) (body old new : List ℕ) (reported : DgtEncoded)
     → ((message : Content) → ¬ (SaysMessage said body message))
-    → EncodesMessage said body old new reported → (reported.status ≡ 2) × (new ≡ old)
+    → EncodesMessage said body old new reported → (reported.status ≡ 3) × (new ≡ old)
 
 -- if the struct describes a message, one such message is encoded
 abbrev pub MessagesAreEncoded : Type 0
@@ -202,7 +202,7 @@ abbrev pub NothingHasNoText : Type 0
 NothingHasNoText =
     (said : DgtEvent) (body old new : List ℕ) (reported : DgtEncoded)
     → ((event : Event) → ¬ (SaysEvent said body event))
-    → WritesText said body old new reported → (reported.status ≡ 2) × (new ≡ old)
+    → WritesText said body old new reported → (reported.status ≡ 3) × (new ≡ old)
 
 -- nothing is read only if the struct describes no event
 abbrev pub EventsAreRead : Type 0

@@ -4,7 +4,7 @@ use Rattle.dgt_host.specs.declared.sending.SendFault.{SendFault}
 use Rattle.dgt_host.specs.declared.sending.SendFault.TheVariants.{TooMany, NoRoom}
 use Rattle.dgt_host.specs.Host.{HostView, Request, Sends}
 use Rattle.dgt_c.specs.declared.header.DgtSent.{DgtSent}
-use Rattle.dgt_c.specs.declared.header.TheConstants.{NO_SUCH_COMMAND, DONE, NO_ROOM, TOO_MANY_AWAITED}
+use Rattle.dgt_c.specs.declared.header.TheConstants.{DONE, NO_ROOM, NO_SUCH_COMMAND, TOO_MANY_AWAITED}
 
 abbrev pub sent_reported : Result ℕ SendFault → DgtSent
 sent_reported (Ok bytes) = record { status = DONE; bytes = bytes }

@@ -17,7 +17,7 @@ use crate::commands::report_command;
 use crate::handles::DgtBoard;
 use crate::header::{
     DgtClock, DgtCommand, DgtPolled, DgtTaken, MODE_IDLE, MODE_UPDATE, MODE_UPDATE_BOARD,
-    MODE_UPDATE_NICE, NO_WORD, NO_ROOM, POLLED_NOTHING, POLLED_WROTE,
+    MODE_UPDATE_NICE, NO_ROOM, NO_WORD, POLLED_NOTHING, POLLED_WROTE,
 };
 use dgt_board::{MAX_OWED, MAX_SENT, Mode, Polled};
 use dgt_command::MAX_WORD;

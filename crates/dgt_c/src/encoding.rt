@@ -10,9 +10,9 @@ use crate::checking::{read_position, read_seven_bits};
 use crate::clocks::read_clock;
 use crate::events::report;
 use crate::header::{
-    DgtEncoded, DgtEvent, DONE, EVENT_ACK, EVENT_BATTERY, EVENT_DUMP, EVENT_FIELD,
+    DONE, DgtEncoded, DgtEvent, EVENT_ACK, EVENT_BATTERY, EVENT_DUMP, EVENT_FIELD,
     EVENT_LONG_SERIAL, EVENT_NO_CLOCK, EVENT_OTHER, EVENT_SERIAL, EVENT_TIMES, EVENT_TRADEMARK,
-    EVENT_VERSION, NOTHING_ENCODED, NO_ROOM,
+    EVENT_VERSION, NO_ROOM, NOTHING_ENCODED,
 };
 use dgt_decode::Event;
 use dgt_message::{Clock, ClockAck, Message, OtherCode, encode, view};

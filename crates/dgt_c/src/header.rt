@@ -103,17 +103,9 @@ pub const START_BAD_CLOCK: u8 = 2;
 
 pub const START_BAD_IDENTITY: u8 = 3;
 
-pub const DONE: u8 = 0;
-
-pub const NO_ROOM: u8 = 1;
-
-pub const REFUSED: u8 = 2;
-
 pub const POLLED_NOTHING: u8 = 0;
 
 pub const POLLED_WROTE: u8 = 1;
-
-pub const NO_ROOM: u8 = 2;
 
 pub const MODE_IDLE: u8 = 0;
 

@@ -13,7 +13,7 @@ ghost use Rattle.dgt_command.specs.declared.ids.KnownId.{KnownId};
 ghost use Rattle.dgt_c.specs.ClockSending.{SendsClock, SendsDisplay, SendsMessage};
 
 use crate::handles::{DgtFollower, DgtHost};
-use crate::header::{DgtSent, DONE, NO_ROOM, TOO_MANY_AWAITED};
+use crate::header::{DONE, DgtSent, NO_ROOM, TOO_MANY_AWAITED};
 use crate::sender::{send_clock, send_display, send_leds, send_message, send_word};
 use dgt_command::{ClockCommand, KnownId};
 use dgt_host::SendFault;

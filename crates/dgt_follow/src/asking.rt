@@ -23,11 +23,11 @@ pub enum Asking {
 /// request also contains the command `41`, `Clock`.
 #[derive(Clone, Copy, Debug, PartialEq, Eq)]
 pub enum UpdateMode {
-    /// Each changed square: the command `44`, `UpdateBoard`.
+    /// Each changed square: the command `44`.
     UpdateBoard,
-    /// Each changed square and each reading of the clock: the command `43`, `Update`.
+    /// Each changed square and each reading of the clock: the command `43`.
     Update,
-    /// Each changed square, and the clock when it changes: the command `4b`, `UpdateNice`.
+    /// Each changed square, and the clock when it changes: the command `4b`.
     UpdateNice,
 }
 

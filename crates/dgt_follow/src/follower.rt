@@ -250,7 +250,7 @@ impl Follower {
     /// would stay unread until the next message.
     ///
     /// Returns `NoRoom` if the slice is shorter than what is due in this mode; then nothing
-    /// changes. A heartbeat takes 2 bytes with [`UpdateMode::UpdateBoard`] and 3 in the other modes,
+    /// changes. A heartbeat takes 2 bytes in [`UpdateMode::UpdateBoard`] and 3 in the other modes,
     /// and a new start 258 and 259.
     pub fn ask(&mut self, now: u64, out: &mut [u8]) -> Result<usize, NoRoom>
         ensures { Asks (asking_of self.old now) now self.old self.new out.old out.new result }

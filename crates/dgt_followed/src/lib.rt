@@ -137,8 +137,8 @@ pub fn askings_heal()
 /// and whatever else is sent, delivered and recorded. If the world is quiet, the host's clock is
 /// the board's.
 ///
-/// A request with `UpdateBoard` restarts the count, and so does any other act that unsettles the clock:
-/// a fault, a break, a restart, a reset or the command `UpdateBoard`.
+/// A request in the mode `UpdateBoard` restarts the count, and so does any other act that unsettles
+/// the clock: a fault, a break, a restart, a reset or the command `UpdateBoard`.
 pub fn clocks_heal()
     ensures clock_promised { AfterAskings (λ followed. followed.clock_since) IsClockPromisedWorld }
     ensures clock { AfterAskings (λ followed. followed.clock_since) (λ world.

@@ -101,24 +101,20 @@ pub fn limits()
     ensures id_set_and_run { id_number KnownId.SetAndRun ≡ 0x0a }
     ensures id_beep { id_number KnownId.Beep ≡ 0x0b }
     ensures id_text { id_number KnownId.Text ≡ 0x0c }
-    ensures sent { DONE ≡ 0 }
-    ensures too_many { TOO_MANY_AWAITED ≡ 1 }
+    ensures done { DONE ≡ 0 }
+    ensures too_many_awaited { TOO_MANY_AWAITED ≡ 1 }
     ensures no_room { NO_ROOM ≡ 2 }
-    ensures no_command { REFUSED ≡ 3 }
+    ensures refused { REFUSED ≡ 3 }
     ensures started { STARTED ≡ 0 }
     ensures start_bad_pieces { START_BAD_PIECES ≡ 1 }
     ensures start_bad_clock { START_BAD_CLOCK ≡ 2 }
     ensures start_bad_identity { START_BAD_IDENTITY ≡ 3 }
     ensures nothing { POLLED_NOTHING ≡ 0 }
     ensures wrote { POLLED_WROTE ≡ 1 }
-    ensures need_room { NO_ROOM ≡ 2 }
     ensures mode_idle { MODE_IDLE ≡ 0 }
     ensures mode_update { MODE_UPDATE ≡ 1 }
     ensures mode_update_board { MODE_UPDATE_BOARD ≡ 2 }
     ensures mode_update_nice { MODE_UPDATE_NICE ≡ 3 }
-    ensures encoded { DONE ≡ 0 }
-    ensures too_short { NO_ROOM ≡ 1 }
-    ensures not_encoded { REFUSED ≡ 2 }
     ensures stored_piece { STORED_PIECE ≡ 1 }
     ensures stored_time { STORED_TIME ≡ 2 }
     ensures stored_mark { STORED_MARK ≡ 3 }
@@ -162,12 +158,11 @@ pub fn cases_differ()
         ∷ FAULT_BAD_READING ∷ []) }
     ensures words { Ascend (COMMAND_NONE ∷ COMMAND_READ ∷ COMMAND_BAD_SIZE ∷ COMMAND_BAD_START
         ∷ COMMAND_BAD_END ∷ COMMAND_STRAY ∷ []) }
-    ensures sendings { Ascend (DONE ∷ TOO_MANY_AWAITED ∷ NO_ROOM ∷ REFUSED ∷ []) }
+    ensures statuses { Ascend (DONE ∷ TOO_MANY_AWAITED ∷ NO_ROOM ∷ REFUSED ∷ []) }
     ensures starts { Ascend (STARTED ∷ START_BAD_PIECES ∷ START_BAD_CLOCK ∷ START_BAD_IDENTITY
         ∷ []) }
-    ensures polls { Ascend (POLLED_NOTHING ∷ POLLED_WROTE ∷ NO_ROOM ∷ []) }
+    ensures polls { Ascend (POLLED_NOTHING ∷ POLLED_WROTE ∷ []) }
     ensures modes { Ascend (MODE_IDLE ∷ MODE_UPDATE ∷ MODE_UPDATE_BOARD ∷ MODE_UPDATE_NICE ∷ []) }
-    ensures encodings { Ascend (DONE ∷ NO_ROOM ∷ REFUSED ∷ []) }
     ensures stored { Ascend (STORED_PIECE ∷ STORED_TIME ∷ STORED_MARK ∷ STORED_UNKNOWN ∷ []) }
     ensures signals { Ascend (SIGNAL_DONE ∷ SIGNAL_VERSION ∷ SIGNAL_PRESSED ∷ SIGNAL_OFF
         ∷ SIGNAL_READY ∷ []) }
