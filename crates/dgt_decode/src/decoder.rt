@@ -64,6 +64,7 @@ impl Decoder {
     /// them.
     ///
     /// The event borrows its body from the decoder until the next call.
+    #[inline(always)]
     pub fn feed(&mut self, chunk: &[u8]) -> Fed<'_>
         ensures* after_borrow { sem 𝓛 (Rests the_row self.entry
             (λ new. new ≡ unfinished_message (self.old ++ take result.used chunk.now))) }
@@ -72,6 +73,7 @@ impl Decoder {
             (event_content_if_any result.event) }
         ensures progress { 0 < length chunk.now → 0 < result.used }
     {
+        // It is inlined: otherwise an event is copied three times on its way to C.
         let Advanced { used, found } = self.framer.advance(chunk);
         let Some(found) = found else {
             return Fed { used, event: None };

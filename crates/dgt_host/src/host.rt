@@ -214,6 +214,7 @@ impl Host {
     ///
     /// The event borrows its body from the host until the next call. Call again with the remaining
     /// bytes: each call uses at least one byte, unless the chunk is empty.
+    #[inline(always)]
     pub fn hear(&mut self, chunk: &[u8]) -> Heard<'_>
         ensures* after_borrow { sem 𝓛 (Rests the_row self.entry
             (λ new. new ≡ host_after self.old (take result.used chunk.now))) }
@@ -226,6 +227,7 @@ impl Host {
             ≡ changes_by self.old.picture (event_content_if_any result.event) }
         ensures progress { 0 < length chunk.now → 0 < result.used }
     {
+        // It is inlined: otherwise an event is copied three times on its way to C.
         let advanced = self.framer.advance(chunk);
         let Some(found) = advanced.found else {
             return Heard {
