@@ -18,7 +18,9 @@ mod lines;
 mod listing;
 mod moving;
 mod pieces;
+mod possible;
 mod state;
 
 pub use pieces::{Colour, Man};
+pub use possible::{Impossible, Rights};
 pub use state::{Move, NotLegal, State};
