@@ -95,7 +95,7 @@ fn has_no_extra(pieces: &[Piece; 64]) -> bool
     ensures { IsTrue result ↔ HasNoExtra pieces.now }
 {
     for square in 0..64 {
-        if is_extra(pieces[square as usize]) {
+        if is_extra(pieces[square]) {
             return false;
         }
     }

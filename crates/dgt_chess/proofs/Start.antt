@@ -1,0 +1,159 @@
+-- The state in which a game begins is possible.
+use Rattle.std.proofs.Common.{subst, ◌≡◌, ℕ, zero, suc, ◌+◌, ◌<◌, ◌≤◌, ◌∙◌, sym, ap, refl, arith, List, [], ◌∷◌, length, inl, inr, Bool, true, false}
+use Rattle.std.specs.Prelude.{◌≢◌, ◌⊎◌, Option, Some, None, ◌&&◌, nat_eq, nat_lt}
+use Rattle.std.specs.Int.{abs_diff}
+use Rattle.std.proofs.lemmas.Bool.Decides.{nat_tests}
+use Rattle.dgt_values.specs.declared.pieces.Piece.{Piece}
+use Rattle.dgt_values.specs.declared.pieces.Piece.TheVariants.{Empty, WhitePawn, WhiteKnight, WhiteBishop, WhiteRook, WhiteQueen, WhiteKing, BlackPawn, BlackKing, FirstExtra, SecondExtra, ThirdExtra}
+use Rattle.dgt_values.specs.Board.{start_pieces}
+use Rattle.dgt_chess.specs.declared.possible.Rights.{Rights}
+use Rattle.dgt_chess.specs.declared.pieces.Colour.{Colour}
+use Rattle.dgt_chess.specs.declared.pieces.Colour.TheVariants.{White, Black}
+use Rattle.dgt_chess.specs.declared.pieces.Man.{Man}
+use Rattle.dgt_chess.specs.declared.pieces.Man.TheVariants.{Pawn, Knight, Bishop, Rook, Queen, King}
+use Rattle.dgt_chess.specs.Attacks.{piece_at, piece_of, row, file, Attacks, Diagonal, IsAttacked, IsInCheck, IsOpen, Line, OnLine, Straight}
+use Rattle.dgt_chess.specs.Attacks.Line.{Rank, File, Falling, Rising}
+use Rattle.dgt_chess.specs.Possible.{HasOneKing, HasNoExtra, HasNoStray, HasPassed, IsPossible}
+use Rattle.dgt_chess.proofs.OneMove.{both}
+
+-- where pieces stand at the beginning
+abbrev fits : ℕ → Piece → Bool
+fits n WhitePawn = nat_lt 47 n && nat_lt n 56
+fits n WhiteKnight = nat_lt 47 n
+fits n WhiteBishop = nat_lt 47 n
+fits n WhiteRook = nat_lt 47 n
+fits n WhiteQueen = nat_lt 47 n
+fits n WhiteKing = nat_eq n 60
+fits n BlackPawn = nat_lt 7 n && nat_lt n 16
+fits n BlackKing = nat_eq n 4
+fits n FirstExtra = false
+fits n SecondExtra = false
+fits n ThirdExtra = false
+fits n _ = true
+
+abbrev all_fit : ℕ → List Piece → Bool
+all_fit n [] = true
+all_fit n (piece ∷ pieces) = fits n piece && all_fit (n + 1) pieces
+
+fit : (n : ℕ) (pieces : List Piece) → all_fit n pieces ≡ true → (k : ℕ) → k < length pieces
+    → fits (n + k) (piece_at pieces k) ≡ true
+fit n [] all k small = absurd (omega arith)
+fit n (piece ∷ pieces) all zero small =
+    let P : ℕ → Type 0 = λ m. fits m piece ≡ true in
+    let same : n ≡ n + 0 = omega arith in
+    subst P same (both (fits n piece) (all_fit (n + 1) pieces) all).0
+fit n (piece ∷ pieces) all (suc k) small =
+    let P : ℕ → Type 0 = λ m. fits m (piece_at pieces k) ≡ true in
+    let same : n + 1 + k ≡ n + suc k = omega arith in
+    subst P same (fit (n + 1) pieces (both (fits n piece) (all_fit (n + 1) pieces) all).1 k (omega arith))
+
+stands : (s : ℕ) (piece : Piece) → s < 64 → piece_at start_pieces s ≡ piece → fits s piece ≡ true
+stands s piece small here =
+    let P : Piece → Type 0 = λ p. fits s p ≡ true in
+    let S : ℕ → Type 0 = λ n. fits n (piece_at start_pieces s) ≡ true in
+    let same : 0 + s ≡ s = omega arith in
+    subst P here (subst S same (fit 0 start_pieces refl s small))
+
+equals : (a b : ℕ) → nat_eq a b ≡ true → a ≡ b
+equals a b t = grind (arith, nat_tests)
+
+above : (a b : ℕ) → nat_lt a b ≡ true → a < b
+above a b t = grind (arith, nat_tests)
+
+white_low : (s : ℕ) (man : Man) → s < 64 → piece_at start_pieces s ≡ piece_of White man → 47 < s
+white_low s Pawn small here = above 47 s (both (nat_lt 47 s) (nat_lt s 56) (stands s WhitePawn small here)).0
+white_low s Knight small here = above 47 s (stands s WhiteKnight small here)
+white_low s Bishop small here = above 47 s (stands s WhiteBishop small here)
+white_low s Rook small here = above 47 s (stands s WhiteRook small here)
+white_low s Queen small here = above 47 s (stands s WhiteQueen small here)
+white_low s King small here = let at = equals s 60 (stands s WhiteKing small here) in omega arith
+
+-- a pawn stands between
+blocked : (line : Line) (a at : ℕ) (P : Type 0) → 47 < a → 4 < at → at < 47 → OnLine line 4 at
+    → piece_at start_pieces at ≡ BlackPawn → ((a < 4) × P) ⊎ ((4 < a) × IsOpen line start_pieces 4 a) → ⊥
+blocked line a at P low above below on pawn slides = elim slides [
+  | inl up ↦ let small = up.0 in omega arith
+  | inr down ↦ let wrong : BlackPawn ≡ Empty = sym pawn ∙ down.1 at above (omega arith) on in cc
+]
+
+not_straight : (a : ℕ) → 47 < a → Straight start_pieces a 4 → ⊥
+not_straight a low h = elim h [
+  | inl rank ↦ let on = rank.0 in omega arith
+  | inr along ↦ blocked File a 12 _ low (omega arith) (omega arith) refl refl along.1
+]
+
+not_diagonal : (a : ℕ) → 47 < a → Diagonal start_pieces a 4 → ⊥
+not_diagonal a low h = elim h [
+  | inl falls ↦ blocked Falling a 13 _ low (omega arith) (omega arith) refl refl falls.1
+  | inr rises ↦ blocked Rising a 11 _ low (omega arith) (omega arith) refl refl rises.1
+]
+
+no_attack : (man : Man) (a : ℕ) → 47 < a → Attacks man White start_pieces a 4 → ⊥
+no_attack Pawn a low h = let ahead = h.1 in omega arith
+no_attack Knight a low h = elim h [ inl x ↦ let rows = x.1 in omega arith | inr x ↦ let rows = x.1 in omega arith ]
+no_attack Bishop a low h = not_diagonal a low h
+no_attack Rook a low h = not_straight a low h
+no_attack Queen a low h = elim h [ inl s ↦ not_straight a low s | inr d ↦ not_diagonal a low d ]
+no_attack King a low h = let rows = h.2 in omega arith
+
+no_check : ¬ (IsInCheck start_pieces Black)
+unfolding IsAttacked
+no_check check =
+    let at : check.0 ≡ 4 = equals check.0 4 (stands check.0 BlackKing check.1 check.2) in
+    let a = check.3.0 in
+    let man = check.3.2.0 in
+    let P : ℕ → Type 0 = λ s. Attacks man White start_pieces a s in
+    no_attack man a (white_low a man check.3.1 check.3.2.1) (subst P at check.3.2.2)
+
+one_white_king : HasOneKing start_pieces White
+unfolding HasOneKing
+one_white_king = (60, omega arith, refl, λ s small here. equals s 60 (stands s WhiteKing small here))
+
+one_black_king : HasOneKing start_pieces Black
+unfolding HasOneKing
+one_black_king = (4, omega arith, refl, λ s small here. equals s 4 (stands s BlackKing small here))
+
+no_extra : HasNoExtra start_pieces
+unfolding HasNoExtra
+no_extra s small h = elim h [
+  | inl e ↦ let no = stands s FirstExtra small e in cc
+  | inr more ↦ elim more [
+    | inl e ↦ let no = stands s SecondExtra small e in cc
+    | inr e ↦ let no = stands s ThirdExtra small e in cc
+  ]
+]
+
+pawn_rows : (s : ℕ) (colour : Colour) → s < 64 → piece_at start_pieces s ≡ piece_of colour Pawn
+    → (row s ≡ 0) ⊎ (row s ≡ 7) → ⊥
+pawn_rows s White small here edge =
+    let parts = both (nat_lt 47 s) (nat_lt s 56) (stands s WhitePawn small here) in
+    let low = above 47 s parts.0 in
+    let high = above s 56 parts.1 in
+    elim edge [ inl x ↦ omega arith | inr x ↦ omega arith ]
+pawn_rows s Black small here edge =
+    let parts = both (nat_lt 7 s) (nat_lt s 16) (stands s BlackPawn small here) in
+    let low = above 7 s parts.0 in
+    let high = above s 16 parts.1 in
+    elim edge [ inl x ↦ omega arith | inr x ↦ omega arith ]
+
+no_stray : HasNoStray start_pieces
+unfolding HasNoStray
+no_stray s small astray = pawn_rows s astray.1.0 small astray.1.1 astray.0
+
+not_passed : HasPassed start_pieces White None
+unfolding HasPassed
+not_passed square is = let no : ⊥ = cc in absurd no
+
+pub at_start : (pieces : List Piece) (rights : Rights) → pieces ≡ start_pieces
+    → IsPossible pieces White rights None 1
+at_start pieces rights same =
+    let P : List Piece → Type 0 = λ x. IsPossible x White rights None 1 in
+    subst P (sym same) (record {
+      kings = (one_white_king, one_black_king);
+      known = no_extra;
+      pawns = no_stray;
+      safe = no_check;
+      homes = (λ _. (refl, refl), λ _. (refl, refl), λ _. (refl, refl), λ _. (refl, refl));
+      steps = not_passed;
+      counted = omega arith;
+    })
