@@ -13,6 +13,7 @@
 #![tactic(auto)]
 
 mod attacks;
+mod draws;
 pub mod laws;
 mod lines;
 mod listing;

@@ -2,6 +2,7 @@
 
 mod asserting;
 mod boards;
+mod chess;
 mod commanding;
 mod decoding;
 mod engines;
