@@ -45,7 +45,8 @@ fit n (piece ∷ pieces) all zero small =
 fit n (piece ∷ pieces) all (suc k) small =
     let P : ℕ → Type 0 = λ m. fits m (piece_at pieces k) ≡ true in
     let same : n + 1 + k ≡ n + suc k = omega arith in
-    subst P same (fit (n + 1) pieces (both (fits n piece) (all_fit (n + 1) pieces) all).1 k (omega arith))
+    subst P same (fit (n + 1) pieces (both (fits n piece) (all_fit (n + 1) pieces) all).1 k
+    (omega arith))
 
 stands : (s : ℕ) (piece : Piece) → s < 64 → piece_at start_pieces s ≡ piece → fits s piece ≡ true
 stands s piece small here =
@@ -61,7 +62,8 @@ above : (a b : ℕ) → nat_lt a b ≡ true → a < b
 above a b t = grind (arith, nat_tests)
 
 white_low : (s : ℕ) (man : Man) → s < 64 → piece_at start_pieces s ≡ piece_of White man → 47 < s
-white_low s Pawn small here = above 47 s (both (nat_lt 47 s) (nat_lt s 56) (stands s WhitePawn small here)).0
+white_low s Pawn small here =
+    above 47 s (both (nat_lt 47 s) (nat_lt s 56) (stands s WhitePawn small here)).0
 white_low s Knight small here = above 47 s (stands s WhiteKnight small here)
 white_low s Bishop small here = above 47 s (stands s WhiteBishop small here)
 white_low s Rook small here = above 47 s (stands s WhiteRook small here)
@@ -70,7 +72,8 @@ white_low s King small here = let at = equals s 60 (stands s WhiteKing small her
 
 -- a pawn stands between
 blocked : (line : Line) (a at : ℕ) (P : Type 0) → 47 < a → 4 < at → at < 47 → OnLine line 4 at
-    → piece_at start_pieces at ≡ BlackPawn → ((a < 4) × P) ⊎ ((4 < a) × IsOpen line start_pieces 4 a) → ⊥
+    → piece_at start_pieces at ≡ BlackPawn → ((a < 4) × P)
+    ⊎ ((4 < a) × IsOpen line start_pieces 4 a) → ⊥
 blocked line a at P low above below on pawn slides = elim slides [
   | inl up ↦ let small = up.0 in omega arith
   | inr down ↦ let wrong : BlackPawn ≡ Empty = sym pawn ∙ down.1 at above (omega arith) on in cc
@@ -90,7 +93,8 @@ not_diagonal a low h = elim h [
 
 no_attack : (man : Man) (a : ℕ) → 47 < a → Attacks man White start_pieces a 4 → ⊥
 no_attack Pawn a low h = let ahead = h.1 in omega arith
-no_attack Knight a low h = elim h [ inl x ↦ let rows = x.1 in omega arith | inr x ↦ let rows = x.1 in omega arith ]
+no_attack Knight a low h =
+    elim h [ inl x ↦ let rows = x.1 in omega arith | inr x ↦ let rows = x.1 in omega arith ]
 no_attack Bishop a low h = not_diagonal a low h
 no_attack Rook a low h = not_straight a low h
 no_attack Queen a low h = elim h [ inl s ↦ not_straight a low s | inr d ↦ not_diagonal a low d ]
@@ -107,7 +111,13 @@ no_check check =
 
 one_white_king : HasOneKing start_pieces White
 unfolding HasOneKing
-one_white_king = (60, omega arith, refl, λ s small here. equals s 60 (stands s WhiteKing small here))
+one_white_king = (
+  60,
+  omega arith,
+  refl,
+  λ s small here.
+      equals s 60 (stands s WhiteKing small here),
+)
 
 one_black_king : HasOneKing start_pieces Black
 unfolding HasOneKing

@@ -20,20 +20,25 @@ use Rattle.dgt_chess.proofs.OneMove.{put, effect_of, spared}
 
 -- ---- kings
 
-their_king : (old new : List Piece) (turn : Colour) (a b : ℕ) (man : Man) → Effect old new turn a b man
-    → piece_at old b ≢ piece_of (other turn) King → HasOneKing old (other turn) → HasOneKing new (other turn)
+their_king : (old new : List Piece) (turn : Colour) (a b : ℕ) (man : Man)
+    → Effect old new turn a b man
+    → piece_at old b ≢ piece_of (other turn) King → HasOneKing old (other turn)
+    → HasOneKing new (other turn)
 unfolding HasOneKing
 their_king old new turn a b man e spared king =
     let k = king.0 in
-    let off_a : k ≢ a = λ same. not_theirs turn e.begins.0 King (sym e.begins.1 ∙ ap (piece_at old) (sym same) ∙ king.2) in
+    let off_a : k ≢ a = λ same.
+    not_theirs turn e.begins.0 King (sym e.begins.1 ∙ ap (piece_at old) (sym same) ∙ king.2) in
     let off_b : k ≢ b = λ same. spared (ap (piece_at old) (sym same) ∙ king.2) in
     let stays : piece_at new k ≡ piece_of (other turn) King = elim (e.keeps k off_a off_b) [
       | inl same ↦ same ∙ king.2
       | inr more ↦ elim more [
-        | inl pawn ↦ let wrong : King ≡ Pawn = same_kind (other turn) (other turn) King Pawn (sym king.2 ∙ pawn) in cc
+        | inl pawn ↦ let wrong : King ≡ Pawn =
+            same_kind (other turn) (other turn) King Pawn (sym king.2 ∙ pawn) in cc
         | inr rest ↦ elim rest [
           | inl free ↦ absurd (not_free (other turn) King (sym king.2 ∙ free.1))
-          | inr rook ↦ let wrong : King ≡ Rook = same_kind (other turn) turn King Rook (sym king.2 ∙ rook.1) in cc
+          | inr rook ↦ let wrong : King ≡ Rook =
+              same_kind (other turn) turn King Rook (sym king.2 ∙ rook.1) in cc
         ]
       ]
     ] in (
@@ -52,35 +57,40 @@ their_king old new turn a b man e spared king =
       ],
     )
 
-own_king : (old new : List Piece) (turn : Colour) (a b : ℕ) (man : Man) → b < 64 → a < 64 → Effect old new turn a b man
-    → (piece_at old a ≡ piece_of turn King → man ≡ King) → (man ≡ King → piece_at old a ≡ piece_of turn King)
+own_king : (old new : List Piece) (turn : Colour) (a b : ℕ) (man : Man) → b < 64 → a < 64
+    → Effect old new turn a b man
+    → (piece_at old a ≡ piece_of turn King → man ≡ King)
+    → (man ≡ King → piece_at old a ≡ piece_of turn King)
     → HasOneKing old turn → HasOneKing new turn
 unfolding HasOneKing
 own_king old new turn a b man b_small a_small e remains_king was_king king =
     let k = king.0 in
     elim (cases_eq k a) [
-      | inl same ↦ let crowned : man ≡ King = remains_king (ap (piece_at old) (sym same) ∙ king.2) in (
-        b,
-        b_small,
-        e.arrived ∙ ap (piece_of turn) crowned,
-        λ s small here. elim (e.sees s) [
-          | inl empty ↦ absurd (not_free turn King (sym here ∙ empty))
-          | inr more ↦ elim more [
-            | inl kept ↦ absurd (kept.1 (king.3 s small (sym kept.0 ∙ here) ∙ same))
-            | inr rest ↦ elim rest [
-              | inl own ↦ own.1
-              | inr rook ↦ let wrong : Rook ≡ King = same_kind turn turn Rook King (sym rook ∙ here) in cc
-            ]
-          ]
-        ],
-      )
+      | inl same ↦ let crowned : man ≡ King =
+          remains_king (ap (piece_at old) (sym same) ∙ king.2) in (
+            b,
+            b_small,
+            e.arrived ∙ ap (piece_of turn) crowned,
+            λ s small here. elim (e.sees s) [
+              | inl empty ↦ absurd (not_free turn King (sym here ∙ empty))
+              | inr more ↦ elim more [
+                | inl kept ↦ absurd (kept.1 (king.3 s small (sym kept.0 ∙ here) ∙ same))
+                | inr rest ↦ elim rest [
+                  | inl own ↦ own.1
+                  | inr rook ↦ let wrong : Rook ≡ King =
+                      same_kind turn turn Rook King (sym rook ∙ here) in cc
+                ]
+              ]
+            ],
+          )
       | inr off_a ↦
           let no_king : man ≢ King = λ crowned. off_a (sym (king.3 a a_small (was_king crowned))) in
           let off_b : k ≢ b = λ same. e.target King (ap (piece_at old) (sym same) ∙ king.2) in
           let stays : piece_at new k ≡ piece_of turn King = elim (e.keeps k off_a off_b) [
             | inl same ↦ same ∙ king.2
             | inr more ↦ elim more [
-              | inl pawn ↦ let wrong : King ≡ Pawn = same_kind turn (other turn) King Pawn (sym king.2 ∙ pawn) in cc
+              | inl pawn ↦ let wrong : King ≡ Pawn =
+                  same_kind turn (other turn) King Pawn (sym king.2 ∙ pawn) in cc
               | inr rest ↦ elim rest [
                 | inl free ↦ absurd (no_king free.0)
                 | inr rook ↦ absurd (no_king rook.0)
@@ -96,14 +106,16 @@ own_king old new turn a b man b_small a_small e remains_king was_king king =
                 | inl kept ↦ king.3 s small (sym kept.0 ∙ here)
                 | inr rest ↦ elim rest [
                   | inl own ↦ absurd (no_king (same_kind turn turn man King (sym own.0 ∙ here)))
-                  | inr rook ↦ let wrong : Rook ≡ King = same_kind turn turn Rook King (sym rook ∙ here) in cc
+                  | inr rook ↦ let wrong : Rook ≡ King =
+                      same_kind turn turn Rook King (sym rook ∙ here) in cc
                 ]
               ]
             ],
           )
     ]
 
-both_kings : (pieces : List Piece) (turn : Colour) → HasOneKing pieces turn → HasOneKing pieces (other turn) → HasKings pieces
+both_kings : (pieces : List Piece) (turn : Colour) → HasOneKing pieces turn
+    → HasOneKing pieces (other turn) → HasKings pieces
 both_kings pieces White own theirs = (own, theirs)
 both_kings pieces Black own theirs = (theirs, own)
 
@@ -113,13 +125,15 @@ king_of pieces Black kings = kings.1
 
 -- ---- no extra piece, no stray pawn
 
-no_new_extra : (old new : List Piece) (turn : Colour) (a b : ℕ) (man : Man) → Effect old new turn a b man → HasNoExtra old
+no_new_extra : (old new : List Piece) (turn : Colour) (a b : ℕ) (man : Man)
+    → Effect old new turn a b man → HasNoExtra old
     → HasNoExtra new
 unfolding HasNoExtra
 no_new_extra old new turn a b man e known s small =
     let P : Piece → Type 0 = λ p. ¬ (IsExtra p) in
     elim (e.sees s) [
-      | inl empty ↦ subst P (sym empty) (λ h. elim h [ inl x ↦ cc | inr more ↦ elim more [ inl x ↦ cc | inr x ↦ cc ] ])
+      | inl empty ↦ subst P (sym empty)
+          (λ h. elim h [ inl x ↦ cc | inr more ↦ elim more [ inl x ↦ cc | inr x ↦ cc ] ])
       | inr more ↦ elim more [
         | inl kept ↦ subst P (sym kept.0) (known s small)
         | inr rest ↦ elim rest [
@@ -129,7 +143,8 @@ no_new_extra old new turn a b man e known s small =
       ]
     ]
 
-no_new_stray : (old new : List Piece) (turn : Colour) (a b : ℕ) (man : Man) → Effect old new turn a b man
+no_new_stray : (old new : List Piece) (turn : Colour) (a b : ℕ) (man : Man)
+    → Effect old new turn a b man
     → (man ≡ Pawn → (row b ≡ 0) ⊎ (row b ≡ 7) → ⊥) → HasNoStray old → HasNoStray new
 unfolding HasNoStray
 no_new_stray old new turn a b man e within pawns s small astray =
@@ -142,19 +157,22 @@ no_new_stray old new turn a b man e within pawns s small astray =
         | inr rest ↦ elim rest [
           | inl own ↦ let P : ℕ → Type 0 = λ n. (row n ≡ 0) ⊎ (row n ≡ 7) in
               within (same_kind turn colour man Pawn (sym own.0 ∙ here)) (subst P own.1 astray.0)
-          | inr rook ↦ let wrong : Rook ≡ Pawn = same_kind turn colour Rook Pawn (sym rook ∙ here) in cc
+          | inr rook ↦ let wrong : Rook ≡ Pawn =
+              same_kind turn colour Rook Pawn (sym rook ∙ here) in cc
         ]
       ]
     ]
 
-ahead_of : (pieces : List Piece) (turn : Colour) (stepped : Option ℕ) (a b : ℕ) → PawnMoves pieces turn stepped a b
+ahead_of : (pieces : List Piece) (turn : Colour) (stepped : Option ℕ) (a b : ℕ)
+    → PawnMoves pieces turn stepped a b
     → IsAhead turn 1 a b ⊎ IsAhead turn 2 a b
 ahead_of pieces turn stepped a b moves = elim moves [
   | inl step ↦ inl step.1
   | inr more ↦ elim more [ inl double ↦ inr double.1 | inr take ↦ inl take.0.1 ]
 ]
 
-pawn_within : (turn : Colour) (a b : ℕ) → IsAhead turn 1 a b ⊎ IsAhead turn 2 a b → ((row a ≡ 0) ⊎ (row a ≡ 7) → ⊥)
+pawn_within : (turn : Colour) (a b : ℕ) → IsAhead turn 1 a b ⊎ IsAhead turn 2 a b
+    → ((row a ≡ 0) ⊎ (row a ≡ 7) → ⊥)
     → a < 64 → b < 64 → row b ≢ last_row turn → (row b ≡ 0) ⊎ (row b ≡ 7) → ⊥
 pawn_within White a b ahead a_within a_small b_small not_last edge = elim edge [
   | inl first ↦ not_last first
@@ -171,7 +189,8 @@ still_pawn : (man : Man) (promotion : Option Man) → promotion ≢ Some Pawn �
 still_pawn man None other_than same = (same, refl)
 still_pawn man (Some new) other_than same = absurd (other_than (ap Some same))
 
-within_of : (state : State) (man : Man) (a b : ℕ) (promotion : Option Man) → a < 64 → b < 64 → HasNoStray (board state)
+within_of : (state : State) (man : Man) (a b : ℕ) (promotion : Option Man) → a < 64 → b < 64
+    → HasNoStray (board state)
     → LegalBy man state a b promotion → put man promotion ≡ Pawn → (row b ≡ 0) ⊎ (row b ≡ 7) → ⊥
 unfolding HasNoStray
 within_of state man a b promotion a_small b_small pawns legal same edge =
@@ -191,35 +210,44 @@ remains_means : (unmoved : Bool) (home corner a b : ℕ) → IsTrue (remains unm
 remains_means true home corner a b h = grind (arith, nat_tests)
 remains_means false home corner a b h = let no : ⊥ = cc in absurd no
 
-home_stays : (old new : List Piece) (turn colour : Colour) (a b home corner : ℕ) (man : Man) (unmoved : Bool)
-    → home < 64 → a < 64 → Effect old new turn a b man → (man ≡ King → piece_at old a ≡ piece_of turn King)
+home_stays : (old new : List Piece) (turn colour : Colour) (a b home corner : ℕ) (man : Man)
+    (unmoved : Bool)
+    → home < 64 → a < 64 → Effect old new turn a b man
+    → (man ≡ King → piece_at old a ≡ piece_of turn King)
     → HasOneKing old turn → IsAtHome unmoved old colour home corner
     → IsAtHome (remains unmoved home corner a b) new colour home corner
 unfolding HasOneKing
-home_stays old new turn colour a b home corner man unmoved home_small a_small e was_king king at_home right =
+home_stays old new turn colour a b home corner man unmoved home_small a_small e was_king king
+    at_home right =
     let means = remains_means unmoved home corner a b right in
     let stood = at_home means.0 in (
       elim (e.keeps home means.1 means.2) [
         | inl same ↦ same ∙ stood.0
         | inr more ↦ elim more [
-          | inl pawn ↦ let wrong : King ≡ Pawn = same_kind colour (other turn) King Pawn (sym stood.0 ∙ pawn) in cc
+          | inl pawn ↦ let wrong : King ≡ Pawn =
+              same_kind colour (other turn) King Pawn (sym stood.0 ∙ pawn) in cc
           | inr rest ↦ elim rest [
             | inl free ↦ absurd (not_free colour King (sym stood.0 ∙ free.1))
-            | inr rook ↦ let wrong : King ≡ Rook = same_kind colour turn King Rook (sym stood.0 ∙ rook.1) in cc
+            | inr rook ↦ let wrong : King ≡ Rook =
+                same_kind colour turn King Rook (sym stood.0 ∙ rook.1) in cc
           ]
         ]
       ],
       elim (e.keeps corner means.3 means.4) [
         | inl same ↦ same ∙ stood.1
         | inr more ↦ elim more [
-          | inl pawn ↦ let wrong : Rook ≡ Pawn = same_kind colour (other turn) Rook Pawn (sym stood.1 ∙ pawn) in cc
+          | inl pawn ↦ let wrong : Rook ≡ Pawn =
+              same_kind colour (other turn) Rook Pawn (sym stood.1 ∙ pawn) in cc
           | inr rest ↦ elim rest [
             | inl free ↦ absurd (not_free colour Rook (sym stood.1 ∙ free.1))
             | inr rook ↦
-                let side : Some colour ≡ Some turn = same_side colour turn Rook Rook (sym stood.1 ∙ rook.1) in
+                let side : Some colour ≡ Some turn =
+                same_side colour turn Rook Rook (sym stood.1 ∙ rook.1) in
                 let same : colour ≡ turn = cc in
-                let mine : piece_at old home ≡ piece_of turn King = stood.0 ∙ ap (λ c. piece_of c King) same in
-                let here : home ≡ a = king.3 home home_small mine ∙ sym (king.3 a a_small (was_king rook.0)) in
+                let mine : piece_at old home ≡ piece_of turn King = stood.0
+                ∙ ap (λ c. piece_of c King) same in
+                let here : home ≡ a = king.3 home home_small mine
+                ∙ sym (king.3 a a_small (was_king rook.0)) in
                 absurd (means.1 here)
           ]
         ]
@@ -228,7 +256,8 @@ home_stays old new turn colour a b home corner man unmoved home_small a_small e 
 
 -- ---- the passed square
 
-rows_apart : (a b : ℕ) (square : ℕ) (t : Bool) → (if t then Some ((a + b) / 2) else None) ≡ Some square
+rows_apart : (a b : ℕ) (square : ℕ) (t : Bool)
+    → (if t then Some ((a + b) / 2) else None) ≡ Some square
     → (t ≡ true) × (square ≡ (a + b) / 2)
 rows_apart a b square true e = (refl, let same : (a + b) / 2 ≡ square = cc in sym same)
 rows_apart a b square false e = let no : ⊥ = cc in absurd no
@@ -249,11 +278,13 @@ record Passes (old new : List Piece) (turn : Colour) (a b : ℕ) : Type 0 where
   pub over : IsFree new ((a + b) / 2)
   pub before : piece_at new b ≡ piece_of turn Pawn
 
-double_rows : (turn : Colour) (a b : ℕ) → IsAhead turn 2 a b → row a ≡ first_row turn → row b ≢ last_row turn
+double_rows : (turn : Colour) (a b : ℕ) → IsAhead turn 2 a b → row a ≡ first_row turn
+    → row b ≢ last_row turn
 double_rows White a b ahead from last = omega arith
 double_rows Black a b ahead from last = omega arith
 
-between : (turn : Colour) (a b : ℕ) → file a ≡ file b → IsAhead turn 2 a b → ((a + b) / 2 ≢ a) × ((a + b) / 2 ≢ b)
+between : (turn : Colour) (a b : ℕ) → file a ≡ file b → IsAhead turn 2 a b → ((a + b) / 2 ≢ a)
+    × ((a + b) / 2 ≢ b)
 between White a b files ahead = (λ e. omega arith, λ e. omega arith)
 between Black a b files ahead = (λ e. omega arith, λ e. omega arith)
 
@@ -262,7 +293,8 @@ no_promotion : (state : State) (b : ℕ) (promotion : Option Man) → Promotes P
 no_promotion state b None promotes not_last = refl
 no_promotion state b (Some new) promotes not_last = absurd (not_last (promotes.0.0 refl).1)
 
-double : (state : State) (a b : ℕ) (promotion : Option Man) (new : List Piece) → LegalBy Pawn state a b promotion
+double : (state : State) (a b : ℕ) (promotion : Option Man) (new : List Piece)
+    → LegalBy Pawn state a b promotion
     → Effect (board state) new state.turn a b (put Pawn promotion) → abs_diff (row a) (row b) ≡ 2
     → Passes (board state) new state.turn a b
 double state a b promotion new legal e apart = elim legal.moves [
@@ -273,7 +305,8 @@ double state a b promotion new legal e apart = elim legal.moves [
         let none : promotion ≡ None =
         no_promotion state b promotion legal.promotes (double_rows state.turn a b two.1 two.2) in
         let pawn : put Pawn promotion ≡ Pawn = ap (put Pawn) none in
-        let no_king : put Pawn promotion ≢ King = λ king. let wrong : Pawn ≡ King = sym pawn ∙ king in cc in
+        let no_king : put Pawn promotion ≢ King = λ king. let wrong : Pawn ≡ King = sym pawn
+        ∙ king in cc in
         record {
           files = two.0;
           ahead = two.1;
@@ -283,7 +316,8 @@ double state a b promotion new legal e apart = elim legal.moves [
             | inl same ↦ same ∙ two.4
             | inr others ↦ elim others [
               | inl taken ↦ absurd (not_free (other state.turn) Pawn (sym taken ∙ two.4))
-              | inr castles ↦ elim castles [ inl free ↦ absurd (no_king free.0) | inr rook ↦ absurd (no_king rook.0) ]
+              | inr castles ↦ elim castles
+                  [ inl free ↦ absurd (no_king free.0) | inr rook ↦ absurd (no_king rook.0) ]
             ]
           ];
           before = e.arrived ∙ ap (piece_of state.turn) pawn;
@@ -321,7 +355,8 @@ passes_stay state Pawn a b promotion new legal e square is =
     let parts = rows_apart a b square (nat_eq (abs_diff (row a) (row b)) 2) is in
     let P : ℕ → Type 0 = λ n. IsPassedOver new (other state.turn) n in
     subst P (sym parts.1)
-    (over_square (board state) new state.turn a b (double state a b promotion new legal e (two_rows a b parts.0)))
+    (over_square (board state) new state.turn a b
+    (double state a b promotion new legal e (two_rows a b parts.0)))
 passes_stay state Knight a b promotion new legal e square is = let no : ⊥ = cc in absurd no
 passes_stay state Bishop a b promotion new legal e square is = let no : ⊥ = cc in absurd no
 passes_stay state Rook a b promotion new legal e square is = let no : ⊥ = cc in absurd no
@@ -330,12 +365,14 @@ passes_stay state King a b promotion new legal e square is = let no : ⊥ = cc i
 
 -- ---- all of it
 
-was_king : (state : State) (man : Man) (b : ℕ) (promotion : Option Man) → Promotes man state b promotion
+was_king : (state : State) (man : Man) (b : ℕ) (promotion : Option Man)
+    → Promotes man state b promotion
     → put man promotion ≡ King → man ≡ King
 was_king state man b None promotes same = same
 was_king state man b (Some new) promotes same = absurd (promotes.2 (ap Some same))
 
-stays_king : (state : State) (man : Man) (b : ℕ) (promotion : Option Man) → Promotes man state b promotion → man ≡ King
+stays_king : (state : State) (man : Man) (b : ℕ) (promotion : Option Man)
+    → Promotes man state b promotion → man ≡ King
     → put man promotion ≡ King
 stays_king state man b None promotes same = same
 stays_king state man b (Some new) promotes same =
@@ -350,17 +387,22 @@ number_stays White number some = some
 number_stays Black number some = omega arith
 
 rights_stay : (state : State) (man : Man) (a b : ℕ) (new : List Piece) → a < 64
-    → Effect (board state) new state.turn a b man → (man ≡ King → piece_at (board state) a ≡ piece_of state.turn King)
+    → Effect (board state) new state.turn a b man
+    → (man ≡ King → piece_at (board state) a ≡ piece_of state.turn King)
     → HasOneKing (board state) state.turn → HasRights (board state) state.rights
     → HasRights new (rights_after state.rights a b)
 rights_stay state man a b new a_small e king one homes = (
-  home_stays (board state) new state.turn White a b 60 63 man state.rights.white_short (omega arith) a_small e king one
+  home_stays (board state) new state.turn White a b 60 63 man state.rights.white_short
+      (omega arith) a_small e king one
       homes.0,
-  home_stays (board state) new state.turn White a b 60 56 man state.rights.white_long (omega arith) a_small e king one
+  home_stays (board state) new state.turn White a b 60 56 man state.rights.white_long
+      (omega arith) a_small e king one
       homes.1,
-  home_stays (board state) new state.turn Black a b 4 7 man state.rights.black_short (omega arith) a_small e king one
+  home_stays (board state) new state.turn Black a b 4 7 man state.rights.black_short
+      (omega arith) a_small e king one
       homes.2,
-  home_stays (board state) new state.turn Black a b 4 0 man state.rights.black_long (omega arith) a_small e king one
+  home_stays (board state) new state.turn Black a b 4 0 man state.rights.black_long
+      (omega arith) a_small e king one
       homes.3,
 )
 
@@ -371,19 +413,25 @@ pub stays : (state : State) (man : Man) (a b : ℕ) (promotion : Option Man) →
     (rights_after state.rights a b) (passed_after man a b) (number_after state.turn state.number)
 stays state man a b promotion a_small b_small possible legal =
     let new = pieces_after man (board state) state.turn a b promotion in
-    let e = effect_of state man a b promotion a_small b_small legal.own legal.moves legal.promotes in
-    let crowned : put man promotion ≡ King → piece_at (board state) a ≡ piece_of state.turn King = λ same.
+    let e = effect_of state man a b promotion a_small b_small legal.own legal.moves legal.promotes
+    in
+    let crowned : put man promotion ≡ King → piece_at (board state) a ≡ piece_of state.turn King =
+    λ same.
     legal.own ∙ ap (piece_of state.turn) (was_king state man b promotion legal.promotes same) in
-    let king : piece_at (board state) a ≡ piece_of state.turn King → put man promotion ≡ King = λ here.
-    stays_king state man b promotion legal.promotes (same_man state.turn man King (sym legal.own ∙ here)) in
+    let king : piece_at (board state) a ≡ piece_of state.turn King → put man promotion ≡ King =
+    λ here.
+    stays_king state man b promotion legal.promotes
+    (same_man state.turn man King (sym legal.own ∙ here)) in
     let one = king_of (board state) state.turn possible.kings in
     let S : Colour → Type 0 = λ c. ¬ (IsInCheck new c) in
     record {
       kings = both_kings new (other state.turn)
-          (their_king (board state) new state.turn a b (put man promotion) e (spared state man a b legal.moves)
+          (their_king (board state) new state.turn a b (put man promotion) e
+          (spared state man a b legal.moves)
           (king_of (board state) (other state.turn) possible.kings))
           (let K : Colour → Type 0 = λ c. HasOneKing new c in subst K (twice state.turn)
-          (own_king (board state) new state.turn a b (put man promotion) b_small a_small e king crowned one));
+          (own_king (board state) new state.turn a b
+          (put man promotion) b_small a_small e king crowned one));
       known = no_new_extra (board state) new state.turn a b (put man promotion) e possible.known;
       pawns = no_new_stray (board state) new state.turn a b (put man promotion) e
           (within_of state man a b promotion a_small b_small possible.pawns legal) possible.pawns;
@@ -394,8 +442,10 @@ stays state man a b promotion a_small b_small possible legal =
     }
 
 -- the same, of values that are equal to these
-pub stays_as : (old new : List Piece) (turn turn' : Colour) (rights rights' : Rights) (stepped stepped' : Option ℕ)
-    (number number' : ℕ) → old ≡ new → turn ≡ turn' → rights ≡ rights' → stepped ≡ stepped' → number ≡ number'
+pub stays_as : (old new : List Piece) (turn turn' : Colour) (rights rights' : Rights)
+    (stepped stepped' : Option ℕ)
+    (number number' : ℕ) → old ≡ new → turn ≡ turn' → rights ≡ rights' → stepped ≡ stepped'
+    → number ≡ number'
     → IsPossible old turn rights stepped number → IsPossible new turn' rights' stepped' number'
 stays_as old new turn turn' rights rights' stepped stepped' number number' p t r s n possible =
     let P : List Piece → Type 0 = λ x. IsPossible x turn rights stepped number in

@@ -53,3 +53,9 @@ abbrev pub Repeats : List State → State → ℕ → Type 0
 Repeats [] state n = n ≡ 0
 Repeats (one ∷ history) state n =
     (more rest : ℕ) × Counts one state more × Repeats history state rest × (n ≡ more + rest)
+
+-- a position has occurred a certain number of times
+abbrev pub OneCount : Type 0
+OneCount =
+    (history : List State) (state : State) (n m : ℕ) → Repeats history state n
+    → Repeats history state m → n ≡ m

@@ -91,3 +91,10 @@ Refuses Impossible.Passed pieces turn rights passed number =
 Refuses Impossible.Number pieces turn rights passed number =
     HasKings pieces × HasNoExtra pieces × HasNoStray pieces × ¬ (IsInCheck pieces (other turn))
     × HasRights pieces rights × HasPassed pieces turn passed × (number ≡ 0)
+
+-- a state that is refused isn't possible
+abbrev pub RefusedAreImpossible : Type 0
+RefusedAreImpossible =
+    (why : Impossible) (pieces : List Piece) (turn : Colour) (rights : Rights) (passed : Option ℕ)
+    (number : ℕ) → Refuses why pieces turn rights passed number
+    → ¬ (IsPossible pieces turn rights passed number)

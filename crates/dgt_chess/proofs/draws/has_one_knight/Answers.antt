@@ -6,11 +6,13 @@ use Rattle.dgt_chess.specs.Draws.{HasOneKnight, Holds, IsBare}
 use Rattle.dgt_chess.proofs.Unique.{not_free, same_kind}
 use Rattle.dgt_chess.proofs.draws.has_one_knight.Goals as goal
 
-not_bare : (pieces : List Piece) (square : ℕ) → Holds pieces Knight square → IsBare pieces square → ⊥
+not_bare : (pieces : List Piece) (square : ℕ) → Holds pieces Knight square → IsBare pieces square
+    → ⊥
 unfolding Holds
 not_bare pieces square knight bare = elim bare [
   | inl free ↦ not_free knight.0 Knight (sym knight.1 ∙ free)
-  | inr king ↦ let wrong : Knight ≡ King = same_kind knight.0 king.0 Knight King (sym knight.1 ∙ king.1) in cc
+  | inr king ↦ let wrong : Knight ≡ King =
+      same_kind knight.0 king.0 Knight King (sym knight.1 ∙ king.1) in cc
 ]
 
 pub returns-in-None : goal.returns-in-None

@@ -8,7 +8,9 @@ invariant_of-result c =
     let state = c.args.self.now in
     record {
       possible = ∥∥₁_map state.possible (λ possible.
-          stays_as _ _ _ _ _ _ _ _ _ _ (sym c.position_after.ensures) (sym c.other.ensures) (sym c.rights_after.ensures)
+          stays_as _ _ _ _ _ _ _ _ _ _ (sym c.position_after.ensures) (sym c.other.ensures)
+          (sym c.rights_after.ensures)
           (sym c.passed_after.ensures) (sym c.number_after.ensures)
-          (stays state c.args.man c.args.a c.args.b c.args.promotion c.requires.a c.requires.b possible c.requires.legal));
+          (stays state c.args.man c.args.a c.args.b c.args.promotion c.requires.a c.requires.b
+          possible c.requires.legal));
     }

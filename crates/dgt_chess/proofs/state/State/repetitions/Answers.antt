@@ -5,13 +5,21 @@ use Rattle.dgt_chess.specs.Draws.{Counts, Repeats}
 use Rattle.dgt_chess.proofs.state.State.repetitions.Goals as goal
 
 at_most_one : (one state : State) (n : ℕ) → Counts one state n → n ≤ 1
-at_most_one one state n counts = elim counts [ inl same ↦ let e = same.1 in omega arith | inr other ↦ let e = other.1 in omega arith ]
+at_most_one one state n counts =
+    elim counts [
+      | inl same ↦ let e = same.1 in omega arith
+      | inr other ↦ let e = other.1 in
+          omega arith
+    ]
 
-next : (history : List State) (one state : State) (i n m : ℕ) → i < length history → one ≡ get_or history i one
-    → Counts one state n → Repeats (drop (i + 1) history) state m → Repeats (drop i history) state (n + m)
+next : (history : List State) (one state : State) (i n m : ℕ) → i < length history
+    → one ≡ get_or history i one
+    → Counts one state n → Repeats (drop (i + 1) history) state m
+    → Repeats (drop i history) state (n + m)
 next history one state i n m within here counts more =
     let P : List State → Type 0 = λ l. Repeats l state (n + m) in
-    subst P (ap (λ x. x ∷ drop (i + 1) history) here ∙ sym (drop_more history i one within)) (n, m, counts, more, refl)
+    subst P (ap (λ x. x ∷ drop (i + 1) history) here ∙ sym (drop_more history i one within))
+    (n, m, counts, more, refl)
 
 pub loop-one-preserved : goal.loop-one-preserved
 loop-one-preserved c =
@@ -24,7 +32,8 @@ loop-one-preserved c =
           let P : ℕ → Type 0 = λ k. Repeats c.args.history.now c.args.self.now k in
           let sums : c.loop-one.count + (n + m) ≡ c.loop-one.count + n + m = omega arith in
           subst P sums (c.loop-one.invariant.rest (n + m)
-          (next c.args.history.now c.one-item.result c.args.self.now c.loop-one.one-index n m c.loop-one-test.true c.one-item.is
+          (next c.args.history.now c.one-item.result c.args.self.now c.loop-one.one-index n m
+          c.loop-one-test.true c.one-item.is
           c.repeats-count.ensures more));
     }
 

@@ -5,5 +5,6 @@ use Rattle.dgt_chess.proofs.state.State.repetitions.Given as goal
 abbrev pub invariant-loop-one : goal.invariant-loop-one
 invariant-loop-one l = record {
   few : l.count ≤ l.one-index;
-  rest : (m : ℕ) → Repeats (drop l.one-index l.history) l.self m → Repeats l.history l.self (l.count + m);
+  rest : (m : ℕ) → Repeats (drop l.one-index l.history) l.self m
+      → Repeats l.history l.self (l.count + m);
 }
