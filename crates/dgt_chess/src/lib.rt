@@ -1,15 +1,21 @@
-//! The rules of chess: which moves are legal, and the state after one.
+//! The rules of chess: which moves are legal, the state after one, and draws.
 //!
-//! A [`State`] is a position with the side to move and what the rules remember of earlier moves.
-//! Nothing here allocates memory.
+//! A [`State`] is a position with the side to move and what the rules remember of earlier moves. It
+//! is always one that the rules allow: [`State::new`] refuses any other as [`Impossible`]. Nothing
+//! here allocates memory.
 //!
 //! | To | Use |
 //! |---|---|
-//! | begin a game | [`State::start`], [`State::new`] |
+//! | begin a game, or anywhere in one | [`State::start`], [`State::new`] |
 //! | decide whether a move is legal | [`State::is_legal`] |
 //! | make a move | [`State::play`] |
 //! | list the legal moves | [`State::goals`], a set of squares for each square |
 //! | recognise a move by the picture after it | [`State::move_to`] |
+//! | see that a game has ended | [`State::is_mate`], [`State::is_stalemate`], [`State::is_dead`] |
+//! | see that a draw may be claimed | [`State::is_fifty_moves`], [`State::repetitions`] |
+//!
+//! The rules are those of the FIDE Laws of Chess of 2023. The definitions cite its articles.
+//! [`laws`] says what holds of all states and moves.
 #![tactic(auto)]
 
 mod attacks;
