@@ -1,7 +1,6 @@
 -- The state in which a game begins is possible.
-use Rattle.std.proofs.Common.{subst, ◌≡◌, ℕ, zero, suc, ◌+◌, ◌<◌, ◌≤◌, ◌∙◌, sym, ap, refl, arith, List, [], ◌∷◌, length, inl, inr, Bool, true, false}
-use Rattle.std.specs.Prelude.{◌≢◌, ◌⊎◌, Option, Some, None, ◌&&◌, nat_eq, nat_lt}
-use Rattle.std.specs.Int.{abs_diff}
+use Rattle.std.proofs.Common.{subst, ◌≡◌, ℕ, zero, suc, ◌+◌, ◌<◌, ◌∙◌, sym, refl, arith, List, [], ◌∷◌, length, inl, inr, Bool, true, false}
+use Rattle.std.specs.Prelude.{◌⊎◌, None, ◌&&◌, nat_eq, nat_lt}
 use Rattle.std.proofs.lemmas.Bool.Decides.{nat_tests}
 use Rattle.dgt_values.specs.declared.pieces.Piece.{Piece}
 use Rattle.dgt_values.specs.declared.pieces.Piece.TheVariants.{Empty, WhitePawn, WhiteKnight, WhiteBishop, WhiteRook, WhiteQueen, WhiteKing, BlackPawn, BlackKing, FirstExtra, SecondExtra, ThirdExtra}
@@ -11,8 +10,8 @@ use Rattle.dgt_chess.specs.declared.pieces.Colour.{Colour}
 use Rattle.dgt_chess.specs.declared.pieces.Colour.TheVariants.{White, Black}
 use Rattle.dgt_chess.specs.declared.pieces.Man.{Man}
 use Rattle.dgt_chess.specs.declared.pieces.Man.TheVariants.{Pawn, Knight, Bishop, Rook, Queen, King}
-use Rattle.dgt_chess.specs.Attacks.{piece_at, piece_of, row, file, Attacks, Diagonal, IsAttacked, IsInCheck, IsOpen, Line, OnLine, Straight}
-use Rattle.dgt_chess.specs.Attacks.Line.{Rank, File, Falling, Rising}
+use Rattle.dgt_chess.specs.Attacks.{piece_at, piece_of, row, Attacks, Diagonal, IsAttacked, IsInCheck, IsOpen, Line, OnLine, Straight}
+use Rattle.dgt_chess.specs.Attacks.Line.{File, Falling, Rising}
 use Rattle.dgt_chess.specs.Possible.{HasOneKing, HasNoExtra, HasNoStray, HasPassed, IsPossible}
 use Rattle.dgt_chess.proofs.OneMove.{both}
 

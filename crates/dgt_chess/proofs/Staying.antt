@@ -1,11 +1,10 @@
 -- A legal move leads from a possible state to a possible one.
 use Rattle.std.proofs.lemmas.Bool.{cases_eq}
 use Rattle.std.proofs.Common.{subst, ◌≡◌, ℕ, ◌+◌, ◌-◌, ◌/◌, ◌<◌, ◌≤◌, ◌∙◌, sym, ap, refl, arith, List, inl, inr, Bool, true, false}
-use Rattle.std.specs.Prelude.{◌≢◌, ◌⊎◌, Option, Some, None, if◌then◌else◌, ◌&&◌, ◌||◌, not, nat_eq, min, ◌^◌, IsTrue}
+use Rattle.std.specs.Prelude.{◌≢◌, ◌⊎◌, Option, Some, None, if◌then◌else◌, nat_eq, IsTrue}
 use Rattle.std.specs.Int.{abs_diff}
 use Rattle.std.proofs.lemmas.Bool.Decides.{nat_tests}
 use Rattle.dgt_values.specs.declared.pieces.Piece.{Piece}
-use Rattle.dgt_values.specs.declared.pieces.Piece.TheVariants.{Empty}
 use Rattle.dgt_chess.specs.declared.possible.Rights.{Rights}
 use Rattle.dgt_chess.specs.declared.state.State.{State}
 use Rattle.dgt_chess.specs.declared.pieces.Colour.{Colour}
@@ -13,9 +12,9 @@ use Rattle.dgt_chess.specs.declared.pieces.Colour.TheVariants.{White, Black}
 use Rattle.dgt_chess.specs.declared.pieces.Man.{Man}
 use Rattle.dgt_chess.specs.declared.pieces.Man.TheVariants.{Pawn, Knight, Bishop, Rook, Queen, King}
 use Rattle.dgt_chess.specs.Attacks.{piece_at, piece_of, other, file, row, IsAhead, IsFree, IsInCheck}
-use Rattle.dgt_chess.specs.Possible.{HasOneKing, HasKings, HasNoExtra, HasNoStray, HasPassed, HasRights, IsAstray, IsAtHome, IsExtra, IsPassedOver, IsPossible}
+use Rattle.dgt_chess.specs.Possible.{HasOneKing, HasKings, HasNoExtra, HasNoStray, HasPassed, HasRights, IsAtHome, IsExtra, IsPassedOver, IsPossible}
 use Rattle.dgt_chess.specs.Rules.{board, passed, pieces_after, PawnMoves, Promotes, LegalBy, first_row, last_row, remains, rights_after, passed_after, number_after}
-use Rattle.dgt_chess.proofs.Unique.{IsNotOwn, Effect, Sees, Keeps, same_man, same_kind, same_side, not_free, not_theirs, no_extra}
+use Rattle.dgt_chess.proofs.Unique.{Effect, same_man, same_kind, same_side, not_free, not_theirs, no_extra}
 use Rattle.dgt_chess.proofs.OneMove.{put, effect_of, spared}
 
 -- ---- kings

@@ -1,11 +1,6 @@
-use Rattle.std.proofs.Common.{◌≡◌, ℕ, List, arith}
-use Rattle.std.specs.Prelude.{Option}
-use Rattle.dgt_values.specs.declared.pieces.Piece.{Piece}
-use Rattle.dgt_chess.specs.declared.pieces.Colour.{Colour}
-use Rattle.dgt_chess.specs.declared.possible.Impossible.{Impossible}
+use Rattle.std.proofs.Common.{arith}
 use Rattle.dgt_chess.specs.declared.possible.Impossible.TheVariants.{Kings, Extra, Pawn, Check, Rights, Passed, Number}
-use Rattle.dgt_chess.specs.declared.possible.Rights as kept
-use Rattle.dgt_chess.specs.Possible.{IsPossible, Refuses, RefusedAreImpossible}
+use Rattle.dgt_chess.specs.Possible.{RefusedAreImpossible}
 use Rattle.dgt_chess.proofs.laws.refused_are_impossible.Goals as goal
 
 refused : RefusedAreImpossible
