@@ -13,6 +13,7 @@
 //! | recognise a move by the picture after it | [`State::move_to`] |
 //! | see that a game has ended | [`State::is_mate`], [`State::is_stalemate`], [`State::is_dead`] |
 //! | see that a draw may be claimed | [`State::is_fifty_moves`], [`State::repetitions`] |
+//! | read, write Forsyth-Edwards Notation | [`State::parse_fen`], [`State::fen`] |
 //!
 //! The rules are those of the FIDE Laws of Chess of 2023. The definitions cite its articles.
 //! [`laws`] says what holds of all states and moves.
@@ -20,6 +21,8 @@
 
 mod attacks;
 mod draws;
+mod fen;
+mod fields;
 pub mod laws;
 mod lines;
 mod listing;
@@ -28,6 +31,7 @@ mod pieces;
 mod possible;
 mod state;
 
+pub use fen::{BadFen, FenField};
 pub use pieces::{Colour, Man};
 pub use possible::{Impossible, Rights};
 pub use state::{Move, NotLegal, State};
