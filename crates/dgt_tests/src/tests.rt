@@ -6,6 +6,7 @@ mod chess;
 mod commanding;
 mod decoding;
 mod engines;
+mod fen;
 mod fixtures;
 mod followers;
 mod hosts;
