@@ -10,10 +10,9 @@ use Rattle.dgt_values.specs.Board.{square_number}
 use Rattle.dgt_values.specs.Placement.{IsPlacement, placement_text}
 use Rattle.dgt_chess.specs.declared.fen.BadFen.{BadFen}
 use Rattle.dgt_chess.specs.declared.pieces.Colour.{Colour}
-use Rattle.dgt_chess.specs.declared.possible.Impossible.{Impossible}
 use Rattle.dgt_chess.specs.declared.possible.Rights.{Rights}
 use Rattle.dgt_chess.specs.declared.state.State.{State}
-use Rattle.dgt_chess.specs.Possible.{HasPassed, IsPossible, Refuses}
+use Rattle.dgt_chess.specs.Possible.{HasPassed, IsPossible, RefusedAreImpossible}
 use Rattle.dgt_chess.specs.Rules.{board, passed}
 use Rattle.dgt_chess.specs.Fen.{Fen, HasNoSpace, IsFen, IsShown, ParsesFen, SameBut, Then, fen_text, passed_text, rights_text, turn_text}
 use Rattle.dgt_chess.proofs.{Decimals.{decimal_plain}, FieldBytes.{passed_plain, pieces_plain, rights_plain, turn_plain}, FirstWrong.{same_first}}
@@ -216,21 +215,7 @@ written_fen law state shown text few small is = record {
       (passed_text shown) (decimal state.half_moves) (decimal state.number);
 }
 
--- a possible state is refused for no reason
-not_refused : (reason : Impossible) (pieces : List Piece) (turn : Colour) (rights : Rights)
-    (over : Option ℕ)
-    (number : ℕ) → IsPossible pieces turn rights over number
-    → Refuses reason pieces turn rights over number → ⊥
-not_refused Impossible.Kings pieces turn rights over number p why = why p.kings
-not_refused Impossible.Extra pieces turn rights over number p why = why.1 p.known
-not_refused Impossible.Pawn pieces turn rights over number p why = why.2 p.pawns
-not_refused Impossible.Check pieces turn rights over number p why = p.safe why.3
-not_refused Impossible.Rights pieces turn rights over number p why = why.4 p.homes
-not_refused Impossible.Passed pieces turn rights over number p why = why.5 p.steps
-not_refused Impossible.Number pieces turn rights over number p why =
-    absurd (omega (arith, p.counted, why.6))
-
--- also without the square that a pawn has just passed over
+-- a state is possible also without the square that a pawn has just passed over
 nothing_passed : (pieces : List Piece) (turn : Colour) → HasPassed pieces turn None
 unfolding HasPassed
 nothing_passed pieces turn = λ square is. let none : ⊥ = cc in absurd none
@@ -260,12 +245,13 @@ pub record ReadAs (state : State) (shown : Option Square) (new : State) : Type 0
   pub same : SameBut state new
   pub square : option_map square_number shown ≡ passed new
 
-pub reads_back : OnePlacement → Accepted → (state : State) (shown : Option Square) (text : List ℕ)
+pub reads_back : OnePlacement → Accepted → RefusedAreImpossible
+    → (state : State) (shown : Option Square) (text : List ℕ)
     (result : Result State BadFen) → state.half_moves < 2 ^ 16 → state.number < 2 ^ 16
     → IsShown state shown
     → text ≡ fen_text state shown → ParsesFen text result
     → (new : State) × (result ≡ Ok new) × ReadAs state shown new
-reads_back law accepted state shown text (Ok new) few small is_shown is reads =
+reads_back law accepted refusal state shown text (Ok new) few small is_shown is reads =
     let same = one_fen law text (board state)
     (board new) state.turn new.turn state.rights new.rights shown new.passed
     state.half_moves new.half_moves state.number new.number
@@ -283,7 +269,8 @@ reads_back law accepted state shown text (Ok new) few small is_shown is reads =
         square = same.square;
       },
     )
-reads_back law accepted state shown text (Err (BadFen.Text field at)) few small is_shown is reads =
+reads_back law accepted refusal state shown text
+    (Err (BadFen.Text field at)) few small is_shown is reads =
     absurd (reads.0.after text (
       board state,
       state.turn,
@@ -293,13 +280,12 @@ reads_back law accepted state shown text (Err (BadFen.Text field at)) few small 
       state.number,
       written_fen accepted state shown text few small is,
     ) refl)
-reads_back law accepted state shown text (Err (BadFen.Impossible why)) few small is_shown is
+reads_back law accepted refusal state shown text (Err (BadFen.Impossible why)) few small is_shown is
     (p, t, r, s, h, n, reads, refuses) =
     let same = one_fen law text p
     (board state) t state.turn r state.rights s shown h state.half_moves n state.number
     reads (written_fen accepted state shown text few small is) in
     let refused = rw (same.pieces, same.turn, same.rights, same.square, same.number) at refuses in
-    absurd (∥∥₁_elim state.possible (λ x y. absurd x)
-    (λ possible. not_refused why (board state) state.turn state.rights
-    (option_map square_number shown) state.number
-    (shown_possible state shown is_shown possible) refused))
+    absurd (∥∥₁_elim state.possible (λ x y. absurd x) (λ possible.
+    refusal why (board state) state.turn state.rights (option_map square_number shown) state.number
+    refused (shown_possible state shown is_shown possible)))

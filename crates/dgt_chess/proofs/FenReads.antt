@@ -3,18 +3,20 @@ use Rattle.std.proofs.Common.{ℕ, ◌<◌, ◌^◌, sym, subst, List}
 use Rattle.std.specs.Prelude.{Result}
 use Rattle.dgt_chess.specs.declared.fen.BadFen.{BadFen}
 use Rattle.dgt_chess.specs.declared.state.State.{State}
+use Rattle.dgt_chess.specs.Possible.{RefusedAreImpossible}
 use Rattle.dgt_chess.specs.Rules.{board}
 use Rattle.dgt_chess.specs.Fen.{ParsesFen, ReadsBack, SameBut, SameMoves, WritesFen}
 use Rattle.dgt_chess.proofs.FenLaws.{Accepted, OnePlacement, one_fen, reads_back, written_fen}
 use Rattle.dgt_chess.proofs.SameMoves.{same_moves, shown_from, shown_same, shown_to}
 
-pub read_back : OnePlacement → Accepted
+pub read_back : OnePlacement → Accepted → RefusedAreImpossible
     → (state : State) (text : List ℕ) (result : Result State BadFen)
     → state.half_moves < 2 ^ 16 → state.number < 2 ^ 16 → WritesFen state text
     → ParsesFen text result
     → ReadsBack state result
-read_back law accepted state text result few small (shown, is_shown, is) reads =
-    let known = reads_back law accepted state shown text result few small is_shown is reads in
+read_back law accepted refusal state text result few small (shown, is_shown, is) reads =
+    let known = reads_back law accepted refusal state shown text result few small is_shown is reads
+    in
     let new = known.0 in
     let same = known.2.same in
     let square = known.2.square in
