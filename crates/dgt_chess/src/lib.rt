@@ -29,6 +29,8 @@ mod listing;
 mod moving;
 mod pieces;
 mod possible;
+mod san;
+mod san_reader;
 mod state;
 
 pub use fen::{BadFen, FenField};
