@@ -25,9 +25,11 @@ step_file : (s : Scan) (k : ℕ) → k < 8 → step s (97 + k) ≡ with_file s k
 step_file s k small = rw (is_file_letter k small) (ap (with_file s) (omega arith))
 
 step_rank : (s : Scan) (r : ℕ) → r < 8 → step s (56 - r) ≡ with_rank s r
-step_rank s r small = rw (not_file_digit r small, is_rank_digit r small) (ap (with_rank s) (omega arith))
+step_rank s r small =
+    rw (not_file_digit r small, is_rank_digit r small) (ap (with_rank s) (omega arith))
 
-then_part : (s t u : Scan) (xs ys : List ℕ) → fold step s xs ≡ t → fold step t ys ≡ u → fold step s (xs ++ ys) ≡ u
+then_part : (s t u : Scan) (xs ys : List ℕ) → fold step s xs ≡ t → fold step t ys ≡ u
+    → fold step s (xs ++ ys) ≡ u
 then_part s t u xs ys e f = fold-append step s xs ys ∙ ap (λ (v : Scan). fold step v ys) e ∙ f
 
 -- the scans after each part of a text
@@ -35,7 +37,8 @@ abbrev after_man : Man → Scan
 after_man man = record start { man = man }
 
 abbrev after_file : Man → Bool → ℕ → Scan
-after_file man by_file file = record start { man = man; has_file = by_file; file = if by_file then file else 0 }
+after_file man by_file file =
+    record start { man = man; has_file = by_file; file = if by_file then file else 0 }
 
 abbrev after_rank : Man → Bool → ℕ → Bool → ℕ → Scan
 after_rank man by_file file by_rank row = record start {
@@ -82,12 +85,14 @@ scan_man Man.Rook = refl
 scan_man Man.Queen = refl
 scan_man Man.King = refl
 
-scan_file : (m : Man) (b : Bool) (square : ℕ) → fold step (after_man m) (shown b (file_letter square)) ≡ after_file m b (square % 8)
+scan_file : (m : Man) (b : Bool) (square : ℕ)
+    → fold step (after_man m) (shown b (file_letter square)) ≡ after_file m b (square % 8)
 scan_file m true square = step_file (after_man m) (square % 8) (omega arith)
 scan_file m false square = refl
 
 scan_rank : (m : Man) (b : Bool) (file : ℕ) (c : Bool) (square : ℕ) → square < 64
-    → fold step (after_file m b file) (shown c (rank_digit square)) ≡ after_rank m b file c (square / 8)
+    → fold step (after_file m b file) (shown c (rank_digit square))
+    ≡ after_rank m b file c (square / 8)
 scan_rank m b file true square small = step_rank (after_file m b file) (square / 8) (omega arith)
 scan_rank m b file false square small = refl
 
@@ -96,13 +101,16 @@ scan_takes : (m : Man) (b : Bool) (file : ℕ) (c : Bool) (row : ℕ) (takes : B
 scan_takes m b file c row true = refl
 scan_takes m b file c row false = refl
 
-scan_square : (s : Scan) (square : ℕ) → square < 64 → fold step s (square_name square) ≡ with_rank (with_file s (square % 8)) (square / 8)
+scan_square : (s : Scan) (square : ℕ) → square < 64 → fold step s (square_name square)
+    ≡ with_rank (with_file s (square % 8)) (square / 8)
 scan_square s square small =
     ap (λ (t : Scan). step t (56 - square / 8)) (step_file s (square % 8) (omega arith))
     ∙ step_rank (with_file s (square % 8)) (square / 8) (omega arith)
 
-scan_promotion : (s : Scan) (row : ℕ) (equals : Bool) (p : Option Man) → p ≢ Some Man.Pawn → s.equals ≡ false → s.promotion ≡ None
-    → fold step (with_rank s row) (promotion_text equals p) ≡ record (with_rank s row) { equals = used_equals equals p; promotion = p }
+scan_promotion : (s : Scan) (row : ℕ) (equals : Bool) (p : Option Man) → p ≢ Some Man.Pawn
+    → s.equals ≡ false → s.promotion ≡ None
+    → fold step (with_rank s row) (promotion_text equals p)
+    ≡ record (with_rank s row) { equals = used_equals equals p; promotion = p }
 scan_promotion s row equals None not_pawn e f = cc
 scan_promotion s row equals (Some Man.Pawn) not_pawn e f = absurd (not_pawn refl)
 scan_promotion s row true (Some Man.Knight) not_pawn e f = refl
@@ -116,7 +124,8 @@ scan_promotion s row false (Some Man.Rook) not_pawn e f = cc
 scan_promotion s row false (Some Man.Queen) not_pawn e f = cc
 scan_promotion s row false (Some Man.King) not_pawn e f = cc
 
-scan_sign : (s : Scan) (sign : Sign) → s.sign ≡ Sign.Neither → fold step s (sign_text sign) ≡ record s { sign = sign }
+scan_sign : (s : Scan) (sign : Sign) → s.sign ≡ Sign.Neither → fold step s (sign_text sign)
+    ≡ record s { sign = sign }
 scan_sign s Sign.Neither e = ap (λ (x : Sign). record s { sign = x }) e
 scan_sign s Sign.Check e = refl
 scan_sign s Sign.Mate e = refl
@@ -143,8 +152,10 @@ ordinary_scan style man takes from to promotion = record {
   sign = style.sign;
 }
 
-pub scan_ordinary : (style : Style) (man : Man) (takes : Bool) (from to : ℕ) (promotion : Option Man) → from < 64 → to < 64 → promotion ≢ Some Man.Pawn
-    → scan (ordinary_text style man takes from to promotion ++ sign_text style.sign) ≡ ordinary_scan style man takes from to promotion
+pub scan_ordinary : (style : Style) (man : Man) (takes : Bool) (from to : ℕ)
+    (promotion : Option Man) → from < 64 → to < 64 → promotion ≢ Some Man.Pawn
+    → scan (ordinary_text style man takes from to promotion ++ sign_text style.sign)
+    ≡ ordinary_scan style man takes from to promotion
 scan_ordinary style man takes from to promotion small small' not_pawn =
     let b = style.by_file in
     let c = style.by_rank in
@@ -159,17 +170,26 @@ scan_ordinary style man takes from to promotion small small' not_pawn =
     let s3 = after_rank man b (from % 8) c (from / 8) in
     let s4 = after_takes man b (from % 8) c (from / 8) takes in
     let s5 = after_goal man b (from % 8) c (from / 8) takes (to % 8) (to / 8) in
-    let s6 : Scan = record s5 { equals = used_equals style.equals promotion; promotion = promotion } in
+    let s6 : Scan = record s5 {
+      equals = used_equals style.equals promotion;
+      promotion =
+          promotion;
+    } in
     let s7 : Scan = record s6 { sign = style.sign } in
-    let e2 : fold step start (M ++ F) ≡ s2 = then_part start s1 s2 M F (scan_man man) (scan_file man b from) in
-    let e3 : fold step start ((M ++ F) ++ R) ≡ s3 = then_part start s2 s3 (M ++ F) R e2 (scan_rank man b (from % 8) c from small) in
+    let e2 : fold step start (M ++ F) ≡ s2 =
+    then_part start s1 s2 M F (scan_man man) (scan_file man b from) in
+    let e3 : fold step start ((M ++ F) ++ R) ≡ s3 =
+    then_part start s2 s3 (M ++ F) R e2 (scan_rank man b (from % 8) c from small) in
     let e4 : fold step start (((M ++ F) ++ R) ++ X) ≡ s4 =
     then_part start s3 s4 ((M ++ F) ++ R) X e3 (scan_takes man b (from % 8) c (from / 8) takes) in
     let e5 : fold step start ((((M ++ F) ++ R) ++ X) ++ N) ≡ s5 =
     then_part start s4 s5 (((M ++ F) ++ R) ++ X) N e4 (scan_square s4 to small') in
     let e6 : fold step start (((((M ++ F) ++ R) ++ X) ++ N) ++ P) ≡ s6 =
-    then_part start s5 s6 ((((M ++ F) ++ R) ++ X) ++ N) P e5 (scan_promotion (with_file s4 (to % 8)) (to / 8) style.equals promotion not_pawn refl refl) in
-    then_part start s6 s7 (((((M ++ F) ++ R) ++ X) ++ N) ++ P) (sign_text style.sign) e6 (scan_sign s6 style.sign refl)
+    then_part start s5 s6 ((((M ++ F) ++ R) ++ X) ++ N) P e5
+    (scan_promotion (with_file s4 (to % 8)) (to / 8) style.equals promotion not_pawn refl refl)
+    in
+    then_part start s6 s7 (((((M ++ F) ++ R) ++ X) ++ N) ++ P) (sign_text style.sign) e6
+    (scan_sign s6 style.sign refl)
 
 -- what is read of a castling's text
 abbrev pub castling_scan : Bool → Bool → Sign → Scan
@@ -184,7 +204,9 @@ castling_scan zero is_short sign = record start {
 abbrev castling_by : ℕ → Bool → List ℕ
 castling_by letter is_short = letter ∷ 45 ∷ letter ∷ (if is_short then [] else 45 ∷ letter ∷ [])
 
-castles : (zero is_short : Bool) (sign : Sign) → fold step start (castling_by (castling_letter zero) is_short ++ sign_text sign) ≡ castling_scan zero is_short sign
+castles : (zero is_short : Bool) (sign : Sign)
+    → fold step start (castling_by (castling_letter zero) is_short ++ sign_text sign)
+    ≡ castling_scan zero is_short sign
 castles true true Sign.Neither = refl
 castles true true Sign.Check = refl
 castles true true Sign.Mate = refl
@@ -199,5 +221,6 @@ castles false false Sign.Check = refl
 castles false false Sign.Mate = refl
 
 pub scan_castling : (zero : Bool) (to : ℕ) (sign : Sign)
-    → scan (castling_text (castling_letter zero) to ++ sign_text sign) ≡ castling_scan zero (nat_eq (file to) 6) sign
+    → scan (castling_text (castling_letter zero) to ++ sign_text sign)
+    ≡ castling_scan zero (nat_eq (file to) 6) sign
 scan_castling zero to sign = castles zero (nat_eq (file to) 6) sign

@@ -17,12 +17,14 @@ use Rattle.dgt_chess.specs.Scanning.{castling_goal, read, reading_of}
 use Rattle.dgt_chess.proofs.SanReads.{castling_scan, ordinary_scan, scan_castling, scan_ordinary, used_equals}
 
 -- the reading of a text is this move's
-pub record IsRead (r : Reading) (style : Style) (man : Man) (state : State) (from to : ℕ) (promotion : Option Man) : Type 0 where
+pub record IsRead (r : Reading) (style : Style) (man : Man) (state : State) (from to : ℕ)
+    (promotion : Option Man) : Type 0 where
   pub castles : r.castles ≡ is_castling man from to
   pub is_man : r.man ≡ man
   pub is_goal : r.b ≡ to
   pub is_promotion : r.promotion ≡ promotion
-  pub text : move_text r.style man (board state) from to promotion ≡ move_text style man (board state) from to promotion
+  pub text : move_text r.style man (board state) from to promotion
+      ≡ move_text style man (board state) from to promotion
   pub by_file : is_castling man from to ≡ false → r.style.by_file ≡ style.by_file
   pub by_rank : is_castling man from to ≡ false → r.style.by_rank ≡ style.by_rank
   pub origin : is_castling man from to ≡ false
@@ -32,7 +34,8 @@ king_none : (s : State) (to : ℕ) (p : Option Man) → Promotes Man.King s to p
 king_none s to None h = refl
 king_none s to (Some new) h = absurd (let e = (h.0.0 refl).0 in let no : ⊥ = cc in no)
 
-not_pawn : (man : Man) (s : State) (to : ℕ) (p : Option Man) → Promotes man s to p → p ≢ Some Man.Pawn
+not_pawn : (man : Man) (s : State) (to : ℕ) (p : Option Man) → Promotes man s to p
+    → p ≢ Some Man.Pawn
 not_pawn man s to p h = h.1
 
 -- where a castling leads
@@ -43,24 +46,30 @@ abbrev pub home : Colour → ℕ
 home Colour.White = 60
 home Colour.Black = 4
 
-at_goal : (c : Colour) (b goal : ℕ) → castling_goal c (not (nat_eq (file goal) 6)) ≡ goal → b ≡ goal → b ≡ castling_goal c (not (nat_eq (file b) 6))
-at_goal c b goal e f = subst (λ (x : ℕ). x ≡ castling_goal c (not (nat_eq (file x) 6))) (sym f) (sym e)
+at_goal : (c : Colour) (b goal : ℕ) → castling_goal c (not (nat_eq (file goal) 6)) ≡ goal → b ≡ goal
+    → b ≡ castling_goal c (not (nat_eq (file b) 6))
+at_goal c b goal e f =
+    subst (λ (x : ℕ). x ≡ castling_goal c (not (nat_eq (file x) 6))) (sym f) (sym e)
 
-leads : (c : Colour) (s : State) (a b : ℕ) → Castles s c a b → (b ≡ castling_goal c (not (nat_eq (file b) 6))) × (a ≡ home c)
+leads : (c : Colour) (s : State) (a b : ℕ) → Castles s c a b
+    → (b ≡ castling_goal c (not (nat_eq (file b) 6))) × (a ≡ home c)
 unfolding CastlesWith
 leads Colour.White s a b (inl h) = (at_goal Colour.White b 62 refl h.2, h.1)
 leads Colour.White s a b (inr h) = (at_goal Colour.White b 58 refl h.2, h.1)
 leads Colour.Black s a b (inl h) = (at_goal Colour.Black b 6 refl h.2, h.1)
 leads Colour.Black s a b (inr h) = (at_goal Colour.Black b 2 refl h.2, h.1)
 
-king_castles : (s : State) (a b : ℕ) → Moves Man.King s a b → nat_eq (abs_diff (file a) (file b)) 2 ≡ true → Castles s s.turn a b
+king_castles : (s : State) (a b : ℕ) → Moves Man.King s a b → nat_eq (abs_diff (file a) (file b)) 2
+    ≡ true → Castles s s.turn a b
 king_castles s a b (inl h) e = absurd (adjoins_no a b e h.0)
 king_castles s a b (inr h) e = h
 
 -- of a castling
-read_castling : (s : State) (style : Style) (from to : ℕ) (p : Option Man) → LegalBy Man.King s from to p
+read_castling : (s : State) (style : Style) (from to : ℕ) (p : Option Man)
+    → LegalBy Man.King s from to p
     → nat_eq (abs_diff (file from) (file to)) 2 ≡ true
-    → IsRead (read s.turn (castling_text (castling_letter style.zero) to ++ sign_text style.sign)) style Man.King s from to p
+    → IsRead (read s.turn (castling_text (castling_letter style.zero) to ++ sign_text style.sign))
+    style Man.King s from to p
 unfolding read
 read_castling s style from to p legal e =
     let way = leads s.turn s from to (king_castles s from to legal.moves e) in
@@ -77,41 +86,59 @@ read_castling s style from to p legal e =
     })
 
 -- of any other move
-pub same_promotion : (style : Style) (zero : Bool) (man : Man) (takes : Bool) (from to : ℕ) (p : Option Man)
-    → ordinary_text (record { by_file = style.by_file; by_rank = style.by_rank; equals = used_equals style.equals p; zero = zero; sign = style.sign }) man takes from to p
+pub same_promotion : (style : Style) (zero : Bool) (man : Man) (takes : Bool) (from to : ℕ)
+    (p : Option Man)
+    → ordinary_text (record {
+      by_file = style.by_file;
+      by_rank = style.by_rank;
+      equals =
+          used_equals style.equals p;
+      zero = zero;
+      sign = style.sign;
+    }) man takes from to p
     ≡ ordinary_text style man takes from to p
 same_promotion style zero man takes from to None = refl
 same_promotion style zero man takes from to (Some new) = refl
 
 -- the number of the file and the row that are shown
 small_origin : (b c : Bool) (a : ℕ) → a < 64
-    → 8 * ((if c then a / 8 else 0) % 8) + (if b then a % 8 else 0) % 8 ≡ 8 * (if c then a / 8 else 0) + (if b then a % 8 else 0)
+    → 8 * ((if c then a / 8 else 0) % 8) + (if b then a % 8 else 0) % 8
+    ≡ 8 * (if c then a / 8 else 0) + (if b then a % 8 else 0)
 small_origin true true a h = omega arith
 small_origin true false a h = omega arith
 small_origin false true a h = omega arith
 small_origin false false a h = omega arith
 
-read_ordinary : (s : State) (style : Style) (man : Man) (from to : ℕ) (p : Option Man) → from < 64 → to < 64 → LegalBy man s from to p
+read_ordinary : (s : State) (style : Style) (man : Man) (from to : ℕ) (p : Option Man) → from < 64
+    → to < 64 → LegalBy man s from to p
     → is_castling man from to ≡ false
-    → IsRead (read s.turn (ordinary_text style man (captures man (board s) from to) from to p ++ sign_text style.sign)) style man s from to p
+    → IsRead (read s.turn
+    (ordinary_text style man
+    (captures man (board s) from to) from to p ++ sign_text style.sign)) style man s from to
+    p
 unfolding read
 read_ordinary s style man from to p small small' legal e =
-    rw (scan_ordinary style man (captures man (board s) from to) from to p small small' (not_pawn man s to p legal.promotes)) (record {
+    rw (scan_ordinary style man (captures man (board s) from to) from to p small small'
+    (not_pawn man s to p legal.promotes)) (record {
       castles = sym e;
       is_man = refl;
       is_goal = let goal : 8 * ((to / 8) % 8) + (to % 8) % 8 ≡ to = omega arith in goal;
       is_promotion = refl;
-      text = rw e (ap (λ (x : List ℕ). x ++ sign_text style.sign) (same_promotion style false man (captures man (board s) from to) from to p));
+      text = rw e (ap (λ (x : List ℕ). x ++ sign_text style.sign)
+          (same_promotion style false man (captures man (board s) from to) from to p));
       by_file = λ _. refl;
       by_rank = λ _. refl;
       origin = λ _. small_origin style.by_file style.by_rank from small;
     })
 
-read_by : (castles : Bool) (s : State) (style : Style) (man : Man) (from to : ℕ) (p : Option Man) → from < 64 → to < 64 → LegalBy man s from to p
+read_by : (castles : Bool) (s : State) (style : Style) (man : Man) (from to : ℕ) (p : Option Man)
+    → from < 64 → to < 64 → LegalBy man s from to p
     → is_castling man from to ≡ castles
     → IsRead (read s.turn (move_text style man (board s) from to p)) style man s from to p
-read_by false s style man from to p small small' legal e = rw e (read_ordinary s style man from to p small small' legal e)
-read_by true s style Man.King from to p small small' legal e = rw e (read_castling s style from to p legal e)
+read_by false s style man from to p small small' legal e =
+    rw e (read_ordinary s style man from to p small small' legal e)
+read_by true s style Man.King from to p small small' legal e =
+    rw e (read_castling s style from to p legal e)
 read_by true s style Man.Pawn from to p small small' legal e = absurd (let bad : ⊥ = cc in bad)
 read_by true s style Man.Knight from to p small small' legal e = absurd (let bad : ⊥ = cc in bad)
 read_by true s style Man.Bishop from to p small small' legal e = absurd (let bad : ⊥ = cc in bad)
@@ -119,12 +146,15 @@ read_by true s style Man.Rook from to p small small' legal e = absurd (let bad :
 read_by true s style Man.Queen from to p small small' legal e = absurd (let bad : ⊥ = cc in bad)
 
 -- what is read of a legal move's text is the move
-pub read_move : (s : State) (style : Style) (man : Man) (from to : ℕ) (p : Option Man) → from < 64 → to < 64 → LegalBy man s from to p
+pub read_move : (s : State) (style : Style) (man : Man) (from to : ℕ) (p : Option Man) → from < 64
+    → to < 64 → LegalBy man s from to p
     → IsRead (read s.turn (move_text style man (board s) from to p)) style man s from to p
-read_move s style man from to p small small' legal = read_by (is_castling man from to) s style man from to p small small' legal refl
+read_move s style man from to p small small' legal =
+    read_by (is_castling man from to) s style man from to p small small' legal refl
 
 -- a castling begins at home
-pub king_home : (man : Man) (s : State) (a b : ℕ) (p : Option Man) → LegalBy man s a b p → is_castling man a b ≡ true → a ≡ home s.turn
+pub king_home : (man : Man) (s : State) (a b : ℕ) (p : Option Man) → LegalBy man s a b p
+    → is_castling man a b ≡ true → a ≡ home s.turn
 king_home Man.King s a b p legal e = (leads s.turn s a b (king_castles s a b legal.moves e)).1
 king_home Man.Pawn s a b p legal e = absurd (let bad : ⊥ = cc in bad)
 king_home Man.Knight s a b p legal e = absurd (let bad : ⊥ = cc in bad)

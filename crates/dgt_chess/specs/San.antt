@@ -88,7 +88,8 @@ HasRivalOn line man state from to =
     (other : ℕ) × (other < 64) × (IsRival man state from to other × (line other ≡ line from))
 
 -- What is shown of a square that some other men, men on its file or men on its row rival: nothing
--- if there is no other. Else the file, if none is on it. Else the row, if none is on that. Else both.
+-- if there is no other. Else the file, if none is on it. Else the row,
+    if none is on that. Else both.
 abbrev pub Distinguishes : Type 0 → Type 0 → Type 0 → Bool → Bool → Type 0
 Distinguishes any on_file on_row false false = ¬ any
 Distinguishes any on_file on_row true false = any × ¬ on_file
@@ -135,7 +136,8 @@ Fits state from to promotion text =
 -- the text of some move, legal or not, in some style
 abbrev pub IsSanText : List ℕ → Type 0
 IsSanText text =
-    ((style : Style) × (man : Man) × (takes : Bool) × (from : ℕ) × (to : ℕ) × (promotion : Option Man)
+    ((style : Style) × (man : Man) × (takes : Bool) × (from : ℕ) × (to : ℕ) ×
+        (promotion : Option Man)
     × (from < 64) × (to < 64) × (promotion ≢ Some Man.Pawn) × (promotion ≢ Some Man.King)
     × (text ≡ ordinary_text style man takes from to promotion ++ sign_text style.sign))
     ⊎ ((style : Style) × (to : ℕ)

@@ -44,7 +44,13 @@ man_of byte =
     else (if nat_eq byte (ascii "K") then Some Man.King else None))))
 
 abbrev pub with_file : Scan → ℕ → Scan
-with_file s file = record s { by_file = s.has_file; has_file = true; from_file = s.file; file = file }
+with_file s file = record s {
+  by_file = s.has_file;
+  has_file = true;
+  from_file = s.file;
+  file =
+      file;
+}
 
 abbrev pub with_rank : Scan → ℕ → Scan
 with_rank s row = record s { by_rank = s.has_rank; has_rank = true; from_row = s.row; row = row }
@@ -82,7 +88,13 @@ abbrev pub goal_of : Colour → Scan → ℕ
 goal_of turn s = if s.castles then castling_goal turn s.is_long else 8 * (s.row % 8) + s.file % 8
 
 abbrev pub style_of : Scan → Style
-style_of s = record { by_file = s.by_file; by_rank = s.by_rank; equals = s.equals; zero = s.zero; sign = s.sign }
+style_of s = record {
+  by_file = s.by_file;
+  by_rank = s.by_rank;
+  equals = s.equals;
+  zero = s.zero;
+  sign = s.sign;
+}
 
 abbrev pub reading_of : Colour → Scan → Reading
 reading_of turn s = record {

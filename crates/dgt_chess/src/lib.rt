@@ -14,6 +14,8 @@
 //! | see that a game has ended | [`State::is_mate`], [`State::is_stalemate`], [`State::is_dead`] |
 //! | see that a draw may be claimed | [`State::is_fifty_moves`], [`State::repetitions`] |
 //! | read, write Forsyth-Edwards Notation | [`State::parse_fen`], [`State::fen`] |
+//! | write a move in Standard Algebraic Notation | [`State::san`] |
+//! | read it | [`State::parse_san`], [`State::parse_san_leniently`] |
 //!
 //! The rules are those of the FIDE Laws of Chess of 2023. The definitions cite its articles.
 //! [`laws`] says what holds of all states and moves.
@@ -36,4 +38,5 @@ mod state;
 pub use fen::{BadFen, FenField};
 pub use pieces::{Colour, Man};
 pub use possible::{Impossible, Rights};
+pub use san_reader::BadSan;
 pub use state::{Move, NotLegal, State};

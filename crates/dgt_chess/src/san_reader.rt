@@ -10,6 +10,7 @@ use crate::pieces::{Colour, Man, is_on};
 use crate::san::{Sign, Style, castling_text, move_text, ordinary_text};
 use crate::state::{Move, State};
 use dgt_values::Square;
+use thiserror::Error;
 
 // What the bytes of a text say, from the left.
 #[derive(Clone, Copy)]
@@ -249,13 +250,16 @@ pub(crate) fn read(turn: Colour, text: &[u8]) -> Reading
 }
 
 /// Why a text is not read as a move.
-#[derive(Clone, Copy, Debug, PartialEq, Eq)]
+#[derive(Clone, Copy, Debug, PartialEq, Eq, Error)]
 pub enum BadSan {
-    /// The text is not in Standard Algebraic Notation.
+    /// The text is no move's in any state, in any style.
+    #[error("not a move in Standard Algebraic Notation")]
     NotSan,
-    /// The text is no legal move's.
+    /// The text is a move's, but of no legal one.
+    #[error("no legal move has this text")]
     NoMove,
     /// The text fits several legal moves.
+    #[error("several legal moves fit the text")]
     Ambiguous,
 }
 

@@ -11,6 +11,7 @@ mod fixtures;
 mod followers;
 mod hosts;
 mod messages;
+mod san;
 mod scripts;
 mod texts;
 mod values;

@@ -12,7 +12,8 @@ returns-then-r c = (
         ∙ c.as_bytes.ensures.value ∙ c.deref.ensures.0 ∙ c.castling_text.ensures,
   ),
   λ san. elim (again_at c.args.turn c.args.text.now c.read-r.result c.read-r.ensures.value san) [
-    | inl h ↦ c.is_same.ensures.1 (c.as_bytes.ensures.value ∙ c.deref.ensures.0 ∙ c.castling_text.ensures ∙ h.1)
+    | inl h ↦ c.is_same.ensures.1 (c.as_bytes.ensures.value ∙ c.deref.ensures.0
+        ∙ c.castling_text.ensures ∙ h.1)
     | inr h ↦ absurd (let e = h.0 in let no : ⊥ = cc in no)
   ],
 )
@@ -42,10 +43,12 @@ returns c =
             c.read-r.ensures.small,
             good.0,
             good.1,
-            sym (c.is_same-2.ensures.0 yes) ∙ c.as_bytes-2.ensures.value ∙ c.deref-2.ensures.0 ∙ c.ordinary_text-written.ensures,
+            sym (c.is_same-2.ensures.0 yes) ∙ c.as_bytes-2.ensures.value ∙ c.deref-2.ensures.0
+                ∙ c.ordinary_text-written.ensures,
           ),
       λ san. elim (again_at c.args.turn c.args.text.now r c.read-r.ensures.value san) [
         | inl h ↦ absurd (let e = h.0 in let no : ⊥ = cc in no)
-        | inr h ↦ c.is_same-2.ensures.1 (c.as_bytes-2.ensures.value ∙ c.deref-2.ensures.0 ∙ c.ordinary_text-written.ensures ∙ h.2)
+        | inr h ↦ c.is_same-2.ensures.1 (c.as_bytes-2.ensures.value ∙ c.deref-2.ensures.0
+            ∙ c.ordinary_text-written.ensures ∙ h.2)
       ],
     )

@@ -5,7 +5,8 @@ use Rattle.dgt_chess.proofs.state.State.has_rival_on_row.Goals as goal
 
 pub loop-other-preserved : goal.loop-other-preserved
 loop-other-preserved c =
-    below_more _ _ c.loop-other.invariant (λ rival. let holds = c.is_rival_on_row.ensures.1 rival in cc)
+    below_more _ _ c.loop-other.invariant (λ rival. let holds = c.is_rival_on_row.ensures.1 rival in
+    cc)
 
 pub returns : goal.returns
 unfolding HasRivalOn

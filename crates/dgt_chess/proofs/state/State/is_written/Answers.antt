@@ -10,7 +10,8 @@ pub returns-then-not-is_on : goal.returns-then-not-is_on
 returns-then-not-is_on c = (
   λ (yes : IsTrue false). let no : ⊥ = cc in absurd no,
   λ san.
-      let own = san_own c.args.self.now c.args.text.now c.args.r c.args.a c.args.r.b c.args.r.promotion c.requires.read (omega arith) (omega arith) san in
+      let own = san_own c.args.self.now c.args.text.now c.args.r c.args.a c.args.r.b
+      c.args.r.promotion c.requires.read (omega arith) (omega arith) san in
       let on : piece_at c.pieces.result.now c.args.a ≡ piece_of c.turn.result c.args.r.man = cc in
       let holds = c.is_on.ensures.1 on in
       cc,
@@ -18,11 +19,14 @@ returns-then-not-is_on c = (
 
 pub returns-in-Some : goal.returns-in-Some
 returns-in-Some c =
-    let bytes : c.as_bytes.result.now ≡ c.in-Some.written.bytes = c.as_bytes.ensures.value ∙ c.deref.ensures.0 in (
+    let bytes : c.as_bytes.result.now ≡ c.in-Some.written.bytes = c.as_bytes.ensures.value
+    ∙ c.deref.ensures.0 in (
       λ yes. subst (λ (t : List ℕ). IsSan c.args.self.now c.args.a c.args.r.b c.args.r.promotion t)
           (sym bytes ∙ c.is_same.ensures.0 yes) c.in-Some.ensures,
-      λ san. c.is_same.ensures.1 (bytes ∙ one_text c.args.self.now c.args.a c.args.r.b c.args.r.promotion
-          c.in-Some.written.bytes c.args.text.now (omega arith) (omega arith) c.in-Some.ensures san),
+      λ san. c.is_same.ensures.1
+          (bytes ∙ one_text c.args.self.now c.args.a c.args.r.b c.args.r.promotion
+          c.in-Some.written.bytes c.args.text.now (omega arith)
+          (omega arith) c.in-Some.ensures san),
     )
 
 pub returns-in-None : goal.returns-in-None
