@@ -1,6 +1,6 @@
 -- Standard Algebraic Notation: appendix C of the FIDE Laws of Chess, in the export form of PGN.
 use Prim.Native.Char.{code as ascii}
-use Rattle.std.specs.Prelude.{◌≡◌, ◌≢◌, ℕ, ◌+◌, ◌-◌, ◌<◌, ◌⊎◌, Bool, true, false, not, nat_eq, if◌then◌else◌, IsTrue, List, [], ◌∷◌, ◌++◌, codes, Option, Some, None, Result, Ok, Err}
+use Rattle.std.specs.Prelude.{◌≡◌, ◌≢◌, ℕ, ◌+◌, ◌-◌, ◌<◌, ◌⊎◌, Bool, true, false, not, nat_eq, if◌then◌else◌, IsTrue, List, [], ◌∷◌, ◌++◌, codes, Option, Some, None, Result, Ok, Err, MatchResult}
 use Rattle.std.specs.Int.{abs_diff}
 use Rattle.dgt_values.specs.declared.pieces.Piece.{Piece}
 use Rattle.dgt_values.specs.Board.{square_name, square_number}
@@ -87,9 +87,9 @@ unfoldable pub HasRivalOn : (ℕ → ℕ) → Man → State → ℕ → ℕ → 
 HasRivalOn line man state from to =
     (other : ℕ) × (other < 64) × (IsRival man state from to other × (line other ≡ line from))
 
--- What is shown of a square that some other men, men on its file or men on its row rival: nothing
--- if there is no other. Else the file, if none is on it. Else the row,
-    if none is on that. Else both.
+-- What is shown of a square, if other men can go there too (any), some of them from the same file,
+-- or from the same row: nothing if there is no other. Else the file, if none is on it. Else the row,
+-- if none is on that. Else both.
 abbrev pub Distinguishes : Type 0 → Type 0 → Type 0 → Bool → Bool → Type 0
 Distinguishes any on_file on_row false false = ¬ any
 Distinguishes any on_file on_row true false = any × ¬ on_file
@@ -136,9 +136,9 @@ Fits state from to promotion text =
 -- the text of some move, legal or not, in some style
 abbrev pub IsSanText : List ℕ → Type 0
 IsSanText text =
-    ((style : Style) × (man : Man) × (takes : Bool) × (from : ℕ) × (to : ℕ) ×
-        (promotion : Option Man)
-    × (from < 64) × (to < 64) × (promotion ≢ Some Man.Pawn) × (promotion ≢ Some Man.King)
+    ((style : Style) × (man : Man) × (takes : Bool) × (from : ℕ) × (to : ℕ)
+    × (promotion : Option Man) × (from < 64) × (to < 64) × (promotion ≢ Some Man.Pawn)
+    × (promotion ≢ Some Man.King)
     × (text ≡ ordinary_text style man takes from to promotion ++ sign_text style.sign))
     ⊎ ((style : Style) × (to : ℕ)
     × (text ≡ castling_text (castling_letter style.zero) to ++ sign_text style.sign))
@@ -148,6 +148,13 @@ abbrev pub IsRefusal : List ℕ → BadSan → Type 0
 IsRefusal text BadSan.NotSan = ¬ (IsSanText text)
 IsRefusal text BadSan.NoMove = IsSanText text
 IsRefusal text BadSan.Ambiguous = ⊥
+
+-- the legal move with this text, or why there is none
+abbrev pub ParsesSan : State → List ℕ → Result Move BadSan → Type 0
+ParsesSan state text r = MatchResult r
+    (λ one. IsSan state (square_number one.from) (square_number one.to) one.promotion text)
+    (λ e. ((from to : ℕ) (promotion : Option Man) → from < 64 → to < 64
+    → ¬ (IsSan state from to promotion text)) × IsRefusal text e)
 
 -- of the squares below a bound: the only one from which a move fits the text, if there is one
 abbrev pub FitsFrom : State → ℕ → Option Man → List ℕ → ℕ → Option ℕ → Type 0
@@ -190,3 +197,13 @@ OneTextAMove =
     (state : State) (from to : ℕ) (promotion : Option Man) (text text' : List ℕ)
     → from < 64 → to < 64 → IsSan state from to promotion text
     → IsSan state from to promotion text' → text ≡ text'
+
+-- what was written is read back
+abbrev pub WrittenIsRead : Type 0
+WrittenIsRead =
+    (state : State) (from to : ℕ) (promotion : Option Man) (text : List ℕ)
+    (r : Result Move BadSan) → from < 64 → to < 64 → IsSan state from to promotion text
+    → ParsesSan state text r → MatchResult r
+    (λ one. (square_number one.from ≡ from) × (square_number one.to ≡ to)
+    × (one.promotion ≡ promotion))
+    (λ _. ⊥)

@@ -307,7 +307,7 @@ fn refusal(turn: Colour, text: &[u8]) -> BadSan
 }
 
 impl State {
-    ghost use Rattle.dgt_chess.specs.San.{Fits, FitsFrom, FitsOnly, FitsSeveral, IsSan};
+    ghost use Rattle.dgt_chess.specs.San.{Fits, FitsFrom, FitsOnly, FitsSeveral, IsSan, ParsesSan};
 
     // Whether the text is that of a legal move from this square.
     fn is_written(&self, r: Reading, text: &[u8], a: u8) -> bool
@@ -329,11 +329,7 @@ impl State {
     /// [`State::san`]. Returns `BadSan::NotSan` for a text that is no move's in any state, and
     /// `BadSan::NoMove` for another one.
     pub fn parse_san(&self, text: &str) -> Result<Move, BadSan>
-        ensures { MatchResult result
-            (λ one. IsSan self.now (square_number one.from) (square_number one.to) one.promotion
-            text.now)
-            (λ e. ((from to : ℕ) (promotion : Option Man) → from < 64 → to < 64
-            → ¬ (IsSan self.now from to promotion text.now)) × IsRefusal text.now e) }
+        ensures { ParsesSan self.now text.now result }
     {
         let text = text.as_bytes();
         let r = read(self.turn(), text);
