@@ -7,7 +7,7 @@ use Rattle.dgt_chess.specs.declared.pieces.Man.{Man}
 use Rattle.dgt_chess.specs.declared.possible.Rights.{Rights}
 use Rattle.dgt_chess.specs.declared.state.State.{State}
 use Rattle.dgt_chess.specs.Attacks.{row, piece_at, piece_of, Attacks, IsFree, IsInCheck}
-use Rattle.dgt_chess.specs.Rules.{board, passed, last_row, pieces_after, CanGo, CanMove, Castles, CastlesWith, IsAfter, IsPrey, Legal, LegalBy, Moves, PawnMoves, Promotes}
+use Rattle.dgt_chess.specs.Rules.{board, passed, last_row, pieces_after, CanGo, CanMove, Castles, CastlesWith, IsAfter, IsPrey, LegalBy, Moves, PawnMoves}
 
 pub record Alike (s t : State) : Type 0 where
   pub pieces : board s ≡ board t

@@ -1,6 +1,5 @@
 -- No two legal moves share a text, and a legal move has one text.
-use Rattle.std.proofs.Common.{◌≡◌, ◌≢◌, ◌∙◌, ℕ, ◌+◌, ◌*◌, ◌%◌, ◌/◌, ◌<◌, ◌⊎◌, Bool, true, false, not, nat_eq, if◌then◌else◌, List, inl, inr, refl, ap, sym, subst, arith}
-use Rattle.std.specs.Int.{abs_diff}
+use Rattle.std.proofs.Common.{◌≡◌, ◌≢◌, ◌∙◌, ℕ, ◌+◌, ◌*◌, ◌%◌, ◌/◌, ◌<◌, Bool, true, false, not, nat_eq, if◌then◌else◌, List, inl, inr, refl, ap, sym, subst, arith}
 use Rattle.std.specs.Prelude.{Option, Some, None}
 use Rattle.std.proofs.lemmas.Bool.Decides.{nat_tests}
 use Rattle.dgt_values.specs.declared.pieces.Piece.{Piece}
@@ -11,11 +10,11 @@ use Rattle.dgt_chess.specs.declared.san.Style.{Style}
 use Rattle.dgt_chess.specs.declared.san_reader.Reading.{Reading}
 use Rattle.dgt_chess.specs.declared.state.State.{State}
 use Rattle.dgt_chess.specs.Attacks.{file, row, piece_at, piece_of}
-use Rattle.dgt_chess.specs.Rules.{board, passed, LegalBy, PawnMoves, Promotes}
-use Rattle.dgt_chess.specs.San.{captures, is_castling, move_text, Distinguishes, HasRival, HasRivalOn, IsExport, IsOrigin, IsRival, IsSan, IsSign, OneMoveAText, OneTextAMove}
+use Rattle.dgt_chess.specs.Rules.{board, passed, LegalBy, PawnMoves}
+use Rattle.dgt_chess.specs.San.{is_castling, move_text, Distinguishes, HasRival, HasRivalOn, IsExport, IsOrigin, IsSan, IsSign, OneMoveAText, OneTextAMove}
 use Rattle.dgt_chess.specs.Scanning.{read}
 use Rattle.dgt_chess.proofs.Alike.{Alike, after_one, alike_back, can_move, in_check}
-use Rattle.dgt_chess.proofs.SanTexts.{IsRead, read_move, home, king_home}
+use Rattle.dgt_chess.proofs.SanTexts.{IsRead, read_move, king_home}
 use Rattle.dgt_chess.proofs.Unique.{not_free, same_man}
 
 equal : (a b : ℕ) → ((a ≢ b) → ⊥) → a ≡ b

@@ -13,7 +13,7 @@ use Rattle.dgt_chess.specs.Rules.{board, LegalBy}
 use Rattle.dgt_chess.specs.San.{castling_letter, castling_text, file_letter, man_letter, move_text, ordinary_text, promotion_text, rank_digit, shown, sign_text, Fits, FitsFrom, FitsOnly}
 use Rattle.dgt_chess.specs.San.{IsRefusal, IsSan, IsSanText}
 use Rattle.dgt_chess.specs.Scanning.{castling_goal, read}
-use Rattle.dgt_chess.proofs.SanReads.{scan_castling, scan_ordinary, used_equals}
+use Rattle.dgt_chess.proofs.SanReads.{scan_castling, scan_ordinary}
 use Rattle.dgt_chess.proofs.SanTexts.{IsRead, read_move, same_promotion}
 
 -- a move of this reading, from this square

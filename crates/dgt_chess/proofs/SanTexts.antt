@@ -1,20 +1,18 @@
 -- No two legal moves share a text, and a legal move has one text.
-use Rattle.std.proofs.Common.{◌≡◌, ◌≢◌, ◌∙◌, ℕ, ◌+◌, ◌*◌, ◌%◌, ◌/◌, ◌<◌, ◌⊎◌, Bool, true, false, not, nat_eq, if◌then◌else◌, List, ◌++◌, inl, inr, refl, ap, sym, subst, arith}
+use Rattle.std.proofs.Common.{◌≡◌, ◌≢◌, ◌∙◌, ℕ, ◌+◌, ◌*◌, ◌%◌, ◌/◌, ◌<◌, Bool, true, false, not, nat_eq, if◌then◌else◌, List, ◌++◌, inl, inr, refl, ap, sym, subst, arith}
 use Rattle.std.specs.Int.{abs_diff}
-use Rattle.std.specs.Prelude.{Option, Some, None, IsFalse, IsTrue}
-use Rattle.std.proofs.lemmas.Bool.Decides.{nat_tests, eqb_tells}
-use Rattle.dgt_values.specs.declared.pieces.Piece.{Piece}
+use Rattle.std.specs.Prelude.{Option, Some, None}
+use Rattle.std.proofs.lemmas.Bool.Decides.{nat_tests}
 use Rattle.dgt_chess.specs.declared.pieces.Colour.{Colour}
 use Rattle.dgt_chess.specs.declared.pieces.Man.{Man}
-use Rattle.dgt_chess.specs.declared.san.Sign.{Sign}
 use Rattle.dgt_chess.specs.declared.san.Style.{Style}
 use Rattle.dgt_chess.specs.declared.san_reader.Reading.{Reading}
 use Rattle.dgt_chess.specs.declared.state.State.{State}
-use Rattle.dgt_chess.specs.Attacks.{file, row, piece_at, piece_of, Adjoins}
-use Rattle.dgt_chess.specs.Rules.{board, passed, CanMove, Castles, CastlesWith, LegalBy, Moves, Promotes}
+use Rattle.dgt_chess.specs.Attacks.{file, Adjoins}
+use Rattle.dgt_chess.specs.Rules.{board, Castles, CastlesWith, LegalBy, Moves, Promotes}
 use Rattle.dgt_chess.specs.San.{captures, castling_letter, castling_text, is_castling, move_text, ordinary_text, sign_text}
-use Rattle.dgt_chess.specs.Scanning.{castling_goal, read, reading_of}
-use Rattle.dgt_chess.proofs.SanReads.{castling_scan, ordinary_scan, scan_castling, scan_ordinary, used_equals}
+use Rattle.dgt_chess.specs.Scanning.{castling_goal, read}
+use Rattle.dgt_chess.proofs.SanReads.{scan_castling, scan_ordinary, used_equals}
 
 -- the reading of a text is this move's
 pub record IsRead (r : Reading) (style : Style) (man : Man) (state : State) (from to : ℕ)

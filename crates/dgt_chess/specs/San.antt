@@ -1,6 +1,6 @@
 -- Standard Algebraic Notation: appendix C of the FIDE Laws of Chess, in the export form of PGN.
 use Prim.Native.Char.{code as ascii}
-use Rattle.std.specs.Prelude.{◌≡◌, ◌≢◌, ℕ, ◌+◌, ◌-◌, ◌<◌, ◌⊎◌, Bool, true, false, not, nat_eq, if◌then◌else◌, IsTrue, List, [], ◌∷◌, ◌++◌, codes, Option, Some, None, Result, Ok, Err, MatchResult}
+use Rattle.std.specs.Prelude.{◌≡◌, ◌≢◌, ℕ, ◌+◌, ◌-◌, ◌<◌, ◌⊎◌, Bool, true, false, not, nat_eq, if◌then◌else◌, List, [], ◌∷◌, ◌++◌, codes, Option, Some, None, Result, Ok, Err, MatchResult}
 use Rattle.std.specs.Int.{abs_diff}
 use Rattle.dgt_values.specs.declared.pieces.Piece.{Piece}
 use Rattle.dgt_values.specs.Board.{square_name, square_number}
@@ -11,7 +11,7 @@ use Rattle.dgt_chess.specs.declared.san_reader.BadSan.{BadSan}
 use Rattle.dgt_chess.specs.declared.state.Move.{Move}
 use Rattle.dgt_chess.specs.declared.state.State.{State}
 use Rattle.dgt_chess.specs.Attacks.{file, row, piece_at, IsInCheck}
-use Rattle.dgt_chess.specs.Rules.{board, is_free, Legal, LegalBy, IsAfter, CanMove}
+use Rattle.dgt_chess.specs.Rules.{board, is_free, LegalBy, IsAfter, CanMove}
 
 -- a man's letter; a pawn has none
 abbrev pub man_letter : Man → List ℕ
@@ -88,8 +88,8 @@ HasRivalOn line man state from to =
     (other : ℕ) × (other < 64) × (IsRival man state from to other × (line other ≡ line from))
 
 -- What is shown of a square, if other men can go there too (any), some of them from the same file,
--- or from the same row: nothing if there is no other. Else the file, if none is on it. Else the row,
--- if none is on that. Else both.
+-- or from the same row: nothing if there is no other. Else the file, if none is on it. Else the
+-- row, if none is on that. Else both.
 abbrev pub Distinguishes : Type 0 → Type 0 → Type 0 → Bool → Bool → Type 0
 Distinguishes any on_file on_row false false = ¬ any
 Distinguishes any on_file on_row true false = any × ¬ on_file

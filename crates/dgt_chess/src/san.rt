@@ -358,7 +358,8 @@ impl State {
         }
     }
 
-    /// The text of a legal move in Standard Algebraic Notation: at most six bytes and a sign.
+    /// The text of a legal move in Standard Algebraic Notation, as PGN files contain it: at most
+    /// six bytes and a sign. Returns `NotLegal` for any other move.
     pub fn san(&self, one: Move) -> Result<ArrayString<9>, NotLegal>
         ensures { let a = square_number one.from in
             let b = square_number one.to in

@@ -325,9 +325,9 @@ impl State {
         }
     }
 
-    /// The legal move with this text in Standard Algebraic Notation: exactly the text of
-    /// [`State::san`]. Returns `BadSan::NotSan` for a text that is no move's in any state, and
-    /// `BadSan::NoMove` for another one.
+    /// The legal move whose text is this one, exactly as [`State::san`] writes it. Returns
+    /// `BadSan::NotSan` for a text that is no move's in any state and style, and `BadSan::NoMove`
+    /// for any other text.
     pub fn parse_san(&self, text: &str) -> Result<Move, BadSan>
         ensures { ParsesSan self.now text.now result }
     {
@@ -383,10 +383,16 @@ impl State {
         Ok(found)
     }
 
-    /// The only legal move that fits a text. A text fits a move if it is the move's text but for
-    /// the sign, which may be missing, wrong or superfluous, for the file and the row that the move
-    /// leaves, which may be missing or superfluous, for the `=` of a promotion, which may be
-    /// missing, and for the letters of castling, which may be zeros.
+    /// The only legal move that fits a text. A text fits a move if it is the move's text in any
+    /// style:
+    ///
+    /// - The sign is `+`, `#` or none, whether or not the move gives check.
+    /// - The file and the rank that the move leaves are each written or left out.
+    /// - The `=` of a promotion may be missing.
+    /// - Castling is written with the letter O or with zeros.
+    ///
+    /// Captures are written with `x`, and other moves without. Returns `BadSan::Ambiguous` if
+    /// several legal moves fit, and otherwise the errors of [`State::parse_san`].
     pub fn parse_san_leniently(&self, text: &str) -> Result<Move, BadSan>
         ensures { FitsOnly self.now text.now result }
     {

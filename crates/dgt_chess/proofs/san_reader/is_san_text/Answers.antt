@@ -1,4 +1,4 @@
-use Rattle.std.proofs.Common.{◌≡◌, ◌∙◌, false, inl, inr, sym}
+use Rattle.std.proofs.Common.{◌∙◌, false, inl, inr, sym}
 use Rattle.std.specs.Prelude.{IsTrue}
 use Rattle.dgt_chess.proofs.SanParsing.{again_at}
 use Rattle.dgt_chess.proofs.san_reader.is_san_text.Goals as goal

@@ -1,4 +1,4 @@
-use Rattle.std.proofs.Common.{◌≡◌, ◌∙◌, ℕ, ◌<◌, List, arith, subst}
+use Rattle.std.proofs.Common.{◌≡◌, ℕ, ◌<◌, List, arith, subst}
 use Rattle.dgt_chess.specs.San.{IsRefusal, IsSan}
 use Rattle.dgt_chess.specs.Scanning.{read}
 use Rattle.dgt_chess.proofs.SanParsing.{none_written}

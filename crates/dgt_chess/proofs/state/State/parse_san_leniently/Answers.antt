@@ -1,4 +1,4 @@
-use Rattle.std.proofs.Common.{◌≡◌, ◌∙◌, ℕ, List, arith, subst}
+use Rattle.std.proofs.Common.{◌≡◌, ℕ, List, subst}
 use Rattle.std.specs.Prelude.{Option, Some, None}
 use Rattle.dgt_chess.specs.San.{FitsFrom, IsRefusal}
 use Rattle.dgt_chess.specs.Scanning.{read}
