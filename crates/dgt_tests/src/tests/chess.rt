@@ -193,13 +193,41 @@ fn refusal(placement: &str, rights: Rights, passed: &str, number: u16) -> Option
 #[test]
 fn impossible_states(rt: HostRuntime) {
     let rook = "4k3/8/8/3p4/8/8/8/4K2R";
-    assert_same(&rt, refusal("kk6/8/8/8/8/8/8/K7", NONE, "", 1), Some(Impossible::Kings));
-    assert_same(&rt, refusal("k7/8/8/8/8/8/8/8", NONE, "", 1), Some(Impossible::Kings));
-    assert_same(&rt, refusal("k7/8/8/8/8/8/8/KX6", NONE, "", 1), Some(Impossible::Extra));
-    assert_same(&rt, refusal("k7/8/8/8/8/8/8/Kp6", NONE, "", 1), Some(Impossible::Pawn));
-    assert_same(&rt, refusal("kP6/8/8/8/8/8/8/K7", NONE, "", 1), Some(Impossible::Pawn));
-    assert_same(&rt, refusal("k7/8/8/8/8/8/8/K6R", ALL, "", 1), Some(Impossible::Rights));
-    assert_same(&rt, refusal("k6R/8/8/8/8/8/8/K7", NONE, "", 1), Some(Impossible::Check));
+    assert_same(
+        &rt,
+        refusal("kk6/8/8/8/8/8/8/K7", NONE, "", 1),
+        Some(Impossible::Kings),
+    );
+    assert_same(
+        &rt,
+        refusal("k7/8/8/8/8/8/8/8", NONE, "", 1),
+        Some(Impossible::Kings),
+    );
+    assert_same(
+        &rt,
+        refusal("k7/8/8/8/8/8/8/KX6", NONE, "", 1),
+        Some(Impossible::Extra),
+    );
+    assert_same(
+        &rt,
+        refusal("k7/8/8/8/8/8/8/Kp6", NONE, "", 1),
+        Some(Impossible::Pawn),
+    );
+    assert_same(
+        &rt,
+        refusal("kP6/8/8/8/8/8/8/K7", NONE, "", 1),
+        Some(Impossible::Pawn),
+    );
+    assert_same(
+        &rt,
+        refusal("k7/8/8/8/8/8/8/K6R", ALL, "", 1),
+        Some(Impossible::Rights),
+    );
+    assert_same(
+        &rt,
+        refusal("k6R/8/8/8/8/8/8/K7", NONE, "", 1),
+        Some(Impossible::Check),
+    );
     assert_same(&rt, refusal(rook, NONE, "d5", 1), Some(Impossible::Passed));
     assert_same(&rt, refusal(rook, NONE, "e6", 1), Some(Impossible::Passed));
     assert_same(&rt, refusal(rook, NONE, "d6", 0), Some(Impossible::Number));
@@ -210,8 +238,18 @@ fn impossible_states(rt: HostRuntime) {
 fn refusals_have_texts(rt: HostRuntime) -> Result<(), Fail> {
     let alloc = rt.alloc();
     assert_said(&rt, alloc, &NotLegal, "the move is not legal")?;
-    assert_said(&rt, alloc, &Impossible::Kings, "a side doesn't have exactly one king")?;
-    assert_said(&rt, alloc, &Impossible::Extra, "a piece isn't a chess piece")?;
+    assert_said(
+        &rt,
+        alloc,
+        &Impossible::Kings,
+        "a side doesn't have exactly one king",
+    )?;
+    assert_said(
+        &rt,
+        alloc,
+        &Impossible::Extra,
+        "a piece isn't a chess piece",
+    )?;
     let pawn = "a pawn is on the first or the eighth rank";
     assert_said(&rt, alloc, &Impossible::Pawn, pawn)?;
     let check = "the side that isn't to move is in check";
@@ -220,6 +258,11 @@ fn refusals_have_texts(rt: HostRuntime) -> Result<(), Fail> {
     assert_said(&rt, alloc, &Impossible::Rights, rights)?;
     let passed = "no pawn has just passed over the passed square";
     assert_said(&rt, alloc, &Impossible::Passed, passed)?;
-    assert_said(&rt, alloc, &Impossible::Number, "the number of the move is 0")?;
+    assert_said(
+        &rt,
+        alloc,
+        &Impossible::Number,
+        "the number of the move is 0",
+    )?;
     Ok(())
 }
