@@ -206,7 +206,7 @@ pawn_shows true x y to e h f =
     let g : nat_eq (file y) (file to) ≡ true = grind (arith, nat_tests) in
     grind (arith, nat_tests)
 
--- a man's move is told from another's by what is shown
+-- what is shown keeps a man's move apart from another's
 from_shown : (man : Man) (s : State) (x y to : ℕ) (p : Option Man) (b c : Bool) → x < 64 → y < 64
     → LegalBy man s x to p → LegalBy man s y to p
     → IsOrigin man s x to b c → IsOrigin man s y to b c → (b ≡ true → file x ≡ file y)

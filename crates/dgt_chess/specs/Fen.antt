@@ -75,7 +75,7 @@ abbrev pub IsFen : List ℕ → List Piece → Colour → Rights → Option Squa
 IsFen text pieces turn rights passed half_moves number =
     Then (λ field. IsPlacement field pieces) (FromTurn turn rights passed half_moves number) text
 
--- a text of any pieces, side, rights, square and numbers
+-- a text of some pieces, side, rights, square and numbers
 abbrev pub IsAnyFen : List ℕ → Type 0
 IsAnyFen text =
     (pieces : List Piece) × (turn : Colour) × (rights : Rights) × (passed : Option Square)

@@ -127,7 +127,7 @@ IsSan state from to promotion text =
     × (text ≡ move_text style man (board state) from to promotion))
 
 -- The move is legal, and this is its text in some style: a sign may be missing, wrong or
--- superfluous, as may be its file and row, and the sign of equality; castling may have digits.
+-- superfluous. So may be its file and row, and the sign of equality. Castling may have digits.
 unfoldable pub Fits : State → ℕ → ℕ → Option Man → List ℕ → Type 0
 Fits state from to promotion text =
     (man : Man) × LegalBy man state from to promotion
