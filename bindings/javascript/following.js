@@ -54,7 +54,10 @@ export function follow(dgt, port, options = {}) {
  * you leave closes it. A view that has waited for a second is dropped if there is a newer one.
  */
 export class Following {
-  /** The present view. @type {BoardView} */
+  /**
+   * The present view.
+   * @type {BoardView}
+   */
   view = { picture: null, placement: null, clock: null, inDoubt: false, away: null,
            confirmed: false, serial: null };
   /** Makes commands for `write`: `board.write(board.follower.sendText("hello"))`. */

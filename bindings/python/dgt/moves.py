@@ -377,9 +377,9 @@ class MoveRecogniser:
         if root := self._new_game(reading):
             is_turned = self._shown != root.letters
             self._next, self._due = (root,), now
-            events = self.tick(now)
-            self._start_shown = None if events else (root, is_turned)
-            return events
+            begun = self.tick(now)
+            self._start_shown = None if begun else (root, is_turned)
+            return begun
         if base is None or reading is None:
             wait = self._wait_for_game()
             if wait is not None and (roots := self._roots_shown()):

@@ -112,9 +112,8 @@ class RunningClock:
 
     def show(self) -> None:
         status = 0 if self.side is None else TURNS[self.side] | (RUNNING if self.due else 0)
-        minutes = [divmod(each, 60) for each in self.left]
-        times = [dgt.Time(*divmod(each, 60), seconds) for each, seconds in minutes]
-        self.board.hand_clock(dgt.Times(*times, status))
+        first, second = (dgt.Time(left // 3600, left // 60 % 60, left % 60) for left in self.left)
+        self.board.hand_clock(dgt.Times(first, second, status))
 
 
 def read_seconds(text: str) -> int:
