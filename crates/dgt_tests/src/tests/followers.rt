@@ -65,7 +65,7 @@ fn askings_follow_the_period_the_answers_and_the_disturbances(rt: HostRuntime) {
     for (number, row) in ROWS.iter().enumerate() {
         assert!(rt; is_row(&mut follower, &mut out, *row), "row {number}");
     }
-    assert!(rt; follower.last_heard() == Some(5260) && follower.heartbeats_left() == 2);
+    assert!(rt; follower.last_heard() == Some(5510) && follower.heartbeats_left() == 2);
 }
 
 // Whether it asks at this time, and writes these bytes.
