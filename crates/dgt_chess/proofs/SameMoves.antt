@@ -15,7 +15,7 @@ use Rattle.dgt_chess.specs.Possible.{HasPassed}
 use Rattle.dgt_chess.specs.Rules.{Castles, CastlesWith, IsPrey, LegalBy, Moves, PawnMoves, TakesPassing, board, last_row, passed, pieces_after}
 use Rattle.dgt_chess.specs.Fen.{CanTakePassing, IsShown, SameBut, SameMoves}
 
-along : (P : List Piece → Colour → Type 0) (p p' : List Piece) (t t' : Colour) → p ≡ p' → t ≡ t'
+pub along : (P : List Piece → Colour → Type 0) (p p' : List Piece) (t t' : Colour) → p ≡ p' → t ≡ t'
     → P p t → P p' t'
 along P p p' t t' e f h =
     let Q : List Piece → Type 0 = λ l. P l t' in
@@ -137,7 +137,7 @@ legal_to a b same law man from to promotion small small' legal = record {
       same.pieces same.turn legal.safe;
 }
 
-back : (a b : State) → SameBut a b → SameBut b a
+pub back : (a b : State) → SameBut a b → SameBut b a
 back a b same = record {
   pieces = sym same.pieces;
   turn = sym same.turn;

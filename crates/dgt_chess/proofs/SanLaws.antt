@@ -11,7 +11,7 @@ use Rattle.dgt_chess.specs.declared.san_reader.Reading.{Reading}
 use Rattle.dgt_chess.specs.declared.state.State.{State}
 use Rattle.dgt_chess.specs.Attacks.{file, row, piece_at, piece_of}
 use Rattle.dgt_chess.specs.Rules.{board, passed, LegalBy, PawnMoves}
-use Rattle.dgt_chess.specs.San.{is_castling, move_text, Distinguishes, HasRival, HasRivalOn, IsExport, IsOrigin, IsSan, IsSign, OneMoveAText, OneTextAMove}
+use Rattle.dgt_chess.specs.San.{captures, is_castling, move_text, Distinguishes, Fits, HasRival, HasRivalOn, IsExport, IsOrigin, IsSan, IsSign, OneMoveAText, OneTextAMove}
 use Rattle.dgt_chess.specs.Scanning.{read}
 use Rattle.dgt_chess.proofs.Alike.{Alike, after_one, alike_back, can_move, in_check}
 use Rattle.dgt_chess.proofs.SanTexts.{IsRead, read_move, king_home}
@@ -209,10 +209,10 @@ pawn_shows true x y to e h f =
 -- what is shown keeps a man's move apart from another's
 from_shown : (man : Man) (s : State) (x y to : ℕ) (p : Option Man) (b c : Bool) → x < 64 → y < 64
     → LegalBy man s x to p → LegalBy man s y to p
-    → IsOrigin man s x to b c → IsOrigin man s y to b c → (b ≡ true → file x ≡ file y)
-    → (c ≡ true → row x ≡ row y) → x ≡ y
+    → IsOrigin man s x to b c → captures man (board s) x to ≡ captures man (board s) y to
+    → (b ≡ true → file x ≡ file y) → (c ≡ true → row x ≡ row y) → x ≡ y
 from_shown Man.Pawn s x y to p b c small small' legal legal' h k f r =
-    let same = pawn_shows (nat_eq (file x) (file to)) x y to refl (sym h.0 ∙ k.0)
+    let same = pawn_shows (nat_eq (file x) (file to)) x y to refl k
     (λ e. f (h.0 ∙ e)) in
     pawn_from s.turn (board s) (passed s) x y to legal.own legal'.own legal.moves legal'.moves same
 from_shown Man.Knight s x y to p b c small small' legal legal' h k f r =
@@ -226,16 +226,15 @@ from_shown Man.Queen s x y to p b c small small' legal legal' h k f r =
 from_shown Man.King s x y to p b c small small' legal legal' h k f r =
     rival Man.King s x y to p b c small' legal' (λ e. let bad : ⊥ = cc in bad) h f r
 
--- of two legal moves with one reading
+-- of two legal moves with one reading, one in the style of the export form
 from_one : (t : Bool) (r : Reading) (man : Man) (s : State) (x y to : ℕ) (p : Option Man)
     (style style' : Style) → x < 64 → y < 64
     → LegalBy man s x to p → LegalBy man s y to p → IsExport man s x to p style
-    → IsExport man s y to p style'
     → IsRead r style man s x to p → IsRead r style' man s y to p → is_castling man x to ≡ t → x ≡ y
-from_one true r man s x y to p style style' small small' legal legal' export export' h k e =
+from_one true r man s x y to p style style' small small' legal legal' export h k e =
     king_home man s x to p legal e
     ∙ sym (king_home man s y to p legal' (sym k.castles ∙ h.castles ∙ e))
-from_one false r man s x y to p style style' small small' legal legal' export export' h k e =
+from_one false r man s x y to p style style' small small' legal legal' export h k e =
     let e' : is_castling man y to ≡ false = sym k.castles ∙ h.castles ∙ e in
     let b : style'.by_file ≡ style.by_file = sym (k.by_file e') ∙ h.by_file e in
     let c : style'.by_rank ≡ style.by_rank = sym (k.by_rank e') ∙ h.by_rank e in
@@ -246,35 +245,43 @@ from_one false r man s x y to p style style' small small' legal legal' export ex
     subst (λ (c : Bool). Place style.by_file c) c
     (subst (λ (b : Bool). Place b style'.by_rank) b (sym (h.origin e) ∙ k.origin e')) in
     let shown = shown_same style.by_file style.by_rank x y place in
-    let origin : IsOrigin man s y to style.by_file style.by_rank =
-    subst (λ (c : Bool). IsOrigin man s y to style.by_file c) c
-    (subst (λ (b : Bool). IsOrigin man s y to b style'.by_rank) b export'.origin) in
     from_shown man s x y to p style.by_file style.by_rank small small' legal legal' export.origin
-    origin shown.0 shown.1
+    (sym (h.takes e) ∙ k.takes e') shown.0 shown.1
 
--- no two legal moves share a text
-pub one_move : OneMoveAText
-unfolding IsSan
-one_move s text x to y to' p p' sx st sy st' h k =
+pub san_fits : (s : State) (from to : ℕ) (p : Option Man) (text : List ℕ) → IsSan s from to p text
+    → Fits s from to p text
+unfolding IsSan Fits
+san_fits s from to p text h = (h.0, h.1, (h.2.0, h.2.2))
+
+-- a move's text fits no other legal move
+pub one_fits : (s : State) (text : List ℕ) (x to y to' : ℕ) (p p' : Option Man) → x < 64 → to < 64
+    → y < 64 → to' < 64 → IsSan s x to p text → Fits s y to' p' text
+    → (x ≡ y) × (to ≡ to') × (p ≡ p')
+unfolding IsSan Fits
+one_fits s text x to y to' p p' sx st sy st' h k =
     let Text : Style → Man → ℕ → ℕ → Option Man → List ℕ → Type 0 =
     λ style man a b p text. IsRead (read s.turn text) style man s a b p in
     let rd : Text h.2.0 h.0 x to p text =
     subst (λ (t : List ℕ). Text h.2.0 h.0 x to p t) (sym h.2.2)
     (read_move s h.2.0 h.0 x to p sx st h.1) in
     let rk : Text k.2.0 k.0 y to' p' text =
-    subst (λ (t : List ℕ). Text k.2.0 k.0 y to' p' t) (sym k.2.2)
+    subst (λ (t : List ℕ). Text k.2.0 k.0 y to' p' t) (sym k.2.1)
     (read_move s k.2.0 k.0 y to' p' sy st' k.1) in
     let man : k.0 ≡ h.0 = sym rk.is_man ∙ rd.is_man in
     let goal : to' ≡ to = sym rk.is_goal ∙ rd.is_goal in
     let promotion : p' ≡ p = sym rk.is_promotion ∙ rd.is_promotion in
     let All : Man → ℕ → Option Man → Type 0 =
-    λ m b q. LegalBy m s y b q × IsExport m s y b q k.2.0 × IsRead
-    (read s.turn text) k.2.0 m s y b q in
+    λ m b q. LegalBy m s y b q × IsRead (read s.turn text) k.2.0 m s y b q in
     let all : All h.0 to p = subst (λ (q : Option Man). All h.0 to q) promotion
-    (subst (λ (b : ℕ). All h.0 b p') goal (subst (λ (m : Man). All m to' p') man (k.1, k.2.1, rk)))
+    (subst (λ (b : ℕ). All h.0 b p') goal (subst (λ (m : Man). All m to' p') man (k.1, rk)))
     in (
       from_one (is_castling h.0 x to)
-          (read s.turn text) h.0 s x y to p h.2.0 k.2.0 sx sy h.1 all.0 h.2.1 all.1 rd all.2 refl,
+          (read s.turn text) h.0 s x y to p h.2.0 k.2.0 sx sy h.1 all.0 h.2.1 rd all.1 refl,
       sym goal,
       sym promotion,
     )
+
+-- no two legal moves share a text
+pub one_move : OneMoveAText
+one_move s text x to y to' p p' sx st sy st' h k =
+    one_fits s text x to y to' p p' sx st sy st' h (san_fits s y to' p' text k)

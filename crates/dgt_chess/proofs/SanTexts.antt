@@ -27,6 +27,7 @@ pub record IsRead (r : Reading) (style : Style) (man : Man) (state : State) (fro
   pub by_rank : is_castling man from to ≡ false → r.style.by_rank ≡ style.by_rank
   pub origin : is_castling man from to ≡ false
       → r.a ≡ 8 * (if style.by_rank then from / 8 else 0) + (if style.by_file then from % 8 else 0)
+  pub takes : is_castling man from to ≡ false → r.takes ≡ captures man (board state) from to
 
 king_none : (s : State) (to : ℕ) (p : Option Man) → Promotes Man.King s to p → p ≡ None
 king_none s to None h = refl
@@ -81,6 +82,7 @@ read_castling s style from to p legal e =
       by_file = λ f. absurd (let no : true ≡ false = sym e ∙ f in let bad : ⊥ = cc in bad);
       by_rank = λ f. absurd (let no : true ≡ false = sym e ∙ f in let bad : ⊥ = cc in bad);
       origin = λ f. absurd (let no : true ≡ false = sym e ∙ f in let bad : ⊥ = cc in bad);
+      takes = λ f. absurd (let no : true ≡ false = sym e ∙ f in let bad : ⊥ = cc in bad);
     })
 
 -- of any other move
@@ -127,6 +129,7 @@ read_ordinary s style man from to p small small' legal e =
       by_file = λ _. refl;
       by_rank = λ _. refl;
       origin = λ _. small_origin style.by_file style.by_rank from small;
+      takes = λ _. refl;
     })
 
 read_by : (castles : Bool) (s : State) (style : Style) (man : Man) (from to : ℕ) (p : Option Man)

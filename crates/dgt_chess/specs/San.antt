@@ -167,7 +167,7 @@ FitsFrom state to promotion text bound (Some only) =
 -- moves from two squares fit the text
 unfoldable pub FitsSeveral : State → ℕ → Option Man → List ℕ → Type 0
 FitsSeveral state to promotion text =
-    (from : ℕ) × (from' : ℕ) × (from < 64) × (from' < 64) × (from ≢ from')
+    (from : ℕ) × (from' : ℕ) × (from < 64) × (from' < 64) × (to < 64) × (from ≢ from')
     × Fits state from to promotion text × Fits state from' to promotion text
 
 -- the only legal move that fits the text, or why there is none
@@ -207,3 +207,15 @@ WrittenIsRead =
     (λ one. (square_number one.from ≡ from) × (square_number one.to ≡ to)
     × (one.promotion ≡ promotion))
     (λ _. ⊥)
+
+-- a text has one lenient reading
+abbrev pub OneLenientReading : Type 0
+OneLenientReading =
+    (state : State) (text : List ℕ) (r r' : Result Move BadSan) → FitsOnly state text r
+    → FitsOnly state text r' → r ≡ r'
+
+-- what is read strictly is read leniently as the same move
+abbrev pub StrictIsLenient : Type 0
+StrictIsLenient =
+    (state : State) (text : List ℕ) (one : Move) (r : Result Move BadSan)
+    → ParsesSan state text (Ok one) → FitsOnly state text r → r ≡ Ok one

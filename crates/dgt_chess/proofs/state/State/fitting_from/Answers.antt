@@ -17,6 +17,7 @@ returns-in-Some c =
         c.loop-a.a,
         omega arith,
         omega arith,
+        c.requires.b,
         omega arith,
         first.1,
         c.is_fitting.ensures.0 c.if-is_fitting.true,

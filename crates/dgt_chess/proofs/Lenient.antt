@@ -1,0 +1,99 @@
+-- A text has one lenient reading, and what is read strictly is read leniently as the same move.
+use Rattle.std.proofs.Common.{◌≡◌, ℕ, ◌<◌, ◌∙◌, List, ap, refl, subst, sym}
+use Rattle.std.proofs.Props.{props}
+use Rattle.std.specs.Prelude.{Option, Result, Ok, Err}
+use Rattle.dgt_values.specs.declared.squares.Square.{Square}
+use Rattle.dgt_values.specs.Board.{square_number}
+use Rattle.dgt_chess.specs.declared.pieces.Man.{Man}
+use Rattle.dgt_chess.specs.declared.san_reader.BadSan.{BadSan}
+use Rattle.dgt_chess.specs.declared.state.Move.{Move}
+use Rattle.dgt_chess.specs.declared.state.State.{State}
+use Rattle.dgt_chess.specs.San.{Fits, FitsOnly, FitsSeveral, OneLenientReading, StrictIsLenient}
+use Rattle.dgt_chess.proofs.SanLaws.{one_fits, san_fits}
+
+same_square : (a b : Square) → square_number a ≡ square_number b → a ≡ b
+same_square a b e =
+    let once : IsProp (a.index < 64) = hlevel props in
+    let Same : ℕ → Type 0 = λ n. (small : n < 64) → a ≡ record { index = n; small = small } in
+    subst Same e (λ small. ap (λ (p : a.index < 64). record { index = a.index; small = p })
+    (once a.small small)) b.small
+
+same_move : (a b : Move) → square_number a.from ≡ square_number b.from
+    → square_number a.to ≡ square_number b.to → a.promotion ≡ b.promotion → a ≡ b
+same_move a b from to promotion =
+    let from_same = same_square a.from b.from from in
+    let to_same = same_square a.to b.to to in
+    ap (λ (s : Square). record a { from = s }) from_same
+    ∙ ap (λ (s : Square). record a { from = b.from; to = s }) to_same
+    ∙ ap (λ (p : Option Man). record b { promotion = p }) promotion
+
+-- moves from two squares fit a text, so from no square is the only one
+several : (state : State) (text : List ℕ) (to : ℕ) (promotion : Option Man) (only : ℕ)
+    → FitsSeveral state to promotion text
+    → ((from : ℕ) → from < 64 → to < 64 → Fits state from to promotion text → from ≡ only) → ⊥
+unfolding FitsSeveral
+several state text to promotion only h law =
+    h.5 (law h.0 h.2 h.4 h.6 ∙ sym (law h.1 h.3 h.4 h.7))
+
+some_fits : (state : State) (text : List ℕ) (to : ℕ) (promotion : Option Man)
+    → FitsSeveral state to promotion text
+    → ((from : ℕ) → from < 64 → to < 64 → ¬ (Fits state from to promotion text)) → ⊥
+unfolding FitsSeveral
+some_fits state text to promotion h none = none h.0 h.2 h.4 h.6
+
+pub one_reading : OneLenientReading
+one_reading state text (Ok one) (Ok two) h k =
+    let same = k.1 (square_number one.from) (square_number one.to) one.promotion one.from.small
+    one.to.small h.0 in
+    ap Ok (same_move one two same.0 same.1 same.2)
+one_reading state text (Ok one) (Err BadSan.Ambiguous) h k =
+    absurd (several state text k.0 k.1 (square_number one.from) k.2
+    (λ from small goal fits. (h.1 from k.0 k.1 small goal fits).0))
+one_reading state text (Ok one) (Err BadSan.NotSan) h k =
+    absurd (k.0 (square_number one.from) (square_number one.to) one.promotion one.from.small
+    one.to.small h.0)
+one_reading state text (Ok one) (Err BadSan.NoMove) h k =
+    absurd (k.0 (square_number one.from) (square_number one.to) one.promotion one.from.small
+    one.to.small h.0)
+one_reading state text (Err BadSan.Ambiguous) (Err BadSan.Ambiguous) h k = refl
+one_reading state text (Err BadSan.Ambiguous) (Err BadSan.NotSan) h k =
+    absurd (some_fits state text h.0 h.1 h.2 (λ from. k.0 from h.0 h.1))
+one_reading state text (Err BadSan.Ambiguous) (Err BadSan.NoMove) h k =
+    absurd (some_fits state text h.0 h.1 h.2 (λ from. k.0 from h.0 h.1))
+one_reading state text (Err BadSan.NotSan) (Err BadSan.NotSan) h k = refl
+one_reading state text (Err BadSan.NotSan) (Err BadSan.NoMove) h k = absurd (h.1 k.1)
+one_reading state text (Err BadSan.NoMove) (Err BadSan.NoMove) h k = refl
+one_reading state text (Err BadSan.NoMove) (Err BadSan.NotSan) h k = absurd (k.1 h.1)
+one_reading state text (Err BadSan.Ambiguous) (Ok two) h k =
+    absurd (several state text h.0 h.1 (square_number two.from) h.2
+    (λ from small goal fits. (k.1 from h.0 h.1 small goal fits).0))
+one_reading state text (Err BadSan.NotSan) (Ok two) h k =
+    absurd (h.0 (square_number two.from) (square_number two.to) two.promotion two.from.small
+    two.to.small k.0)
+one_reading state text (Err BadSan.NoMove) (Ok two) h k =
+    absurd (h.0 (square_number two.from) (square_number two.to) two.promotion two.from.small
+    two.to.small k.0)
+one_reading state text (Err BadSan.NotSan) (Err BadSan.Ambiguous) h k =
+    absurd (some_fits state text k.0 k.1 k.2 (λ from. h.0 from k.0 k.1))
+one_reading state text (Err BadSan.NoMove) (Err BadSan.Ambiguous) h k =
+    absurd (some_fits state text k.0 k.1 k.2 (λ from. h.0 from k.0 k.1))
+
+pub strict_lenient : StrictIsLenient
+strict_lenient state text one (Ok two) h k =
+    let same = k.1 (square_number one.from) (square_number one.to) one.promotion one.from.small
+    one.to.small
+    (san_fits state (square_number one.from) (square_number one.to) one.promotion text h) in
+    ap Ok (same_move two one (sym same.0) (sym same.1) (sym same.2))
+strict_lenient state text one (Err BadSan.Ambiguous) h k =
+    absurd (several state text k.0 k.1 (square_number one.from) k.2
+    (λ from small goal fits. sym (one_fits state text (square_number one.from)
+    (square_number one.to) from k.0 one.promotion k.1 one.from.small one.to.small small goal
+    h fits).0))
+strict_lenient state text one (Err BadSan.NotSan) h k =
+    absurd (k.0 (square_number one.from) (square_number one.to) one.promotion one.from.small
+    one.to.small
+    (san_fits state (square_number one.from) (square_number one.to) one.promotion text h))
+strict_lenient state text one (Err BadSan.NoMove) h k =
+    absurd (k.0 (square_number one.from) (square_number one.to) one.promotion one.from.small
+    one.to.small
+    (san_fits state (square_number one.from) (square_number one.to) one.promotion text h))
