@@ -2,7 +2,7 @@
 use Rattle.std.proofs.Common.{◌≡◌, ◌∙◌, ℕ, ◌<◌, ◌^◌, List, ap, arith, inl, inr, refl, subst, sym}
 use Rattle.std.specs.Prelude.{Option, Some, None, Result, Ok, Err, option_map}
 use Rattle.dgt_values.specs.declared.squares.Square.{Square}
-use Rattle.dgt_values.specs.Board.{square_name, square_number}
+use Rattle.dgt_values.specs.Board.{square_number}
 use Rattle.dgt_chess.specs.declared.fen.BadFen.{BadFen}
 use Rattle.dgt_chess.specs.declared.pieces.Colour.{Colour}
 use Rattle.dgt_chess.specs.declared.pieces.Man.{Man}
@@ -63,15 +63,13 @@ can_take a b same moves (from, to, small, small', legal, takes) =
 same_name : (s s' : Option Square) → option_map square_number s ≡ option_map square_number s'
     → passed_text s ≡ passed_text s'
 same_name None None e = refl
-same_name (Some s) (Some s') e =
-    let same : square_number s ≡ square_number s' = cc in ap square_name same
-same_name None (Some s) e = absurd (let no : ⊥ = cc in no)
-same_name (Some s) None e = absurd (let no : ⊥ = cc in no)
+same_name (Some s) (Some s') e = cc
+same_name None (Some s) e = cc
+same_name (Some s) None e = cc
 
 same_text : (a b : State) (s s' : Option Square) → SameBut a b
     → option_map square_number s ≡ option_map square_number s' → fen_text a s ≡ fen_text b s'
-same_text a b s s' same e =
-    rw (same.pieces, same.turn, same.rights, same_name s s' e, same.half_moves, same.number) refl
+same_text a b s s' same e = let name = same_name s s' e in cc
 
 pub written_alike : (first second : State) (text : List ℕ) → SameBut first second
     → SameMoves first second → WritesFen first text → WritesFen second text
@@ -80,13 +78,10 @@ written_alike a b text same moves (shown, inl (can, is_passed), is) =
     let square = ap (λ o. option_map square_number o) is_passed ∙ takes.square in
     (b.passed, inl (takes.can, refl), is ∙ same_text a b shown b.passed same square)
 written_alike a b text same moves (shown, inr (cannot, is_none), is) =
-    let back_moves : SameMoves b a =
-    λ from to promotion small small'. (
-      (moves from to promotion small small').1,
-      (moves from to promotion small small').0,
-    ) in (
+    let moves' : SameMoves b a = λ from to p small small'. let both = moves from to p small small' in
+    (both.1, both.0) in (
       None,
-      inr (λ can. cannot (can_take b a (back a b same) back_moves can).can, refl),
+      inr (λ can. cannot (can_take b a (back a b same) moves' can).can, refl),
       is ∙ same_text a b shown None same (ap (λ o. option_map square_number o) is_none),
     )
 

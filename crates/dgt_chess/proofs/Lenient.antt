@@ -27,7 +27,12 @@ same_move a b from to promotion =
     ∙ ap (λ (s : Square). record a { from = b.from; to = s }) to_same
     ∙ ap (λ (p : Option Man). record b { promotion = p }) promotion
 
--- moves from two squares fit a text, so from no square is the only one
+some_fits : (state : State) (text : List ℕ) (to : ℕ) (promotion : Option Man)
+    → FitsSeveral state to promotion text
+    → ((from : ℕ) → from < 64 → to < 64 → ¬ (Fits state from to promotion text)) → ⊥
+unfolding FitsSeveral
+some_fits state text to promotion h none = none h.0 h.2 h.4 h.6
+
 several : (state : State) (text : List ℕ) (to : ℕ) (promotion : Option Man) (only : ℕ)
     → FitsSeveral state to promotion text
     → ((from : ℕ) → from < 64 → to < 64 → Fits state from to promotion text → from ≡ only) → ⊥
@@ -35,65 +40,45 @@ unfolding FitsSeveral
 several state text to promotion only h law =
     h.5 (law h.0 h.2 h.4 h.6 ∙ sym (law h.1 h.3 h.4 h.7))
 
-some_fits : (state : State) (text : List ℕ) (to : ℕ) (promotion : Option Man)
-    → FitsSeveral state to promotion text
-    → ((from : ℕ) → from < 64 → to < 64 → ¬ (Fits state from to promotion text)) → ⊥
-unfolding FitsSeveral
-some_fits state text to promotion h none = none h.0 h.2 h.4 h.6
+-- a move that fits, if each that fits is from its square
+only : (state : State) (text : List ℕ) (one : Move) (r : Result Move BadSan)
+    → Fits state (square_number one.from) (square_number one.to) one.promotion text
+    → ((from to : ℕ) (promotion : Option Man) → from < 64 → to < 64
+    → Fits state from to promotion text → from ≡ square_number one.from)
+    → FitsOnly state text r → r ≡ Ok one
+only state text one (Ok two) fits law h =
+    let same = h.1 _ _ _ one.from.small one.to.small fits in
+    ap Ok (same_move two one (sym same.0) (sym same.1) (sym same.2))
+only state text one (Err BadSan.Ambiguous) fits law h =
+    absurd (several state text h.0 h.1 _ h.2 (λ from. law from h.0 h.1))
+only state text one (Err BadSan.NotSan) fits law h =
+    absurd (h.0 _ _ _ one.from.small one.to.small fits)
+only state text one (Err BadSan.NoMove) fits law h =
+    absurd (h.0 _ _ _ one.from.small one.to.small fits)
 
 pub one_reading : OneLenientReading
-one_reading state text (Ok one) (Ok two) h k =
-    let same = k.1 (square_number one.from) (square_number one.to) one.promotion one.from.small
-    one.to.small h.0 in
-    ap Ok (same_move one two same.0 same.1 same.2)
-one_reading state text (Ok one) (Err BadSan.Ambiguous) h k =
-    absurd (several state text k.0 k.1 (square_number one.from) k.2
-    (λ from small goal fits. (h.1 from k.0 k.1 small goal fits).0))
-one_reading state text (Ok one) (Err BadSan.NotSan) h k =
-    absurd (k.0 (square_number one.from) (square_number one.to) one.promotion one.from.small
-    one.to.small h.0)
-one_reading state text (Ok one) (Err BadSan.NoMove) h k =
-    absurd (k.0 (square_number one.from) (square_number one.to) one.promotion one.from.small
-    one.to.small h.0)
+one_reading state text (Ok one) r h k =
+    sym (only state text one r h.0 (λ from to p small goal fits. (h.1 from to p small goal fits).0)
+    k)
+one_reading state text (Err e) (Ok one) h k =
+    only state text one (Err e) k.0 (λ from to p small goal fits. (k.1 from to p small goal fits).0)
+    h
 one_reading state text (Err BadSan.Ambiguous) (Err BadSan.Ambiguous) h k = refl
 one_reading state text (Err BadSan.Ambiguous) (Err BadSan.NotSan) h k =
     absurd (some_fits state text h.0 h.1 h.2 (λ from. k.0 from h.0 h.1))
 one_reading state text (Err BadSan.Ambiguous) (Err BadSan.NoMove) h k =
     absurd (some_fits state text h.0 h.1 h.2 (λ from. k.0 from h.0 h.1))
-one_reading state text (Err BadSan.NotSan) (Err BadSan.NotSan) h k = refl
-one_reading state text (Err BadSan.NotSan) (Err BadSan.NoMove) h k = absurd (h.1 k.1)
-one_reading state text (Err BadSan.NoMove) (Err BadSan.NoMove) h k = refl
-one_reading state text (Err BadSan.NoMove) (Err BadSan.NotSan) h k = absurd (k.1 h.1)
-one_reading state text (Err BadSan.Ambiguous) (Ok two) h k =
-    absurd (several state text h.0 h.1 (square_number two.from) h.2
-    (λ from small goal fits. (k.1 from h.0 h.1 small goal fits).0))
-one_reading state text (Err BadSan.NotSan) (Ok two) h k =
-    absurd (h.0 (square_number two.from) (square_number two.to) two.promotion two.from.small
-    two.to.small k.0)
-one_reading state text (Err BadSan.NoMove) (Ok two) h k =
-    absurd (h.0 (square_number two.from) (square_number two.to) two.promotion two.from.small
-    two.to.small k.0)
 one_reading state text (Err BadSan.NotSan) (Err BadSan.Ambiguous) h k =
     absurd (some_fits state text k.0 k.1 k.2 (λ from. h.0 from k.0 k.1))
 one_reading state text (Err BadSan.NoMove) (Err BadSan.Ambiguous) h k =
     absurd (some_fits state text k.0 k.1 k.2 (λ from. h.0 from k.0 k.1))
+one_reading state text (Err BadSan.NotSan) (Err BadSan.NotSan) h k = refl
+one_reading state text (Err BadSan.NotSan) (Err BadSan.NoMove) h k = absurd (h.1 k.1)
+one_reading state text (Err BadSan.NoMove) (Err BadSan.NoMove) h k = refl
+one_reading state text (Err BadSan.NoMove) (Err BadSan.NotSan) h k = absurd (k.1 h.1)
 
 pub strict_lenient : StrictIsLenient
-strict_lenient state text one (Ok two) h k =
-    let same = k.1 (square_number one.from) (square_number one.to) one.promotion one.from.small
-    one.to.small
-    (san_fits state (square_number one.from) (square_number one.to) one.promotion text h) in
-    ap Ok (same_move two one (sym same.0) (sym same.1) (sym same.2))
-strict_lenient state text one (Err BadSan.Ambiguous) h k =
-    absurd (several state text k.0 k.1 (square_number one.from) k.2
-    (λ from small goal fits. sym (one_fits state text (square_number one.from)
-    (square_number one.to) from k.0 one.promotion k.1 one.from.small one.to.small small goal
-    h fits).0))
-strict_lenient state text one (Err BadSan.NotSan) h k =
-    absurd (k.0 (square_number one.from) (square_number one.to) one.promotion one.from.small
-    one.to.small
-    (san_fits state (square_number one.from) (square_number one.to) one.promotion text h))
-strict_lenient state text one (Err BadSan.NoMove) h k =
-    absurd (k.0 (square_number one.from) (square_number one.to) one.promotion one.from.small
-    one.to.small
-    (san_fits state (square_number one.from) (square_number one.to) one.promotion text h))
+strict_lenient state text one r h k =
+    only state text one r (san_fits state _ _ one.promotion text h)
+    (λ from to p small goal fits. sym (one_fits state text _ _ from to one.promotion p
+    one.from.small one.to.small small goal h fits).0) k
