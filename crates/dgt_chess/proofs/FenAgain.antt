@@ -78,8 +78,8 @@ written_alike a b text same moves (shown, inl (can, is_passed), is) =
     let square = ap (λ o. option_map square_number o) is_passed ∙ takes.square in
     (b.passed, inl (takes.can, refl), is ∙ same_text a b shown b.passed same square)
 written_alike a b text same moves (shown, inr (cannot, is_none), is) =
-    let moves' : SameMoves b a = λ from to p small small'. let both = moves from to p small small' in
-    (both.1, both.0) in (
+    let moves' : SameMoves b a =
+    λ from to p small small'. let both = moves from to p small small' in (both.1, both.0) in (
       None,
       inr (λ can. cannot (can_take b a (back a b same) moves' can).can, refl),
       is ∙ same_text a b shown None same (ap (λ o. option_map square_number o) is_none),
