@@ -17,6 +17,23 @@
 //! | write a move in Standard Algebraic Notation | [`State::san`] |
 //! | read it | [`State::parse_san`], [`State::parse_san_leniently`] |
 //!
+//! ```rust
+//! use dgt_chess::State;
+//! use dgt_values::Position;
+//!
+//! /// Makes the legal move that leads to the pieces on a board. Returns whether there is one.
+//! pub fn recognise(state: &mut State, picture: &Position) -> bool {
+//!     let Some(one) = state.move_to(picture) else {
+//!         return false;
+//!     };
+//!     let Ok(next) = state.play(one) else {
+//!         return false;
+//!     };
+//!     *state = next;
+//!     true
+//! }
+//! ```
+//!
 //! The rules are those of the FIDE Laws of Chess of 2023. The definitions cite its articles.
 //! [`laws`] says what holds of all states and moves.
 #![tactic(auto)]

@@ -9,6 +9,7 @@ pub mod pausing;
 pub mod playing;
 pub mod printing;
 pub mod putting;
+pub mod recognising;
 pub mod reporting;
 pub mod requesting;
 pub mod settling;

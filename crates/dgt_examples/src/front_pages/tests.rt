@@ -1,9 +1,10 @@
 use super::{
-    finding, greeting, listing, monitoring, moving, pausing, playing, printing, putting, reporting,
-    requesting, settling, storing, taking_turns,
+    finding, greeting, listing, monitoring, moving, pausing, playing, printing, putting,
+    recognising, reporting, requesting, settling, storing, taking_turns,
 };
 use crate::tests::{CAME, DUMP, GONE, board};
 use dgt_board::{Identity, simulated_clock};
+use dgt_chess::State;
 use dgt_decode::{Decoder, Event};
 use dgt_follow::Follower;
 use dgt_lines::Device;
@@ -25,6 +26,9 @@ fn values_and_messages(rt: HostRuntime) -> Result<(), Fail> {
     let placed = Position::parse_placement("rnbqkbnr/pppppppp/8/8/4P3/8/PPPP1PPP/RNBQKBNR")?;
     expect(&rt, position == placed);
     expect(&rt, moving::moved(position, e4, e4) == placed);
+    let mut state = State::start();
+    expect(&rt, recognising::recognise(&mut state, &placed));
+    expect(&rt, !recognising::recognise(&mut state, &placed));
     let mut out = [0; 5];
     expect(&rt, reporting::report(e4, Piece::WhitePawn, &mut out)? == 5);
     expect(&rt, out == CAME);
