@@ -84,7 +84,7 @@ same_rest f b c k n e same =
     append_cancel_left f (32 ∷ take k b) (32 ∷ take k c) cut in
     cc
 
--- a space where a text without spaces has none
+-- two texts agree up to a space of one, and the other has no space
 space_too_early : (A B : List ℕ → Type 0) (other f : List ℕ) (n : ℕ) → HasNoSpace f
     → (o : Then A B other) → length o.first < n → take n other ≡ take n f → ⊥
 space_too_early A B other f n plain o lt same =

@@ -83,7 +83,7 @@ king_to a b same from to (inr castles) =
     let P : Colour → Type 0 = λ t. Castles b t from to in
     inr (subst P same.turn (castle a b same a.turn from to castles))
 
--- no pawn promotes where another has just passed
+-- no pawn promotes on a square that another has just passed
 no_promotion : (pieces : List Piece) (turn : Colour) (over : Option ℕ) (square : ℕ)
     → HasPassed pieces turn over
     → over ≡ Some square → row square ≡ last_row turn → ⊥

@@ -37,7 +37,7 @@ not_pawn : (man : Man) (s : State) (to : ℕ) (p : Option Man) → Promotes man 
     → p ≢ Some Man.Pawn
 not_pawn man s to p h = h.1
 
--- where a castling leads
+-- the square to which a king castles
 adjoins_no : (a b : ℕ) → nat_eq (abs_diff (file a) (file b)) 2 ≡ true → ¬ (Adjoins a b)
 adjoins_no a b e h = grind (arith, nat_tests)
 

@@ -10,12 +10,13 @@ use Rattle.dgt_chess.specs.declared.pieces.Colour.{Colour}
 use Rattle.dgt_chess.specs.declared.pieces.Colour.TheVariants.{White, Black}
 use Rattle.dgt_chess.specs.declared.pieces.Man.{Man}
 use Rattle.dgt_chess.specs.declared.pieces.Man.TheVariants.{Pawn, Knight, Bishop, Rook, Queen, King}
-use Rattle.dgt_chess.specs.Attacks.{piece_at, piece_of, row, Attacks, Diagonal, IsAttacked, IsInCheck, IsOpen, Line, OnLine, Straight}
-use Rattle.dgt_chess.specs.Attacks.Line.{File, Falling, Rising}
+use Rattle.dgt_chess.specs.Attacks.{piece_at, piece_of, row, Attacks, Diagonal, IsAttacked, IsInCheck, IsOpen, OnLine, Straight}
+use Rattle.dgt_chess.specs.declared.lines.Line.{Line}
+use Rattle.dgt_chess.specs.declared.lines.Line.TheVariants.{File, Falling, Rising}
 use Rattle.dgt_chess.specs.Possible.{HasOneKing, HasNoExtra, HasNoStray, HasPassed, IsPossible}
 use Rattle.dgt_chess.proofs.OneMove.{both}
 
--- where pieces stand at the beginning
+-- the pieces at the beginning
 abbrev fits : ℕ → Piece → Bool
 fits n WhitePawn = nat_lt 47 n && nat_lt n 56
 fits n WhiteKnight = nat_lt 47 n

@@ -364,7 +364,7 @@ passes_stay state King a b promotion new legal e square is = let no : ⊥ = cc i
 
 -- ---- all of it
 
-was_king : (state : State) (man : Man) (b : ℕ) (promotion : Option Man)
+pub was_king : (state : State) (man : Man) (b : ℕ) (promotion : Option Man)
     → Promotes man state b promotion
     → put man promotion ≡ King → man ≡ King
 was_king state man b None promotes same = same

@@ -24,7 +24,7 @@ IsExtra piece =
 unfoldable pub HasNoExtra : List Piece → Type 0
 HasNoExtra pieces = (square : ℕ) → square < 64 → ¬ (IsExtra (piece_at pieces square))
 
--- a pawn on the first or last row, where it doesn't begin and has to be promoted: 3.7.3.3
+-- a pawn on the first or last row: pawns begin on others and have to be promoted: 3.7.3.3
 abbrev pub IsAstray : List Piece → ℕ → Type 0
 IsAstray pieces square =
     ((row square ≡ 0) ⊎ (row square ≡ 7))

@@ -36,8 +36,8 @@ pub enum FenField {
 #[derive(Clone, Copy, Debug, PartialEq, Eq, Error)]
 pub enum BadFen {
     /// The text is not in the notation. `at` is the offset of the first wrong byte, or the text's
-    /// length if it is only too short. `field` is the field there: the number of spaces before `at`
-    /// counts, and a byte after the number is in [`FenField::Number`].
+    /// length if it is only too short. `field` is the field at `at`, by the number of spaces before
+    /// it. A byte after the number is in [`FenField::Number`].
     #[error("not FEN: wrong at offset {at}")]
     Text { field: FenField, at: usize },
     /// The text is in the notation, and no game reaches its state.

@@ -45,34 +45,29 @@ pub enum Impossible {
     Number,
 }
 
-// The first square from this one on with a king of the colour.
-fn find_king(pieces: &[Piece; 64], colour: Colour, from: u8) -> Option<u8>
-    requires { from ≤ 64 }
-    ensures { MatchOption result
-        ((s : ℕ) → from ≤ s → s < 64 → piece_at pieces.now s ≢ piece_of colour Man.King)
-        (λ king. (from ≤ king) × (king < 64)
-        × (piece_at pieces.now king ≡ piece_of colour Man.King)
-        × ((s : ℕ) → from ≤ s → s < king → piece_at pieces.now s ≢ piece_of colour Man.King)) }
+// How many kings of the colour stand on a square.
+fn count_at(pieces: &[Piece; 64], colour: Colour, square: u8) -> u8
+    requires { square < 64 }
+    ensures { ((result ≡ 1) × (piece_at pieces.now square ≡ piece_of colour Man.King))
+        ⊎ ((result ≡ 0) × (piece_at pieces.now square ≢ piece_of colour Man.King)) }
 {
-    for square in from..64 {
-        if is_on(pieces, square, colour, Man::King) {
-            return Some(square);
-        }
+    if is_on(pieces, square, colour, Man::King) {
+        1
+    } else {
+        0
     }
-    None
 }
 
+// Each loop that looks at all squares does so without a branch, since these are slower.
 #[tactic(auto, unfolding(crate::specs::Possible::HasOneKing))]
 fn has_one_king(pieces: &[Piece; 64], colour: Colour) -> bool
     ensures { IsTrue result ↔ HasOneKing pieces.now colour }
 {
-    match find_king(pieces, colour, 0) {
-        Some(king) => match find_king(pieces, colour, king + 1) {
-            Some(_) => false,
-            None => true,
-        },
-        None => false,
+    let mut count = 0;
+    for square in 0..64 {
+        count += count_at(pieces, colour, square);
     }
+    count == 1
 }
 
 fn has_kings(pieces: &[Piece; 64]) -> bool
@@ -94,12 +89,11 @@ fn is_extra(piece: Piece) -> bool
 fn has_no_extra(pieces: &[Piece; 64]) -> bool
     ensures { IsTrue result ↔ HasNoExtra pieces.now }
 {
+    let mut is_found = false;
     for square in 0..64 {
-        if is_extra(pieces[square]) {
-            return false;
-        }
+        is_found = is_found | is_extra(pieces[square]);
     }
-    true
+    !is_found
 }
 
 fn is_any_pawn(pieces: &[Piece; 64], square: u8) -> bool
@@ -124,12 +118,11 @@ fn is_astray(pieces: &[Piece; 64], square: u8) -> bool
 fn has_no_stray(pieces: &[Piece; 64]) -> bool
     ensures { IsTrue result ↔ HasNoStray pieces.now }
 {
+    let mut is_found = false;
     for square in 0..64 {
-        if is_astray(pieces, square) {
-            return false;
-        }
+        is_found = is_found | is_astray(pieces, square);
     }
-    true
+    !is_found
 }
 
 fn is_at_home(unmoved: bool, pieces: &[Piece; 64], colour: Colour, home: u8, corner: u8) -> bool

@@ -113,7 +113,7 @@ pub(crate) enum Sign {
     Mate,
 }
 
-// How a move's text is written where there is a choice, and its sign.
+// The choices in a move's text, and its sign.
 #[derive(Clone, Copy)]
 pub(crate) struct Style {
     pub(crate) by_file: bool,
