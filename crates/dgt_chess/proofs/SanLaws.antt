@@ -1,5 +1,6 @@
 -- No two legal moves share a text, and a legal move has one text.
 use Rattle.std.proofs.Common.{◌≡◌, ◌≢◌, ◌∙◌, ℕ, ◌+◌, ◌*◌, ◌%◌, ◌/◌, ◌<◌, Bool, true, false, not, nat_eq, if◌then◌else◌, List, inl, inr, refl, ap, sym, subst, arith}
+use Rattle.std.specs.Int.{abs_diff}
 use Rattle.std.specs.Prelude.{Option, Some, None}
 use Rattle.std.proofs.lemmas.Bool.Decides.{nat_tests}
 use Rattle.dgt_values.specs.declared.pieces.Piece.{Piece}
@@ -9,7 +10,7 @@ use Rattle.dgt_chess.specs.declared.san.Sign.{Sign}
 use Rattle.dgt_chess.specs.declared.san.Style.{Style}
 use Rattle.dgt_chess.specs.declared.san_reader.Reading.{Reading}
 use Rattle.dgt_chess.specs.declared.state.State.{State}
-use Rattle.dgt_chess.specs.Attacks.{file, row, piece_at, piece_of}
+use Rattle.dgt_chess.specs.Attacks.{file, row, piece_at, piece_of, IsAhead}
 use Rattle.dgt_chess.specs.Rules.{board, passed, LegalBy, PawnMoves}
 use Rattle.dgt_chess.specs.San.{captures, is_castling, move_text, Distinguishes, Fits, HasRival, HasRivalOn, IsExport, IsOrigin, IsSan, IsSign, OneMoveAText, OneTextAMove}
 use Rattle.dgt_chess.specs.Scanning.{read}
@@ -153,50 +154,43 @@ stands : (pieces : List Piece) (turn : Colour) (x mid : ℕ) → piece_at pieces
 stands pieces turn x mid own free e =
     not_free turn Man.Pawn (sym own ∙ subst (λ (n : ℕ). piece_at pieces n ≡ Piece.Empty) e free)
 
+same_rows : (turn : Colour) (n x y to : ℕ) → IsAhead turn n x to → IsAhead turn n y to
+    → file x ≡ file y → x ≡ y
+same_rows Colour.White n x y to h k e = omega arith
+same_rows Colour.Black n x y to h k e = omega arith
+
+middle : (turn : Colour) (x y to : ℕ) → IsAhead turn 1 x to → IsAhead turn 2 y to
+    → file x ≡ file y → file x ≡ file to → (y + to) / 2 ≡ x
+middle Colour.White x y to h k e f = omega arith
+middle Colour.Black x y to h k e f = omega arith
+
+-- no pawn goes ahead to a square on which another of its file captures
+pawn_apart : (x y to : ℕ) → file x ≡ file y → file x ≡ file to
+    → abs_diff (file y) (file to) ≡ 1 → ⊥
+pawn_apart x y to e ahead aside = omega arith
+
 pawn_from : (turn : Colour) (pieces : List Piece) (passed : Option ℕ) (x y to : ℕ)
     → piece_at pieces x ≡ piece_of turn Man.Pawn
     → piece_at pieces y ≡ piece_of turn Man.Pawn → PawnMoves pieces turn passed x to
     → PawnMoves pieces turn passed y to → file x ≡ file y → x ≡ y
-pawn_from Colour.White pieces passed x y to own own' (inl h) (inl k) e = let p = h.1 in let q =
-    k.1 in omega arith
-pawn_from Colour.White pieces passed x y to own own' (inl h) (inr (inl k)) e =
-    let p = h.1 in let q = k.1 in let f = h.0 in
-    absurd (stands pieces Colour.White x ((y + to) / 2) own k.4 (omega arith))
-pawn_from Colour.White pieces passed x y to own own' (inl h) (inr (inr k)) e =
-    let f = h.0 in let g = k.0.0 in absurd (omega arith)
-pawn_from Colour.White pieces passed x y to own own' (inr (inl h)) (inl k) e =
-    let p = h.1 in let q = k.1 in let f = k.0 in
-    absurd (stands pieces Colour.White y ((x + to) / 2) own' h.4 (omega arith))
-pawn_from Colour.White pieces passed x y to own own' (inr (inl h)) (inr (inl k)) e = let p = h.1 in
-    let q = k.1 in omega arith
-pawn_from Colour.White pieces passed x y to own own' (inr (inl h)) (inr (inr k)) e =
-    let f = h.0 in let g = k.0.0 in absurd (omega arith)
-pawn_from Colour.White pieces passed x y to own own' (inr (inr h)) (inl k) e =
-    let f = k.0 in let g = h.0.0 in absurd (omega arith)
-pawn_from Colour.White pieces passed x y to own own' (inr (inr h)) (inr (inl k)) e =
-    let f = k.0 in let g = h.0.0 in absurd (omega arith)
-pawn_from Colour.White pieces passed x y to own own' (inr (inr h)) (inr (inr k)) e = let p =
-    h.0.1 in let q = k.0.1 in omega arith
-pawn_from Colour.Black pieces passed x y to own own' (inl h) (inl k) e = let p = h.1 in let q =
-    k.1 in omega arith
-pawn_from Colour.Black pieces passed x y to own own' (inl h) (inr (inl k)) e =
-    let p = h.1 in let q = k.1 in let f = h.0 in
-    absurd (stands pieces Colour.Black x ((y + to) / 2) own k.4 (omega arith))
-pawn_from Colour.Black pieces passed x y to own own' (inl h) (inr (inr k)) e =
-    let f = h.0 in let g = k.0.0 in absurd (omega arith)
-pawn_from Colour.Black pieces passed x y to own own' (inr (inl h)) (inl k) e =
-    let p = h.1 in let q = k.1 in let f = k.0 in
-    absurd (stands pieces Colour.Black y ((x + to) / 2) own' h.4 (omega arith))
-pawn_from Colour.Black pieces passed x y to own own' (inr (inl h)) (inr (inl k)) e = let p = h.1 in
-    let q = k.1 in omega arith
-pawn_from Colour.Black pieces passed x y to own own' (inr (inl h)) (inr (inr k)) e =
-    let f = h.0 in let g = k.0.0 in absurd (omega arith)
-pawn_from Colour.Black pieces passed x y to own own' (inr (inr h)) (inl k) e =
-    let f = k.0 in let g = h.0.0 in absurd (omega arith)
-pawn_from Colour.Black pieces passed x y to own own' (inr (inr h)) (inr (inl k)) e =
-    let f = k.0 in let g = h.0.0 in absurd (omega arith)
-pawn_from Colour.Black pieces passed x y to own own' (inr (inr h)) (inr (inr k)) e = let p =
-    h.0.1 in let q = k.0.1 in omega arith
+pawn_from turn pieces passed x y to own own' (inl h) (inl k) e =
+    same_rows turn 1 x y to h.1 k.1 e
+pawn_from turn pieces passed x y to own own' (inl h) (inr (inl k)) e =
+    absurd (stands pieces turn x ((y + to) / 2) own k.4 (middle turn x y to h.1 k.1 e h.0))
+pawn_from turn pieces passed x y to own own' (inl h) (inr (inr k)) e =
+    absurd (pawn_apart x y to e h.0 k.0.0)
+pawn_from turn pieces passed x y to own own' (inr (inl h)) (inl k) e =
+    absurd (stands pieces turn y ((x + to) / 2) own' h.4 (middle turn y x to k.1 h.1 (sym e) k.0))
+pawn_from turn pieces passed x y to own own' (inr (inl h)) (inr (inl k)) e =
+    same_rows turn 2 x y to h.1 k.1 e
+pawn_from turn pieces passed x y to own own' (inr (inl h)) (inr (inr k)) e =
+    absurd (pawn_apart x y to e h.0 k.0.0)
+pawn_from turn pieces passed x y to own own' (inr (inr h)) (inl k) e =
+    absurd (pawn_apart y x to (sym e) k.0 h.0.0)
+pawn_from turn pieces passed x y to own own' (inr (inr h)) (inr (inl k)) e =
+    absurd (pawn_apart y x to (sym e) k.0 h.0.0)
+pawn_from turn pieces passed x y to own own' (inr (inr h)) (inr (inr k)) e =
+    same_rows turn 1 x y to h.0.1 k.0.1 e
 
 pawn_shows : (t : Bool) (x y to : ℕ) → nat_eq (file x) (file to) ≡ t
     → not (nat_eq (file x) (file to)) ≡ not (nat_eq (file y) (file to))

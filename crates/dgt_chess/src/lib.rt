@@ -1,8 +1,7 @@
 //! The rules of chess: which moves are legal, the state after one, and draws.
 //!
-//! A [`State`] is a position with the side to move and what the rules remember of earlier moves. It
-//! is always one that the rules allow: [`State::new`] refuses any other as [`Impossible`]. Nothing
-//! here allocates memory.
+//! A [`State`] is a position, the side to move, and what the rules remember of earlier moves.
+//! No state is [`Impossible`]: [`State::new`] refuses such parts. Nothing here allocates memory.
 //!
 //! | To | Use |
 //! |---|---|

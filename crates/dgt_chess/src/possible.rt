@@ -58,7 +58,7 @@ fn count_at(pieces: &[Piece; 64], colour: Colour, square: u8) -> u8
     }
 }
 
-// Each loop that looks at all squares does so without a branch, since these are slower.
+// The loops over all squares have no branch: with one for each square they take longer.
 #[tactic(auto, unfolding(crate::specs::Possible::HasOneKing))]
 fn has_one_king(pieces: &[Piece; 64], colour: Colour) -> bool
     ensures { IsTrue result ↔ HasOneKing pieces.now colour }
