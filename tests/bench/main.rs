@@ -23,12 +23,24 @@ unsafe extern "C" {
     fn dgt_bench_monitor(bytes: *const u8, len: usize) -> u64;
     fn dgt_bench_take(bytes: *const u8, len: usize, poll: bool) -> u64;
     fn dgt_bench_poll(squares: *const u8, len: usize) -> u64;
+    fn dgt_bench_lines(fen: *const u8, len: usize, length: u8) -> u64;
 }
 
 const HALF_A_SECOND: Duration = Duration::from_millis(500);
 const LINES: u64 = 20_000;
 const DUMPS: usize = 1_000;
 const LONGEST: usize = 16383;
+/// Work of this many parts is done once.
+const LONG: usize = 100_000;
+/// Positions, and how many lines of five legal moves begin there (chessprogramming.org, "Perft
+/// Results").
+const POSITIONS: [(&str, u64); 5] = [
+    ("rnbqkbnr/pppppppp/8/8/8/8/PPPPPPPP/RNBQKBNR w KQkq - 0 1", 4_865_609),
+    ("r3k2r/p1ppqpb1/bn2pnp1/3PN3/1p2P3/2N2Q1p/PPPBBPPP/R3K2R w KQkq - 0 1", 193_690_690),
+    ("8/2p5/3p4/KP5r/1R3p1k/8/4P1P1/8 w - - 0 1", 674_624),
+    ("r3k2r/Pppp1ppp/1b3nbN/nP6/BBP1P3/q4N2/Pp1P2PP/R2Q1RK1 w kq - 0 1", 15_833_292),
+    ("rnbq1k1r/pp1Pbppp/2p5/8/2B5/8/PPP1NnPP/RNBQK2R w KQ - 1 8", 89_941_194),
+];
 const BACK: [u8; 8] = [8, 9, 10, 12, 11, 10, 9, 8];
 
 fn message(code: u8, body: &[u8]) -> Vec<u8> {
@@ -38,12 +50,12 @@ fn message(code: u8, body: &[u8]) -> Vec<u8> {
     bytes
 }
 
-/// The microseconds that some work takes, the least of 100 runs or of half a second, and its
-/// result. Runs are short, so that at least one isn't interrupted.
-fn timed(work: impl Fn() -> u64) -> (f64, u64) {
+/// The microseconds that some work takes, the least of these runs or of half a second, and its
+/// result. Unless there is only one run, it is so short that at least one isn't interrupted.
+fn least(runs: u32, work: impl Fn() -> u64) -> (f64, u64) {
     let (begun, mut best) = (Instant::now(), (f64::MAX, 0));
     for run in 0.. {
-        if run >= 100 && begun.elapsed() >= HALF_A_SECOND {
+        if run >= runs && begun.elapsed() >= HALF_A_SECOND {
             break;
         }
         let start = Instant::now();
@@ -56,6 +68,11 @@ fn timed(work: impl Fn() -> u64) -> (f64, u64) {
     best
 }
 
+/// The same, the least of 100 runs.
+fn timed(work: impl Fn() -> u64) -> (f64, u64) {
+    least(100, work)
+}
+
 /// Prints a row, without the generated code if there is none for this work.
 fn compare(
     name: &str,
@@ -64,13 +81,14 @@ fn compare(
     plain: impl Fn() -> u64,
     made: Option<&dyn Fn() -> u64>,
 ) {
-    let ((proved, answer), (plain, same)) = (timed(proved), timed(plain));
+    let runs = if parts < LONG { 100 } else { 1 };
+    let ((proved, answer), (plain, same)) = (least(runs, proved), least(runs, plain));
     assert_eq!(answer, same, "{name}: the answers differ");
     let each = |time: f64| time * 1e3 / parts as f64;
     print!("{name}: {:.1} ns each, plain Rust {:.1} ns, ", each(proved), each(plain));
     println!("{:.2} times", proved / plain);
     if let Some(made) = made {
-        let (made, same) = timed(made);
+        let (made, same) = least(runs, made);
         assert_eq!(answer, same, "{name}: the generated crate's answer differs");
         println!("  generated {:.1} ns, {:.2} times", each(made), proved / made);
     }
@@ -200,12 +218,31 @@ fn compare_boards() {
     );
 }
 
+/// Lines of chess moves.
+fn compare_lines() {
+    for (fen, count) in POSITIONS {
+        let proved = || {
+            let found = unsafe { dgt_bench_lines(fen.as_ptr(), fen.len(), 5) };
+            assert_eq!(found, count, "{fen}");
+            found
+        };
+        compare(
+            &format!("State::goals and play, {count} lines of five moves from {fen}"),
+            count as usize,
+            proved,
+            || work::lines(black_box(fen.as_bytes()), 5),
+            Some(&|| generated::lines(black_box(fen.as_bytes()), 5)),
+        );
+    }
+}
+
 fn main() -> io::Result<()> {
     if let Some(name) = std::env::args().nth(1) {
         return program::main(&name);
     }
     compare_messages();
     compare_boards();
+    compare_lines();
     world::compare();
     Ok(())
 }

@@ -9,5 +9,6 @@
 /^#\[derive(Drop)\]/d
 /^#\[unsafe(no_mangle)\]/d
 /^\/\/ A writer that only counts/,$d
+s/^use dgt_chess::/use dgt::chess::/
 s/^use dgt_[a-z]*::/use dgt::/
 s/^pub extern "C" fn dgt_bench_/pub fn /
