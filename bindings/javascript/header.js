@@ -55,6 +55,22 @@ export const NOTHING = 0;
 export const WROTE = 1;
 export const BATTERY_UNKNOWN = 127;
 export const NO_SUCH = 255;
+export const CHESS_FEN_ROOM = 96;
+export const CHESS_SAN_ROOM = 16;
+export const CHESS_WHITE = 0;
+export const CHESS_BLACK = 1;
+export const CHESS_DONE = 0;
+export const CHESS_BAD_KINGS = 1;
+export const CHESS_EXTRA_PIECE = 2;
+export const CHESS_BAD_PAWN = 3;
+export const CHESS_IN_CHECK = 4;
+export const CHESS_BAD_RIGHTS = 5;
+export const CHESS_BAD_PASSED = 6;
+export const CHESS_BAD_NUMBER = 7;
+export const CHESS_BAD_MEMBER = 8;
+export const CHESS_BAD_TEXT = 9;
+export const CHESS_NO_MOVE = 10;
+export const CHESS_AMBIGUOUS = 11;
 
 // Of each struct: its size, and of each member its name, its place and its type.
 // That is a number of bytes or a word. `wide` is 64 bits: a number or a pointer.
@@ -97,6 +113,12 @@ export const STRUCTS = /** @type {const} */ ({
                                  ["hoursResting", 6, "u8"], ["minutesResting", 7, "u8"],
                                  ["charging", 8, "u8"], ["discharging", 9, "u8"]] },
   parsed: { size: 16, members: [["ok", 0, "bool"], ["at", 8, "wide"]] },
+  chess_state: { size: 80, members: [["pieces", 0, 64], ["halfMoves", 64, "u16"],
+                                     ["number", 66, "u16"], ["turn", 68, "u8"], ["rights", 69, 4],
+                                     ["passed", 73, "u8"]] },
+  chess_move: { size: 4, members: [["from", 0, "u8"], ["to", 1, "u8"], ["promotion", 2, "u8"]] },
+  chess_fen_read: { size: 16, members: [["status", 0, "u8"], ["field", 1, "u8"], ["at", 8, "wide"]]
+                                        },
 });
 
 // What each call returns, and what it takes.
@@ -204,4 +226,23 @@ export const CALLS = /** @type {const} */ ({
   dgt_differ: "bool,wide,wide,wide",
   dgt_parse_placement: "parsed,wide,wide,wide",
   dgt_segment: "u8,u8",
+  dgt_chess_start: "void,wide",
+  dgt_chess_check: "u8,wide",
+  dgt_chess_is_legal: "bool,wide,wide",
+  dgt_chess_play: "bool,wide,wide",
+  dgt_chess_goals: "bool,wide,wide",
+  dgt_chess_move_to: "bool,wide,wide,wide",
+  dgt_chess_is_check: "bool,wide",
+  dgt_chess_can_move: "bool,wide",
+  dgt_chess_is_mate: "bool,wide",
+  dgt_chess_is_stalemate: "bool,wide",
+  dgt_chess_is_dead: "bool,wide",
+  dgt_chess_is_fifty_moves: "bool,wide",
+  dgt_chess_is_seventy_five_moves: "bool,wide",
+  dgt_chess_is_repeated: "bool,wide,wide",
+  dgt_chess_parse_fen: "chess_fen_read,wide,wide,wide",
+  dgt_chess_fen: "bool,wide,wide",
+  dgt_chess_san: "bool,wide,wide,wide",
+  dgt_chess_parse_san: "u8,wide,wide,wide,wide",
+  dgt_chess_parse_san_leniently: "u8,wide,wide,wide,wide",
 });

@@ -83,8 +83,16 @@ impl<const ROOM: usize> ArrayString<ROOM> {
         character.encode_utf8(&mut [0; 4]).bytes().for_each(|byte| self.0.push(byte));
     }
 
+    pub fn push_str(&mut self, text: &str) {
+        text.bytes().for_each(|byte| self.0.push(byte));
+    }
+
     pub fn len(&self) -> usize {
         self.0.len()
+    }
+
+    pub fn is_empty(&self) -> bool {
+        self.0.is_empty()
     }
 
     pub fn as_bytes(&self) -> &[u8] {

@@ -1209,6 +1209,149 @@ dgt_parsed dgt_parse_placement(const char *text, size_t n, uint8_t pieces[64])
  * on: top, right top, right bottom, bottom, left bottom, left top, middle. */
 uint8_t dgt_segment(uint8_t character);
 
+/* ---- The rules of chess: which moves are legal, the state after one, draws, and texts. They are
+ * those of the FIDE Laws of Chess of 2023. A state is a position, the side to move, and what the
+ * rules remember of earlier moves. */
+
+#define DGT_CHESS_FEN_ROOM 96 /* room for the FEN of any state and its final zero byte */
+#define DGT_CHESS_SAN_ROOM 16 /* the same for the text of any move */
+
+/* dgt_chess_state.turn */
+enum {
+    DGT_CHESS_WHITE = 0,
+    DGT_CHESS_BLACK = 1
+};
+
+/* Its members are those of a FEN. Fill it with dgt_chess_start or dgt_chess_parse_fen, or by
+ * yourself. Each call checks it: if no game reaches it, the call returns false or the reason, and
+ * writes nothing. Two states are the same if memcmp finds no difference. */
+typedef struct dgt_chess_state {
+    uint8_t pieces[64];
+    uint16_t half_moves; /* of either side since the last capture or move of a pawn, or 65535 if
+                            there are more */
+    uint16_t number;     /* of the move: 1 at the beginning, and one more after each move of Black.
+                            It ends at 65535 */
+    uint8_t turn;        /* the side to move */
+    uint8_t rights[4];   /* to castle: White on the king's side, White on the queen's, and Black. 1
+                            unless an earlier move has ruled it out, and otherwise 0 */
+    uint8_t passed;      /* the square that a pawn passed over by a double step in the last move,
+                            whether or not it can be captured there, or DGT_NO_SUCH */
+    uint8_t reserved[6]; /* each 0 */
+} dgt_chess_state;
+
+/* A castling is the move of its king. */
+typedef struct dgt_chess_move {
+    uint8_t from;
+    uint8_t to;
+    uint8_t promotion; /* the number of the white piece of the kind that a pawn becomes, for Black
+                          too: 2 rook, 3 knight, 4 bishop, 6 queen. Otherwise 0 */
+    uint8_t reserved;  /* 0 */
+} dgt_chess_move;
+
+/* Why no game reaches a state (1 to 8; the least one that holds is returned, but for 8, which comes
+ * first), and why a text isn't read. */
+enum {
+    DGT_CHESS_DONE = 0,        /* a game may reach it; the text was read */
+    DGT_CHESS_BAD_KINGS = 1,   /* a side doesn't have exactly one king */
+    DGT_CHESS_EXTRA_PIECE = 2, /* a piece isn't a chess piece */
+    DGT_CHESS_BAD_PAWN = 3,    /* a pawn is on the first or the eighth rank */
+    DGT_CHESS_IN_CHECK = 4,    /* the side that isn't to move is in check */
+    DGT_CHESS_BAD_RIGHTS = 5,  /* a right to castle lacks its king or its rook */
+    DGT_CHESS_BAD_PASSED = 6,  /* the passed square isn't one over which a pawn has just made a
+                                  double step */
+    DGT_CHESS_BAD_NUMBER = 7,  /* the number of the move is 0 */
+    DGT_CHESS_BAD_MEMBER = 8,  /* a member has a value that isn't listed for it */
+    DGT_CHESS_BAD_TEXT = 9,    /* not FEN; not the text of a move in any state */
+    DGT_CHESS_NO_MOVE = 10,    /* the text of a move, but of no legal one */
+    DGT_CHESS_AMBIGUOUS = 11   /* several legal moves fit the text */
+};
+
+/* Writes the state in which a game begins. */
+void dgt_chess_start(dgt_chess_state *state) DGT_NONNULL_(1) DGT_WRITES_(1);
+
+/* Returns DGT_CHESS_DONE if a game may reach the state, and otherwise why none does: 1 to 8. */
+uint8_t dgt_chess_check(const dgt_chess_state *state)
+    DGT_MUST_USE_ DGT_NONNULL_(1) DGT_READS_(1);
+
+/* Whether a move of the side to move is legal. */
+bool dgt_chess_is_legal(const dgt_chess_state *state, const dgt_chess_move *move)
+    DGT_NONNULL_(1, 2) DGT_READS_(1) DGT_READS_(2);
+
+/* Makes a legal move. Returns false for any other, and then writes nothing. */
+bool dgt_chess_play(dgt_chess_state *state, const dgt_chess_move *move)
+    DGT_MUST_USE_ DGT_NONNULL_(1, 2) DGT_READS_(2);
+
+/* The squares to which the pieces may move: bit n of goals[from] is set if a legal move goes from
+ * there to square n. Returns false and writes nothing if the state isn't one of a game. */
+bool dgt_chess_goals(const dgt_chess_state *state, uint64_t goals[64])
+    DGT_MUST_USE_ DGT_NONNULL_(1, 2) DGT_READS_(1) DGT_WRITES_(2);
+
+/* Writes the legal move that leads to these pieces; there is only one. Returns false and writes
+ * nothing if there is none. */
+bool dgt_chess_move_to(const dgt_chess_state *state, const uint8_t pieces[64], dgt_chess_move *move)
+    DGT_MUST_USE_ DGT_NONNULL_(1, 2, 3) DGT_READS_(1) DGT_READS_(2) DGT_WRITES_(3);
+
+/* Whether the side to move is in check, has a legal move, is checkmated, or has no legal move and
+ * isn't in check. */
+bool dgt_chess_is_check(const dgt_chess_state *state) DGT_NONNULL_(1) DGT_READS_(1);
+bool dgt_chess_can_move(const dgt_chess_state *state) DGT_NONNULL_(1) DGT_READS_(1);
+bool dgt_chess_is_mate(const dgt_chess_state *state) DGT_NONNULL_(1) DGT_READS_(1);
+bool dgt_chess_is_stalemate(const dgt_chess_state *state) DGT_NONNULL_(1) DGT_READS_(1);
+
+/* Whether no moves can lead to checkmate, because only kings are left, or also one knight, or also
+ * bishops that all stand on squares of one colour. Other such positions aren't found. */
+bool dgt_chess_is_dead(const dgt_chess_state *state) DGT_NONNULL_(1) DGT_READS_(1);
+
+/* Whether the last 50 moves of each side moved no pawn and captured nothing: the side to move may
+ * claim a draw. */
+bool dgt_chess_is_fifty_moves(const dgt_chess_state *state) DGT_NONNULL_(1) DGT_READS_(1);
+
+/* Whether the last 75 moves of each side did: a draw, unless the last one was checkmate. */
+bool dgt_chess_is_seventy_five_moves(const dgt_chess_state *state) DGT_NONNULL_(1) DGT_READS_(1);
+
+/* Whether two states have the same position with the same side to move, in which the same moves are
+ * possible. If three states of a game do, the side to move may claim a draw. */
+bool dgt_chess_is_repeated(const dgt_chess_state *state, const dgt_chess_state *other)
+    DGT_NONNULL_(1, 2) DGT_READS_(1) DGT_READS_(2);
+
+typedef struct dgt_chess_fen_read {
+    uint8_t status; /* DGT_CHESS_DONE, 1 to 7 or DGT_CHESS_BAD_TEXT */
+    uint8_t field;  /* of a bad text: where it is wrong, from 0 for the pieces to 5 for the number
+                       of the move. Otherwise 0 */
+    size_t at;      /* of a bad text: the offset of the first wrong byte, or the text's length if it
+                       is only too short. Otherwise 0 */
+} dgt_chess_fen_read;
+
+/* Reads a text in Forsyth-Edwards Notation: six fields with one space between two, and nothing
+ * else. Numbers have no leading zeros. The passed square may be given whether or not a pawn can
+ * capture there. Writes nothing unless the status is DGT_CHESS_DONE. */
+dgt_chess_fen_read dgt_chess_parse_fen(const char *text, size_t n, dgt_chess_state *state)
+    DGT_MUST_USE_ DGT_NONNULL_(3) DGT_READS_(1, 2) DGT_WRITES_(3);
+
+/* Writes the state in this notation, with a final zero byte. The passed square is written only if a
+ * legal move captures the pawn there. */
+bool dgt_chess_fen(const dgt_chess_state *state, char text[DGT_CHESS_FEN_ROOM])
+    DGT_MUST_USE_ DGT_NONNULL_(1, 2) DGT_READS_(1) DGT_WRITES_(2);
+
+/* Writes a legal move in Standard Algebraic Notation, as PGN files contain it, with a final zero
+ * byte. Returns false and writes nothing for any other move. */
+bool dgt_chess_san(const dgt_chess_state *state, const dgt_chess_move *move,
+                   char text[DGT_CHESS_SAN_ROOM])
+    DGT_MUST_USE_ DGT_NONNULL_(1, 2, 3) DGT_READS_(1) DGT_READS_(2) DGT_WRITES_(3);
+
+/* Writes the legal move whose text dgt_chess_san writes so. Returns a status; unless it is
+ * DGT_CHESS_DONE, nothing is written. */
+uint8_t dgt_chess_parse_san(const dgt_chess_state *state, const char *text, size_t n,
+                            dgt_chess_move *move)
+    DGT_MUST_USE_ DGT_NONNULL_(1, 4) DGT_READS_(1) DGT_READS_(2, 3) DGT_WRITES_(4);
+
+/* The same for texts of other programs, if only one legal move fits. The sign of check or mate may
+ * be missing, and so may the = of a promotion. The file and the rank that the move leaves are each
+ * written or left out. Castling is written with the letter O or with zeros. */
+uint8_t dgt_chess_parse_san_leniently(const dgt_chess_state *state, const char *text, size_t n,
+                                      dgt_chess_move *move)
+    DGT_MUST_USE_ DGT_NONNULL_(1, 4) DGT_READS_(1) DGT_READS_(2, 3) DGT_WRITES_(4);
+
 /* ---- The library's sizes. If they differ, this is another platform. */
 
 #if defined(__cplusplus) || (defined(__STDC_VERSION__) && __STDC_VERSION__ >= 201112L)
@@ -1237,6 +1380,9 @@ DGT_SIZE_(dgt_stored, 16);
 DGT_SIZE_(dgt_signal, 8);
 DGT_SIZE_(dgt_battery, 16);
 DGT_SIZE_(dgt_parsed, 16);
+DGT_SIZE_(dgt_chess_state, 80);
+DGT_SIZE_(dgt_chess_move, 4);
+DGT_SIZE_(dgt_chess_fen_read, 16);
 #undef DGT_SIZE_
 #endif
 

@@ -1,7 +1,7 @@
 """What dgt.h declares. Made from it by tools/c_boundary: don't edit it."""
 
-from ctypes import (POINTER, Structure, c_bool, c_char, c_size_t, c_uint8, c_uint32, c_uint64,
-                    c_void_p)
+from ctypes import (POINTER, Structure, c_bool, c_char, c_size_t, c_uint8, c_uint16, c_uint32,
+                    c_uint64, c_void_p)
 from enum import IntEnum
 from typing import Any
 
@@ -123,6 +123,22 @@ FLAG_PER_MOVE = 0x02
 FLAG_FALLEN = 0x04
 BATTERY_UNKNOWN = 127
 NO_SUCH = 255
+CHESS_FEN_ROOM = 96
+CHESS_SAN_ROOM = 16
+CHESS_WHITE = 0
+CHESS_BLACK = 1
+CHESS_DONE = 0
+CHESS_BAD_KINGS = 1
+CHESS_EXTRA_PIECE = 2
+CHESS_BAD_PAWN = 3
+CHESS_IN_CHECK = 4
+CHESS_BAD_RIGHTS = 5
+CHESS_BAD_PASSED = 6
+CHESS_BAD_NUMBER = 7
+CHESS_BAD_MEMBER = 8
+CHESS_BAD_TEXT = 9
+CHESS_NO_MOVE = 10
+CHESS_AMBIGUOUS = 11
 
 
 class Fault(IntEnum):
@@ -284,6 +300,20 @@ class ParsedStruct(Structure):
     _fields_ = [("ok", c_bool), ("at", c_size_t)]
 
 
+class ChessStateStruct(Structure):
+    _fields_ = [("pieces", c_uint8 * 64), ("half_moves", c_uint16), ("number", c_uint16),
+                ("turn", c_uint8), ("rights", c_uint8 * 4), ("passed", c_uint8),
+                ("reserved", c_uint8 * 6)]
+
+
+class ChessMoveStruct(Structure):
+    _fields_ = [("from", c_uint8), ("to", c_uint8), ("promotion", c_uint8), ("reserved", c_uint8)]
+
+
+class ChessFenReadStruct(Structure):
+    _fields_ = [("status", c_uint8), ("field", c_uint8), ("at", c_size_t)]
+
+
 # How many bytes each handle takes.
 SIZES = {"dgt_host": HOST_SIZE, "dgt_follower": FOLLOWER_SIZE, "dgt_decoder": DECODER_SIZE,
          "dgt_command_decoder": COMMAND_DECODER_SIZE, "dgt_board": BOARD_SIZE}
@@ -402,4 +432,25 @@ CALLS: dict[str, tuple[Any, ...]] = {
     "dgt_differ": (c_bool, c_void_p, c_void_p, POINTER(c_uint64)),
     "dgt_parse_placement": (ParsedStruct, c_void_p, c_size_t, c_void_p),
     "dgt_segment": (c_uint8, c_uint8),
+    "dgt_chess_start": (None, POINTER(ChessStateStruct)),
+    "dgt_chess_check": (c_uint8, POINTER(ChessStateStruct)),
+    "dgt_chess_is_legal": (c_bool, POINTER(ChessStateStruct), POINTER(ChessMoveStruct)),
+    "dgt_chess_play": (c_bool, POINTER(ChessStateStruct), POINTER(ChessMoveStruct)),
+    "dgt_chess_goals": (c_bool, POINTER(ChessStateStruct), POINTER(c_uint64)),
+    "dgt_chess_move_to": (c_bool, POINTER(ChessStateStruct), c_void_p, POINTER(ChessMoveStruct)),
+    "dgt_chess_is_check": (c_bool, POINTER(ChessStateStruct)),
+    "dgt_chess_can_move": (c_bool, POINTER(ChessStateStruct)),
+    "dgt_chess_is_mate": (c_bool, POINTER(ChessStateStruct)),
+    "dgt_chess_is_stalemate": (c_bool, POINTER(ChessStateStruct)),
+    "dgt_chess_is_dead": (c_bool, POINTER(ChessStateStruct)),
+    "dgt_chess_is_fifty_moves": (c_bool, POINTER(ChessStateStruct)),
+    "dgt_chess_is_seventy_five_moves": (c_bool, POINTER(ChessStateStruct)),
+    "dgt_chess_is_repeated": (c_bool, POINTER(ChessStateStruct), POINTER(ChessStateStruct)),
+    "dgt_chess_parse_fen": (ChessFenReadStruct, c_void_p, c_size_t, POINTER(ChessStateStruct)),
+    "dgt_chess_fen": (c_bool, POINTER(ChessStateStruct), c_void_p),
+    "dgt_chess_san": (c_bool, POINTER(ChessStateStruct), POINTER(ChessMoveStruct), c_void_p),
+    "dgt_chess_parse_san": (c_uint8, POINTER(ChessStateStruct), c_void_p, c_size_t,
+                            POINTER(ChessMoveStruct)),
+    "dgt_chess_parse_san_leniently": (c_uint8, POINTER(ChessStateStruct), c_void_p, c_size_t,
+                                      POINTER(ChessMoveStruct)),
 }

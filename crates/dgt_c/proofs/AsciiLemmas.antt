@@ -1,6 +1,7 @@
 -- Placements are ASCII, so a text is wrong from its first other byte on.
 use Prim.Native.Char.{code as ascii}
 use Rattle.std.proofs.{Common.{◌≡◌, ℕ, ◌+◌, ◌<◌, ◌≤◌, List, [], ◌∷◌, length, take, lit<, arith, rules}, lemmas.{Bool.{cases_lt}, List.{append-nil, get_or-take, get_or_append_left, get_or_past}}}
+use Rattle.std.proofs.Common.{subst, sym}
 use Rattle.std.{proofs.lemmas.{List.{length-take, length-take-le, take-take, take_all}, Str.{IsAscii-append, Ascii.{IsAscii-cons, IsAscii-nil}}}, specs.{List.{join_with_byte}, Prelude.{slice_index}}}
 use Rattle.{std.specs.Str.{IsAscii}, dgt_values.specs.{Board.{piece_letter}, Placement.{AreRanks, BeginsPlacement, IsFirstBadOffset, IsPlacement, IsRank, MeansSquares}, declared.pieces.Piece.{Piece}}}
 use Rattle.dgt_values.specs.declared.pieces.Piece.TheVariants.{Empty}
@@ -27,6 +28,9 @@ ranks-ascii (rank ∷ next ∷ ranks) pieces (squares, rest, eight, is_rank, oth
     IsAscii-append rank (ascii "/" ∷ join_with_byte (ascii "/") (next ∷ ranks))
     (rank-ascii rank squares is_rank)
     (IsAscii-cons (ascii "/") (join_with_byte (ascii "/") (next ∷ ranks)) (lit< tt) behind)
+
+pub placement_ascii : (text : List ℕ) (pieces : List Piece) → IsPlacement text pieces → IsAscii text
+placement_ascii text pieces is = subst IsAscii (sym is.joined) (ranks-ascii is.ranks pieces is.each)
 
 -- bytes up to the first that isn't ASCII
 pub ascii_prefix : (text : List ℕ) (end : ℕ) → end ≤ length text

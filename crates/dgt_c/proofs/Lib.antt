@@ -5,6 +5,9 @@ pub mod HandleMaking
 pub mod EachHandle
 -- Lemmas.
 pub mod AsciiLemmas
+pub mod ChessLemmas
+pub mod ChessOnceLemmas
+pub mod ChessTextLemmas
 pub mod ChunkLemmas
 pub mod Codes
 pub mod EncodingLemmas

@@ -119,7 +119,7 @@ one_clock = search rules
 pub clocks_are_in_range : ClocksAreInRange
 clocks_are_in_range = (λ said times p. p.1, λ said absence p. p.1)
 
-pieces_once : ((a b : Piece) → piece_code a ≡ piece_code b → a ≡ b) → (xs ys : List Piece)
+pub pieces_once : ((a b : Piece) → piece_code a ≡ piece_code b → a ≡ b) → (xs ys : List Piece)
     → map piece_code xs ≡ map piece_code ys → xs ≡ ys
 pieces_once one [] [] e = refl
 pieces_once one [] (y ∷ ys) e = absurd (cc)

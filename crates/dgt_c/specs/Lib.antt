@@ -17,7 +17,10 @@ pub mod Starting
 pub mod PlainBoard
 pub mod Followers
 pub mod PlainFollower
+pub mod Chess
+pub mod ChessTexts
 -- That reports are unique.
 pub mod Once
+pub mod ChessOnce
 -- Structs of C in memory.
 pub mod Layouts

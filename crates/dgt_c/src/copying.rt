@@ -1,6 +1,6 @@
 //! Copies bytes into slices of C.
 
-ghost use Rattle.std.specs.Prelude.{◌≡◌};
+ghost use Rattle.std.specs.Prelude.{◌≡◌, ◌<◌, length};
 ghost use Rattle.dgt_values.specs.Board.{pieces_of};
 ghost use Rattle.dgt_values.specs.Placement.{placement_text};
 ghost use Rattle.dgt_c.specs.Slices.{overwritten, with_text};
@@ -23,13 +23,19 @@ pub(crate) fn overwrite(bytes: &[u8], out: &mut [u8])
     }
 }
 
+/// Writes a text and a zero byte at the beginning of the slice.
+pub(crate) fn put_text(bytes: &[u8], text: &mut [u8])
+    requires { length bytes.now < length text.old }
+    ensures { text.new ≡ with_text bytes.now text.old }
+{
+    let len = bytes.len();
+    text[..len].copy_from_slice(bytes);
+    text[len] = 0;
+}
+
 /// Writes the placement of a position and a zero byte at the beginning of the slice.
 pub(crate) fn put_placement(position: &Position, text: &mut [u8; PLACEMENT_ROOM])
     ensures { text.new ≡ with_text (placement_text (pieces_of position.now)) text.old }
 {
-    let placement = position.placement();
-    let bytes = placement.as_bytes();
-    let len = bytes.len();
-    text[..len].copy_from_slice(bytes);
-    text[len] = 0;
+    put_text(position.placement().as_bytes(), text);
 }

@@ -136,6 +136,41 @@ pub const SIGNAL_READY: u8 = 5;
 /// The number for what a battery doesn't report.
 pub const BATTERY_UNKNOWN: u8 = 127;
 
+/// The number of the side that moves first.
+pub const CHESS_WHITE: u8 = 0;
+
+pub const CHESS_BLACK: u8 = 1;
+
+pub const CHESS_DONE: u8 = 0;
+
+pub const CHESS_BAD_KINGS: u8 = 1;
+
+pub const CHESS_EXTRA_PIECE: u8 = 2;
+
+pub const CHESS_BAD_PAWN: u8 = 3;
+
+pub const CHESS_IN_CHECK: u8 = 4;
+
+pub const CHESS_BAD_RIGHTS: u8 = 5;
+
+pub const CHESS_BAD_PASSED: u8 = 6;
+
+pub const CHESS_BAD_NUMBER: u8 = 7;
+
+pub const CHESS_BAD_MEMBER: u8 = 8;
+
+pub const CHESS_BAD_TEXT: u8 = 9;
+
+pub const CHESS_NO_MOVE: u8 = 10;
+
+pub const CHESS_AMBIGUOUS: u8 = 11;
+
+/// Enough room for the FEN of any state and a zero byte.
+pub const CHESS_FEN_ROOM: usize = 96;
+
+/// Enough room for the text of any move and a zero byte.
+pub const CHESS_SAN_ROOM: usize = 16;
+
 /// The time of one player.
 #[repr(C)]
 #[derive(Clone, Copy)]
@@ -386,4 +421,36 @@ pub struct DgtBattery {
     pub charging: u8,
     pub discharging: u8,
     pub reserved: [u8; 6],
+}
+
+/// A state of a game.
+#[repr(C)]
+#[derive(Clone, Copy)]
+pub struct DgtChessState {
+    pub pieces: [u8; 64],
+    pub half_moves: u16,
+    pub number: u16,
+    pub turn: u8,
+    pub rights: [u8; 4],
+    pub passed: u8,
+    pub reserved: [u8; 6],
+}
+
+/// A move.
+#[repr(C)]
+#[derive(Clone, Copy)]
+pub struct DgtChessMove {
+    pub from: u8,
+    pub to: u8,
+    pub promotion: u8,
+    pub reserved: u8,
+}
+
+/// The result of reading a FEN.
+#[repr(C)]
+#[derive(Clone, Copy)]
+pub struct DgtChessFenRead {
+    pub status: u8,
+    pub field: u8,
+    pub at: usize,
 }

@@ -1,5 +1,5 @@
-//! A host, a follower, a decoder, a decoder of commands and a board for C, and through C for other
-//! languages.
+//! A host, a follower, a decoder, a decoder of commands, a board and the rules of chess for C, and
+//! through C for other languages.
 //!
 //! The header `bindings/c/include/dgt.h` documents each call and the rules for callers.
 //! `bindings/c/build` builds the archive and the shared library.
@@ -26,6 +26,7 @@
 //! `dgt_board_poll` doesn't repeat that the board was well-formed before. The clause `place` says
 //! that the handle still points to its own room. `dgt_host_hear_many` and `dgt_decoder_feed_many`
 //! wrap as many calls as a chunk takes, and state the list of their results (`specs/Chunks.antt`).
+//! A call for chess states the clauses of dgt_chess for the state that its struct describes.
 //!
 //! | In Rust | In C |
 //! |---|---|
@@ -33,6 +34,7 @@
 //! | its body | bytes in the caller's slice, as many as fit (`overwritten`) |
 //! | a result | a status and a number |
 //! | a clock, an identity, pieces | accepted if they are valid (`SaysClock`, `IsIdentity`) |
+//! | a state or a move of chess | a struct, which each call checks (`SaysState`, `SaysMove`) |
 //!
 //! `dgt_host_make` and the other four such calls make a handle in C's memory, which is
 //! uninitialised before. No other call has a `requires`. A caller in C has to ensure the facts that
@@ -40,8 +42,12 @@
 //! there.
 #![tactic(auto)]
 
+mod ascii;
 mod board_calls;
 mod checking;
+mod chess;
+mod chess_states;
+mod chess_texts;
 mod chunks;
 mod clocks;
 mod command_encoding;
@@ -69,7 +75,8 @@ mod version;
 
 pub use handles::{DgtBoard, DgtCommandDecoder, DgtDecoder, DgtFollower, DgtHost};
 pub use header::{
-    DgtBattery, DgtBody, DgtClock, DgtCommand, DgtEncoded, DgtEvent, DgtIdentity, DgtParsed,
-    DgtPolled, DgtSent, DgtSignal, DgtStored, DgtTaken, DgtTime, DgtTold,
+    DgtBattery, DgtBody, DgtChessFenRead, DgtChessMove, DgtChessState, DgtClock, DgtCommand,
+    DgtEncoded, DgtEvent, DgtIdentity, DgtParsed, DgtPolled, DgtSent, DgtSignal, DgtStored,
+    DgtTaken, DgtTime, DgtTold,
 };
 pub use places::{BoardPlace, CommandDecoderPlace, DecoderPlace, FollowerPlace, HostPlace};

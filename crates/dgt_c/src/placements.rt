@@ -1,12 +1,13 @@
 //! Positions as text.
 
-ghost use Rattle.std.specs.Prelude.{◌≡◌, ◌≤◌, ◌<◌, ℕ, List, false, length, map, slice_index, IsTrue};
+ghost use Rattle.std.specs.Prelude.{◌≡◌, List, false, map, IsTrue};
 ghost use Rattle.dgt_values.specs.declared.pieces.Piece.{Piece};
 ghost use Rattle.dgt_values.specs.Board.{DifferingSquares, piece_code};
 ghost use Rattle.dgt_values.specs.Placement.{IsFirstBadOffset, IsPlacement, ParsesPlacement, placement_text};
 ghost use Rattle.dgt_c.specs.Starting.{ArePieces};
 ghost use Rattle.dgt_c.specs.Slices.{with_text};
 
+use crate::ascii::ascii_prefix;
 use crate::checking::read_position;
 use crate::copying::put_placement;
 use crate::header::{DgtParsed, PLACEMENT_ROOM};
@@ -46,32 +47,14 @@ pub extern "C" fn dgt_differ(pieces: &[u8; 64], others: &[u8; 64], squares: &mut
     true
 }
 
-// The offset of the first byte that isn't ASCII, or the length.
-fn ascii_len(text: &[u8]) -> usize
-    ensures within { result ≤ length text.now }
-    ensures before { (k : ℕ) → k < result → slice_index text.now k < 128 }
-    ensures there { result < length text.now → 128 ≤ slice_index text.now result }
-{
-    for (index, byte) in text.iter().enumerate() {
-        if *byte >= 128 {
-            return index;
-        }
-    }
-    text.len()
-}
-
 // The position of a placement. A placement contains only ASCII.
 fn parse_text(text: &[u8]) -> Result<Position, BadPlacement>
     ensures { ParsesPlacement text.now result }
 {
-    let end = ascii_len(text);
-    let prefix = match std::str::from_utf8(&text[..end]) {
-        Ok(prefix) => prefix,
-        Err(_) => unreachable!(),
-    };
+    let prefix = ascii_prefix(text);
     match Position::parse_placement(prefix) {
         Err(bad) => Err(bad),
-        Ok(_) if end < text.len() => Err(BadPlacement { at: end }),
+        Ok(_) if prefix.len() < text.len() => Err(BadPlacement { at: prefix.len() }),
         Ok(position) => Ok(position),
     }
 }

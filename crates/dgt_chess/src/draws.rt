@@ -77,8 +77,8 @@ impl State {
         true
     }
 
-    // Whether the other state has this position.
-    fn is_repeated(&self, other: &State) -> bool
+    /// Whether the other state has the same position, in which the same moves are possible.
+    pub fn is_repeated(&self, other: &State) -> bool
         ensures { IsTrue result ↔ IsRepeated self.now other.now }
     {
         is_equal(self.position(), other.position())

@@ -64,6 +64,7 @@ macro_rules! generated {
 
 generated! {
     values "generated/values/mod.rs",
+    chess "generated/chess/mod.rs",
     message "generated/message/mod.rs",
     stored "generated/stored/mod.rs",
     decode "generated/decode/mod.rs",

@@ -11,10 +11,10 @@ ghost use Rattle.dgt_names.specs.declared.clock.Button.{Button};
 ghost use Rattle.dgt_stored.specs.Stored.{mark_byte};
 ghost use Rattle.dgt_stored.specs.declared.stored.Mark.{Mark};
 ghost use Rattle.dgt_c.specs.Layouts.{◌⊗◌, Ascend, FitsIn, LiesAs, bit_alone};
-ghost use Rattle.dgt_c.specs.contracts.header.{DgtTime.the_row as time_row, DgtClock.the_row as clock_row, DgtEvent.the_row as event_row, DgtCommand.the_row as command_row, DgtTold.the_row as told_row, DgtSent.the_row as sent_row, DgtBody.the_row as body_row, DgtIdentity.the_row as identity_row, DgtTaken.the_row as taken_row, DgtPolled.the_row as polled_row, DgtEncoded.the_row as encoded_row, DgtStored.the_row as stored_row, DgtSignal.the_row as signal_row, DgtBattery.the_row as battery_row, DgtParsed.the_row as parsed_row};
-ghost use Rattle.dgt_c.specs.contracts.header.{DgtTime.the_type as time_type, DgtClock.the_type as clock_type, DgtEvent.the_type as event_type, DgtCommand.the_type as command_type, DgtTold.the_type as told_type, DgtSent.the_type as sent_type, DgtBody.the_type as body_type, DgtIdentity.the_type as identity_type, DgtTaken.the_type as taken_type, DgtPolled.the_type as polled_type, DgtEncoded.the_type as encoded_type, DgtStored.the_type as stored_type, DgtSignal.the_type as signal_type, DgtBattery.the_type as battery_type, DgtParsed.the_type as parsed_type};
+ghost use Rattle.dgt_c.specs.contracts.header.{DgtTime.the_row as time_row, DgtClock.the_row as clock_row, DgtEvent.the_row as event_row, DgtCommand.the_row as command_row, DgtTold.the_row as told_row, DgtSent.the_row as sent_row, DgtBody.the_row as body_row, DgtIdentity.the_row as identity_row, DgtTaken.the_row as taken_row, DgtPolled.the_row as polled_row, DgtEncoded.the_row as encoded_row, DgtStored.the_row as stored_row, DgtSignal.the_row as signal_row, DgtBattery.the_row as battery_row, DgtParsed.the_row as parsed_row, DgtChessState.the_row as chess_state_row, DgtChessMove.the_row as chess_move_row, DgtChessFenRead.the_row as chess_fen_read_row};
+ghost use Rattle.dgt_c.specs.contracts.header.{DgtTime.the_type as time_type, DgtClock.the_type as clock_type, DgtEvent.the_type as event_type, DgtCommand.the_type as command_type, DgtTold.the_type as told_type, DgtSent.the_type as sent_type, DgtBody.the_type as body_type, DgtIdentity.the_type as identity_type, DgtTaken.the_type as taken_type, DgtPolled.the_type as polled_type, DgtEncoded.the_type as encoded_type, DgtStored.the_type as stored_type, DgtSignal.the_type as signal_type, DgtBattery.the_type as battery_type, DgtParsed.the_type as parsed_type, DgtChessState.the_type as chess_state_type, DgtChessMove.the_type as chess_move_type, DgtChessFenRead.the_type as chess_fen_read_type};
 ghost use Rattle.dgt_c.specs.contracts.places.{HostPlace.the_row as host_row, FollowerPlace.the_row as follower_row, DecoderPlace.the_row as decoder_row, CommandDecoderPlace.the_row as command_decoder_row, BoardPlace.the_row as board_row};
-ghost use Rattle.dgt_c.specs.declared.header.{DgtTime.DgtTime, DgtClock.DgtClock, DgtEvent.DgtEvent, DgtCommand.DgtCommand, DgtTold.DgtTold, DgtSent.DgtSent, DgtBody.DgtBody, DgtIdentity.DgtIdentity, DgtTaken.DgtTaken, DgtPolled.DgtPolled, DgtEncoded.DgtEncoded, DgtStored.DgtStored, DgtSignal.DgtSignal, DgtBattery.DgtBattery, DgtParsed.DgtParsed};
+ghost use Rattle.dgt_c.specs.declared.header.{DgtTime.DgtTime, DgtClock.DgtClock, DgtEvent.DgtEvent, DgtCommand.DgtCommand, DgtTold.DgtTold, DgtSent.DgtSent, DgtBody.DgtBody, DgtIdentity.DgtIdentity, DgtTaken.DgtTaken, DgtPolled.DgtPolled, DgtEncoded.DgtEncoded, DgtStored.DgtStored, DgtSignal.DgtSignal, DgtBattery.DgtBattery, DgtParsed.DgtParsed, DgtChessState.DgtChessState, DgtChessMove.DgtChessMove, DgtChessFenRead.DgtChessFenRead};
 
 use crate::header::*;
 use dgt_board::{MAX_KEPT_BODY, MAX_OWED, MAX_SENT};
@@ -145,6 +145,22 @@ pub fn limits()
     ensures flag_fallen { bit_alone 2 ≡ 0x04 }
     ensures battery_unknown { BATTERY_UNKNOWN ≡ 127 }
     ensures no_such { NONE ≡ 255 }
+    ensures chess_fen_room { CHESS_FEN_ROOM ≡ 96 }
+    ensures chess_san_room { CHESS_SAN_ROOM ≡ 16 }
+    ensures chess_white { CHESS_WHITE ≡ 0 }
+    ensures chess_black { CHESS_BLACK ≡ 1 }
+    ensures chess_done { CHESS_DONE ≡ 0 }
+    ensures chess_bad_kings { CHESS_BAD_KINGS ≡ 1 }
+    ensures chess_extra_piece { CHESS_EXTRA_PIECE ≡ 2 }
+    ensures chess_bad_pawn { CHESS_BAD_PAWN ≡ 3 }
+    ensures chess_in_check { CHESS_IN_CHECK ≡ 4 }
+    ensures chess_bad_rights { CHESS_BAD_RIGHTS ≡ 5 }
+    ensures chess_bad_passed { CHESS_BAD_PASSED ≡ 6 }
+    ensures chess_bad_number { CHESS_BAD_NUMBER ≡ 7 }
+    ensures chess_bad_member { CHESS_BAD_MEMBER ≡ 8 }
+    ensures chess_bad_text { CHESS_BAD_TEXT ≡ 9 }
+    ensures chess_no_move { CHESS_NO_MOVE ≡ 10 }
+    ensures chess_ambiguous { CHESS_AMBIGUOUS ≡ 11 }
 {}
 
 /// The constants of one kind differ: each is greater than the last.
@@ -166,6 +182,10 @@ pub fn cases_differ()
     ensures stored { Ascend (STORED_PIECE ∷ STORED_TIME ∷ STORED_MARK ∷ STORED_UNKNOWN ∷ []) }
     ensures signals { Ascend (SIGNAL_DONE ∷ SIGNAL_VERSION ∷ SIGNAL_PRESSED ∷ SIGNAL_OFF
         ∷ SIGNAL_READY ∷ []) }
+    ensures turns { Ascend (CHESS_WHITE ∷ CHESS_BLACK ∷ []) }
+    ensures chess { Ascend (CHESS_DONE ∷ CHESS_BAD_KINGS ∷ CHESS_EXTRA_PIECE ∷ CHESS_BAD_PAWN
+        ∷ CHESS_IN_CHECK ∷ CHESS_BAD_RIGHTS ∷ CHESS_BAD_PASSED ∷ CHESS_BAD_NUMBER ∷ CHESS_BAD_MEMBER
+        ∷ CHESS_BAD_TEXT ∷ CHESS_NO_MOVE ∷ CHESS_AMBIGUOUS ∷ []) }
 {}
 
 /// The layouts of the structs of `dgt.h`: the size, the alignment, and the offsets of the members
@@ -192,6 +212,9 @@ pub fn layouts()
     ensures signal { LiesAs signal_row 8 1 (0 ∷ 1 ∷ 2 ∷ 3 ∷ 4 ∷ 5 ∷ []) }
     ensures battery { LiesAs battery_row 16 1 (0 ∷ 1 ∷ 2 ∷ 3 ∷ 4 ∷ 5 ∷ 6 ∷ 7 ∷ 8 ∷ 9 ∷ 10 ∷ []) }
     ensures parsed { LiesAs parsed_row 16 8 (0 ∷ 8 ∷ []) }
+    ensures chess_state { LiesAs chess_state_row 80 2 (0 ∷ 64 ∷ 66 ∷ 68 ∷ 69 ∷ 73 ∷ 74 ∷ []) }
+    ensures chess_move { LiesAs chess_move_row 4 1 (0 ∷ 1 ∷ 2 ∷ 3 ∷ []) }
+    ensures chess_fen_read { LiesAs chess_fen_read_row 16 8 (0 ∷ 1 ∷ 8 ∷ []) }
 {}
 
 /// The members of the structs of `dgt.h`, in the order of their declaration.
@@ -223,6 +246,12 @@ pub fn members()
         ⊗ it.minutes_left ⊗ it.hours_on ⊗ it.minutes_on ⊗ it.days_resting ⊗ it.hours_resting
         ⊗ it.minutes_resting ⊗ it.charging ⊗ it.discharging ⊗ it.reserved ⊗ tt }
     ensures parsed { (it : DgtParsed) → parsed_type.as_values it ≡ it.ok ⊗ it.at ⊗ tt }
+    ensures chess_state { (it : DgtChessState) → chess_state_type.as_values it ≡ it.pieces
+        ⊗ it.half_moves ⊗ it.number ⊗ it.turn ⊗ it.rights ⊗ it.passed ⊗ it.reserved ⊗ tt }
+    ensures chess_move { (it : DgtChessMove) → chess_move_type.as_values it ≡ it.from ⊗ it.to
+        ⊗ it.promotion ⊗ it.reserved ⊗ tt }
+    ensures chess_fen_read { (it : DgtChessFenRead) → chess_fen_read_type.as_values it ≡ it.status
+        ⊗ it.field ⊗ it.at ⊗ tt }
 {}
 
 /// A clone is the value itself, and cloning never fails.
@@ -242,4 +271,7 @@ pub fn clone_is_same()
     ensures signal { CloneIsSame ⟦<DgtSignal as Clone>⟧ }
     ensures battery { CloneIsSame ⟦<DgtBattery as Clone>⟧ }
     ensures parsed { CloneIsSame ⟦<DgtParsed as Clone>⟧ }
+    ensures chess_state { CloneIsSame ⟦<DgtChessState as Clone>⟧ }
+    ensures chess_move { CloneIsSame ⟦<DgtChessMove as Clone>⟧ }
+    ensures chess_fen_read { CloneIsSame ⟦<DgtChessFenRead as Clone>⟧ }
 {}
