@@ -226,6 +226,39 @@ class Button(IntEnum):
     OK = 0x35
 
 
+class Colour(IntEnum):
+    """A side."""
+
+    __module__ = "dgt.chess"
+
+    WHITE = 0
+    BLACK = 1
+
+
+class Why(IntEnum):
+    """Why no game reaches a state."""
+
+    __module__ = "dgt.chess"
+
+    BAD_KINGS = 1
+    EXTRA_PIECE = 2
+    BAD_PAWN = 3
+    IN_CHECK = 4
+    BAD_RIGHTS = 5
+    BAD_PASSED = 6
+    BAD_NUMBER = 7
+
+
+class SanFault(IntEnum):
+    """Why a text isn't read as a legal move."""
+
+    __module__ = "dgt.chess"
+
+    BAD_TEXT = 9
+    NO_MOVE = 10
+    AMBIGUOUS = 11
+
+
 class TimeStruct(Structure):
     _fields_ = [("hours", c_uint8), ("minutes", c_uint8), ("seconds", c_uint8), ("flags", c_uint8)]
 
@@ -432,25 +465,23 @@ CALLS: dict[str, tuple[Any, ...]] = {
     "dgt_differ": (c_bool, c_void_p, c_void_p, POINTER(c_uint64)),
     "dgt_parse_placement": (ParsedStruct, c_void_p, c_size_t, c_void_p),
     "dgt_segment": (c_uint8, c_uint8),
-    "dgt_chess_start": (None, POINTER(ChessStateStruct)),
-    "dgt_chess_check": (c_uint8, POINTER(ChessStateStruct)),
-    "dgt_chess_is_legal": (c_bool, POINTER(ChessStateStruct), POINTER(ChessMoveStruct)),
-    "dgt_chess_play": (c_bool, POINTER(ChessStateStruct), POINTER(ChessMoveStruct)),
-    "dgt_chess_goals": (c_bool, POINTER(ChessStateStruct), POINTER(c_uint64)),
-    "dgt_chess_move_to": (c_bool, POINTER(ChessStateStruct), c_void_p, POINTER(ChessMoveStruct)),
-    "dgt_chess_is_check": (c_bool, POINTER(ChessStateStruct)),
-    "dgt_chess_can_move": (c_bool, POINTER(ChessStateStruct)),
-    "dgt_chess_is_mate": (c_bool, POINTER(ChessStateStruct)),
-    "dgt_chess_is_stalemate": (c_bool, POINTER(ChessStateStruct)),
-    "dgt_chess_is_dead": (c_bool, POINTER(ChessStateStruct)),
-    "dgt_chess_is_fifty_moves": (c_bool, POINTER(ChessStateStruct)),
-    "dgt_chess_is_seventy_five_moves": (c_bool, POINTER(ChessStateStruct)),
-    "dgt_chess_is_repeated": (c_bool, POINTER(ChessStateStruct), POINTER(ChessStateStruct)),
-    "dgt_chess_parse_fen": (ChessFenReadStruct, c_void_p, c_size_t, POINTER(ChessStateStruct)),
-    "dgt_chess_fen": (c_bool, POINTER(ChessStateStruct), c_void_p),
-    "dgt_chess_san": (c_bool, POINTER(ChessStateStruct), POINTER(ChessMoveStruct), c_void_p),
-    "dgt_chess_parse_san": (c_uint8, POINTER(ChessStateStruct), c_void_p, c_size_t,
-                            POINTER(ChessMoveStruct)),
-    "dgt_chess_parse_san_leniently": (c_uint8, POINTER(ChessStateStruct), c_void_p, c_size_t,
-                                      POINTER(ChessMoveStruct)),
+    "dgt_chess_start": (None, c_void_p),
+    "dgt_chess_check": (c_uint8, c_void_p),
+    "dgt_chess_is_legal": (c_bool, c_void_p, c_void_p),
+    "dgt_chess_play": (c_bool, c_void_p, c_void_p),
+    "dgt_chess_goals": (c_bool, c_void_p, POINTER(c_uint64)),
+    "dgt_chess_move_to": (c_bool, c_void_p, c_void_p, c_void_p),
+    "dgt_chess_is_check": (c_bool, c_void_p),
+    "dgt_chess_can_move": (c_bool, c_void_p),
+    "dgt_chess_is_mate": (c_bool, c_void_p),
+    "dgt_chess_is_stalemate": (c_bool, c_void_p),
+    "dgt_chess_is_dead": (c_bool, c_void_p),
+    "dgt_chess_is_fifty_moves": (c_bool, c_void_p),
+    "dgt_chess_is_seventy_five_moves": (c_bool, c_void_p),
+    "dgt_chess_is_repeated": (c_bool, c_void_p, c_void_p),
+    "dgt_chess_parse_fen": (ChessFenReadStruct, c_void_p, c_size_t, c_void_p),
+    "dgt_chess_fen": (c_bool, c_void_p, c_void_p),
+    "dgt_chess_san": (c_bool, c_void_p, c_void_p, c_void_p),
+    "dgt_chess_parse_san": (c_uint8, c_void_p, c_void_p, c_size_t, c_void_p),
+    "dgt_chess_parse_san_leniently": (c_uint8, c_void_p, c_void_p, c_size_t, c_void_p),
 }
