@@ -1,48 +1,13 @@
-"""The rules of chess and the recognition of moves of the package for Python.
-
-The rules: the numbers of positions after some moves are those that are published. The recognition:
-each case of the table in apps/eboard/test_moves.c, which the adapter for eboard passes too, and
-random games.
-"""
+"""The recognition of moves of the package for Python: each case of the table in
+apps/eboard/test_moves.c, which the adapter for eboard passes too, and random games."""
 
 import pathlib
 import re
 
 import cases
 import dgt
-from games import PERFT, START, Game, Hand
+from games import PERFT, Game, Hand
 from wrong import wanted
-
-
-# ---- The rules
-
-
-def perft(state, depth):
-    """The number of positions after `depth` moves."""
-    moves = state.moves()
-    return len(moves) if depth == 1 else sum(perft(after, depth - 1) for after in moves.values())
-
-
-class Rules(cases.Case):
-    def test_positions(self):
-        for fen, numbers in PERFT:
-            state = dgt.GameState.parse(fen)
-            wanted("a FEN", state.fen, fen)
-            counted = [perft(state, depth + 1) for depth in range(len(numbers))]
-            wanted(f"perft of {fen}", counted, numbers)
-            for move, after in state.moves().items():
-                wanted(f"after {move} in {fen}", state.after(move), after)
-                wanted(f"the FEN after {move} in {fen}", dgt.GameState.parse(after.fen), after)
-
-    def test_refusals(self):
-        for fen in ["", "8/8/8/8/8/8/8/8 w - - 0 1", "k7/8/8/8/8/8/8/K6P w - - 0 1",
-                    "k7/8/8/8/8/8/8/K6X w - - 0 1", "kR6/8/8/8/8/8/8/K7 w - - 0 1",
-                    START.replace("w", "x"), START.replace("KQkq", "HAha"),
-                    START.replace("-", "e3"), START.replace("-", "e9"), START.replace("0", "-1"),
-                    f"{START} 1"]:
-            self.assertRaises(dgt.BadFen, dgt.GameState.parse, fen)
-        for move in ["", "e2e5", "e7e5", "e1g1", "e2e4q", "0000", "e2"]:
-            self.assertRaises(dgt.IllegalMove, dgt.GameState.start().after, move)
 
 
 # ---- The table of the adapter for eboard

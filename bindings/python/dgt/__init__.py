@@ -42,7 +42,8 @@ The package contains::
     Board, World    simulate a board, and a board and a host on lines that may fail
     encode_message  and view_message, encode_command, view_command convert to bytes and back
     ClockCommands   are the calls of `follow`, Host and Follower for the board's clock
-    MoveRecogniser  finds the moves of a game in the host's pictures; GameState knows the rules
+    MoveRecogniser  finds the moves of a game in the host's pictures, as states (GameState)
+    chess.State     applies the rules of chess: legal moves, draws, FEN, SAN
     Games, PgnFile  make games from the pictures, and keep them in a file; PgnGame, san write PGN
     WhiteClock      learns which side of the clock is White's
 
@@ -63,8 +64,8 @@ from .commands import (Ask, Asked, BadEnd, BadSize, BadStart, ClockId, ClockMess
                        StrayByte, Word)
 from .decoder import CommandDecoder, Decoder
 from .encoding import encode_command, encode_message, view_command, view_message
-from .errors import (BadFen, BadPlacement, BadValue, Busy, Closed, DgtError, IllegalMove, Nested,
-                     NoSuchCommand, TooManyAwaited)
+from .errors import (BadFen, BadPlacement, BadSan, BadValue, Busy, Closed, DgtError, IllegalMove,
+                     Impossible, Nested, NoSuchCommand, TooManyAwaited)
 from .events import (Ack, BadLength, Battery, Cut, Dump, Event, Fault, Field, LongSerial, Message,
                      Other, Refused, Serial, Stray, Trademark, Version)
 from .follower import Follower
@@ -88,17 +89,17 @@ __version__ = VERSION
 
 __all__ = [
     "Ack", "Ask", "Asked", "AsyncFollowing", "BadEnd", "BadFen", "BadLength", "BadPlacement",
-    "BadSize", "BadStart", "BadValue", "Battery", "BatteryState", "Board", "BoardView", "Busy",
-    "Button", "Clock", "ClockCommands", "ClockId", "ClockMessage", "ClockVersion", "Closed",
+    "BadSan", "BadSize", "BadStart", "BadValue", "Battery", "BatteryState", "Board", "BoardView",
+    "Busy", "Button", "Clock", "ClockCommands", "ClockId", "ClockMessage", "ClockVersion", "Closed",
     "Command", "CommandDecoder", "Cut", "Decoder", "DgtError", "Done", "Dump", "Event", "Fault",
     "Field", "Follower", "Following", "GameBegun", "GameState", "GameStore", "Games", "Host",
-    "Identity", "IllegalMove", "KeptGame", "LETTERS", "Leds", "LoggingBoard", "LongSerial", "Mark",
-    "Message", "Mode", "MoveEvent", "MoveMade", "MoveRecogniser", "MoveTakenBack", "Nested",
-    "NoClock", "NoSuchCommand", "Off", "Other", "Outcome", "PgnFile", "PgnGame", "PgnMove",
-    "Position", "Pressed", "Ready", "Refused", "SQUARES", "START_FEN", "STORED_REQUEST", "Serial",
-    "SerialLine", "SerialPort", "Signal", "Stored", "StoredPiece", "StoredTime", "Stray",
-    "StrayByte", "Time", "Times", "TooManyAwaited", "Trademark", "UnknownByte", "Version",
-    "WhiteClock", "Word", "World", "encode_command", "encode_message", "follow", "follow_async",
-    "piece_code", "ports", "read_stored", "san", "segment", "square_number", "view_command",
-    "view_message",
+    "Identity", "IllegalMove", "Impossible", "KeptGame", "LETTERS", "Leds", "LoggingBoard",
+    "LongSerial", "Mark", "Message", "Mode", "MoveEvent", "MoveMade", "MoveRecogniser",
+    "MoveTakenBack", "Nested", "NoClock", "NoSuchCommand", "Off", "Other", "Outcome", "PgnFile",
+    "PgnGame", "PgnMove", "Position", "Pressed", "Ready", "Refused", "SQUARES", "START_FEN",
+    "STORED_REQUEST", "Serial", "SerialLine", "SerialPort", "Signal", "Stored", "StoredPiece",
+    "StoredTime", "Stray", "StrayByte", "Time", "Times", "TooManyAwaited", "Trademark",
+    "UnknownByte", "Version", "WhiteClock", "Word", "World", "encode_command", "encode_message",
+    "follow", "follow_async", "piece_code", "ports", "read_stored", "san", "segment",
+    "square_number", "view_command", "view_message",
 ]

@@ -209,10 +209,10 @@ class Games(Uncopied):
         game. The board's position counts again from the next `see`; if moves are only deleted, once
         it changes."""
         game = self._under_way()
-        was_final = not game.state.moves()
+        was_final = not game.state.chess.can_move
         game.replace(ply, count, moves)
         self._go_on(ply, bool(moves))
-        if not game.state.moves():
+        if not game.state.chess.can_move:
             self._end_by_rules(now)
         elif was_final:
             game.result, self._is_over = "*", False
@@ -413,7 +413,7 @@ class Games(Uncopied):
         times = [self._clock.first, self._clock.second] if self._clock else []
         times = times if self._is_white_left else times[::-1]
         self._report(" ".join([numbered(made.before, made.san), made.move, *map(str, times)]))
-        if not event.state.moves():
+        if not event.state.chess.can_move:
             self._end_by_rules(now)
 
     def _take_back(self, is_replaced: bool) -> None:
@@ -560,6 +560,6 @@ def _misplaced(shown: str, state: GameState, most: int) -> str:
 
 def _root(begun: GameState, first: MoveMade) -> GameState:
     """Returns the state in which a game began, once the first move has decided the side to move."""
-    if begun.moves().get(first.move) == first.state:
+    if begun.chess.is_legal(first.move) and begun.after(first.move) == first.state:
         return begun
     return GameState.place(begun.letters, not begun.white)

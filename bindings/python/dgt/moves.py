@@ -10,7 +10,8 @@ from dataclasses import dataclass, field, replace
 from functools import lru_cache, partial
 from typing import Self
 
-from .errors import BadFen
+from .chess import Colour, State
+from .errors import BadFen, Impossible
 from .rules import START_FEN, GameState
 from .values import Position, checked, seconds, square_number
 
@@ -80,10 +81,8 @@ class _Reading:
         return self.moves[-1][1] if self.moves else self.root
 
 
-@lru_cache(1024)
-def _replies(state: GameState) -> dict[str, tuple[str, GameState]]:
-    """Returns each legal move with the state after it, by the letters of that state."""
-    return {after.letters: (move, after) for move, after in state.moves().items()}
+_position = lru_cache(64)(Position.of_letters)
+_legal_moves = lru_cache(256)(State.moves)
 
 
 def _differing(one: str, other: str) -> list[int]:
@@ -92,8 +91,19 @@ def _differing(one: str, other: str) -> list[int]:
 
 def _one_move(state: GameState, shown: str) -> _Moves:
     """Returns the move that leads from a state to these letters, or nothing."""
-    reply = _replies(state).get(shown)
-    return (reply,) if reply else ()
+    move = state.chess.move_to(_position(shown))
+    return ((move, state.after(move)),) if move else ()
+
+
+def _moves_again(state: GameState, shown: str) -> bool:
+    """Returns whether a move of the side that isn't to move leads from a state to these letters.
+    None does if it gives check."""
+    turn = Colour.BLACK if state.white else Colour.WHITE
+    try:
+        other = State(state.chess.position, turn, state.castlings)
+    except Impossible:
+        return False
+    return other.move_to(_position(shown)) is not None
 
 
 def _two_moves(state: GameState, shown: str, put: Collection[tuple[int, str]]) -> _Moves:
@@ -105,8 +115,9 @@ def _two_moves(state: GameState, shown: str, put: Collection[tuple[int, str]]) -
     if not 2 <= len(changed) <= 8 or left in (left.upper(), left.lower()):
         return ()
     found: _Moves = ()
-    for move, middle in _replies(state).values():
-        if square_number(move[:2]) in changed and len(_differing(middle.letters, shown)) <= 4:
+    for move in _legal_moves(state.chess):
+        if square_number(move[:2]) in changed:
+            middle = state.after(move)
             if last := _one_move(middle, shown):
                 to = square_number(move[2:4])
                 if (to, middle.letters[to]) in put:
@@ -329,12 +340,12 @@ class MoveRecogniser:
         self._forget()
         self.hold()
         for base in last:
-            move, after = _replies(base.state).get(state.letters, ("", state))
             if (base.state.letters, base.state.white) == (state.letters, state.white):
                 self._roots, self._is_ahead = self._roots if self._moves else (state,), is_ahead
                 self._moves[-1:] = [(made, state) for made, _ in self._moves[-1:]]
                 return True
-            if move and after.white == state.white:
+            move = base.state.chess.move_to(state.chess.position)
+            if move and base.state.white != state.white:
                 self._take(_Reading(base.kept, base.root, ((move, state),)))
                 self._is_ahead = True
                 return True
@@ -450,8 +461,8 @@ class MoveRecogniser:
 
     def _is_early(self) -> bool:
         """Returns whether the side that moved last has moved again, before the answer."""
-        return any(_one_move(replace(base.state, white=not base.state.white, passed=None),
-                             self._shown) for base in self._bases([len(self._moves)]))
+        return any(_moves_again(base.state, self._shown)
+                   for base in self._bases([len(self._moves)]))
 
     def _has_changed_last(self, reading: _Reading) -> bool:
         """Returns whether the last change on the board belongs to the last move of a reading. A
@@ -521,7 +532,7 @@ class MoveRecogniser:
         *before, (move, _) = reading.moves
         state = before[-1][1] if before else reading.root
         castling = _HALVES.get(move)
-        if castling and castling in (legal for legal, _ in _replies(state).values()):
+        if castling and state.chess.is_legal(castling):
             return max(self._settle, _CASTLING_WAIT)
         if reading.kept < len(self._moves) - 1:
             return max(self._settle, _REPLACED_WAIT)

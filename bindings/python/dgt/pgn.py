@@ -7,7 +7,7 @@ from dataclasses import dataclass, field
 
 from .errors import BadValue
 from .rules import START_FEN, GameState
-from .values import Time, Times, checked, square_number
+from .values import Time, Times, checked
 
 RESULTS = ("1-0", "0-1", "1/2-1/2", "*")
 """The results of a game. `*` is a game that goes on, or was broken off."""
@@ -20,18 +20,6 @@ _TAGS = {"Event": "?", "Site": "?", "Date": "????.??.??", "Round": "?", "White":
 """The required tags and their texts for an unknown value. `Result` is the seventh."""
 
 
-def _origin(state: GameState, move: str) -> str:
-    """Returns what distinguishes a move's piece from others of its kind that can move there."""
-    letter = state.letters[square_number(move[:2])]
-    others = [other for other in state.moves() if other[2:] == move[2:] and other != move
-              and state.letters[square_number(other[:2])] == letter]
-    if not others:
-        return ""
-    if all(other[0] != move[0] for other in others):
-        return move[0]
-    return move[1] if all(other[1] != move[1] for other in others) else move[:2]
-
-
 def san(state: GameState, move: str) -> str:
     """Returns a legal move in short algebraic notation. `IllegalMove` if it isn't legal,
     `TypeError` if the state isn't one.
@@ -41,19 +29,7 @@ def san(state: GameState, move: str) -> str:
     >>> san(GameState.parse("3r3k/2P5/8/8/8/8/8/K7 w - - 0 1"), "c7d8n")
     'cxd8=N'
     """
-    after, to = checked(state, GameState).after(move), move[2:4]
-    kind = state.letters[square_number(move[:2])].upper()
-    takes = "x" if state.letters[square_number(to)] != "." else ""
-    if kind == "K" and move[0] == "e" and to[0] in "cg":
-        text = "O-O" if to[0] == "g" else "O-O-O"
-    elif kind == "P":
-        text = (f"{move[0]}x" if move[0] != to[0] else "") + to
-        text += f"={move[4].upper()}" if move[4:] else ""
-    else:
-        text = f"{kind}{_origin(state, move)}{takes}{to}"
-    if not after.check:
-        return text
-    return text + ("+" if after.moves() else "#")
+    return checked(state, GameState).chess.san(move)
 
 
 def numbered(state: GameState, text: str) -> str:

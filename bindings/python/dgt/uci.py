@@ -236,9 +236,9 @@ class Engine:
         assert state is not None
         # A program may send only a FEN: the changes then show the other side's move.
         if self._answered is not None:
-            for move, after in self._answered.moves().items():
-                if (after.letters, after.white) == (state.letters, state.white):
-                    self._other, before = move, self._answered.letters
+            move = self._answered.chess.move_to(state.chess.position)
+            if move and self._answered.white != state.white:
+                self._other, before = move, self._answered.letters
         self._turn = Turn(state, self._settle, before)
         self._turn.is_set_up = state.letters in self._was_shown
         if self.line is not None:

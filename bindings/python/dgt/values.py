@@ -22,6 +22,7 @@ SQUARES = tuple(f"{file}{rank}" for rank in "87654321" for file in "abcdefgh")
 _Kind = TypeVar("_Kind")
 _SQUARE_NUMBERS = {name: number for number, name in enumerate(SQUARES)}
 _PIECE_CODES = {letter: code for code, letter in enumerate(LETTERS)}
+_LETTER_BYTES = LETTERS.encode().ljust(256)
 
 
 def square_number(name: str) -> int:
@@ -39,6 +40,11 @@ def piece_code(letter: str) -> int:
         return _PIECE_CODES[letter]
     except (KeyError, TypeError):
         raise BadValue(f"not a piece: {letter!r}") from None
+
+
+def letters_of(codes: bytes) -> str:
+    """Returns the letters of valid codes."""
+    return codes.translate(_LETTER_BYTES).decode()
 
 
 def segment(character: str) -> int:
@@ -123,7 +129,7 @@ class Position(Sequence[str]):
     @property
     def letters(self) -> str:
         """The 64 letters, from a8 to h1."""
-        return "".join(LETTERS[code] for code in self.codes)
+        return letters_of(self.codes)
 
     def __getitem__(self, square: str | int | slice) -> str:
         if isinstance(square, slice):
