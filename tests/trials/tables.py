@@ -28,9 +28,6 @@ tee -a {room}/asked | {python} -m dgt uci "$@" | tee -a {room}/told
 """
 
 
-SQUARES = tuple(f"{file}{rank}" for rank in "87654321" for file in "abcdefgh")
-
-
 class Wrong(Exception):
     """Something is not as it should be."""
 
@@ -93,23 +90,6 @@ class Player(threading.Thread):
             time.sleep(0.02)
 
 
-def read_san(state, text):
-    """The move that a PGN gives in its short notation."""
-    text = text.rstrip("+#!?")
-    if text.startswith("O-O"):
-        rank = "1" if state.white else "8"
-        return f"e{rank}{'c' if text == 'O-O-O' else 'g'}{rank}"
-    kind, file, rank, to, becomes = re.fullmatch(
-        r"([KQRBN]?)([a-h]?)([1-8]?)x?([a-h][1-8])=?([QRBN]?)", text).groups()
-    board = dict(zip(SQUARES, state.letters.upper()))
-    found = [move for move in state.moves()
-             if move[2:4] == to and move[4:] == becomes.lower() and file in ("", move[0])
-             and rank in ("", move[1]) and board[move[:2]] == (kind or "P")]
-    if len(found) != 1:
-        raise Wrong(f"{text} in {state.fen} is one of {found}")
-    return found[0]
-
-
 def read_games(dgt, text):
     """Of each game of a PGN: its heads, the moves of the side that the board played, and how many
     moves there were."""
@@ -120,7 +100,7 @@ def read_games(dgt, text):
                  if word not in ("1-0", "0-1", "1/2-1/2", "*")]
         is_white, state, own = "DGT" in heads["White"], dgt.GameState.start(), []
         for word in moves:
-            move = read_san(state, word)
+            move = state.chess.parse_san(word, lenient=True)
             if state.white == is_white:
                 own.append(move)
             state = state.after(move)

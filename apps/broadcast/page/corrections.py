@@ -13,6 +13,7 @@ from dataclasses import dataclass, field, replace
 from typing import Any
 
 import dgt
+import dgt.chess
 
 import topics
 
@@ -27,8 +28,8 @@ LOOK = 1.0  # seconds between two looks at the time of a file
 MOST_FILE = 1 << 20  # bytes
 LOCAL = ("localhost", "127.0.0.1", "::1")
 WORDS = re.compile(r"\{([^}]*)\}|(\d+\.+|\S+)")
-SAN = re.compile(r"([KQRBN]?)([a-h]?)([1-8]?)[x:-]?([a-h])([1-8])(?:=?([QRBNqrbn]))?")
-CASTLINGS = {"O-O": ("e1g1", "e8g8"), "O-O-O": ("e1c1", "e8c8")}
+# The square to which a move goes, and what a pawn becomes.
+TARGET = re.compile(r"[x:-]?([a-h][1-8])(?:=?([QRBNqrbn]))?[+#]*$")
 Entry = dict[str, Any]
 
 
@@ -40,24 +41,18 @@ class Refused(Exception):
 
 
 def named(state: dgt.GameState, word: str) -> str:
-    """The legal move of a word in short or long notation."""
-    plain = word.rstrip("+#!?").replace("0", "O")
-    found = SAN.fullmatch(plain)
-    if plain in CASTLINGS:
-        fits = [CASTLINGS[plain][not state.white]]
-        fits = [each for each in fits if state.letters[dgt.SQUARES.index(each[:2])] in "Kk"]
-    elif found:
-        piece, *parts = found.groups()
-        pattern = re.compile("".join(each or "." for each in parts[:4]) + (parts[4] or "").lower())
-        fits = [each for each in state.moves() if pattern.fullmatch(each) and (
-            state.letters[dgt.SQUARES.index(each[:2])].upper() == (piece or "P")
-            or not piece and parts[0] and parts[1])]
-    else:
-        fits = []
-    fits = [each for each in fits if each in state.moves()]
-    if len(fits) == 1:
-        return fits[0]
-    why = "may be several moves" if fits else "is not a legal move"
+    """The legal move of a word in short or long notation. A capture may be written without `x`."""
+    plain, why = word.rstrip("!?"), "is not a legal move"
+    long = TARGET.sub(lambda found: found[1] + (found[2] or "").lower(), plain)
+    if state.chess.is_legal(long):
+        return long
+    for x in "", "x":
+        text = TARGET.sub(lambda found: x + found[1] + (found[2] or "").upper(), plain)
+        try:
+            return state.chess.parse_san(text, lenient=True)
+        except dgt.BadSan as fault:
+            if fault.why == dgt.chess.SanFault.AMBIGUOUS:
+                why = "may be several moves"
     raise Refused(f"{word} {why} at {state.number}{'.' if state.white else '...'}")
 
 
