@@ -1216,6 +1216,9 @@ uint8_t dgt_segment(uint8_t character);
 #define DGT_CHESS_FEN_ROOM 96 /* room for the FEN of any state and its final zero byte */
 #define DGT_CHESS_SAN_ROOM 16 /* the same for the text of any move */
 
+/* No attribute says that a call reads or writes a state: gcc 12 takes one for its first member, and
+ * would warn of the others. */
+
 /* dgt_chess_state.turn */
 enum {
     DGT_CHESS_WHITE = 0,
@@ -1267,15 +1270,15 @@ enum {
 };
 
 /* Writes the state in which a game begins. */
-void dgt_chess_start(dgt_chess_state *state) DGT_NONNULL_(1) DGT_WRITES_(1);
+void dgt_chess_start(dgt_chess_state *state) DGT_NONNULL_(1);
 
 /* Returns DGT_CHESS_DONE if a game may reach the state, and otherwise why none does: 1 to 8. */
 uint8_t dgt_chess_check(const dgt_chess_state *state)
-    DGT_MUST_USE_ DGT_NONNULL_(1) DGT_READS_(1);
+    DGT_MUST_USE_ DGT_NONNULL_(1);
 
 /* Whether a move of the side to move is legal. */
 bool dgt_chess_is_legal(const dgt_chess_state *state, const dgt_chess_move *move)
-    DGT_NONNULL_(1, 2) DGT_READS_(1) DGT_READS_(2);
+    DGT_NONNULL_(1, 2) DGT_READS_(2);
 
 /* Makes a legal move. Returns false for any other, and then writes nothing. */
 bool dgt_chess_play(dgt_chess_state *state, const dgt_chess_move *move)
@@ -1284,35 +1287,35 @@ bool dgt_chess_play(dgt_chess_state *state, const dgt_chess_move *move)
 /* The squares to which the pieces may move: bit n of goals[from] is set if a legal move goes from
  * there to square n. Returns false and writes nothing if the state isn't one of a game. */
 bool dgt_chess_goals(const dgt_chess_state *state, uint64_t goals[64])
-    DGT_MUST_USE_ DGT_NONNULL_(1, 2) DGT_READS_(1) DGT_WRITES_(2);
+    DGT_MUST_USE_ DGT_NONNULL_(1, 2) DGT_WRITES_(2);
 
 /* Writes the legal move that leads to these pieces; there is only one. Returns false and writes
  * nothing if there is none. */
 bool dgt_chess_move_to(const dgt_chess_state *state, const uint8_t pieces[64], dgt_chess_move *move)
-    DGT_MUST_USE_ DGT_NONNULL_(1, 2, 3) DGT_READS_(1) DGT_READS_(2) DGT_WRITES_(3);
+    DGT_MUST_USE_ DGT_NONNULL_(1, 2, 3) DGT_READS_(2) DGT_WRITES_(3);
 
 /* Whether the side to move is in check, has a legal move, is checkmated, or has no legal move and
  * isn't in check. */
-bool dgt_chess_is_check(const dgt_chess_state *state) DGT_NONNULL_(1) DGT_READS_(1);
-bool dgt_chess_can_move(const dgt_chess_state *state) DGT_NONNULL_(1) DGT_READS_(1);
-bool dgt_chess_is_mate(const dgt_chess_state *state) DGT_NONNULL_(1) DGT_READS_(1);
-bool dgt_chess_is_stalemate(const dgt_chess_state *state) DGT_NONNULL_(1) DGT_READS_(1);
+bool dgt_chess_is_check(const dgt_chess_state *state) DGT_NONNULL_(1);
+bool dgt_chess_can_move(const dgt_chess_state *state) DGT_NONNULL_(1);
+bool dgt_chess_is_mate(const dgt_chess_state *state) DGT_NONNULL_(1);
+bool dgt_chess_is_stalemate(const dgt_chess_state *state) DGT_NONNULL_(1);
 
 /* Whether no moves can lead to checkmate, because only kings are left, or also one knight, or also
  * bishops that all stand on squares of one colour. Other such positions aren't found. */
-bool dgt_chess_is_dead(const dgt_chess_state *state) DGT_NONNULL_(1) DGT_READS_(1);
+bool dgt_chess_is_dead(const dgt_chess_state *state) DGT_NONNULL_(1);
 
 /* Whether the last 50 moves of each side moved no pawn and captured nothing: the side to move may
  * claim a draw. */
-bool dgt_chess_is_fifty_moves(const dgt_chess_state *state) DGT_NONNULL_(1) DGT_READS_(1);
+bool dgt_chess_is_fifty_moves(const dgt_chess_state *state) DGT_NONNULL_(1);
 
 /* Whether the last 75 moves of each side did: a draw, unless the last one was checkmate. */
-bool dgt_chess_is_seventy_five_moves(const dgt_chess_state *state) DGT_NONNULL_(1) DGT_READS_(1);
+bool dgt_chess_is_seventy_five_moves(const dgt_chess_state *state) DGT_NONNULL_(1);
 
 /* Whether two states have the same position with the same side to move, in which the same moves are
  * possible. If three states of a game do, the side to move may claim a draw. */
 bool dgt_chess_is_repeated(const dgt_chess_state *state, const dgt_chess_state *other)
-    DGT_NONNULL_(1, 2) DGT_READS_(1) DGT_READS_(2);
+    DGT_NONNULL_(1, 2);
 
 typedef struct dgt_chess_fen_read {
     uint8_t status; /* DGT_CHESS_DONE, 1 to 7 or DGT_CHESS_BAD_TEXT */
@@ -1326,31 +1329,31 @@ typedef struct dgt_chess_fen_read {
  * else. Numbers have no leading zeros. The passed square may be given whether or not a pawn can
  * capture there. Writes nothing unless the status is DGT_CHESS_DONE. */
 dgt_chess_fen_read dgt_chess_parse_fen(const char *text, size_t n, dgt_chess_state *state)
-    DGT_MUST_USE_ DGT_NONNULL_(3) DGT_READS_(1, 2) DGT_WRITES_(3);
+    DGT_MUST_USE_ DGT_NONNULL_(3) DGT_READS_(1, 2);
 
 /* Writes the state in this notation, with a final zero byte. The passed square is written only if a
  * legal move captures the pawn there. */
 bool dgt_chess_fen(const dgt_chess_state *state, char text[DGT_CHESS_FEN_ROOM])
-    DGT_MUST_USE_ DGT_NONNULL_(1, 2) DGT_READS_(1) DGT_WRITES_(2);
+    DGT_MUST_USE_ DGT_NONNULL_(1, 2) DGT_WRITES_(2);
 
 /* Writes a legal move in Standard Algebraic Notation, as PGN files contain it, with a final zero
  * byte. Returns false and writes nothing for any other move. */
 bool dgt_chess_san(const dgt_chess_state *state, const dgt_chess_move *move,
                    char text[DGT_CHESS_SAN_ROOM])
-    DGT_MUST_USE_ DGT_NONNULL_(1, 2, 3) DGT_READS_(1) DGT_READS_(2) DGT_WRITES_(3);
+    DGT_MUST_USE_ DGT_NONNULL_(1, 2, 3) DGT_READS_(2) DGT_WRITES_(3);
 
 /* Writes the legal move whose text dgt_chess_san writes so. Returns a status; unless it is
  * DGT_CHESS_DONE, nothing is written. */
 uint8_t dgt_chess_parse_san(const dgt_chess_state *state, const char *text, size_t n,
                             dgt_chess_move *move)
-    DGT_MUST_USE_ DGT_NONNULL_(1, 4) DGT_READS_(1) DGT_READS_(2, 3) DGT_WRITES_(4);
+    DGT_MUST_USE_ DGT_NONNULL_(1, 4) DGT_READS_(2, 3) DGT_WRITES_(4);
 
 /* The same for texts of other programs, if only one legal move fits. The sign of check or mate may
  * be missing, and so may the = of a promotion. The file and the rank that the move leaves are each
  * written or left out. Castling is written with the letter O or with zeros. */
 uint8_t dgt_chess_parse_san_leniently(const dgt_chess_state *state, const char *text, size_t n,
                                       dgt_chess_move *move)
-    DGT_MUST_USE_ DGT_NONNULL_(1, 4) DGT_READS_(1) DGT_READS_(2, 3) DGT_WRITES_(4);
+    DGT_MUST_USE_ DGT_NONNULL_(1, 4) DGT_READS_(2, 3) DGT_WRITES_(4);
 
 /* ---- The library's sizes. If they differ, this is another platform. */
 
