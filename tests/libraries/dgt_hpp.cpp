@@ -345,6 +345,60 @@ void names() {
     CHECK(time.blocked() && !time.per_move() && time.fallen());
 }
 
+/// The exception of a call, if it throws one of this kind.
+template <class Error, class Call> std::optional<Error> thrown(Call &&call) {
+    try {
+        call();
+    } catch (const Error &error) {
+        return error;
+    }
+    return std::nullopt;
+}
+
+// tests/libraries/chess_rules contains rows of moves and texts.
+void chess() {
+    using namespace dgt::chess;
+    const State start = State::start();
+    const Move e4{dgt::Square("e2"), dgt::Square("e4")};
+    CHECK(start.fen() == std::string(START) + " w KQkq - 0 1" && start == State(start.fen()));
+    CHECK(start.position() == dgt::Position(START) && start.turn() == Colour::white);
+    CHECK(start.rights() == Rights{true, true, true, true} && start.rights() != Rights{});
+    CHECK(!start.passed() && start.half_moves() == 0 && start.number() == 1);
+    CHECK(start == State(start.position(), Colour::white, start.rights()));
+
+    CHECK(start.is_legal(e4) && start.san(e4) == "e4" && start.parse_san("e4") == e4);
+    CHECK(start.goals()[52] == ((UINT64_C(1) << 36) | (UINT64_C(1) << 44)));
+    const State after = start.play(e4);
+    CHECK(after.passed() == dgt::Square("e3") && after.turn() == Colour::black && after != start);
+    CHECK(start.move_to(after.position()) == e4 && !after.move_to(start.position()));
+    CHECK(!after.is_legal(e4) && throws<IllegalMove>([&] { after.play(e4); }));
+    CHECK(throws<IllegalMove>([&] { after.san(e4); }));
+    CHECK(start.parse_san_leniently("Ng1f3") == start.parse_san("Nf3"));
+    CHECK(thrown<BadSan>([&] { start.parse_san("e5"); })->why() == SanFault::no_move);
+    CHECK(thrown<BadSan>([&] { start.parse_san("e9"); })->why() == SanFault::bad_text);
+    const State rooks("R6R/8/8/8/8/8/1k6/4K3 w - - 100 9");
+    CHECK(thrown<BadSan>([&] { rooks.parse_san_leniently("Rd8"); })->why() == SanFault::ambiguous);
+
+    const State promoting("7k/P7/8/8/8/8/8/K7 w - - 0 1");
+    const Move queen = promoting.parse_san("a8=Q+");
+    CHECK(queen.promotion == Man::queen && queen != promoting.parse_san("a8=N"));
+    CHECK(promoting.play(queen).fen() == "Q6k/8/8/8/8/8/8/K7 b - - 0 1");
+    CHECK(promoting.play(queen).is_check() && promoting.can_move() && !promoting.is_dead());
+    CHECK(State("7k/6Q1/6K1/8/8/8/8/8 b - - 0 1").is_mate());
+    CHECK(State("7k/5Q2/6K1/8/8/8/8/8 b - - 0 1").is_stalemate());
+    CHECK(State("7k/8/6K1/8/8/8/8/8 b - - 0 1").is_dead());
+    CHECK(rooks.is_fifty_moves() && !rooks.is_seventy_five_moves());
+    CHECK(rooks.is_repeated(rooks) && rooks.repetitions({rooks, start, rooks}) == 2);
+
+    auto fen = thrown<BadFen>([] { State("4k3/8/8/8/8/8/8/4K3 w - e9 0 1"); });
+    CHECK(fen->field() == FenField::passed && fen->at() == 25);
+    CHECK(thrown<Impossible>([] { State("8/8/8/8/8/8/8/8 w - - 0 1"); })->why() == Why::bad_kings);
+    auto number = [&] { State(start.position(), Colour::white, {}, {}, 0, 0); };
+    CHECK(thrown<Impossible>(number)->why() == Why::bad_number && refuses(number));
+    auto turn = [&] { State(start.position(), static_cast<Colour>(2), {}); };
+    CHECK(thrown<Impossible>(turn)->why() == Why::bad_member);
+}
+
 /* What only a later library reports is read as dgt.h says. */
 void later_kinds() {
     dgt_event event{};
@@ -815,6 +869,7 @@ int main(int count, char **words) {
     values();
     encodings();
     names();
+    chess();
     later_kinds();
     hosts();
     clock_commands(dgt::Host());

@@ -41,6 +41,7 @@
 #include <chrono>
 #include <cstddef>
 #include <cstdint>
+#include <cstring>
 #include <optional>
 #include <stdexcept>
 #include <string>
@@ -1364,6 +1365,271 @@ private:
 
     dgt_board board_;
 };
+
+// ---- The rules of chess.
+
+namespace chess {
+
+enum class Colour : std::uint8_t { white = DGT_CHESS_WHITE, black = DGT_CHESS_BLACK };
+
+enum class Man : std::uint8_t { pawn = 1, rook, knight, bishop, king, queen };
+
+/// A move of the side to move. A castling is the move of its king.
+struct Move {
+    Square from, to;
+    std::optional<Man> promotion = std::nullopt; ///< what a pawn becomes
+
+    friend bool operator==(const Move &a, const Move &b) {
+        return a.from == b.from && a.to == b.to && a.promotion == b.promotion;
+    }
+    friend bool operator!=(const Move &a, const Move &b) { return !(a == b); }
+};
+
+/// Which castlings no earlier move of a king or a rook has ruled out.
+struct Rights {
+    bool white_short = false, white_long = false, black_short = false, black_long = false;
+
+    friend bool operator==(const Rights &a, const Rights &b) {
+        return a.white_short == b.white_short && a.white_long == b.white_long &&
+               a.black_short == b.black_short && a.black_long == b.black_long;
+    }
+    friend bool operator!=(const Rights &a, const Rights &b) { return !(a == b); }
+};
+
+/// Why no game reaches a state.
+enum class Why : std::uint8_t {
+    bad_kings = DGT_CHESS_BAD_KINGS,
+    extra_piece = DGT_CHESS_EXTRA_PIECE,
+    bad_pawn = DGT_CHESS_BAD_PAWN,
+    in_check = DGT_CHESS_IN_CHECK,
+    bad_rights = DGT_CHESS_BAD_RIGHTS,
+    bad_passed = DGT_CHESS_BAD_PASSED,
+    bad_number = DGT_CHESS_BAD_NUMBER,
+    bad_member = DGT_CHESS_BAD_MEMBER ///< a cast has made a value that its type doesn't list
+};
+
+/// No game reaches a state.
+class Impossible : public std::invalid_argument {
+public:
+    explicit Impossible(Why why)
+        : std::invalid_argument("no game reaches this state"), why_(why) {}
+
+    /// The first reason that holds.
+    Why why() const noexcept { return why_; }
+
+private:
+    Why why_;
+};
+
+/// The fields of a FEN, in their order.
+enum class FenField : std::uint8_t { placement, turn, rights, passed, half_moves, number };
+
+/// A text is not a FEN.
+class BadFen : public std::invalid_argument {
+public:
+    BadFen(std::string_view text, FenField field, std::size_t at)
+        : std::invalid_argument("not a FEN: '" + std::string(text) + "'"), field_(field), at_(at) {}
+
+    /// The field that is wrong.
+    FenField field() const noexcept { return field_; }
+
+    /// The offset of the first wrong character, or the length of the text.
+    std::size_t at() const noexcept { return at_; }
+
+private:
+    FenField field_;
+    std::size_t at_;
+};
+
+/// A move is not legal.
+class IllegalMove : public std::invalid_argument {
+public:
+    IllegalMove() : std::invalid_argument("the move is not legal") {}
+};
+
+/// Why a text is not that of a legal move.
+enum class SanFault : std::uint8_t {
+    bad_text = DGT_CHESS_BAD_TEXT,
+    no_move = DGT_CHESS_NO_MOVE,
+    ambiguous = DGT_CHESS_AMBIGUOUS
+};
+
+/// A text is not that of a legal move.
+class BadSan : public std::invalid_argument {
+public:
+    BadSan(std::string_view text, SanFault why)
+        : std::invalid_argument("not a legal move: '" + std::string(text) + "'"), why_(why) {}
+
+    SanFault why() const noexcept { return why_; }
+
+private:
+    SanFault why_;
+};
+
+/// The state of a game: a position, the side to move, and what the rules remember of earlier moves.
+/// It is always one that a game may reach (see dgt_chess_state in dgt.h).
+class State {
+public:
+    /// Of these parts, as the functions of these names return them. Throws Impossible.
+    State(const Position &position, Colour turn, const Rights &rights,
+          std::optional<Square> passed = std::nullopt, std::uint16_t half_moves = 0,
+          std::uint16_t number = 1)
+        : state_{} {
+        std::copy(position.codes().begin(), position.codes().end(), std::begin(state_.pieces));
+        const bool may[] = {rights.white_short, rights.white_long, rights.black_short,
+                            rights.black_long};
+        std::copy(std::begin(may), std::end(may), std::begin(state_.rights));
+        state_.turn = static_cast<std::uint8_t>(turn);
+        state_.passed = passed ? passed->number() : std::uint8_t{DGT_NO_SUCH};
+        state_.half_moves = half_moves, state_.number = number;
+        if (auto why = dgt_chess_check(&state_); why != DGT_CHESS_DONE)
+            throw Impossible(static_cast<Why>(why));
+    }
+
+    /// Of a text in Forsyth-Edwards Notation. Throws BadFen, and Impossible.
+    explicit State(std::string_view fen) : state_{} {
+        auto read = dgt_chess_parse_fen(fen.data(), fen.size(), &state_);
+        if (read.status == DGT_CHESS_BAD_TEXT)
+            throw BadFen(fen, static_cast<FenField>(read.field), read.at);
+        if (read.status != DGT_CHESS_DONE) throw Impossible(static_cast<Why>(read.status));
+    }
+
+    /// The state in which a game begins.
+    static State start() {
+        State state;
+        dgt_chess_start(&state.state_);
+        return state;
+    }
+
+    Position position() const { return Position(detail::copied(state_.pieces)); }
+    Colour turn() const noexcept { return static_cast<Colour>(state_.turn); }
+
+    /// The castlings that no earlier move has ruled out.
+    Rights rights() const noexcept {
+        return {state_.rights[0] != 0, state_.rights[1] != 0, state_.rights[2] != 0,
+                state_.rights[3] != 0};
+    }
+
+    /// The square that a pawn passed over by a double step in the last move, whether or not it can
+    /// be captured there.
+    std::optional<Square> passed() const {
+        if (state_.passed == DGT_NO_SUCH) return std::nullopt;
+        return Square(state_.passed);
+    }
+
+    /// The moves of either side since the last capture or move of a pawn, or 65535 if there are
+    /// more.
+    std::uint16_t half_moves() const noexcept { return state_.half_moves; }
+
+    /// The number of the move: 1 at the beginning, and one more after each move of Black. It ends
+    /// at 65535.
+    std::uint16_t number() const noexcept { return state_.number; }
+
+    bool is_legal(const Move &move) const {
+        dgt_chess_move written = write(move);
+        return dgt_chess_is_legal(&state_, &written);
+    }
+
+    /// The state after a move. Throws IllegalMove.
+    State play(const Move &move) const {
+        State after = *this;
+        dgt_chess_move written = write(move);
+        if (!dgt_chess_play(&after.state_, &written)) throw IllegalMove();
+        return after;
+    }
+
+    /// The squares to which legal moves go from each square: bit n of its number is set if one goes
+    /// to square n.
+    std::array<std::uint64_t, 64> goals() const {
+        std::array<std::uint64_t, 64> goals{}; // a state is never refused
+        if (!dgt_chess_goals(&state_, goals.data())) goals.fill(0);
+        return goals;
+    }
+
+    /// The legal move that leads to a position, if there is one.
+    std::optional<Move> move_to(const Position &position) const {
+        dgt_chess_move move;
+        if (!dgt_chess_move_to(&state_, position.codes().data(), &move)) return std::nullopt;
+        return read(move);
+    }
+
+    /// Whether the side to move is in check, has a legal move, is checkmated, or has no legal move
+    /// and isn't in check.
+    bool is_check() const { return dgt_chess_is_check(&state_); }
+    bool can_move() const { return dgt_chess_can_move(&state_); }
+    bool is_mate() const { return dgt_chess_is_mate(&state_); }
+    bool is_stalemate() const { return dgt_chess_is_stalemate(&state_); }
+
+    /// Whether the game is drawn, or the side to move may claim a draw (see dgt.h).
+    bool is_dead() const { return dgt_chess_is_dead(&state_); }
+    bool is_fifty_moves() const { return dgt_chess_is_fifty_moves(&state_); }
+    bool is_seventy_five_moves() const { return dgt_chess_is_seventy_five_moves(&state_); }
+
+    /// Whether the other state has the same position, in which the same moves are possible.
+    bool is_repeated(const State &other) const {
+        return dgt_chess_is_repeated(&state_, &other.state_);
+    }
+
+    /// How many of these states have. If three of a game do, the side to move may claim a draw.
+    std::size_t repetitions(const std::vector<State> &history) const {
+        auto count = std::count_if(history.begin(), history.end(),
+                                   [this](const State &other) { return is_repeated(other); });
+        return static_cast<std::size_t>(count);
+    }
+
+    /// The text in Forsyth-Edwards Notation. The passed square is written only if a legal move
+    /// captures the pawn there.
+    std::string fen() const {
+        char text[DGT_CHESS_FEN_ROOM] = "";
+        return dgt_chess_fen(&state_, text) ? text : ""; // a state is never refused
+    }
+
+    /// The text of a move in Standard Algebraic Notation. Throws IllegalMove.
+    std::string san(const Move &move) const {
+        char text[DGT_CHESS_SAN_ROOM];
+        dgt_chess_move written = write(move);
+        if (!dgt_chess_san(&state_, &written, text)) throw IllegalMove();
+        return text;
+    }
+
+    /// The legal move that `san` writes so. Throws BadSan.
+    Move parse_san(std::string_view text) const { return parsed(dgt_chess_parse_san, text); }
+
+    /// The same for texts of other programs (see dgt.h). Throws BadSan.
+    Move parse_san_leniently(std::string_view text) const {
+        return parsed(dgt_chess_parse_san_leniently, text);
+    }
+
+    friend bool operator==(const State &a, const State &b) {
+        return std::memcmp(&a.state_, &b.state_, sizeof a.state_) == 0;
+    }
+    friend bool operator!=(const State &a, const State &b) { return !(a == b); }
+
+private:
+    State() : state_{} {}
+
+    static dgt_chess_move write(const Move &move) {
+        std::uint8_t promotion = move.promotion ? static_cast<std::uint8_t>(*move.promotion) : 0;
+        return {move.from.number(), move.to.number(), promotion, 0};
+    }
+
+    static Move read(const dgt_chess_move &move) {
+        auto man = static_cast<Man>(move.promotion);
+        auto promotion = move.promotion == 0 ? std::nullopt : std::optional(man);
+        return {Square(move.from), Square(move.to), promotion};
+    }
+
+    template <class Parse> Move parsed(Parse parse, std::string_view text) const {
+        dgt_chess_move move;
+        std::uint8_t status = parse(&state_, text.data(), text.size(), &move);
+        if (status != DGT_CHESS_DONE) throw BadSan(text, static_cast<SanFault>(status));
+        return read(move);
+    }
+
+    dgt_chess_state state_;
+};
+
+} // namespace chess
 
 } // namespace dgt
 

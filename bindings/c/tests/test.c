@@ -1160,6 +1160,138 @@ static void no_bytes_of_boards(void) {
     free(reader), free(board);
 }
 
+/* ---- The rules of chess. tests/libraries/chess_rules contains rows. */
+
+static const char KIWIPETE[] =
+    "r3k2r/p1ppqpb1/bn2pnp1/3PN3/1p2P3/2N2Q1p/PPPBBPPP/R3K2R w KQkq - 0 1";
+
+/* Bytes that make another struct of the initial position, and why no game reaches that. */
+static const struct { size_t at; uint8_t byte, status; } STRUCTS[] = {
+    {60, 0, DGT_CHESS_BAD_KINGS},
+    {36, 13, DGT_CHESS_EXTRA_PIECE},
+    {0, 7, DGT_CHESS_BAD_PAWN},
+    {12, 6, DGT_CHESS_IN_CHECK},
+    {63, 0, DGT_CHESS_BAD_RIGHTS},
+    {offsetof(dgt_chess_state, passed), 44, DGT_CHESS_BAD_PASSED},
+    {offsetof(dgt_chess_state, number), 0, DGT_CHESS_BAD_NUMBER},
+    {36, 16, DGT_CHESS_BAD_MEMBER},
+    {offsetof(dgt_chess_state, turn), 2, DGT_CHESS_BAD_MEMBER},
+    {offsetof(dgt_chess_state, rights), 2, DGT_CHESS_BAD_MEMBER},
+    {offsetof(dgt_chess_state, passed), 64, DGT_CHESS_BAD_MEMBER},
+    {offsetof(dgt_chess_state, reserved), 1, DGT_CHESS_BAD_MEMBER},
+};
+
+static dgt_chess_fen_read read_fen(const char *text, dgt_chess_state *state) {
+    size_t n = strlen(text);
+    char *given = (char *)copy(text, n);
+    dgt_chess_fen_read read = dgt_chess_parse_fen(given, n, state);
+    free(given);
+    return read;
+}
+
+/* Counts the sequences of `depth` legal moves. */
+static size_t perft(const dgt_chess_state *state, int depth) {
+    uint64_t goals[64];
+    size_t count = 0;
+    CHECK(dgt_chess_goals(state, goals));
+    for (int number = 0; number < 64 * 64; number++) {
+        uint8_t from = (uint8_t)(number / 64), to = (uint8_t)(number % 64);
+        if (!(goals[from] >> to & 1)) continue;
+        for (uint8_t piece = 0; piece <= 6; piece++) {
+            dgt_chess_move move = {from, to, piece, 0};
+            dgt_chess_state after = *state;
+            if (!dgt_chess_is_legal(state, &move)) continue;
+            CHECK(dgt_chess_play(&after, &move));
+            count += depth == 1 ? 1 : perft(&after, depth - 1);
+        }
+    }
+    return count;
+}
+
+/* A refused text leaves what a call would write. */
+static void chess_texts(void) {
+    dgt_chess_state *state = room(sizeof *state), *before = room(sizeof *before);
+    dgt_chess_move *move = room(sizeof *move);
+    dgt_chess_fen_read read = read_fen("4k3/8/8/8/8/8/8/4K3 w - e9 0 1", state);
+    CHECK(read.status == DGT_CHESS_BAD_TEXT && read.field == 3 && read.at == 25);
+    read = read_fen("4k3/8/8/8/8/8/8/8 w - - 0 1", state);
+    CHECK(read.status == DGT_CHESS_BAD_KINGS && read.field == 0 && read.at == 0);
+    CHECK(read_fen("\xff", state).status == DGT_CHESS_BAD_TEXT);
+    CHECK(dgt_chess_parse_fen(NULL, 0, state).status == DGT_CHESS_BAD_TEXT);
+    CHECK(!memcmp(state, before, sizeof *state));
+
+    CHECK(read_fen("R6R/8/8/8/8/8/1k6/4K3 w - - 0 1", state).status == DGT_CHESS_DONE);
+    CHECK(dgt_chess_parse_san(state, NULL, 0, move) == DGT_CHESS_BAD_TEXT);
+    CHECK(dgt_chess_parse_san(state, "Rd8\xff", 4, move) == DGT_CHESS_BAD_TEXT);
+    CHECK(dgt_chess_parse_san(state, "O-O", 3, move) == DGT_CHESS_NO_MOVE);
+    CHECK(dgt_chess_parse_san(state, "Rd8", 3, move) == DGT_CHESS_NO_MOVE);
+    CHECK(dgt_chess_parse_san_leniently(state, "Rd8", 3, move) == DGT_CHESS_AMBIGUOUS);
+    CHECK(move->from == 0xa5 && move->reserved == 0xa5);
+    CHECK(dgt_chess_parse_san_leniently(state, "Ra8d8", 5, move) == DGT_CHESS_DONE);
+    CHECK(move->from == 0 && move->to == 3 && move->reserved == 0);
+    free(state), free(before), free(move);
+}
+
+/* No call makes anything of a struct that isn't a state of a game. */
+static void no_states(void) {
+    dgt_chess_state *state = room(sizeof *state), start;
+    dgt_chess_move *move = room(sizeof *move), made = {52, 36, 0, 0};
+    uint64_t *goals = room(64 * sizeof *goals);
+    char *text = room(DGT_CHESS_FEN_ROOM);
+    dgt_chess_start(&start);
+    for (size_t each = 0; each < sizeof STRUCTS / sizeof *STRUCTS; each++) {
+        uint8_t bytes[sizeof *state], status = STRUCTS[each].status;
+        memcpy(bytes, &start, sizeof bytes);
+        bytes[STRUCTS[each].at] = STRUCTS[each].byte;
+        memcpy(state, bytes, sizeof bytes);
+        CHECK(dgt_chess_check(state) == status);
+        CHECK(!dgt_chess_is_legal(state, &made) && !dgt_chess_play(state, &made));
+        CHECK(!dgt_chess_goals(state, goals) && !dgt_chess_move_to(state, start.pieces, move));
+        CHECK(!dgt_chess_is_check(state) && !dgt_chess_can_move(state));
+        CHECK(!dgt_chess_is_mate(state) && !dgt_chess_is_stalemate(state));
+        CHECK(!dgt_chess_is_dead(state) && !dgt_chess_is_fifty_moves(state));
+        CHECK(!dgt_chess_is_seventy_five_moves(state));
+        CHECK(!dgt_chess_is_repeated(state, &start) && !dgt_chess_is_repeated(&start, state));
+        CHECK(!dgt_chess_fen(state, text) && !dgt_chess_san(state, &made, text));
+        CHECK(dgt_chess_parse_san(state, "e4", 2, move) == status);
+        CHECK(dgt_chess_parse_san_leniently(state, "e4", 2, move) == status);
+        CHECK(!memcmp(state, bytes, sizeof bytes) && move->from == 0xa5 && text[0] == '\xa5');
+        CHECK(goals[0] == UINT64_C(0xa5a5a5a5a5a5a5a5));
+    }
+    free(state), free(move), free(goals), free(text);
+}
+
+static void chess(void) {
+    dgt_chess_state *state = room(sizeof *state), *after = room(sizeof *after);
+    dgt_chess_move *move = room(sizeof *move);
+    char *fen = room(DGT_CHESS_FEN_ROOM), *san = room(DGT_CHESS_SAN_ROOM);
+    dgt_chess_start(state);
+    CHECK(dgt_chess_check(state) == DGT_CHESS_DONE && dgt_chess_can_move(state));
+    CHECK(perft(state, 1) == 20 && perft(state, 2) == 400 && perft(state, 3) == 8902);
+    CHECK(dgt_chess_fen(state, fen));
+    CHECK(!strcmp(fen, "rnbqkbnr/pppppppp/8/8/8/8/PPPPPPPP/RNBQKBNR w KQkq - 0 1"));
+    CHECK(read_fen(fen, after).status == DGT_CHESS_DONE && !memcmp(state, after, sizeof *state));
+
+    CHECK(dgt_chess_parse_san(state, "e4", 2, move) == DGT_CHESS_DONE);
+    CHECK(move->from == 52 && move->to == 36 && move->promotion == 0 && move->reserved == 0);
+    CHECK(dgt_chess_san(state, move, san) && !strcmp(san, "e4"));
+    CHECK(dgt_chess_play(after, move) && after->passed == 44 && after->turn == DGT_CHESS_BLACK);
+    CHECK(!dgt_chess_play(after, move) && !dgt_chess_is_repeated(state, after));
+    memset(move, 0xa5, sizeof *move);
+    CHECK(!dgt_chess_move_to(state, state->pieces, move) && move->to == 0xa5);
+    CHECK(dgt_chess_move_to(state, after->pieces, move) && move->from == 52 && move->to == 36);
+    CHECK(dgt_chess_fen(after, fen)); /* no pawn captures on e3 */
+    CHECK(!strcmp(fen, "rnbqkbnr/pppppppp/8/8/4P3/8/PPPP1PPP/RNBQKBNR b KQkq - 0 1"));
+    for (uint8_t wrong = 1; wrong < 8; wrong++) { /* no pawn becomes anything on e4 */
+        move->promotion = wrong;
+        CHECK(!dgt_chess_is_legal(state, move) && !dgt_chess_san(state, move, san));
+    }
+
+    CHECK(read_fen(KIWIPETE, state).status == DGT_CHESS_DONE);
+    CHECK(perft(state, 1) == 48 && perft(state, 2) == 2039 && perft(state, 3) == 97862);
+    free(state), free(after), free(move), free(fen), free(san);
+}
+
 static void all_calls(void) {
     CHECK(dgt_version() == DGT_VERSION);
     CHECK(sizeof(dgt_host) == dgt_host_size() && sizeof(dgt_decoder) == dgt_decoder_size());
@@ -1188,6 +1320,9 @@ static void all_calls(void) {
     differing();
     helpers();
     names();
+    chess();
+    chess_texts();
+    no_states();
     no_bytes_of_hosts();
     no_bytes_for_commands();
     no_bytes_of_followers();
