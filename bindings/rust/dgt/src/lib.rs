@@ -1,5 +1,5 @@
 //! A host, a follower, a decoder, a decoder of commands and a board for DGT electronic chess
-//! boards.
+//! boards, and the rules of chess.
 //!
 //! | Type | What it does |
 //! |---|---|
@@ -8,6 +8,7 @@
 //! | [`Decoder`] | reads a board's bytes, and keeps no picture |
 //! | [`Board`] | simulates a board, so that a host can be tested without one |
 //! | [`CommandDecoder`] | reads a host's bytes |
+//! | [`chess::State`] | a state of a game: its legal moves, and the state after each |
 //!
 //! None of them opens a line, waits or allocates memory: you pass the received bytes in chunks of
 //! any length, and send the bytes that a call wrote into your slice. With the feature `std`, which

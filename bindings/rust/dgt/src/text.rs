@@ -1,6 +1,7 @@
 //! Values as text. Messages, commands and events have the texts of the lines of `dgt monitor` and
 //! `dgt commands`, without their offsets.
 
+use crate::chess::State;
 use crate::{
     BodyFault, Clock, ClockAck, ClockCommand, Command, CommandEvent, Event, Message, NoClock,
     Piece, Position, Reading, SevenBit, Square, Times, segment,
@@ -38,6 +39,13 @@ impl Display for Position {
     /// The placement, the first field of a FEN.
     fn fmt(&self, f: &mut Formatter<'_>) -> fmt::Result {
         f.pad(self.placement().as_str())
+    }
+}
+
+impl Display for State {
+    /// The FEN.
+    fn fmt(&self, f: &mut Formatter<'_>) -> fmt::Result {
+        f.pad(self.fen().as_str())
     }
 }
 

@@ -1,6 +1,7 @@
 //! Traits that users of Rust expect in addition to those that the generated modules derive:
 //! defaults, conversions, and closures as listeners.
 
+use crate::chess::State;
 use crate::command::WordFramer;
 use crate::decode::Framer;
 use crate::values::Kept;
@@ -40,6 +41,13 @@ impl Default for Board {
 
 impl Default for Position {
     /// The initial position of a game.
+    fn default() -> Self {
+        Self::start()
+    }
+}
+
+impl Default for State {
+    /// The state in which a game begins.
     fn default() -> Self {
         Self::start()
     }

@@ -1,5 +1,6 @@
 //! Values are converted, compared and hashed, and types have defaults.
 
+use dgt::chess::{BadFen, FenField, Impossible, State};
 use dgt::values::Kept;
 use dgt::*;
 use std::collections::{BTreeSet, HashSet};
@@ -24,6 +25,18 @@ fn pieces_are_letters_and_codes() {
         assert_eq!(refused, Err(NoPiece));
     }
     assert_eq!(HashSet::from([pawn, Piece::Empty, pawn]).len(), 2);
+}
+
+#[test]
+fn states_are_fens() {
+    let state: State = "4k3/8/8/8/8/8/8/4K2R w K - 0 1".parse().unwrap();
+    let after = state.play(state.parse_san("O-O").unwrap()).unwrap();
+    assert_eq!(after.to_string(), "4k3/8/8/8/8/8/8/5RK1 b - - 1 1");
+    assert_eq!(State::default(), State::start());
+    let wrong = "4k3/8/8/8/8/8/8/4K2R w K e9 0 1".parse::<State>();
+    assert_eq!(wrong, Err(BadFen::Text { field: FenField::Passed, at: 26 }));
+    let empty = "8/8/8/8/8/8/8/8 w - - 0 1".parse::<State>();
+    assert_eq!(empty, Err(BadFen::Impossible(Impossible::Kings)));
 }
 
 #[test]
