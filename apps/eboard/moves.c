@@ -1,6 +1,5 @@
 #include "moves.h"
 
-#include <stdlib.h>
 #include <string.h>
 
 enum { NONE, PAWN, ROOK, KNIGHT, BISHOP, KING, QUEEN };
@@ -8,13 +7,6 @@ enum { NONE, PAWN, ROOK, KNIGHT, BISHOP, KING, QUEEN };
 enum {
     CASTLING_WAIT = 2000, /* after a rook's move that may be the first half of castling */
     SET_UP_WAIT = 1000    /* after both kings are back on the board */
-};
-
-static const uint8_t START[64] = {
-    8, 9, 10, 12, 11, 10, 9, 8, 7, 7, 7, 7, 7, 7, 7, 7,
-    0, 0, 0,  0,  0,  0,  0, 0, 0, 0, 0, 0, 0, 0, 0, 0,
-    0, 0, 0,  0,  0,  0,  0, 0, 0, 0, 0, 0, 0, 0, 0, 0,
-    1, 1, 1,  1,  1,  1,  1, 1, 2, 3, 4, 6, 5, 4, 3, 2,
 };
 
 enum side side_of(uint8_t piece) {
@@ -35,132 +27,68 @@ static bool same(const uint8_t one[64], const uint8_t other[64]) {
     return memcmp(one, other, 64) == 0;
 }
 
-static int row(int square) { return square / 8; }
-static int column(int square) { return square % 8; }
-static int last_row(enum side side) { return side == WHITE ? 0 : 7; }
-static int sign(int number) { return (number > 0) - (number < 0); }
+/* ---- Moves, by the rules of the library */
 
-/* ---- The shapes of moves */
-
-/* The squares between two on a line are empty. */
-static bool is_clear(const uint8_t squares[64], int from, int to) {
-    int step = 8 * sign(row(to) - row(from)) + sign(column(to) - column(from));
-    for (int square = from + step; square != to; square += step)
-        if (squares[square] != 0) return false;
-    return true;
+static enum side side_to_move(const dgt_chess_state *state) {
+    return state->turn == DGT_CHESS_WHITE ? WHITE : BLACK;
 }
 
-static bool pawn_reaches(const uint8_t squares[64], int from, int to, bool takes) {
-    enum side side = side_of(squares[from]);
-    int forward = side == WHITE ? row(from) - row(to) : row(to) - row(from);
-    int across = abs(column(to) - column(from));
-    if (takes) return forward == 1 && across == 1;
-    if (across != 0) return false;
-    bool unmoved = row(from) == (side == WHITE ? 6 : 1);
-    return forward == 1 || (forward == 2 && unmoved && is_clear(squares, from, to));
+static dgt_chess_state with_other_turn(dgt_chess_state state) {
+    state.turn = state.turn == DGT_CHESS_WHITE ? DGT_CHESS_BLACK : DGT_CHESS_WHITE;
+    state.passed = DGT_NO_SUCH;
+    return state;
 }
 
-/* Whether the piece on `from` may move to another square, by its kind. */
-static bool reaches(const uint8_t squares[64], int from, int to, bool takes) {
-    int down = abs(row(to) - row(from)), across = abs(column(to) - column(from));
-    bool straight = down == 0 || across == 0, diagonal = down == across;
-    switch (kind_of(squares[from])) {
-    case PAWN: return pawn_reaches(squares, from, to, takes);
-    case KNIGHT: return down * across == 2;
-    case KING: return down <= 1 && across <= 1;
-    case ROOK: return straight && is_clear(squares, from, to);
-    case BISHOP: return diagonal && is_clear(squares, from, to);
-    case QUEEN: return (straight || diagonal) && is_clear(squares, from, to);
-    default: return false;
-    }
-}
-
-/* The square of the pawn that this pawn's move would take in passing, or -1. */
-static int square_passed(const uint8_t before[64], int from, int to) {
-    enum side side = side_of(before[from]);
-    int square = 8 * row(from) + column(to);
-    bool fits = kind_of(before[from]) == PAWN && column(from) != column(to) && before[to] == 0
-                && row(from) == (side == WHITE ? 3 : 4)
-                && before[square] == piece_of(side == WHITE ? BLACK : WHITE, PAWN);
-    return fits ? square : -1;
-}
-
-static bool promotes(uint8_t piece, uint8_t becomes, int to) {
-    enum side side = side_of(piece);
-    int kind = kind_of(becomes);
-    return kind_of(piece) == PAWN && side_of(becomes) == side && row(to) == last_row(side)
-           && (kind == ROOK || kind == KNIGHT || kind == BISHOP || kind == QUEEN);
-}
-
-/* A rook that moves from its corner to the square next to its king, which hasn't moved. */
-static bool may_castle(const uint8_t before[64], int from, int to) {
-    enum side side = side_of(before[from]);
-    int first = 8 * (7 - last_row(side));
-    return kind_of(before[from]) == ROOK && before[first + 4] == piece_of(side, KING)
-           && ((from == first && to == first + 3) || (from == first + 7 && to == first + 5));
-}
-
-static void set_move(move *found, const uint8_t before[64], int from, int to, uint8_t becomes) {
-    *found = (move){.from = (uint8_t)from, .to = (uint8_t)to, .piece = before[from]};
-    found->becomes = becomes;
-    found->may_castle = may_castle(before, from, to);
-    memcpy(found->after, before, 64);
-    found->after[from] = 0;
-    found->after[to] = becomes;
-}
-
-/* A king has moved two squares towards one of its rooks; the rook has jumped over it, or will. */
-static bool find_castling(const uint8_t before[64], const uint8_t now[64], move *found) {
+/* The state of these pieces, as far as they show it. A king and a rook on their first squares may
+ * castle. White is to move, if Black isn't in check. */
+static dgt_chess_state state_of(const uint8_t pieces[64]) {
+    static const uint8_t CORNERS[4] = {63, 56, 7, 0}; /* in the order of the rights */
+    dgt_chess_state state;
+    dgt_chess_start(&state);
     for (int wing = 0; wing < 4; wing++) {
-        enum side side = wing < 2 ? WHITE : BLACK;
-        int first = 8 * (7 - last_row(side)), king = first + 4;
-        bool is_short = wing % 2 == 0;
-        int corner = is_short ? first + 7 : first, beside = is_short ? first + 5 : first + 3;
-        uint8_t rook = piece_of(side, ROOK);
-        if (before[king] != piece_of(side, KING) || before[corner] != rook) continue;
-        if (!is_clear(before, king, corner)) continue;
-
-        set_move(found, before, king, is_short ? first + 6 : first + 2, before[king]);
-        bool king_alone = same(found->after, now);
-        found->after[corner] = 0;
-        found->after[beside] = rook;
-        if (king_alone || same(found->after, now)) return true;
+        int corner = CORNERS[wing], king = corner / 8 * 8 + 4;
+        state.rights[wing] = pieces[corner] == state.pieces[corner]
+                             && pieces[king] == state.pieces[king];
     }
-    return false;
+    memcpy(state.pieces, pieces, 64);
+    return dgt_chess_check(&state) == DGT_CHESS_IN_CHECK ? with_other_turn(state) : state;
 }
 
-/* A piece has moved, and if `other` is a square, its piece was removed. */
-static bool find_step(const uint8_t before[64], const uint8_t now[64], int from, int to, int other,
-                      move *found) {
-    uint8_t piece = before[from], becomes = now[to];
-    int passed = square_passed(before, from, to);
-    if (side_of(piece) == NOBODY || side_of(becomes) != side_of(piece)) return false;
-    if (becomes != piece && !promotes(piece, becomes, to)) return false;
-    if (before[to] != 0 && side_of(before[to]) == side_of(piece)) return false;
-    if (other >= 0 && other != passed) return false;
-    if (!reaches(before, from, to, before[to] != 0 || passed >= 0)) return false;
-    set_move(found, before, from, to, becomes);
-    if (passed >= 0) found->after[passed] = 0;
-    return true;
+/* A move of a rook, after which a king could complete a castling. */
+static bool may_castle(const dgt_chess_state *before, const dgt_chess_move *made) {
+    int first = made->from / 8 * 8;
+    bool is_short = made->from == first + 7 && made->to == first + 5;
+    bool is_long = made->from == first && made->to == first + 3;
+    dgt_chess_move castling = {(uint8_t)(first + 4), (uint8_t)(first + (is_short ? 6 : 2)), 0, 0};
+    return (is_short || is_long) && kind_of(before->pieces[first + 4]) == KING
+           && dgt_chess_is_legal(before, &castling);
 }
 
-bool find_move(const uint8_t before[64], const uint8_t now[64], move *found) {
-    int left[2], lefts = 0, to = -1;
-    if (find_castling(before, now, found)) return true;
+/* One piece alone has moved, but more belongs to its move. */
+static bool find_half(const dgt_chess_state *before, const uint8_t now[64], dgt_chess_move *made) {
+    int from = -1, to = -1;
     for (int square = 0; square < 64; square++) {
-        if (before[square] == now[square]) continue;
-        if (now[square] != 0) {
-            if (to >= 0) return false;
-            to = square;
-        } else {
-            if (lefts == 2) return false;
-            left[lefts++] = square;
-        }
+        if (before->pieces[square] == now[square]) continue;
+        if (now[square] == 0 && from < 0) from = square;
+        else if (before->pieces[square] == 0 && to < 0) to = square;
+        else return false;
     }
-    if (to < 0 || lefts == 0) return false;
-    if (lefts == 1) return find_step(before, now, left[0], to, -1, found);
-    return find_step(before, now, left[0], to, left[1], found)
-           || find_step(before, now, left[1], to, left[0], found);
+    if (from < 0 || to < 0 || before->pieces[from] != now[to]) return false;
+    *made = (dgt_chess_move){(uint8_t)from, (uint8_t)to, 0, 0};
+    return dgt_chess_is_legal(before, made);
+}
+
+/* Finds the legal move that leads from a state to these pieces. Castling may lack the rook's part,
+ * and a capture in passing may lack the removal of the pawn. */
+static bool find_move(const dgt_chess_state *before, const uint8_t now[64], move *found) {
+    dgt_chess_move made;
+    if (!dgt_chess_move_to(before, now, &made) && !find_half(before, now, &made)) return false;
+    *found = (move){.from = made.from, .to = made.to, .piece = before->pieces[made.from]};
+    found->may_castle = may_castle(before, &made);
+    found->after = *before;
+    bool is_made = dgt_chess_play(&found->after, &made);
+    found->becomes = found->after.pieces[made.to];
+    return is_made;
 }
 
 /* ---- Following a game */
@@ -183,30 +111,50 @@ static void turn(uint8_t turned[64], const uint8_t squares[64], bool is_turned) 
 
 static bool is_start(const uint8_t squares[64]) {
     uint8_t turned[64];
+    dgt_chess_state start;
+    dgt_chess_start(&start);
     turn(turned, squares, true);
-    return same(squares, START) || same(turned, START);
+    return same(squares, start.pieces) || same(turned, start.pieces);
 }
 
-/* Nothing has begun on the board. */
+/* Reads the board's squares as the rules do: a pawn that is left on its last rank is a queen, until
+ * another piece replaces it. */
+static void read_board(game *game, const uint8_t squares[64], uint8_t now[64]) {
+    turn(now, squares, game->turned);
+    for (int square = 0; square < 64; square++) {
+        if (square / 8 != 0 && square / 8 != 7) continue;
+        enum side side = square / 8 == 0 ? WHITE : BLACK;
+        uint8_t *told = &game->told.pieces[square], queen = piece_of(side, QUEEN);
+        if (now[square] == piece_of(side, PAWN)) {
+            now[square] = queen;
+            game->is_pawn[square] = true;
+        } else if (now[square] != 0) {
+            bool is_promoted = side_of(now[square]) == side && kind_of(now[square]) != KING;
+            if (game->is_pawn[square] && *told == queen && is_promoted) *told = now[square];
+            game->is_pawn[square] = false;
+        }
+    }
+}
+
+/* Nothing has begun on the board. In a position that no game reaches, one has to be set up. */
 static void forget(game *game) {
-    game->kings_off = game->is_early = game->is_held = false;
+    game->kings_off = dgt_chess_check(&game->told) != DGT_CHESS_DONE;
+    game->is_early = game->is_held = false;
     game->reading = THE_SAME;
     game->due = 0;
 }
 
-/* The present position is the reported one. */
-static void settle_here(game *game) {
-    memcpy(game->told, game->now, 64);
+/* Begins with the position on the board, without turning it. */
+static void begin_here(game *game) {
+    game->moves_made = game->moves_told = 0;
+    game->told = state_of(game->now);
     forget(game);
 }
 
 void game_begin(game *game, const uint8_t squares[64], enum plays plays, int settle) {
-    game->plays = plays;
-    game->settle = settle;
-    game->turned = is_turned(squares);
-    game->moves_made = game->moves_told = 0;
-    turn(game->now, squares, game->turned);
-    settle_here(game);
+    *game = (struct game){.plays = plays, .settle = settle, .turned = is_turned(squares)};
+    read_board(game, squares, game->now);
+    begin_here(game);
 }
 
 enum side game_player(const game *game) {
@@ -219,9 +167,9 @@ bool game_wants(const game *game, enum side side) {
     return game->plays == PLAYS_BOTH || side == game_player(game);
 }
 
-/* The position from which a move leads. */
-static const uint8_t *before_move(const game *game, const move *move) {
-    return move->corrects ? game->moves[game->moves_made - 1].before : game->told;
+/* The state from which a move leads. */
+static const dgt_chess_state *before_move(const game *game, const move *move) {
+    return move->corrects ? &game->moves[game->moves_made - 1].before : &game->told;
 }
 
 /* The move that was taken back here is made again, perhaps with another promotion. */
@@ -235,21 +183,20 @@ static void remember(game *game, const move *made) {
     if (game->moves_made == REMEMBERED)
         memmove(game->moves, game->moves + 1, sizeof *game->moves * --game->moves_made);
     past *last = &game->moves[game->moves_made++];
-    memcpy(last->before, game->told, 64);
+    last->before = game->told;
     last->from = made->from;
     last->to = made->to;
-    last->side = side_of(made->piece);
     game->moves_told = game->moves_made;
 }
 
 /* Adds this move to the game. False if it was reported before. */
 static bool tell(game *game, const move *which, move *made) {
     *made = *which;
-    if (made->corrects) memcpy(game->told, game->moves[--game->moves_made].before, 64);
+    if (made->corrects) game->told = game->moves[--game->moves_made].before;
     bool again = is_made_again(game, made);
     if (again) game->moves_made++;
     else remember(game, made);
-    memcpy(game->told, made->after, 64);
+    game->told = made->after;
     forget(game);
     return !again;
 }
@@ -257,7 +204,7 @@ static bool tell(game *game, const move *which, move *made) {
 /* The move that was taken back with all after it, or -1. */
 static int taken_back(const game *game) {
     for (int index = game->moves_made - 1; index >= 0; index--)
-        if (same(game->now, game->moves[index].before)) return index;
+        if (same(game->now, game->moves[index].before.pieces)) return index;
     return -1;
 }
 
@@ -265,18 +212,15 @@ static int taken_back(const game *game) {
 static void take_back(game *game) {
     game->moves_made = taken_back(game);
     if (is_start(game->now)) game->moves_told = game->moves_made;
-    settle_here(game);
-}
-
-/* The side of the last move would make the next one, too. */
-static bool is_out_of_turn(const game *game) {
-    int made = game->moves_made;
-    return made > 0 && game->moves[made - 1].side == side_of(game->next.piece);
+    game->told = game->moves[game->moves_made].before;
+    forget(game);
 }
 
 /* Another piece than the one that moved last; that one is being corrected or taken back. */
 static bool is_another(const game *game) {
-    return game->moves[game->moves_made - 1].to != game->next.from;
+    if (game->moves_made == 0) return true;
+    uint8_t last = game->moves[game->moves_made - 1].to;
+    return game->now[last] == game->told.pieces[last];
 }
 
 /* A side has made its move on the board before the other side's move, which was known already and
@@ -285,11 +229,11 @@ static bool find_late_move(game *game) {
     uint8_t without[64];
     if (!game->is_early) return false;
     for (int square = 0; square < 64; square++) {
-        bool is_of_early = game->told[square] != game->early.after[square];
-        if (is_of_early && game->now[square] != game->early.after[square]) return false;
-        without[square] = is_of_early ? game->told[square] : game->now[square];
+        uint8_t told = game->told.pieces[square], early = game->early[square];
+        if (told != early && game->now[square] != early) return false;
+        without[square] = told != early ? told : game->now[square];
     }
-    return find_move(game->told, without, &game->next) && !is_out_of_turn(game);
+    return find_move(&game->told, without, &game->next);
 }
 
 /* The other side's piece was on a wrong square, or its castling was half done, and this is
@@ -297,17 +241,38 @@ static bool find_late_move(game *game) {
 static bool find_correction(game *game) {
     if (game->moves_made == 0) return false;
     const past *last = &game->moves[game->moves_made - 1];
-    if (game_wants(game, last->side)) return false;
-    if (!find_move(last->before, game->now, &game->next)) return false;
+    if (game_wants(game, side_to_move(&last->before))) return false;
+    if (!find_move(&last->before, game->now, &game->next)) return false;
     game->next.corrects = true;
-    return side_of(game->next.piece) == last->side && !same(game->next.after, game->told);
+    return !same(game->next.after.pieces, game->told.pieces);
 }
 
-/* A pawn that was reported on its last rank has been replaced with the promoted piece. */
-static void follow_promotion(game *game) {
-    for (int square = 0; square < 64; square++)
-        if (promotes(game->told[square], game->now[square], square))
-            game->told[square] = game->now[square];
+/* Only the side to move in `other` has moved. The other one is in check, so it isn't a state. */
+static bool has_moved_in_check(const game *game, const dgt_chess_state *other) {
+    bool has_moved = false;
+    if (dgt_chess_check(other) != DGT_CHESS_IN_CHECK) return false;
+    for (int square = 0; square < 64; square++) {
+        uint8_t told = other->pieces[square], now = game->now[square];
+        if (told == now) continue;
+        if (side_of(now != 0 ? now : told) != side_to_move(other)) return false;
+        has_moved = has_moved || now != 0;
+    }
+    return has_moved;
+}
+
+/* The side has moved whose turn it isn't. In a position that was set up, it shows whose it was. */
+static bool find_first_move(game *game) {
+    const dgt_chess_state other = with_other_turn(game->told);
+    bool is_legal = find_move(&other, game->now, &game->next);
+    if (is_legal && game->moves_made == 0 && !is_start(game->told.pieces)) {
+        game->told = other;
+        return true;
+    }
+    if (is_legal || has_moved_in_check(game, &other)) {
+        game->is_early = is_another(game);
+        memcpy(game->early, is_legal ? game->next.after.pieces : game->now, 64);
+    }
+    return false;
 }
 
 static bool has_kings(const game *game, int least) {
@@ -316,17 +281,13 @@ static bool has_kings(const game *game, int least) {
 }
 
 static enum reading read_position(game *game) {
-    if (same(game->now, game->told)) {
+    if (same(game->now, game->told.pieces)) {
         forget(game);
         return THE_SAME;
     }
     if (!has_kings(game, 1)) game->kings_off = true;
     if (game->kings_off && !has_kings(game, 2)) return UNCLEAR;
-    if (find_move(game->told, game->now, &game->next)) {
-        if (!is_out_of_turn(game)) return A_MOVE;
-        game->is_early = is_another(game);
-        game->early = game->next;
-    }
+    if (find_move(&game->told, game->now, &game->next) || find_first_move(game)) return A_MOVE;
     /* Only here: a real move may also lead to an earlier position, even to the first one. */
     if (taken_back(game) >= 0) return TAKEN_BACK;
     if (is_start(game->now)) return NEW_GAME;
@@ -337,8 +298,11 @@ static enum reading read_position(game *game) {
 /* The moving piece may be about to slide on, and to take the piece there. */
 static bool may_go_on(const game *game, int square) {
     const move *next = &game->next;
-    const uint8_t *before = before_move(game, next);
-    return before[next->to] == 0 && reaches(before, next->from, square, true);
+    const dgt_chess_state *before = before_move(game, next);
+    dgt_chess_move on = {next->from, (uint8_t)square, 0, 0}, promotion = on;
+    promotion.promotion = QUEEN;
+    return before->pieces[next->to] == 0
+           && (dgt_chess_is_legal(before, &on) || dgt_chess_is_legal(before, &promotion));
 }
 
 /* A piece of the other side is lifted after the waiting move: the answer to it begins, or the pawn
@@ -364,8 +328,7 @@ static void hold_next(game *game) {
 /* The other side has answered the waiting move, whichever piece it lifted first. */
 static bool is_held_answered(const game *game) {
     move answer;
-    return game->is_held && find_move(game->held.after, game->now, &answer)
-           && side_of(answer.piece) != side_of(game->held.piece);
+    return game->is_held && find_move(&game->held.after, game->now, &answer);
 }
 
 /* Begins in the starting position, on a board that may be turned. */
@@ -373,12 +336,6 @@ static void begin_game(game *game) {
     uint8_t board[64];
     turn(board, game->now, game->turned);
     game_begin(game, board, game->plays, game->settle);
-}
-
-/* Begins with the position on the board, without turning it. */
-static void begin_here(game *game) {
-    game->moves_made = game->moves_told = 0;
-    settle_here(game);
 }
 
 /* Finds the meaning of the position, and how long it has to rest. */
@@ -396,13 +353,12 @@ static void look(game *game, long long time) {
 
 bool game_see(game *game, const uint8_t squares[64], long long time, move *made) {
     uint8_t now[64];
-    turn(now, squares, game->turned);
+    read_board(game, squares, now);
     if (game->due != 0 && same(now, game->now)) return false;
     bool told = false;
     if (is_answered(game, now)) told = tell(game, &game->next, made);
     else hold_next(game);
     memcpy(game->now, now, 64);
-    follow_promotion(game);
     if (is_held_answered(game)) told = tell(game, &game->held, made);
     look(game, time);
     return told;

@@ -1,4 +1,4 @@
-/* Recognises moves in the positions of a board.
+/* Recognises moves in the positions of a board, by the rules of chess of dgt.h.
  *
  * Squares and pieces have the numbers of the protocol: 0 is a8, 7 is h8, 56 is a1 and 63 is h1. No
  * piece is 0; White's pawn, rook, knight, bishop, king and queen are 1 to 6, Black's are 7 to 12.
@@ -6,6 +6,8 @@
  */
 #ifndef MOVES_H
 #define MOVES_H
+
+#include "dgt.h"
 
 #include <stdbool.h>
 #include <stdint.h>
@@ -16,24 +18,18 @@ enum side side_of(uint8_t piece);
 
 typedef struct move {
     uint8_t from, to;
-    uint8_t piece;     /* the piece that was on `from` */
-    uint8_t becomes;   /* the piece that is on `to` now: another one after a promotion */
-    bool may_castle;   /* a rook is next to its king: it may be the first half of castling */
-    bool corrects;     /* it replaces the last move */
-    uint8_t after[64]; /* the position after the complete move */
+    uint8_t piece;         /* the piece that was on `from` */
+    uint8_t becomes;       /* the piece on `to` after it: another one after a promotion */
+    bool may_castle;       /* a rook is next to its king: it may be the first half of castling */
+    bool corrects;         /* it replaces the last move */
+    dgt_chess_state after; /* the state after the complete move */
 } move;
-
-/* Finds the only move that leads from one position to the other, by geometry. Each piece moves in
- * its way, over empty squares. The side to move and checks are ignored. The move may be incomplete:
- * castling without the rook, or a capture in passing before the pawn is removed. */
-bool find_move(const uint8_t before[64], const uint8_t now[64], move *found);
 
 enum { REMEMBERED = 32 }; /* the moves that can be taken back */
 
 typedef struct past {
-    uint8_t before[64]; /* the position before the move */
-    uint8_t from, to;   /* the squares of the piece before and after it */
-    enum side side;     /* the side that made it */
+    dgt_chess_state before; /* the state before the move */
+    uint8_t from, to;       /* the squares of the piece before and after it */
 } past;
 
 /* The meaning of the board's position in the game. */
@@ -55,23 +51,25 @@ enum plays { BY_THE_BOARD, PLAYS_WHITE, PLAYS_BLACK, PLAYS_BOTH };
 typedef struct game {
     enum plays plays;
     bool turned;
-    uint8_t told[64]; /* the position after the last move that was reported */
-    uint8_t now[64];  /* the present position */
+    dgt_chess_state told; /* the state after the last move that was reported */
+    uint8_t now[64];      /* the present position, with a queen for each of these: */
+    bool is_pawn[64];     /* a pawn was left on its last rank, and hasn't been replaced since */
     past moves[REMEMBERED];
-    int moves_made;   /* the number of known moves */
-    int moves_told;   /* the same with later moves that were taken back */
-    bool kings_off;   /* both kings were taken off: a new position is being set up */
-    bool is_early;    /* one side has moved, but it is the other side's turn: */
-    move early;       /* its move, which is reported after the other side's */
-    bool is_held;     /* a move waited, and the board changed before it had rested: */
-    move held;        /* it is reported if the answer to it follows */
+    int moves_made;    /* the number of known moves */
+    int moves_told;    /* the same with later moves that were taken back */
+    bool kings_off;    /* both kings were taken off: a new position is being set up */
+    bool is_early;     /* one side has moved, but it is the other side's turn: */
+    uint8_t early[64]; /* the position after its move, which is reported after the other side's */
+    bool is_held;      /* a move waited, and the board changed before it had rested: */
+    move held;         /* it is reported if the answer to it follows */
     enum reading reading;
-    move next;        /* if reading is A_MOVE */
-    long long due;    /* the time at which the position has rested, or 0 */
-    int settle;       /* the rest of a position */
+    move next;     /* if reading is A_MOVE */
+    long long due; /* the time at which the position has rested, or 0 */
+    int settle;    /* the rest of a position */
 } game;
 
-/* Begins with the position on the board. `settle` is from 1 to 60000. */
+/* Begins with the position on the board. If no game reaches it, the next one that does begins the
+ * game once it has rested. `settle` is from 1 to 60000. */
 void game_begin(game *game, const uint8_t squares[64], enum plays plays, int settle);
 
 /* The side of the program's player. If it isn't set, or is both, it is the one at the board's first

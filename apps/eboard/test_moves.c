@@ -21,6 +21,8 @@ static const char START[] = "rnbqkbnrpppppppp................................PPP
     "h2h4 a7a6 h1h3 a6a5 g2g3 a5a4 f1g2 b7b6 g2d5 b6b5 e2e3 b5b4 d1e2 h7h6 e2f1 h6h5 " \
     "f1g2 g7g6 g2h1 d7d6 g1f3 c7c6 "
 #define BISHOP "e2e4 e7e5 f1c4 g8f6 d2d3 "
+#define FIANCHETTO "e2e4 b7b6 g1f3 c8a6 g2g3 h7h6 f1g2 h6h5 "
+#define CHECK "f2f3 e7e5 a2a3 d8h4 "
 #define PASSING "e2e4 a7a6 e4e5 d7d5 "
 #define SEVENTH "h2h4 g7g5 h4g5 h7h6 g5h6 a7a6 h6h7 a6a5 "
 
@@ -47,6 +49,9 @@ static const struct test_case {
     {"four of them", "e2. e4P e7. e5p g1. f3N b8. c6n", "e2e4 e7e5 g1f3 b8c6"},
     {"the own move first, the other side's late", "e2e4 g1f3 900 e7e5 b8c6",
      "e2e4 e7e5 g1f3 b8c6"},
+    {"Black's first move before White's", "e7e5 900 e2e4 g1f3", "e2e4 e7e5 g1f3"},
+    {"the own move first, the other side in check", "e2e4 f7f6 d1h5 b1c3 900 g7g6 b8c6",
+     "e2e4 f7f6 d1h5 g7g6 b1c3 b8c6"},
     {"castling first, the other side's move late", ITALIAN "d2d3 e1g1 900 f1. h1R 900 h1. f1R d7d6",
      ITALIAN "d2d3 d7d6 e1g1"},
     {"moved twice, and put back", "e2e4 d2d4 900 d4d2 e7e5 d2d4", "e2e4 e7e5 d2d4"},
@@ -99,11 +104,22 @@ static const struct test_case {
      "e2e4 e7e5 e1e2 a7a6 d1e1 a6a5 e2d1 a5a4 f1e2 b7b6 g1f3 b6b5 e1g1 b5b4"},
     {"no castling over a piece", "e1. g1. g1K 900 g1. e1K g1N e2e4", "e2e4"},
 
+    {"no castling through check", FIANCHETTO "e1. g1K 900 h1. f1R 900 g1. e1K f1. h1R 900 d2d3",
+     FIANCHETTO "d2d3"},
+    {"a rook's move that looks like that", FIANCHETTO "h1. f1R 400 h5h4", FIANCHETTO "h1f1 h5h4"},
+    {"no castling after a king's move", ITALIAN "e1e2 a7a6 e2e1 a6a5 e1. g1K 900 g1. e1K d2d3",
+     ITALIAN "e1e2 a7a6 e2e1 a6a5 d2d3"},
+
+    {"no move leaves the king in check", CHECK "b1. c3N 900 c3. b1N g2g3", CHECK "g2g3"},
+    {"no king moves into check", CHECK "e1. f2K 900 f2. e1K g2g3", CHECK "g2g3"},
+
     {"in passing, the taken pawn off last", PASSING "e5. d6P d5. g8f6", PASSING "e5d6 g8f6"},
     {"in passing, the taken pawn off late", PASSING "e5. d6P 900 d5. 900 g8f6",
      PASSING "e5d6 g8f6"},
     {"in passing, the taken pawn off first", PASSING "d5. e5. d6P g8f6", PASSING "e5d6 g8f6"},
     {"in passing, both in hand", PASSING "e5. d5. d6P g8f6", PASSING "e5d6 g8f6"},
+    {"in passing, not later", PASSING "g1f3 a6a5 e5. d6P d5. 900 d6. e5P d5p b1c3",
+     PASSING "g1f3 a6a5 b1c3"},
     {"in passing, in no other rank",
      "e2e3 d7d5 a2a3 d5d4 e3e4 a7a6 d4. e4. d5P 900 d5. e4P d4p g1f3",
      "e2e3 d7d5 a2a3 d5d4 e3e4 a7a6 g1f3"},
@@ -115,7 +131,7 @@ static const struct test_case {
     {"promotion, the pawn put there first", SEVENTH "g8. h7. g8P g8. g8Q b7b6",
      SEVENTH "h7g8Q b7b6"},
     {"promotion, the pawn left there", SEVENTH "g8. h7. g8P 900 g8. 900 g8Q b7b6",
-     SEVENTH "h7g8 b7b6"},
+     SEVENTH "h7g8Q b7b6"},
     {"no promotion before the last rank", "e2. e4Q 900 e4. e2P d2d4", "d2d4"},
     {"no piece but a pawn is promoted", "g1. f3B 900 f3. f3N", "g1f3"},
 
@@ -182,6 +198,10 @@ static const struct test_case {
      SEVENTH "d2d4"},
     {"set up again, the kings last",
      "e2e4 e1. e8. e4. d8. d1. a8. 1500 e3P 1500 g3K g6k 1100 e3e4 g6g5", "e2e4 e3e4 g6g5"},
+    {"the same, and Black moves first",
+     "e2e4 e1. e8. e4. d8. d1. a8. 1500 e3P 1500 g3K g6k 1100 g6g5 e3e4", "e2e4 g6g5 e3e4"},
+    {"set up, at first as no game reaches it",
+     "e2e4 e1. e8. d8. d1. a8. 1500 g3K f4k 1500 f4. g6k 1100 e4e5", "e2e4 e4e5"},
     {"a king's move, with the other king adjusted", "e2e4 e7e5 e1. e8. e8k e2K", "e2e4 e7e5 e1e2"},
     {"both kings adjusted", "e1. e8. 1500 e1K e8k e2e4", "e2e4"},
 

@@ -22,7 +22,6 @@ OTHERS = {
     # Only the king moves to g1 at the end, which replies to nothing.
     "castling, Black's, long, the king first":
         "d2d4 d7d5 c1f4 c8f5 e2e3 b8c6 g1f3 d8d7 f1e2",
-    "promotion, the pawn left there": "SEVENTH h7g8q b7b6",
     "taken back": "e2e4 -e2e4 d2d4",
     "the first move, taken back and made again": "e2e4 -e2e4 e2e4 e7e5",
     "taken back and made again": "e2e4 e7e5 g1f3 -g1f3 g1f3 b8c6",
@@ -58,6 +57,8 @@ OTHERS = {
     "set up again, a piece that goes home by a move": "e2e4 g8f6 -g8f6 -e2e4 d2d4",
     "set up again, from a heap": "SEVENTH game d2d4",
     "set up again, the kings last": "e2e4 game e3e4 g6g5",
+    "the same, and Black moves first": "e2e4 game g6g5 e3e4",
+    "set up, at first as no game reaches it": "e2e4 game e4e5",
     "a turned board": "game e2e4 e7e5 -e7e5 -e2e4",
     "turned between two games": "e2e4 game e2e4",
     "a castling on a turned board": "game ITALIAN e1g1 d7d6",
