@@ -2,10 +2,10 @@
 
 import { DgtError, FLAGS, STATUS, isWide, lighting,
          load } from "../../bindings/javascript/dgt.js";
-import { Game } from "../../bindings/javascript/moves.js";
+import { lettersOf } from "../../bindings/javascript/moves.js";
 import { Drawing } from "./drawing.js";
 import { Games } from "./games.js";
-import { Session, lettersOf } from "./session.js";
+import { Session } from "./session.js";
 import { SimulatedPort } from "./simulated.js";
 import { Theorem } from "./theorem.js";
 
@@ -22,7 +22,8 @@ const wait = (/** @type {number} */ ms) => new Promise(done => setTimeout(done, 
 const asked = new URLSearchParams(location.search);
 const PERIODS = { serial: Number(asked.get("period")) || 10000, simulated: 2000 }; // milliseconds
 const START = "rnbqkbnr/pppppppp/8/8/8/8/PPPPPPPP/RNBQKBNR";
-const NO_PIECES = ".".repeat(64), NO_GAME = new Game();
+const NO_PIECES = ".".repeat(64);
+const NO_GAME = { moves: [], ended: "", lacks: /** @type {const} */ (""), lost: [], advice: "" };
 const STATES = {
   none: "no board", gone: "disconnected: waiting for the port", silent: "the board doesn't answer",
   refused: "the port can't be opened", asking: "asking the board", doubt: "in doubt: asking again",

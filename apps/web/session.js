@@ -1,7 +1,7 @@
 // Follows a board on a port, and reopens the port if it disappears.
 
 import { Follower } from "../../bindings/javascript/dgt.js";
-import { Game } from "../../bindings/javascript/moves.js";
+import { Game, lettersOf } from "../../bindings/javascript/moves.js";
 
 const SERIAL = { baudRate: 9600, dataBits: 8, stopBits: 1, parity: "none", flowControl: "none",
                  bufferSize: 4096 };
@@ -18,7 +18,6 @@ export class Session {
   /** @type {import("../../bindings/javascript/dgt.js").Clock | null} the last known clock */
   clock = null;
   confirmedAt = 0;
-  game = new Game();
   #askedAt = -Infinity;
   #askedBefore = -Infinity;
   #disturbedUntil = 0;
@@ -46,6 +45,7 @@ export class Session {
     this.port = port;
     this.ports = ports;
     this.page = page;
+    this.game = new Game(dgt);
     this.follower = new Follower(dgt, { period, patience: PATIENCE, clock: true, confirm: true });
     this.info = JSON.stringify(port.getInfo());
   }
@@ -240,12 +240,4 @@ const NONSENSE = ["refused", "cut", "badLength", "stray"];
 /** @param {Uint8Array} bytes */
 function hex(bytes) {
   return Array.from(bytes, one => one.toString(16).padStart(2, "0")).join(" ");
-}
-
-/**
- * The letters of 64 pieces.
- * @param {import("../../bindings/javascript/dgt.js").Library} dgt @param {ArrayLike<number>} pieces
- */
-export function lettersOf(dgt, pieces) {
-  return Array.from(pieces, one => dgt.pieceLetter(one)).join("");
 }

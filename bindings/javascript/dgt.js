@@ -107,9 +107,9 @@ export class BadPlacement extends DgtError {
 /** @typedef {typeof CALLS} Calls @typedef {typeof STRUCTS} Structs */
 /**
  * @template S
- * @typedef {S extends "u8" | "u32" | "char" | "wide" ? number : S extends "bool" ? boolean :
- *   S extends "void" ? void : S extends number ? Uint8Array : S extends "clock" ? Clock | null :
- *   S extends keyof Structs ? Struct<S> : never} Value
+ * @typedef {S extends "u8" | "u16" | "u32" | "char" | "wide" ? number :
+ *   S extends "bool" ? boolean : S extends "void" ? void : S extends number ? Uint8Array :
+ *   S extends "clock" ? Clock | null : S extends keyof Structs ? Struct<S> : never} Value
  */
 /**
  * @template {keyof Structs} S
@@ -374,6 +374,7 @@ export class Library {
   #member(kind, at) {
     switch (kind) {
       case "u8": return this.#bytes[at];
+      case "u16": return this.#view.getUint16(at, true);
       case "bool": return this.#bytes[at] !== 0;
       case "wide": return this.wide(at);
       case "clock": return this.clock(at);
@@ -400,6 +401,10 @@ export class Library {
   #writeMember(kind, at, value) {
     switch (kind) {
       case "u8": this.#bytes[at] = byte(value); break;
+      case "u16":
+        if (!(value >= 0 && value <= 65535)) throw new BadValue(`not from 0 to 65535: ${value}`);
+        this.#view.setUint16(at, value, true);
+        break;
       case "wide": this.#view.setBigUint64(at, BigInt(whole(value)), true); break;
       case "clock": this.writeClock(at, value); break;
       case "body":

@@ -26,6 +26,10 @@ export const MARKS = Object.freeze({ nothing: 0x00, powerUp: 0x6a, end: 0x6b, fo
 export const SIGNALS = Object.freeze({ done: 1, version: 2, pressed: 3, off: 4, ready: 5 });
 export const BUTTONS = Object.freeze({ back: 0x31, plus: 0x32, run: 0x33, minus: 0x34, ok: 0x35 });
 export const FLAGS = Object.freeze({ blocked: 0x01, perMove: 0x02, fallen: 0x04 });
+export const TURNS = Object.freeze({ white: 0, black: 1 });
+export const CHESS = Object.freeze({ done: 0, badKings: 1, extraPiece: 2, badPawn: 3, inCheck: 4,
+                                     badRights: 5, badPassed: 6, badNumber: 7, badMember: 8,
+                                     badText: 9, noMove: 10, ambiguous: 11 });
 export const MAX_BODY = 16380;
 export const MAX_WORD = 257;
 export const MAX_PAYLOAD = 252;
@@ -57,20 +61,6 @@ export const BATTERY_UNKNOWN = 127;
 export const NO_SUCH = 255;
 export const CHESS_FEN_ROOM = 96;
 export const CHESS_SAN_ROOM = 16;
-export const CHESS_WHITE = 0;
-export const CHESS_BLACK = 1;
-export const CHESS_DONE = 0;
-export const CHESS_BAD_KINGS = 1;
-export const CHESS_EXTRA_PIECE = 2;
-export const CHESS_BAD_PAWN = 3;
-export const CHESS_IN_CHECK = 4;
-export const CHESS_BAD_RIGHTS = 5;
-export const CHESS_BAD_PASSED = 6;
-export const CHESS_BAD_NUMBER = 7;
-export const CHESS_BAD_MEMBER = 8;
-export const CHESS_BAD_TEXT = 9;
-export const CHESS_NO_MOVE = 10;
-export const CHESS_AMBIGUOUS = 11;
 
 // Of each struct: its size, and of each member its name, its place and its type.
 // That is a number of bytes or a word. `wide` is 64 bits: a number or a pointer.

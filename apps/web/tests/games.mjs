@@ -6,9 +6,10 @@
 import { pass } from "./clock.mjs";
 import assert from "node:assert/strict";
 import { readFileSync } from "node:fs";
+import { State } from "../../../bindings/javascript/chess.js";
 import { Board, load } from "../../../bindings/javascript/dgt.js";
-import { BEGIN, legalMoves, san } from "../../../bindings/javascript/moves.js";
-import { Session, lettersOf } from "../session.js";
+import { lettersOf } from "../../../bindings/javascript/moves.js";
+import { Session } from "../session.js";
 import { SimulatedPort } from "../simulated.js";
 import { chance } from "../../../bindings/javascript/tests/random.mjs";
 
@@ -32,8 +33,9 @@ const FAULTS = {
 const lines = [];
 const page = { note: (kind, text) => lines.push(text), changed: () => {} };
 
-// Changes a move's squares one after another, as hands move pieces.
-async function show(port, before, after) {
+// Changes the squares of a move to these pieces one after another, as hands move them.
+async function show(port, position) {
+  const [before, after] = [port.pieces, position].map(pieces => lettersOf(dgt, pieces));
   const changed = [...before].map((_, n) => n).filter(n => before[n] !== after[n])
     .sort((a, b) => (after[a] !== ".") - (after[b] !== "."));
   for (const square of changed) {
@@ -47,17 +49,16 @@ async function play(number) {
   const session = new Session(dgt, port, port, PERIOD, page), ran = session.run();
   const isRight = () => session.state === "confirmed" &&
     lettersOf(dgt, session.picture) === lettersOf(dgt, port.pieces);
-  let position = BEGIN, faults = 0;
+  let state = State.start(dgt), faults = 0;
   const texts = [];
   await pass(MOST, isRight);
-  for (let ply = 0; ply < PLIES; ply++) {
-    const moves = legalMoves(position);
-    if (!moves.length) break;
-    const move = moves[random(moves.length)];
+  for (let ply = 0; ply < PLIES && state.canMove; ply++) {
+    const moves = state.moves(), move = moves[random(moves.length)];
     const name = random(3) ? "none" : Object.keys(FAULTS)[random(6)], [begin, end] = FAULTS[name];
-    texts.push(san(position, move));
+    texts.push(state.san(move));
+    state = state.play(move);
     begin(port);
-    await show(port, position.letters, move.after.letters);
+    await show(port, state.position);
     end(port);
     if (name === "frame") {
       await pass(0);
@@ -67,7 +68,6 @@ async function play(number) {
     await pass(name === "none" && random(2) ? 500 : MOST, isRight);
     assert(name === "none" || isRight(), `game ${number}, ply ${ply} with ${name}: not healed`);
     if (isRight()) assert.equal(session.game.line.at(-1).text, texts.at(-1), `game ${number}`);
-    position = move.after;
   }
   await pass(MOST, isRight);
   assert.deepEqual(session.game.line.slice(1).map(({ text }) => text), texts, `game ${number}`);

@@ -1,50 +1,37 @@
-// Tests the rules by counting positions, and the recognition of random games.
+// Tests the recognition of random games, and what is said if no move leads to a picture.
+//
+// node moves.mjs MODULE
+
 import assert from "node:assert/strict";
-import { BEGIN, Game, legalMoves, san } from "../moves.js";
+import { readFileSync } from "node:fs";
+import { State } from "../chess.js";
+import { load } from "../dgt.js";
+import { Game, lettersOf } from "../moves.js";
 import { chance } from "./random.mjs";
 
-function fen(text) {
-  const [placement, side, castles, passant] = text.split(" ");
-  return {
-    letters: placement.replaceAll("/", "").replace(/\d/g, n => ".".repeat(n)),
-    isWhite: side === "w", castles: castles.replace("-", ""),
-    passant: passant === "-" ? -1 : "abcdefgh".indexOf(passant[0]) + 8 * (8 - passant[1]),
-  };
-}
-const count = (position, depth) => depth === 0 ? 1 : legalMoves(position).reduce(
-  (sum, { after }) => sum + count(after, depth - 1), 0);
-const KNOWN = [
-  ["rnbqkbnr/pppppppp/8/8/8/8/PPPPPPPP/RNBQKBNR w KQkq -", [20, 400, 8902]],
-  ["r3k2r/p1ppqpb1/bn2pnp1/3PN3/1p2P3/2N2Q1p/PPPBBPPP/R3K2R w KQkq -", [48, 2039]],
-  ["8/2p5/3p4/KP5r/1R3p1k/8/4P1P1/8 w - -", [14, 191, 2812]],
-  ["r3k2r/Pppp1ppp/1b3nbN/nP6/BBP1P3/q4N2/Pp1P2PP/R2Q1RK1 w kq -", [6, 264, 9467]],
-  ["rnbq1k1r/pp1Pbppp/2p5/8/2B5/8/PPP1NnPP/RNBQK2R w KQ -", [44, 1486]],
-];
-for (const [text, counts] of KNOWN) {
-  counts.forEach((known, n) => assert.equal(count(fen(text), n + 1), known, `${text} ${n + 1}`));
-}
+const dgt = await load(readFileSync(process.argv[2]));
+const BEGIN = lettersOf(dgt, State.start(dgt).position);
 
 const GAMES = 20;
 // Each move of a random game is shown as a board shows it: one square after another.
 const random = chance(1);
 let plies = 0;
 for (let round = 0; round < GAMES; round++) {
-  const game = new Game(), texts = [];
-  let position = BEGIN;
-  game.see(position.letters);
-  for (let n = 0; n < 120; n++) {
-    const moves = legalMoves(position);
-    if (!moves.length) break;
-    const move = moves[random(moves.length)];
-    texts.push(san(position, move));
-    const shown = [...position.letters];
-    const changed = [...Array(64).keys()].filter(at => shown[at] !== move.after.letters[at])
-      .sort((a, b) => (move.after.letters[a] !== ".") - (move.after.letters[b] !== "."));
+  const game = new Game(dgt), texts = [];
+  let state = State.start(dgt);
+  game.see(BEGIN);
+  for (let n = 0; n < 120 && state.canMove; n++) {
+    const moves = state.moves(), move = moves[random(moves.length)];
+    texts.push(state.san(move));
+    const shown = [...lettersOf(dgt, state.position)];
+    state = state.play(move);
+    const after = lettersOf(dgt, state.position);
+    const changed = [...Array(64).keys()].filter(at => shown[at] !== after[at])
+      .sort((a, b) => (after[a] !== ".") - (after[b] !== "."));
     for (const at of changed) {
-      shown[at] = move.after.letters[at];
+      shown[at] = after[at];
       game.see(shown.join(""));
     }
-    position = move.after;
   }
   plies += texts.length;
   const seen = game.line.slice(1).map(({ text }) => text);
@@ -53,10 +40,10 @@ for (let round = 0; round < GAMES; round++) {
 
 // A position that no move leads to is said to be lost, with what to put right, and found again.
 const BLACK = "rnbqkbnr/pppp1ppp/8/4p3", E4 = "4P3", WHITE = "4P3/8/PPPP1PPP/RNBQKBNR";
-const OPEN = [BEGIN.letters, `rnbqkbnr/pppppppp/8/8/${WHITE}`, `${BLACK}/${WHITE}`];
+const OPEN = [BEGIN, `rnbqkbnr/pppppppp/8/8/${WHITE}`, `${BLACK}/${WHITE}`];
 const CUT = "{broken off: no move leads to the position after this}";
 const opened = () => {
-  const made = new Game();
+  const made = new Game(dgt);
   for (const picture of OPEN) made.see(picture);
   return made;
 };
@@ -95,7 +82,7 @@ for (const [isInDoubt, time] of [[true, 6000], [false, 61000]]) {
 }
 
 // The package gives placements. The day of a PGN is the local one.
-const game = new Game();
+const game = new Game(dgt);
 assert.equal(game.lacks, "");
 game.see("rnbqkbnr/pppppppp/8/8/4P3/8/PPPP1PPP/RNBQKBNR");
 assert.equal(game.lacks, "late");
@@ -110,4 +97,4 @@ for (const hours of [14, -12]) { // in one of these zones it is another day than
   const day = new Date(Date.now() + 3600e3 * hours).toISOString().slice(0, 10);
   assert.ok(game.pgn.includes(`[Date "${day.replaceAll("-", ".")}"]`), game.pgn);
 }
-console.log(`the counts of ${KNOWN.length} positions, and ${plies} moves`);
+console.log(`${GAMES} games, ${plies} moves`);

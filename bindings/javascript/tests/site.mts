@@ -3,12 +3,13 @@
 
 import { ASK, Board, CommandDecoder, Follower, Host, IDS, MODES, lighting, load,
          type Command, type Event, type Library } from "dgt-board";
+import { BadFen, State } from "dgt-board/chess.js";
 import { follow, type BoardView } from "dgt-board/following.js";
 import { Game } from "dgt-board/moves.js";
 
 const dgt: Library = await load(new URL("https://example.org/dgt64.wasm"));
 const follower = new Follower(dgt, { period: 2000, clock: true, confirm: true });
-const game = new Game();
+const game = new Game(dgt);
 
 function describe(event: Event): string {
   switch (event.type) {
@@ -44,6 +45,17 @@ export async function show(port: Parameters<typeof follow>[1]): Promise<string |
   // @ts-expect-error there may be no view
   return next.away;
 }
+export function wrongField(fen: string): "placement" | "turn" | string {
+  try {
+    const state = State.parse(dgt, fen), moves: string[] = state.moves("e2");
+    const best: string | null = state.moveTo(board.position), passed: string | null = state.passed;
+    return state.isMate ? state.turn : state.play(best ?? moves[0]).fen + passed;
+  } catch (error) {
+    return error instanceof BadFen ? error.field : "";
+  }
+}
+export const begin = new State(dgt, { position: board.position, turn: "white", rights: "KQkq" });
+export const read: string = begin.parseSan("e4", { lenient: true });
 export const commands: Command[] = new CommandDecoder(dgt).feed(sent[0]);
 const { used }: { used: number } = board.take(sent[0]);
 follower.mode = MODES.update;
@@ -76,3 +88,9 @@ dgt.encodeMessage({ type: "field", square: "e2" });
 board.change(52, "P");
 // @ts-expect-error no call of the library has this name
 dgt.calls.host_hears;
+// @ts-expect-error a side is white or black
+new State(dgt, { position: board.position, turn: "w" });
+// @ts-expect-error a move is a text
+begin.play({ from: "e2", to: "e4" });
+// @ts-expect-error a game needs the library
+new Game();
