@@ -342,7 +342,8 @@ export class State {
 }
 
 /** @param {Library} dgt @param {Parts} parts */
-function stateBytes(dgt, { position, turn, rights = "", passed = null, halfMoves = 0, number = 1 }) {
+function stateBytes(dgt, parts) {
+  const { position, turn, rights = "", passed = null, halfMoves = 0, number = 1 } = parts;
   if (!SIDES.includes(turn)) throw new BadValue(`not a side: '${turn}'`);
   if (!/^K?Q?k?q?$/.test(rights)) throw new BadValue(`not letters of KQkq in order: '${rights}'`);
   const place = dgt.write("chess_state", dgt.in, {

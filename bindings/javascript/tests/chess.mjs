@@ -96,12 +96,13 @@ assert.deepEqual([BEGIN.isRepeated(history[4]), BEGIN.isRepeated(history[1])], [
 
 // Texts that aren't FEN: the field that is wrong, and the place.
 const BAD_FENS = [
-  ["", "placement", 0], ["rnbqkbnr/ppppppppp/8/8/8/8/PPPPPPPP/RNBQKBNR w KQkq - 0 1", "placement", 17],
-  [START, "placement", 43], [`${START} x KQkq - 0 1`, "turn", 44],
-  [`${START} w KQqk - 0 1`, "rights", 49], [`${START} w KQkq e9 0 1`, "passed", 52],
-  [`${START} w KQkq \u2013 0 1`, "passed", 51], [`${START} w KQkq - 00 1`, "halfMoves", 54],
-  [`${START} w KQkq - 0`, "halfMoves", 54], [`${START} w KQkq - 0 x`, "number", 55],
-  [`${START} w KQkq - 0 1 `, "number", 56], [`${START} w KQkq - 0 1${" ".repeat(9999)}`, "number", 56],
+  ["", "placement", 0], [START, "placement", 43],
+  ["rnbqkbnr/ppppppppp/8/8/8/8/PPPPPPPP/RNBQKBNR w KQkq - 0 1", "placement", 17],
+  [`${START} x KQkq - 0 1`, "turn", 44], [`${START} w KQqk - 0 1`, "rights", 49],
+  [`${START} w KQkq e9 0 1`, "passed", 52], [`${START} w KQkq \u2013 0 1`, "passed", 51],
+  [`${START} w KQkq - 00 1`, "halfMoves", 54], [`${START} w KQkq - 0`, "halfMoves", 54],
+  [`${START} w KQkq - 0 x`, "number", 55], [`${START} w KQkq - 0 \u0131`, "number", 55],
+  [`${START} w KQkq - 0 1${" ".repeat(9999)}`, "number", 56],
 ];
 for (const [text, field, at] of BAD_FENS) {
   assert.throws(() => parse(text), error =>
@@ -127,9 +128,9 @@ for (const [wrong, why] of [[{ number: 0 }, "badNumber"], [{ rights: "Kk" }, "ba
 
 // Texts of moves: by the state's own way of writing and in other ones, each a move or a reason.
 const TEXTS = [
-  [`${START} w KQkq - 0 1`, "e4", "e2e4", "e2e4"], [`${START} w KQkq - 0 1`, "e2e4", "noMove", "e2e4"],
-  [`${START} w KQkq - 0 1`, "Ke2", "noMove", "noMove"], [`${START} w KQkq - 0 1`, "hello", "badText", "badText"],
-  [`${START} w KQkq - 0 1`, "", "badText", "badText"],
+  [BEGIN.fen, "e4", "e2e4", "e2e4"], [BEGIN.fen, "e2e4", "noMove", "e2e4"],
+  [BEGIN.fen, "Ke2", "noMove", "noMove"], [BEGIN.fen, "hello", "badText", "badText"],
+  [BEGIN.fen, "", "badText", "badText"], [BEGIN.fen, "e\u0134", "badText", "badText"],
   ["r3k2r/8/8/8/8/8/8/R3K2R w KQkq - 0 1", "0-0", "noMove", "e1g1"],
   ["8/P6k/8/8/8/8/8/K7 w - - 0 1", "a8Q", "noMove", "a7a8q"],
   ["2k5/8/8/8/8/4K3/8/R6R w - - 0 1", "Rd1", "noMove", "ambiguous"],

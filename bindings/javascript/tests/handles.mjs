@@ -4,6 +4,7 @@
 
 import assert from "node:assert/strict";
 import { readFileSync } from "node:fs";
+import { State } from "../chess.js";
 import { ASK, BadPlacement, BadValue, Board, Closed, CommandDecoder, Decoder, Follower, Host,
          Library, MODES, TooManyAwaited, lighting, load } from "../dgt.js";
 
@@ -163,6 +164,14 @@ const dgt = await load(bytes);
   assert.deepEqual([...fresh.encodeMessage(event)], [...long]);
   assert.equal(fresh.eventText(event).length, 9 + 2 * 16380);
   fresh.parsePlacement(fresh.placement(board.position));
+  const state = State.parse(
+    fresh, "r3k2r/p1ppqpb1/bn2pnp1/3PN3/1p2P3/2N2Q1p/PPPBBPPP/R3K2R w KQkq - 0 1");
+  for (const move of state.moves()) {
+    const after = state.play(move);
+    assert.deepEqual([state.parseSan(state.san(move)), state.moveTo(after.position)], [move, move]);
+    assert.equal(after.isMate || after.isStalemate || after.isRepeated(state), false);
+    State.parse(fresh, after.fen);
+  }
   const used = new Uint8Array(instance.exports.memory.buffer, 0, stack).findIndex(n => n !== 0xa5);
   assert(stack - used < stack / 4);
   console.log(`at most ${stack - used} bytes of the stack`);

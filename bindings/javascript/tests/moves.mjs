@@ -81,6 +81,17 @@ for (const [isInDoubt, time] of [[true, 6000], [false, 61000]]) {
                               `RNBQKB1R b KQkq - 0 1"]`), made.pgn);
 }
 
+// Two moves between two pictures are recognised if no other two lead there. A pawn that is captured
+// after its promotion may have become any of four pieces.
+const pair = opened();
+pair.doubt();
+pair.see("1r5k/P7/8/8/8/8/8/7K", 0);
+pair.rest(5000);
+for (const ranks of ["1r5k/P7 6K1", "1r4k1/P7 6K1", "r5k1/8 6K1", "1r3k2/P7 5K2"]) {
+  pair.see(ranks.replace(" ", "/8/8/8/8/8/"), 6000);
+}
+assert.deepEqual(pair.moves, ["1. Kg1", "Kg8", "2. Kf1", "Kf8"]);
+
 // The package gives placements. The day of a PGN is the local one.
 const game = new Game(dgt);
 assert.equal(game.lacks, "");
