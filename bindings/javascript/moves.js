@@ -160,10 +160,11 @@ export class Game {
       if (this.#moved(before.state, pieces)) return true;
       this.line.push(last);
     }
-    // Two moves between two pictures, if no other pair leads there. They change at least three
-    // squares.
+    // Two moves between two pictures, if no other pair leads there. They change from three squares
+    // to eight, which are two castlings.
     const changed = differing(last.letters, letters).map(n => this.dgt.squareName(n));
-    if (changed.length < 3 || !before && this.#roots.length > 1) return false;
+    if (changed.length < 3 || changed.length > 8) return false;
+    if (!before && this.#roots.length > 1) return false;
     const ways = last.state.moves().filter(one =>
       changed.includes(one.slice(0, 2)) && last.state.play(one).moveTo(pieces));
     if (ways.length !== 1) return false;

@@ -83,14 +83,20 @@ for (const [isInDoubt, time] of [[true, 6000], [false, 61000]]) {
 
 // Two moves between two pictures are recognised if no other two lead there. A pawn that is captured
 // after its promotion may have become any of four pieces.
-const pair = opened();
-pair.doubt();
-pair.see("1r5k/P7/8/8/8/8/8/7K", 0);
-pair.rest(5000);
-for (const ranks of ["1r5k/P7 6K1", "1r4k1/P7 6K1", "r5k1/8 6K1", "1r3k2/P7 5K2"]) {
-  pair.see(ranks.replace(" ", "/8/8/8/8/8/"), 6000);
+for (const [pictures, moves] of [
+  [["1r5k/P7/_/7K", "1r5k/P7/_/6K1", "1r4k1/P7/_/6K1", "r5k1/8/_/6K1", "1r3k2/P7/_/5K2"],
+   ["1. Kg1", "Kg8", "2. Kf1", "Kf8"]],
+  [["r3k2r/8/8/8/8/P7/8/R3K2R", "r3k2r/8/8/8/P7/8/8/R3K2R", "2kr3r/8/8/8/P7/8/8/R4RK1"],
+   ["1. a4", "O-O-O", "2. O-O"]],
+]) {
+  const pair = opened();
+  pair.doubt();
+  for (const picture of pictures) {
+    pair.see(picture.replace("_", "8/8/8/8/8"), 0);
+    pair.rest(5000);
+  }
+  assert.deepEqual(pair.moves, moves);
 }
-assert.deepEqual(pair.moves, ["1. Kg1", "Kg8", "2. Kf1", "Kf8"]);
 
 // The package gives placements. The day of a PGN is the local one.
 const game = new Game(dgt);
