@@ -35,7 +35,7 @@ const STATE_SIZE = STRUCTS.chess_state.size, MOST_READ = 255; // characters of a
  *   "is_seventy_five_moves"} Question
  */
 
-/** A move isn't legal. */
+/** A move isn't legal, or a text isn't a move. */
 export class IllegalMove extends DgtError {}
 
 /**
@@ -163,7 +163,7 @@ export class State {
   }
 
   /**
-   * Whether a move is legal.
+   * Whether a move is legal. A text that isn't a move is not.
    * @param {string} move
    */
   isLegal(move) {
@@ -317,12 +317,11 @@ export class State {
   }
 
   /**
-   * The same for a move.
+   * The same for a move. Another text is written as a move that is never legal.
    * @param {string} move
    */
   #putMove(move) {
-    const dgt = this.#dgt, [, from, to, letter] = MOVE.exec(move) ?? [];
-    if (!from) throw new BadValue(`not a move, such as e2e4 or e7e8q: '${move}'`);
+    const dgt = this.#dgt, [, from, to, letter] = MOVE.exec(move) ?? ["", "a8", "a8"];
     const promotion = letter ? dgt.pieceCode(letter.toUpperCase()) : 0;
     const [a, b] = [dgt.squareNumber(from), dgt.squareNumber(to)];
     return dgt.write("chess_move", dgt.other, { from: a, to: b, promotion });
