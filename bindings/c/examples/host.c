@@ -24,28 +24,28 @@ static int complain(const char *name) {
     return 1;
 }
 
-typedef struct board {
+struct board {
     int line;
     dgt_follower follower; /* makes the requests, and keeps the picture */
     char shown[SHOWN_ROOM];
-} board;
+};
 
 /* Requests all squares and each change, if that is due. False, with errno, if the line can't be
  * written. */
-static bool ask(board *board) {
+static bool ask(struct board *board) {
     uint8_t out[DGT_MAX_ASKING];
     dgt_sent asked = dgt_follower_ask(&board->follower, dgt_port_now(), out, sizeof out);
     return dgt_port_write(board->line, out, asked.bytes);
 }
 
-static bool ask_trademark(board *board) {
+static bool ask_trademark(struct board *board) {
     uint8_t out[1];
     dgt_sent sent = dgt_follower_send(&board->follower, DGT_SEND_TRADEMARK, out, sizeof out);
     return sent.status == DGT_DONE && dgt_port_write(board->line, out, sent.bytes);
 }
 
 /* Prints the position, and whether it may be wrong, if either has changed. */
-static void show(board *board) {
+static void show(struct board *board) {
     char text[SHOWN_ROOM];
     if (!dgt_follower_placement(&board->follower, text)) return;
     if (dgt_follower_in_doubt(&board->follower)) strcat(text, " ?");
@@ -55,7 +55,7 @@ static void show(board *board) {
     strcpy(board->shown, text);
 }
 
-static void hear(board *board, const uint8_t *chunk, size_t n) {
+static void hear(struct board *board, const uint8_t *chunk, size_t n) {
     static uint8_t body[DGT_MAX_BODY];
     dgt_event event;
     for (size_t at = 0; at < n;) {
@@ -69,7 +69,7 @@ static void hear(board *board, const uint8_t *chunk, size_t n) {
 
 /* Waits for bytes until the next request is due, or until the end, and returns the result of
  * dgt_port_read. */
-static long wait_for_bytes(board *board, uint8_t *chunk, size_t n, uint64_t end) {
+static long wait_for_bytes(struct board *board, uint8_t *chunk, size_t n, uint64_t end) {
     uint64_t due;
     if (dgt_follower_due_at(&board->follower, &due) && due < end) end = due;
     return dgt_port_read(board->line, chunk, n, end);
@@ -77,7 +77,7 @@ static long wait_for_bytes(board *board, uint8_t *chunk, size_t n, uint64_t end)
 
 /* Follows a board until its line ends, or nothing has arrived for some milliseconds (0: for ever).
  * False, with errno, if the line can't be written. */
-static bool follow(board *board, uint64_t silence) {
+static bool follow(struct board *board, uint64_t silence) {
     uint8_t chunk[256];
     uint64_t end = silence ? dgt_port_now() + silence : UINT64_MAX;
     bool can_write = ask(board) && ask_trademark(board);
@@ -100,7 +100,7 @@ static uint64_t milliseconds(const char *text) {
 }
 
 int main(int count, char **words) {
-    static board board;
+    static struct board board;
     uint64_t silence = count == 3 ? milliseconds(words[2]) : 0;
     if (count < 2 || count > 3 || (count == 3 && silence == 0))
         return fprintf(stderr, "usage: host LINE [SECONDS], from 1 to 1000000\n"), 2;

@@ -206,7 +206,7 @@ static inline long dgt_port_read(int port, uint8_t *bytes, size_t n, uint64_t un
     int ready = dgt_port_wait_(port, POLLIN, until);
     if (ready <= 0) return ready == 0 || errno == EINTR ? 0 : -1;
     ssize_t got = read(port, bytes, n);
-    if (got > 0) return (long)got;
+    if (got > 0) return got;
     if (got < 0) return errno == EAGAIN || errno == EINTR ? 0 : -1;
     errno = ENODEV; /* the line was hung up */
     return -1;
