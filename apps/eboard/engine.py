@@ -10,11 +10,11 @@ MOVE = re.compile("[a-h][1-8][a-h][1-8][qrbn]?")
 FEATURES = "usermove=0 san=0 ping=1 setboard=1 colors=1 sigint=0 sigterm=0 done=1"
 
 
-def main():
+def main() -> None:
     moves = os.environ["ENGINE_MOVES"].split()
     with open(os.environ["ENGINE_LOG"], "a", buffering=1) as log:
 
-        def say(text):
+        def say(text: str) -> None:
             print(text, flush=True)
             log.write(f"engine: {text}\n")
 
