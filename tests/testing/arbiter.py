@@ -9,14 +9,12 @@ pawn is put on the last rank before the piece that it becomes. Moves are started
 the board's move may be made before the answer was put on the board.
 """
 
-import pathlib
 import random
-import tempfile
 import time
 
 import engines
 import games
-from simulated_board import Hands, Line
+from simulated_board import Hands, a_line
 from wrong import Wrong, wanted
 
 SETTLE = 0.3
@@ -28,11 +26,10 @@ WORTH = dict(zip("PNBRQKpnbrqk", (1, 3, 3, 5, 9, 0) * 2))
 class Game:
     """A game that is played. It counts what it has tried."""
 
-    def __init__(self, dgt, seed, folder):
+    def __init__(self, dgt, seed, line):
         self.dgt, self.seed = dgt, seed
         self.chance = random.Random(1000 + seed)
-        self.line = Line(dgt, folder)
-        self.hands = Hands(dgt, self.line, seed)
+        self.line, self.hands = line, Hands(line, seed)
         options = [("Settle", round(1000 * SETTLE))]
         self.engine = engines.Engine(self.line.path, "--period", "1", options=options)
         self.counts = dict.fromkeys(["moves", "castlings", "en passant", "promotions", "mates",
@@ -43,10 +40,7 @@ class Game:
         self.state, self.before, self.moves = dgt.GameState.parse(self.fen), None, []
 
     def close(self):
-        try:
-            self.engine.end()
-        finally:
-            self.line.close()
+        self.engine.end()
         self.counts["faults"] = self.line.faults
 
     def begin(self):
@@ -177,8 +171,8 @@ class Game:
 
 def play(dgt, seed):
     """Plays a game. Returns what was tried."""
-    with tempfile.TemporaryDirectory() as folder:
-        game = Game(dgt, seed, pathlib.Path(folder))
+    with a_line() as line:
+        game = Game(dgt, seed, line)
         try:
             game.play()
             return game.counts

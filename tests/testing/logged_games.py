@@ -21,11 +21,12 @@ import time
 import cases
 import dgt
 import pgn_games
-import simulated_board
 import tables
 from cases import ROOT, SECONDS
 from dgt._logged import LoggedGames
-from simulated_board import boards
+from dgt._simulated import RunningClock
+from simulated_board import Boards
+from simulated_board import a_line as a_board
 from wrong import Wrong, wanted
 
 PROGRAM = [sys.executable, "-m", "dgt"]
@@ -381,7 +382,7 @@ class LoggedGame(tables.Played):
 
     def sit_down(self, turned):
         self.side = "left" if self.chance.random() < 0.7 else "right"
-        timer = tables.Timer(is_white_left=self.side == "left")
+        timer = RunningClock(5400, 5400, self.side == "left")
         table = LoggedTable(self.state.letters, self.fen, turned, self.file, timer,
                             self.side, {"Round": "1"})
         table.game = self
@@ -436,8 +437,7 @@ def ran(*words, seconds=SECONDS):
 @contextlib.contextmanager
 def a_line(board=None):
     """A board on a line, and a name for a file of games."""
-    with simulated_board.a_line(dgt) as line, tempfile.TemporaryDirectory() as folder:
-        line.board = board or dgt.LoggingBoard()
+    with a_board(board=board) as line, tempfile.TemporaryDirectory() as folder:
         yield line, pathlib.Path(folder, "games.pgn")
 
 
@@ -498,7 +498,7 @@ class LogPrograms(cases.Case):
         for word in ITALIAN.split():
             board.change(word[:2], word[2])
         with a_line(board) as (line, path):
-            line.transmit = slowly(line)
+            line.write = slowly(line)
             got = ran("game", line.path, "--log", "--pgn", path)
             wanted(f"its lines, {got.stderr}", (got.returncode, len(got.stdout.splitlines())),
                    (0, 7))
@@ -589,7 +589,7 @@ class LogPrograms(cases.Case):
     def test_trial_log(self):
         """The boards of trials keep a log until a host listens."""
         with tempfile.TemporaryDirectory() as folder:
-            table = boards.Boards(folder, 1)
+            table = Boards(folder, 1)
             for _ in range(3):
                 table[0].play()
             got = ran("game", table[0].path, "--log")

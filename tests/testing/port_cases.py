@@ -36,7 +36,7 @@ class OnALine(cases.Case):
     """Cases of a board on a line."""
 
     def setUp(self):
-        self.line = self.enterContext(a_line(dgt))
+        self.line = self.enterContext(a_line())
 
 
 # ---- A port by its name

@@ -1,67 +1,60 @@
-"""A board of the package on a pseudo-terminal, and the hands at it.
-
-A pseudo-terminal replaces a serial port, with a link that disappears and comes back with it. The
-line between it and the board may alter and lose bytes in both directions.
-"""
+"""A board of the package on a pseudo-terminal, with its clock, its log, and the hands at it. The
+line to it may alter and lose bytes in both directions."""
 
 import contextlib
-import os
 import pathlib
 import random
-import select
-import sys
 import tempfile
-import threading
 import time
 
+import cases  # the path of the package
+import dgt
 import games
+from dgt._simulated import PluggedBoard, PluggedBoards
 from wrong import wanted
 
-sys.path.append(str(pathlib.Path(__file__).resolve().parents[2] / "apps/broadcast/page"))
-import boards
+# The first moves of a game, as squares: from and to, twice where White castles.
+GAME = """e2e4 e7e5 g1f3 b8c6 f1b5 a7a6 b5a4 g8f6 e1g1h1f1 f8e7 f1e1 b7b5 a4b3 d7d6""".split()
+INCREMENT = 5  # seconds that a clock adds when it is pressed
+RUNS, WHITE_TURN, BLACK_TURN = 0x01, 0x10, 0x08  # bits of a clock's status
 
 
-class Line(boards.Port):
-    """A board at the other end of a pseudo-terminal. `spoil` is what the line makes of each
-    message; `asked` has when something was asked, and what. With a `chance` it loses and alters
-    bytes, either way, and counts that in `faults`. `clock` has the messages to the clock."""
+class Board(PluggedBoard):
+    """A board at a path. `spoil` is what the line makes of each message; `asked` has when something
+    was asked, and what. With a `chance` it loses and alters bytes, either way, and counts that in
+    `faults`. `to_clock` has the messages to the clock, and `said` of each message the number of
+    bytes so far, the time, and where the pieces stand."""
 
-    def __init__(self, dgt, folder, identity=None, is_raw=True):
-        super().__init__(pathlib.Path(folder, "port"), is_raw)
-        self.dgt, self.heard = dgt, dgt.CommandDecoder()
-        self.board = dgt.Board(**({"identity": identity} if identity else {}))
-        self.spoil, self.is_on, self.asked, self.clock = bytes, True, [], []
-        self.chance, self.faults = None, 0
-        self.wake, self.woken = os.pipe()
-        self.plug()
-        self.thread = threading.Thread(target=self.serve, daemon=True)
-        self.thread.start()
+    def __init__(self, path, identity=None, board=None, raw=True):
+        super().__init__(path, board or dgt.LoggingBoard(identity=identity), raw)
+        self.path, self.heard = self.link, dgt.CommandDecoder()
+        self.spoil, self.asked, self.to_clock, self.said = bytes, [], [], []
+        self.chance, self.faults, self.count, self.moves = None, 0, 0, 0
+
+    @property
+    def position(self):
+        return self.board.position
+
+    @property
+    def tells(self):
+        """Whether it reports changes."""
+        return self.board.mode != dgt.Mode.IDLE
 
     def plug(self):
         with self.lock:
+            self.link, self.count = self.path, 0
+            return super().plug()
+
+    def switch_off(self):
+        """Off and on: it forgets what it is to report."""
+        with self.lock:
             self.board.line_lost()
-            super().plug()
-        os.write(self.woken, b"w")
 
-    def serve(self):
-        """Answers the host until the line is closed."""
-        while True:
-            with self.lock:
-                heard = [self.wake, *self.ends[:self.is_on]]
-            with contextlib.suppress(OSError):  # the port may go meanwhile
-                select.select(heard, [], [], 0.05)
-            if select.select([self.wake], [], [], 0)[0] and b"c" in os.read(self.wake, 100):
-                break
-            with self.lock, contextlib.suppress(BlockingIOError):
-                if self.ends and self.is_on:
-                    self.answer(os.read(self.ends[0], 1000))
-
-    def answer(self, asked):
+    def hear(self, asked):
         self.asked.append((time.monotonic(), asked))
-        for word in self.heard.feed(asked):
-            if isinstance(word, self.dgt.ClockMessage):
-                self.clock.append((word.id, word.payload))
-        self.send(self.board.answers(self.alter(asked)))
+        self.to_clock += [(each.id, each.payload) for each in self.heard.feed(asked)
+                          if isinstance(each, dgt.ClockMessage)]
+        super().hear(self.alter(asked))
 
     def alter(self, message):
         """What a bad line makes of a message."""
@@ -75,57 +68,91 @@ class Line(boards.Port):
                                    message[:at] + byte + message[at:]])
 
     def send(self, messages):
-        if sent := b"".join(self.alter(self.spoil(message)) for message in messages):
-            self.transmit(sent)
-
-    def hand_clock(self, clock):
-        """The clock shows this, which is sent if somebody listens."""
-        with self.lock:
-            self.board.hand_clock(clock)
-            self.put()
-
-    def put(self, *changes):
-        """Puts pieces on squares, and sends all changes at once."""
-        with self.lock:
-            for square, piece in changes:
-                self.board.change(square, piece)
-            if self.ends and self.is_on:
-                self.send(list(self.board.messages()))
+        """Sends these messages at once: a busy machine holds none of them up."""
+        sent = []
+        for message in messages:
+            sent.append(self.alter(self.spoil(message)))
+            self.count += len(sent[-1])
+            self.said.append((self.count, time.time(), self.position.placement))
+        if any(sent):
+            self.write(b"".join(sent))
 
     def put_each(self, changes):
-        """Puts pieces on squares, one after the other, and sends all these messages at once: a
-        busy machine holds none of them up."""
+        """Puts pieces on squares, one after the other, and sends all these messages at once."""
         with self.lock:
             messages = []
             for square, piece in changes:
                 self.board.change(square, piece)
-                messages += map(bytes, self.board.messages())
+                messages += self.board.messages()
             if self.ends and self.is_on:
                 self.send(messages)
 
-    def close(self):
-        os.write(self.woken, b"c")
-        self.thread.join()
-        if self.ends:
-            self.unplug()
-        os.close(self.wake)
-        os.close(self.woken)
+    def garble(self, noise):
+        """Sends random bytes instead of messages, a few at a time."""
+        for at in range(0, len(noise), 512):
+            self.write(noise[at:at + 512])
+            time.sleep(0.01)
+
+    def show_clock(self, first, second, status, flags=(0, 0)):
+        """The clock shows these seconds, with this status and the flags of both sides."""
+        sides = (dgt.Time(left // 3600, left // 60 % 60, left % 60, flag)
+                 for left, flag in zip((first, second), flags))
+        none = status & dgt.NoClock().status
+        self.hand_clock(dgt.NoClock(status=status) if none else dgt.Times(*sides, status))
+
+    def press(self, side):
+        """A player presses the clock after a move. Returns the time that is left to him."""
+        with self.lock:
+            self.clock.left[side] += INCREMENT
+            self.run_clock(1 - side)
+            return str(self.clock.time(side))
+
+    def play(self):
+        """Plays its next move, forth through the game and then back."""
+        turn = self.moves % (2 * len(GAME))
+        self.moves += 1
+        move = GAME[turn] if turn < len(GAME) else GAME[2 * len(GAME) - 1 - turn]
+        for at in range(0, len(move), 4):
+            old, new = move[at:at + 2], move[at + 2:at + 4]
+            old, new = (old, new) if turn < len(GAME) else (new, old)
+            piece = self.position[old]
+            self.put((old, "."))
+            time.sleep(0.1)
+            self.put((new, piece))
+
+
+class Boards(PluggedBoards):
+    """Boards at ports of a folder, without clocks at first, each with a serial number."""
+
+    def __init__(self, folder, count):
+        super().__init__([])
+        self.add(*(pathlib.Path(folder, f"port{number + 1}") for number in range(count)))
+
+    def add(self, *paths):
+        """Plugs more boards in."""
+        for path in paths:
+            said = dgt.Identity(serial=f"{len(self) + 1:05}".encode())
+            board = Board(path, board=dgt.LoggingBoard(None, dgt.NoClock(), said))
+            board.clock.left = [5400, 5400]
+            board.plug()
+            self.append(board)
 
 
 @contextlib.contextmanager
-def a_line(dgt, **how):
-    """A board on a line, with its port in a separate folder."""
-    with tempfile.TemporaryDirectory() as folder:
-        with contextlib.closing(Line(dgt, folder, **how)) as line:
-            yield line
+def a_line(folder=None, **how):
+    """A board with a port in this folder, or in one of its own."""
+    with contextlib.ExitStack() as stack:
+        folder = folder or stack.enter_context(tempfile.TemporaryDirectory())
+        boards = PluggedBoards([Board(pathlib.Path(folder, "port"), **how)])
+        stack.callback(boards.close)
+        yield boards[0]
 
 
 class Hands:
     """The hands at a board. They know squares as White does, also on a turned board."""
 
-    def __init__(self, dgt, line, seed=0):
-        self.dgt, self.line = dgt, line
-        self.number = dgt.square_number
+    def __init__(self, line, seed=0):
+        self.line, self.number = line, dgt.square_number
         self.chance = random.Random(seed)
         self.letters = list(dgt.Position.start().letters)
         self.turned = False
@@ -136,7 +163,7 @@ class Hands:
         for square, letter in steps:
             number = square if isinstance(square, int) else self.number(square)
             self.letters[number] = letter
-            changes.append((self.dgt.SQUARES[63 - number if self.turned else number], letter))
+            changes.append((dgt.SQUARES[63 - number if self.turned else number], letter))
         self.line.put_each(changes)
 
     def puts(self, text):

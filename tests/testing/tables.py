@@ -15,43 +15,17 @@ import dgt
 import games
 import pgn_games
 from dgt import following, game
+from dgt._simulated import RunningClock
 from wrong import Wrong
 
 START_LETTERS = "rnbqkbnrpppppppp" + "." * 32 + "PPPPPPPPRNBQKBNR"
 INCREMENT = 5
 MOST_STEPS = 1000  # this number of steps without any time between them are a busy wait
 CENTRE = {"1-0": ("e4", "d5"), "0-1": ("e5", "d4"), "1/2-1/2": ("d4", "d5")}
-RUNS, WHITE_TURN, BLACK_TURN = 0x01, 0x10, 0x08
 # What is counted of games that were played. Positions are those that had rested, and the last are
 # those of them whose moves weren't all known.
 COUNTED = ["games", "moves", "castlings", "captures in passing", "promotions",
            "promotions to other pieces than a queen", "take-backs", "positions", "unresolved"]
-
-
-class Timer:
-    """A clock of two sides. One of them may run."""
-
-    def __init__(self, left=(5400, 5400), is_white_left=True):
-        self.left, self.is_white_left = list(left), is_white_left
-        self.runs, self.due = None, None  # the side that runs, White's is 0, and its next second
-
-    def run(self, side, time):
-        self.runs = side
-        self.due = time + 1 if side is not None else None
-
-    def tick(self):
-        self.left[self.runs] -= 1
-        self.due += 1
-
-    def time(self, side):
-        minutes, seconds = divmod(self.left[side], 60)
-        return dgt.Time(*divmod(minutes, 60), seconds)
-
-    @property
-    def times(self):
-        turn = {0: RUNS | WHITE_TURN, 1: RUNS | BLACK_TURN, None: 0}[self.runs]
-        sides = [self.time(0), self.time(1)]
-        return dgt.Times(*(sides if self.is_white_left else sides[::-1]), turn)
 
 
 class Compared:
@@ -135,14 +109,16 @@ class Table(games.Hand):
             self.hear(self.board.answers(asked))
         if self.keeper.due is not None and self.keeper.due <= self.time:
             self.keeper.tick(self.time)
-        while self.timer and self.timer.due is not None and self.timer.due <= self.time:
-            self.timer.tick()
+        while self.timer and self.timer.count(self.time):
             self.show_clock()
         self.views()
 
     def show_clock(self):
         self.board.hand_clock(self.timer.times)
         self.hear(self.board.messages())
+
+    def run_clock(self, side):
+        self.timer.run(side, self.time)
 
     def press(self, side):
         """A player presses the clock after a move. Returns the time that is left to him."""
@@ -201,7 +177,7 @@ class Played(games.Game):
 
     def sit_down(self, turned):
         is_white_left = self.chance.random() < 0.7
-        timer = Timer(is_white_left=is_white_left)
+        timer = RunningClock(5400, 5400, is_white_left)
         table = AtGame(self.state.letters, self.fen, turned, self.file, timer,
                        "left" if is_white_left else "right", {"Round": "1"})
         table.game = self
@@ -268,7 +244,7 @@ class Played(games.Game):
         self.backs += 1
         super().take_back()
         del self.clocks[len(self.moves):]
-        self.hand.timer.run(0 if self.state.white else 1, self.hand.time)
+        self.hand.run_clock(0 if self.state.white else 1)
         self.hand.rest(self.long)
 
     def finish(self):

@@ -10,9 +10,9 @@ import sys
 import tempfile
 import time
 
-sys.path.append(str(pathlib.Path(__file__).resolve().parents[2] / "apps/broadcast/page"))
-import boards
+sys.path.append(str(pathlib.Path(__file__).resolve().parents[1] / "testing"))
 import chromium
+import simulated_board
 
 EXAMPLES = pathlib.Path(__file__).resolve().parents[2] / "apps/broadcast"
 PYTHON = "/usr/bin/python3"  # Debian's, which has Debian's modules
@@ -140,7 +140,7 @@ class Room:
             raise RuntimeError("the broker doesn't start")
 
     def make_boards(self, count, folder="."):
-        self.boards = boards.Boards(self.path / folder, count)
+        self.boards = simulated_board.Boards(self.path / folder, count)
 
     @property
     def at_broker(self):

@@ -13,13 +13,9 @@ import sys
 import threading
 import time
 
-sys.path.append(str(pathlib.Path(__file__).resolve().parents[2] / "apps/broadcast/page"))
-import boards
 import running
 
 ROOT = pathlib.Path(__file__).resolve().parent.parent.parent
-sys.path.insert(0, str(ROOT / "bindings/python"))
-
 SCREEN = "1240x760x24"
 # The engine as the chess program starts it. What both say is kept in two files.
 ENGINE = """#!/bin/sh
@@ -85,7 +81,7 @@ class Player(threading.Thread):
                        + [(square, letters[square]) for square in changed
                           if letters[square] != "."]):
             square, letter = wanted
-            self.board.put(self.dgt.SQUARES[square], boards.LETTERS.index(letter))
+            self.board.put((self.dgt.SQUARES[square], letter))
             self.letters[square] = letter
             time.sleep(0.02)
 

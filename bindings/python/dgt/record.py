@@ -15,16 +15,15 @@ from __future__ import annotations
 import argparse
 import contextlib
 import os
-import pty
 import signal
 import sys
 import threading
-import tty
 from typing import BinaryIO
 
 from ._board_with_clock import PATIENCE
 from ._port import Port, has_input, stopping
 from ._session import RecordedPort, Recorder
+from ._simulated import open_terminal
 from ._version import VERSION
 from .board import Mode
 from .following import Following
@@ -64,9 +63,7 @@ def _follow(port: str, recorder: Recorder, stop: int) -> None:
 def _pass_on(port: str, recorder: Recorder, stop: int) -> None:
     """Passes bytes between the board and a program on a pseudo-terminal, until a signal. `OSError`
     once the port has disappeared."""
-    program, terminal = pty.openpty()
-    tty.setraw(terminal)  # like a serial line: without echo
-    os.set_blocking(program, False)
+    program, terminal = open_terminal()
     line = RecordedPort(port, stop, recorder)
     print(os.ttyname(terminal), flush=True)
     while not has_input(stop, 0.0):

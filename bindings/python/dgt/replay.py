@@ -16,13 +16,12 @@ from __future__ import annotations
 import argparse
 import contextlib
 import os
-import pty
 import select
 import sys
 import time
-import tty
 
 from ._session import BadSession, Entry, read_session
+from ._simulated import open_terminal
 from .commands import Ask, Asked
 from .decoder import CommandDecoder, Decoder
 from .events import Dump
@@ -107,9 +106,7 @@ def main(arguments: list[str] | None = None) -> None:
     except (OSError, BadSession) as wrong:
         why = wrong.strerror if isinstance(wrong, OSError) else wrong
         raise SystemExit(f"dgt-replay: {args.file}: {why}") from None
-    line, terminal = pty.openpty()
-    tty.setraw(terminal)  # like a serial line: without echo
-    os.set_blocking(line, False)
+    line, terminal = open_terminal()
     print(os.ttyname(terminal), flush=True)
     player = _Player(line)
     with contextlib.suppress(KeyboardInterrupt):

@@ -39,16 +39,13 @@ says so and ends with status 1.
 """
 
 import argparse
-import contextlib
 import os
 import pathlib
-import pty
 import re
 import select
 import signal
 import sys
 import time
-import tty
 from collections.abc import Iterable, Iterator
 
 # First, so that --help needs no library.
@@ -63,57 +60,13 @@ words = parser.parse_args()
 sys.path.insert(0, str(pathlib.Path(__file__).resolve().parents[1]))
 try:
     import dgt
+    from dgt._simulated import PluggedBoard
 except ImportError as missing:
     sys.exit(f"board.py: {missing}")
 
 
-RUNNING, TURNS = 0x01, (0x10, 0x08)  # bits of a clock's status: it runs; the side to move
 SQUARES = {0x86, 0x8E}  # the first bytes of messages with squares: all of them, and one
 MOVE = re.compile("([a-h][1-8])([a-h][1-8])")
-
-
-class RunningClock:
-    """The clock of a board. While it runs, the side to move counts down each second, to 0:00:00,
-    and the other one keeps its time."""
-
-    def __init__(self, board: dgt.Board) -> None:
-        self.board, self.left = board, [0, 0]  # the seconds of both sides
-        self.side: int | None = None  # to move
-        self.due: float | None = None  # when it counts next, if it runs
-
-    def set(self, first: str, second: str) -> None:
-        """Shows these times, and stops. ValueError if one of them isn't valid."""
-        self.left, self.side = [read_seconds(first), read_seconds(second)], None
-        self.stop()
-
-    def start(self, side: int) -> None:
-        """Runs for this side. ValueError if it has no time left."""
-        if self.left[side] == 0:
-            raise ValueError(f"the clock's {('first', 'second')[side]} side has no time left")
-        self.side, self.due = side, time.monotonic() + 1
-        self.show()
-
-    def press(self) -> None:
-        """ValueError if the clock doesn't run, or if the other side has no time left."""
-        if self.side is None or self.due is None:
-            raise ValueError("the clock doesn't run")
-        self.start(1 - self.side)
-
-    def stop(self) -> None:
-        self.due = None
-        self.show()
-
-    def count(self) -> None:
-        """Counts down the passed seconds."""
-        while self.side is not None and self.due is not None and self.due <= time.monotonic():
-            self.left[self.side] -= 1
-            self.due = self.due + 1 if self.left[self.side] else None
-            self.show()
-
-    def show(self) -> None:
-        status = 0 if self.side is None else TURNS[self.side] | (RUNNING if self.due else 0)
-        first, second = (dgt.Time(left // 3600, left // 60 % 60, left % 60) for left in self.left)
-        self.board.hand_clock(dgt.Times(first, second, status))
 
 
 def read_seconds(text: str) -> int:
@@ -125,63 +78,36 @@ def read_seconds(text: str) -> int:
     return 3600 * shown.hours + 60 * shown.minutes + shown.seconds
 
 
-class Port:
-    """Both sides of a pseudo-terminal: the board's, and the one that a host opens."""
-
-    def __init__(self, link: str | None) -> None:
-        self.link, self.ends = link, list[int]()
-        self.plug()
-
-    def plug(self) -> None:
-        """Makes a terminal if there is none, and prints its name or links to it."""
-        if self.ends:
-            return
-        try:
-            self.ends = [*pty.openpty()]
-        except OSError as refused:
-            raise SystemExit(f"board.py: can't open a pseudo-terminal: {refused.strerror}"
-                             ) from None
-        tty.setraw(self.ends[1])
-        os.set_blocking(self.ends[0], False)
-        name = os.ttyname(self.ends[1])
-        if self.link is None:
-            print(name, flush=True)
-            return
-        with contextlib.suppress(OSError):
-            if not os.path.exists(self.link):  # the link of a board that was killed
-                os.unlink(self.link)
-        try:
-            os.symlink(name, self.link)
-        except OSError as refused:
-            why = f"{refused.strerror} (LINK must be a new name in a writable folder)"
-            raise SystemExit(f"board.py: {self.link}: {why}") from None
-
-    def unplug(self) -> None:
-        if self.ends and self.link is not None:
-            pathlib.Path(self.link).unlink(missing_ok=True)
-        for end in self.ends:
-            os.close(end)
-        self.ends = []
-
-    def write(self, data: bytes) -> None:
-        """Sends these bytes. Without a reader they are lost, like on a line."""
-        if self.ends:
-            with contextlib.suppress(BlockingIOError):
-                os.write(self.ends[0], data)
-
-
-class Simulation:
+class Simulation(PluggedBoard):
     """A board and its clock, on one side of a pseudo-terminal."""
 
-    def __init__(self, board: dgt.Board, port: Port) -> None:
-        self.board, self.port, self.clock = board, port, RunningClock(board)
+    def __init__(self, link: str | None) -> None:
+        super().__init__(link)
         self.faults = set[str]()  # by their names in the input
         self.is_turned = False  # White is on the far side
+        self.plug()
 
     def say(self, text: str) -> None:
         """Prints a line, but only with LINK."""
-        if self.port.link is not None:
+        if self.link:
             print(text, flush=True)
+
+    def plug(self) -> str:
+        """Opens the port, and prints its name without LINK."""
+        is_new = not self.ends
+        try:
+            name = super().plug()
+        except OSError as refused:
+            what = f"{self.link}" if self.ends else "can't open a pseudo-terminal"
+            hint = " (LINK must be a new name in a writable folder)" if self.ends else ""
+            raise SystemExit(f"board.py: {what}: {refused.strerror}{hint}") from None
+        if is_new and not self.link:
+            print(name, flush=True)
+        return name
+
+    def unplug(self) -> None:
+        time.sleep(0.05)  # the host reads the bytes first
+        super().unplug()
 
     def send(self, messages: Iterable[bytes]) -> None:
         """Sends messages, as far as faults leave them."""
@@ -192,38 +118,32 @@ class Simulation:
                 self.faults.remove("lose")
             elif "half" in self.faults:
                 self.faults.remove("half")
-                self.port.write(message[: len(message) // 2])
+                self.write(message[: len(message) // 2])
                 self.unplug()
             else:
-                self.port.write(message)
+                self.write(message)
 
-    def hear(self) -> None:
-        """Takes the host's commands, and answers."""
-        asked = os.read(self.port.ends[0], 4096)
+    def hear(self, asked: bytes) -> None:
+        """Answers these bytes of the host."""
         for command in asked.replace(b"\0", b""):
             self.say(f"asked {command:02x}")
-        self.send(self.board.answers(asked))
-
-    def unplug(self) -> None:
-        time.sleep(0.05)  # the host reads the bytes first
-        self.port.unplug()
-        self.board.line_lost()
+        super().hear(asked)
 
     def serve(self, seconds: float | None, until: tuple[int, ...] = ()) -> None:
         """Sends changes to the host, and answers it: for this number of seconds, for ever if it is
         None, or until one of these descriptors has something to read."""
         end = None if seconds is None else time.monotonic() + seconds
         while True:
-            self.clock.count()
+            self.count_clock()
             self.send(self.board.messages())
             now = time.monotonic()
             if end is not None and now >= end:
                 return
             times = [max(0.0, each - now) for each in (end, self.clock.due) if each is not None]
-            heard = [*self.port.ends[:1], *until]
+            heard = [*self.ends[:1], *until]
             ready = select.select(heard, [], [], min(times, default=None))[0]
-            if self.port.ends and self.port.ends[0] in ready:
-                self.hear()
+            if self.ends and self.ends[0] in ready:
+                self.answer()
             if not set(until).isdisjoint(ready):
                 return
 
@@ -249,6 +169,23 @@ class Simulation:
         self.serve(0.1)
         self.board.change(end, piece)
 
+    def set_clock(self, first: str, second: str) -> None:
+        """Shows these times, and stops. ValueError if one of them isn't valid."""
+        self.clock.left, self.clock.side = [read_seconds(first), read_seconds(second)], None
+        self.run_clock(None)
+
+    def start_clock(self, side: int) -> None:
+        """ValueError if the side has no time left."""
+        if self.clock.left[side] == 0:
+            raise ValueError(f"the clock's {('first', 'second')[side]} side has no time left")
+        self.run_clock(side)
+
+    def press_clock(self) -> None:
+        """ValueError if the clock doesn't run, or if the other side has no time left."""
+        if self.clock.runs is None:
+            raise ValueError("the clock doesn't run")
+        self.start_clock(1 - self.clock.runs)
+
     def obey(self, happening: str) -> None:
         """Obeys a line of the input. ValueError if the line is invalid."""
         match happening.split():
@@ -257,17 +194,17 @@ class Simulation:
             case ["wait", _]:
                 raise ValueError("not 0 to 3600 seconds")
             case ["clock", "start"]:
-                self.clock.start(self.clock.side or 0)
+                self.start_clock(self.clock.side or 0)
             case ["clock", "press"]:
-                self.clock.press()
+                self.press_clock()
             case ["clock", "stop"]:
-                self.clock.stop()
+                self.run_clock(None)
             case ["clock", first, second]:
-                self.clock.set(first, second)
+                self.set_clock(first, second)
             case ["clock", *_]:
                 raise ValueError("neither two times nor start, press or stop after clock")
             case ["raw", text]:
-                self.port.write(bytes.fromhex(text))
+                self.write(bytes.fromhex(text))
             case ["new" | "turn" as how]:
                 self.is_turned ^= how == "turn"
                 letters = dgt.Position.start().letters
@@ -278,7 +215,7 @@ class Simulation:
             case ["gone"]:
                 self.unplug()
             case ["back"]:
-                self.port.plug()
+                self.plug()
             case ["half" | "lose" | "curt" | "mute" as fault]:
                 self.faults.add(fault)
             case [square, piece]:
@@ -293,7 +230,7 @@ class Simulation:
         it hasn't after ten seconds."""
         latest = time.monotonic() + 10
         self.serve(0.5)
-        while select.select(self.port.ends[1:], [], [], 0)[0]:
+        while select.select(self.ends[1:], [], [], 0)[0]:
             if time.monotonic() > latest:
                 raise SystemExit("board.py: the host hasn't read everything")
             self.serve(0.05)
@@ -302,21 +239,19 @@ class Simulation:
 def main() -> None:
     for ending in (signal.SIGINT, signal.SIGPIPE):
         signal.signal(ending, signal.SIG_DFL)
-    port = Port(words.link)
-    with dgt.LoggingBoard() as board:
-        simulation = Simulation(board, port)
+    simulation = Simulation(words.link)
+    simulation.say("ready")
+    for happening in simulation.lines():
+        try:
+            simulation.obey(happening)
+        except ValueError as wrong:
+            print(f"board.py: {happening!r}: {wrong}", file=sys.stderr, flush=True)
+        simulation.serve(0)
         simulation.say("ready")
-        for happening in simulation.lines():
-            try:
-                simulation.obey(happening)
-            except ValueError as wrong:
-                print(f"board.py: {happening!r}: {wrong}", file=sys.stderr, flush=True)
-            simulation.serve(0)
-            simulation.say("ready")
-        if words.link is None:
-            simulation.finish()
-        else:
-            simulation.unplug()
+    if words.link is None:
+        simulation.finish()
+    else:
+        simulation.unplug()
 
 
 if __name__ == "__main__":
