@@ -31,7 +31,7 @@ def sources(name: str) -> list[pathlib.Path]:
 
 def run(name: str, *command: object, seconds: int) -> int:
     """Runs a harness by chance, by this command. Returns how many inputs it has tried."""
-    words = [*command, seconds, number("DGT_FUZZ_SEED", 1), FUZZ / "corpus" / f"{name}.txt"]
+    words = [*command, seconds, number("DGT_FUZZ_SEED", 1), name, FUZZ / "corpus.txt"]
     ran = subprocess.run([str(word) for word in words], capture_output=True, text=True,
                          timeout=seconds + LATE, check=False)
     if ran.returncode:

@@ -1,6 +1,7 @@
 /* Runs a harness without libFuzzer, which clang lacks for some processors: on the first inputs, and
- * then on parts of two of them, joined and randomly altered. Its arguments are seconds, a seed and
- * the file of the first inputs. It prints how many inputs it tried, and after a fault the input. */
+ * then on parts of two of them, joined and randomly altered. Its arguments are seconds, a seed, the
+ * harness and the file of the first inputs. It prints how many inputs it tried, and after a fault
+ * the input. */
 #define _DEFAULT_SOURCE
 #include <signal.h>
 #include <stdbool.h>
@@ -46,13 +47,18 @@ static void show_input(int number) {
     raise(number);
 }
 
-/* Reads the inputs of a file. Each is in hexadecimal digits, after a comment line. */
-static bool read_known(const char *name) {
+/* Reads the inputs of a harness from a file. Each is in hexadecimal digits, after a comment line
+ * that begins with the harness and a colon. */
+static bool read_known(const char *harness, const char *name) {
     static char line[2 * MOST + 2];
+    size_t size = strlen(harness);
+    bool is_wanted = false;
     FILE *file = fopen(name, "r");
     while (file && fgets(line, sizeof line, file)) {
+        if (line[0] == '#')
+            is_wanted = strncmp(line + 2, harness, size) == 0 && line[2 + size] == ':';
+        if (!is_wanted) continue;
         if (line[0] == '#' && files++ == FILES) return false;
-        if (files == 0) return false;
         uint8_t *input = known[files - 1];
         size_t *have = &length[files - 1];
         const char *at = line;
@@ -62,7 +68,7 @@ static bool read_known(const char *name) {
 }
 
 int main(int count, char **words) {
-    if (count != 4 || !read_known(words[3])) return 2;
+    if (count != 5 || !read_known(words[3], words[4])) return 2;
     time_t end = time(NULL) + atoi(words[1]);
     state = strtoull(words[2], NULL, 10) * 0x9e3779b97f4a7c15u | 1;
     signal(SIGABRT, show_input);
