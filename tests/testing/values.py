@@ -1,7 +1,8 @@
 """Checks the values of the package for Python. A position is a sequence of letters. A time, a
 clock and an identity refuse values out of their ranges. Calls refuse wrong arguments with the
 errors that their docstrings name, and objects refuse to be copied. The events that a board stored,
-and the bytes that messages carry, have names."""
+and the bytes that messages carry, have names. The texts of events are those of `dgt monitor` in
+tests/testing/rows.txt."""
 
 import collections.abc
 import copy
@@ -9,9 +10,12 @@ import dataclasses
 import math
 import operator
 import pickle
+import typing
 
 import cases
 import dgt
+import model
+import worked
 from wrong import Wrong, wanted
 
 START = "rnbqkbnr/pppppppp/8/8/8/8/PPPPPPPP/RNBQKBNR"
@@ -255,3 +259,25 @@ def calls():
 
 
 # ---- Names of bytes
+
+
+# ---- Texts
+
+
+def messages():
+    """The bytes of each row, and the texts of their events."""
+    dump = model.spell(model.DUMP, model.read_placement(model.START)[0])
+    yield dump, [f"dump {model.START}"]
+    for row in worked.read_tables()[0]["Lines of show and monitor"]:
+        texts = [line.partition(" ")[2] for line in row.cells[1].split("; ")]
+        yield bytes.fromhex(row.cells[0]), [text for text in texts if text[:10] != "unfinished"]
+
+
+class Texts(cases.Case):
+    def test_rows(self):
+        kinds = set()
+        for data, texts in messages():
+            events = dgt.Decoder().feed(data)
+            wanted(f"the texts of {data.hex(' ')}", [str(event) for event in events], texts)
+            kinds |= {type(event) for event in events}
+        wanted("events without a text", set(typing.get_args(dgt.Event)) - kinds, set())
