@@ -9,8 +9,6 @@ import re
 ROOT = pathlib.Path(__file__).resolve().parents[2]
 # All crates, lowest first.
 CRATES = re.findall(r"(?m)^(\w+)[^:\n]*:", (ROOT / "crates.txt").read_text())
-# Those of them that others use.
-PROMISING = [crate for crate in CRATES if not re.search("_(tests|examples)$", crate)]
 FUNCTION = re.compile(r'\s*(pub(?:\(crate\))? )?(?:const |unsafe )*(extern "C" )?fn (\w+)')
 
 

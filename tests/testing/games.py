@@ -199,8 +199,8 @@ class Game:
     def take_back(self):
         """Some moves are taken back, the last one first."""
         for _ in range(min(self.chance.randint(1, 3), len(self.moves))):
-            move, old = self.moves.pop(), self.states.pop().letters
-            at, to = self.number(move[:2]), self.number(move[2:4])
+            self.moves.pop()
+            old = self.states.pop().letters
             changed = [square for square in range(64) if old[square] != self.state.letters[square]]
             lifts = [(square, ".") for square in changed if old[square] != "."]
             puts = [(square, self.state.letters[square]) for square in changed
