@@ -80,7 +80,7 @@ def read_placement(text):
         room = 8 * rank - len(position)
         if letter == "/" and room == 0 and rank < 8:
             rank += 1
-        elif letter in "12345678" and int(letter) <= room:
+        elif "1" <= letter <= "8" and int(letter) <= room:
             position += [0] * int(letter)
         elif letter in LETTERS[1:] and room > 0:
             position.append(LETTERS.index(letter))

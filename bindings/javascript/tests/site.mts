@@ -6,6 +6,7 @@ import { ASK, Board, CommandDecoder, Follower, Host, IDS, MODES, lighting, load,
 import { BadFen, State } from "dgt-board/chess.js";
 import { follow, type BoardView } from "dgt-board/following.js";
 import { Game } from "dgt-board/moves.js";
+import { Recogniser, type GameEvent } from "dgt-board/recogniser.js";
 
 const dgt: Library = await load(new URL("https://example.org/dgt64.wasm"));
 const follower = new Follower(dgt, { period: 2000, clock: true, confirm: true });
@@ -56,6 +57,25 @@ export function wrongField(fen: string): "placement" | "turn" | string {
 }
 export const begin = new State(dgt, { position: board.position, turn: "white", rights: "KQkq" });
 export const read: string = begin.parseSan("e4", { lenient: true });
+const recogniser = new Recogniser(dgt);
+export function play(now: number, pieces: Uint8Array | null): string[] {
+  const events: GameEvent[] = recogniser.see(now, pieces, { isSure: true, running: "white" });
+  const due: number = recogniser.dueAt, state: State | null = recogniser.state;
+  if (state) recogniser.goOn(state, due < now);
+  return [...events, ...recogniser.due(now)].flatMap(event => {
+    switch (event.type) {
+      case "begun": return [event.state.fen, String(event.isTurned)];
+      case "made": return [event.move];
+      case "ended": return [event.result === "1-0" ? "White wins" : event.result];
+      case "lost": return event.squares;
+      default: return [event.type];
+    }
+  });
+}
+// @ts-expect-error a side is white or black
+recogniser.see(0, null, { running: "w" });
+// @ts-expect-error a state isn't a text
+recogniser.goOn(begin.fen);
 export const commands: Command[] = new CommandDecoder(dgt).feed(sent[0]);
 const { used }: { used: number } = board.take(sent[0]);
 follower.mode = MODES.update;
