@@ -17,3 +17,4 @@ pub mod storing;
 pub mod taking_turns;
 #[cfg(test)]
 mod tests;
+pub mod watching;

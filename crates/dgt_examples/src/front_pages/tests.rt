@@ -1,12 +1,13 @@
 use super::{
     finding, greeting, listing, monitoring, moving, pausing, playing, printing, putting,
-    recognising, reporting, requesting, settling, storing, taking_turns,
+    recognising, reporting, requesting, settling, storing, taking_turns, watching,
 };
 use crate::tests::{CAME, DUMP, GONE, board};
 use dgt_board::{Identity, simulated_clock};
 use dgt_chess::State;
 use dgt_decode::{Decoder, Event};
 use dgt_follow::Follower;
+use dgt_game::Recogniser;
 use dgt_lines::Device;
 use dgt_link::{Outcome, World};
 use dgt_message::Message;
@@ -29,6 +30,9 @@ fn values_and_messages(rt: HostRuntime) -> Result<(), Fail> {
     let mut state = State::start();
     expect(&rt, recognising::recognise(&mut state, &placed));
     expect(&rt, !recognising::recognise(&mut state, &placed));
+    let mut recogniser = Recogniser::new();
+    expect(&rt, !watching::begins(&mut recogniser, 0, placed));
+    expect(&rt, watching::begins(&mut recogniser, 9, Position::start()));
     let mut out = [0; 5];
     expect(&rt, reporting::report(e4, Piece::WhitePawn, &mut out)? == 5);
     expect(&rt, out == CAME);

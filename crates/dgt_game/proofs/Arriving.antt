@@ -1,0 +1,303 @@
+-- On how many squares men arrive in a half-move, and in a line.
+use Rattle.std.proofs.lemmas.Bool.{cases_eq}
+use Rattle.std.proofs.Common.{◌≡◌, ◌∙◌, ℕ, ◌<◌, ◌≤◌, List, [], ◌∷◌, ap, arith, inl, inr, length, refl, subst, sym, take}
+use Rattle.std.specs.Prelude.{◌≢◌, ◌⊎◌, ◌+◌, ◌/◌, Bool, true, false, not, ◌&&◌, nat_eq, if◌then◌else◌, slice_set, slice_index_or, suc, zero, Option, Some, None}
+use Rattle.dgt_values.proofs.PieceCodes.{same_code}
+use Rattle.dgt_values.specs.declared.pieces.Piece.{Piece}
+use Rattle.dgt_values.specs.declared.pieces.Piece.TheVariants.{Empty}
+use Rattle.dgt_values.specs.Board.{piece_code}
+use Rattle.dgt_chess.specs.declared.state.Move.{Move}
+use Rattle.dgt_chess.specs.declared.state.State.{State}
+use Rattle.dgt_chess.specs.declared.pieces.Colour.{Colour}
+use Rattle.dgt_chess.specs.declared.pieces.Colour.TheVariants.{White, Black}
+use Rattle.dgt_chess.specs.declared.pieces.Man.{Man}
+use Rattle.dgt_chess.specs.declared.pieces.Man.TheVariants.{Pawn, Knight, Bishop, Rook, Queen, King}
+use Rattle.dgt_chess.specs.Attacks.{file, other, piece_at, piece_of}
+use Rattle.std.specs.Int.{abs_diff}
+use Rattle.dgt_values.specs.Board.{square_number}
+use Rattle.dgt_chess.specs.Rules.{Promotes, beside, board, is_free, moved, pieces_after}
+use Rattle.dgt_chess.proofs.OneMove.{moved_is, put}
+use Rattle.dgt_game.specs.Arrivals.{arrivals, counts, has_arrived}
+use Rattle.dgt_game.specs.Lines.{IsLine, IsMove, LeadsTo, NoLine}
+
+-- at most one man arrives on a square
+abbrev one_if : Bool → ℕ
+one_if test = if test then 1 else 0
+
+at_most : (test : Bool) → one_if test ≤ 1
+at_most true = omega arith
+at_most false = omega arith
+
+stays : (colour : Colour) (piece : Piece) → has_arrived colour piece piece ≡ false
+stays colour piece = grind arith
+
+part : (s t : Bool) → one_if (s && t) ≤ one_if t
+part true t = omega arith
+part false t = omega arith
+
+arrives_at_most : (colour : Colour) (old new : Piece)
+    → one_if (has_arrived colour old new) ≤ one_if (counts colour new)
+arrives_at_most colour old new =
+    part (not (nat_eq (piece_code old) (piece_code new))) (counts colour new)
+
+comes : (a b : ℕ) (test : Bool) → a ≢ b → (not (nat_eq a b) && test) ≡ test
+comes a b test differ = grind arith
+
+-- what has arrived by two steps has arrived by one of them
+by_steps : (colour : Colour) (a b c : Piece) → one_if (has_arrived colour a c)
+    ≤ one_if (has_arrived colour a b) + one_if (has_arrived colour b c)
+by_steps colour a b c = elim (cases_eq (piece_code b) (piece_code c)) [
+  | inl same ↦ let P : Piece → Type 0 = λ p. one_if (has_arrived colour a p)
+      ≤ one_if (has_arrived colour a b) + one_if (has_arrived colour b p) in
+      subst P (same_code b c same) (omega arith)
+  | inr differ ↦
+      let all : one_if (has_arrived colour b c) ≡ one_if (counts colour c) =
+      ap one_if (comes (piece_code b) (piece_code c) (counts colour c) differ) in
+      omega (arith, arrives_at_most colour a c)
+]
+
+pub triangle : (colour : Colour) (a b c : List Piece) → length a ≡ length b
+    → arrivals colour a c ≤ arrivals colour a b + arrivals colour b c
+triangle colour [] b c e = omega arith
+triangle colour (x ∷ a) [] c e = absurd (omega (arith, e))
+triangle colour (x ∷ a) (y ∷ b) [] e = omega arith
+triangle colour (x ∷ a) (y ∷ b) (z ∷ c) e =
+    omega (arith, by_steps colour x y z, triangle colour a b c (omega (arith, e)))
+
+none_arrives : (colour : Colour) (pieces : List Piece) → arrivals colour pieces pieces ≡ 0
+none_arrives colour [] = refl
+none_arrives colour (piece ∷ pieces) =
+    let rest = none_arrives colour pieces in let here = stays colour piece in grind arith
+
+set_one : (colour : Colour) (old new : List Piece) (at : ℕ) (piece : Piece)
+    → arrivals colour old (slice_set new at piece)
+    ≤ arrivals colour old new + one_if (counts colour piece)
+set_one colour [] new at piece = omega arith
+set_one colour (x ∷ old) [] at piece = omega arith
+set_one colour (x ∷ old) (y ∷ new) zero piece =
+    omega (arith, arrives_at_most colour x piece)
+set_one colour (x ∷ old) (y ∷ new) (suc at) piece =
+    omega (arith, set_one colour old new at piece)
+
+-- ---- a half-move
+
+free_counts : (colour : Colour) → one_if (counts colour Empty) ≡ 0
+free_counts White = refl
+free_counts Black = refl
+
+moved_one : (colour : Colour) (man : Man) (old : List Piece) (turn : Colour) (a b : ℕ)
+    (promotion : Option Man) → arrivals colour old (moved man old turn a b promotion)
+    ≤ one_if (counts colour (piece_of turn (put man promotion)))
+moved_one colour man old turn a b promotion =
+    let piece = piece_of turn (put man promotion) in
+    let P : List Piece → Type 0 = λ new. arrivals colour old new ≤ one_if (counts colour piece) in
+    subst P (sym (moved_is man old turn a b promotion)) (omega (
+      arith,
+      set_one colour old (slice_set old a Empty) b piece,
+      set_one colour old old a Empty,
+      none_arrives colour old,
+      free_counts colour,
+    ))
+
+-- a colour of whose men at most this many are counted if one is put on a square
+record Puts (colour turn : Colour) (most : ℕ) : Type 0 where
+  pub men : (man : Man) → one_if (counts colour (piece_of turn man)) ≤ most
+  pub king : one_if (counts colour (piece_of turn King)) ≡ 0
+
+pawn_one : (colour turn : Colour) (most : ℕ) (test : Bool) (old : List Piece) (a b c : ℕ)
+    (promotion : Option Man) → Puts colour turn most
+    → arrivals colour old
+    (if test then slice_set (moved Pawn old turn a b promotion) c Empty
+    else moved Pawn old turn a b promotion) ≤ most
+pawn_one colour turn most true old a b c promotion puts =
+    omega (
+      arith,
+      set_one colour old (moved Pawn old turn a b promotion) c Empty,
+      moved_one colour Pawn old turn a b promotion,
+      free_counts colour,
+      puts.men (put Pawn promotion),
+    )
+pawn_one colour turn most false old a b c promotion puts =
+    omega (arith, moved_one colour Pawn old turn a b promotion, puts.men (put Pawn promotion))
+
+king_one : (colour turn : Colour) (most : ℕ) (test : Bool) (old : List Piece) (a b c d : ℕ)
+    → Puts colour turn most
+    → arrivals colour old
+    (if test then slice_set (slice_set (moved King old turn a b None) c Empty)
+    d (piece_of turn Rook)
+    else moved King old turn a b None) ≤ most
+king_one colour turn most true old a b c d puts =
+    let new = moved King old turn a b None in
+    omega (
+      arith,
+      set_one colour old (slice_set new c Empty) d (piece_of turn Rook),
+      set_one colour old new c Empty,
+      moved_one colour King old turn a b None,
+      free_counts colour,
+      puts.men Rook,
+      puts.king,
+    )
+king_one colour turn most false old a b c d puts =
+    omega (arith, moved_one colour King old turn a b None, puts.king)
+
+after_one : (colour : Colour) (most : ℕ) (man : Man) (state : State) (a b : ℕ)
+    (promotion : Option Man) → Puts colour state.turn most → Promotes man state b promotion
+    → arrivals colour (board state) (pieces_after man (board state) state.turn a b promotion) ≤ most
+after_one colour most Pawn state a b promotion puts promotes =
+    pawn_one colour state.turn most
+    (is_free (piece_at (board state) b) && not (nat_eq (file a) (file b))) (board state) a b
+    (beside a b) promotion puts
+after_one colour most King state a b None puts promotes =
+    king_one colour state.turn most (nat_eq (abs_diff (file a) (file b)) 2) (board state) a b
+    (beside a (if nat_eq (file b) 6 then 7 else 0)) (beside a (if nat_eq (file b) 6 then 5 else 3))
+    puts
+after_one colour most King state a b (Some new) puts promotes =
+    let no : King ≡ Pawn = (promotes.0.0 refl).0 in absurd (let wrong : ⊥ = cc in wrong)
+after_one colour most Knight state a b promotion puts promotes =
+    omega (
+      arith,
+      moved_one colour Knight (board state) state.turn a b promotion,
+      puts.men (put Knight promotion),
+    )
+after_one colour most Bishop state a b promotion puts promotes =
+    omega (
+      arith,
+      moved_one colour Bishop (board state) state.turn a b promotion,
+      puts.men (put Bishop promotion),
+    )
+after_one colour most Rook state a b promotion puts promotes =
+    omega (
+      arith,
+      moved_one colour Rook (board state) state.turn a b promotion,
+      puts.men (put Rook promotion),
+    )
+after_one colour most Queen state a b promotion puts promotes =
+    omega (
+      arith,
+      moved_one colour Queen (board state) state.turn a b promotion,
+      puts.men (put Queen promotion),
+    )
+
+king_counts : (colour turn : Colour) → one_if (counts colour (piece_of turn King)) ≡ 0
+king_counts White White = refl
+king_counts White Black = refl
+king_counts Black White = refl
+king_counts Black Black = refl
+
+own_puts : (turn : Colour) → Puts turn turn 1
+own_puts turn = record {
+  men = λ man. at_most (counts turn (piece_of turn man));
+  king = king_counts turn turn;
+}
+
+theirs : (turn : Colour) (man : Man) → counts (other turn) (piece_of turn man) ≡ false
+theirs White Pawn = refl
+theirs White Knight = refl
+theirs White Bishop = refl
+theirs White Rook = refl
+theirs White Queen = refl
+theirs White King = refl
+theirs Black Pawn = refl
+theirs Black Knight = refl
+theirs Black Bishop = refl
+theirs Black Rook = refl
+theirs Black Queen = refl
+theirs Black King = refl
+
+their_puts : (turn : Colour) → Puts (other turn) turn 0
+their_puts turn = record {
+  men = λ man. let none : one_if (counts (other turn) (piece_of turn man)) ≡ 0 =
+      ap one_if (theirs turn man) in omega arith;
+  king = king_counts (other turn) turn;
+}
+
+move_one : (colour : Colour) (most : ℕ) (state : State) (one : Move) (next : State)
+    → Puts colour state.turn most → IsMove state one next
+    → arrivals colour (board state) (board next) ≤ most
+unfolding IsMove
+move_one colour most state one next puts (man, legal, after) =
+    let P : List Piece → Type 0 = λ new. arrivals colour (board state) new ≤ most in
+    subst P (sym after.pieces) (after_one colour most man state (square_number one.from)
+    (square_number one.to) one.promotion puts legal.promotes)
+
+-- ---- a line
+
+next_turn : (state : State) (one : Move) (next : State) → IsMove state one next
+    → next.turn ≡ other state.turn
+unfolding IsMove
+next_turn state one next (man, legal, after) = after.turn
+
+twice : (colour : Colour) → other (other colour) ≡ colour
+twice White = refl
+twice Black = refl
+
+line_arrivals : (state : State) (moves : List Move) (new : State) → IsLine state moves new
+    → (arrivals state.turn (board state) (board new) ≤ (length moves + 1) / 2)
+    × (arrivals (other state.turn) (board state) (board new) ≤ length moves / 2)
+line_arrivals state [] new same =
+    let P : State → Type 0 = λ s. (arrivals state.turn (board state) (board s) ≤ 0)
+    × (arrivals (other state.turn) (board state) (board s) ≤ 0) in
+    let none = none_arrives state.turn (board state) in
+    let none' = none_arrives (other state.turn) (board state) in
+    subst P same (omega arith, omega arith)
+line_arrivals state (one ∷ moves) new (next, move, line) =
+    let own = move_one state.turn 1 state one next (own_puts state.turn) move in
+    let their = move_one (other state.turn) 0 state one next (their_puts state.turn) move in
+    let long : length (board state) ≡ length (board next) =
+    state.position.all ∙ sym next.position.all in
+    let turn = next_turn state one next move in
+    let rest = line_arrivals next moves new line in
+    let P : Colour → Type 0 = λ c. (arrivals c (board next) (board new) ≤ (length moves + 1) / 2)
+    × (arrivals (other c) (board next) (board new) ≤ length moves / 2) in
+    let later = subst P turn rest in
+    let Q : Colour → Type 0 = λ c. arrivals c (board next) (board new) ≤ length moves / 2 in
+    let again = subst Q (twice state.turn) later.1 in (
+      omega (arith, own, again, triangle state.turn (board state) (board next) (board new) long),
+      omega (
+        arith,
+        their,
+        later.0,
+        triangle (other state.turn) (board state) (board next) (board new) long,
+      ),
+    )
+
+-- too many have arrived for this many half-moves
+pub too_far : (state : State) (pieces : List Piece) (halves : ℕ)
+    → ((halves + 1) / 2 < arrivals state.turn (board state) pieces)
+    ⊎ (halves / 2 < arrivals (other state.turn) (board state) pieces)
+    → NoLine halves state pieces
+unfolding NoLine LeadsTo
+too_far state pieces halves far moves long (new, line, same) =
+    let P : List Piece → Type 0 = λ p.
+    (arrivals state.turn (board state) p ≤ (length moves + 1) / 2)
+    × (arrivals (other state.turn) (board state) p ≤ length moves / 2) in
+    let near = subst P same (line_arrivals state moves new line) in
+    elim far [
+      | inl own ↦ omega (arith, own, near.0, long)
+      | inr their ↦ omega (arith, their, near.1, long)
+    ]
+
+-- ---- counted square by square
+
+one_at : (colour : Colour) (olds news : List Piece) (at : ℕ) → at < length olds
+    → at < length news
+    → arrivals colour (take (suc at) olds) (take (suc at) news)
+    ≡ arrivals colour (take at olds) (take at news)
+    + one_if (has_arrived colour (slice_index_or olds at Empty) (slice_index_or news at Empty))
+one_at colour [] news at small small' = absurd (omega (arith, small))
+one_at colour (x ∷ olds) [] at small small' = absurd (omega (arith, small'))
+one_at colour (x ∷ olds) (y ∷ news) zero small small' = omega arith
+one_at colour (x ∷ olds) (y ∷ news) (suc at) small small' =
+    omega (arith, one_at colour olds news at (omega (arith, small)) (omega (arith, small')))
+
+pub one_more : (colour : Colour) (olds news : List Piece) (at : ℕ) → at < length olds
+    → at < length news
+    → arrivals colour (take (at + 1) olds) (take (at + 1) news)
+    ≡ arrivals colour (take at olds) (take at news)
+    + one_if (has_arrived colour (slice_index_or olds at Empty) (slice_index_or news at Empty))
+one_more colour olds news at small small' =
+    let e : at + 1 ≡ suc at = omega arith in
+    let P : ℕ → Type 0 = λ n. arrivals colour (take n olds) (take n news)
+    ≡ arrivals colour (take at olds) (take at news)
+    + one_if (has_arrived colour (slice_index_or olds at Empty) (slice_index_or news at Empty)) in
+    subst P (sym e) (one_at colour olds news at small small')

@@ -1,0 +1,141 @@
+-- Steps in turn, and places for them.
+use Rattle.std.proofs.Common.{◌≡◌, ◌≢◌, ◌⊎◌, ◌<◌, ◌+◌, ◌++◌, ◌∷◌, ◌∙◌, refl, sym, ap, subst, inl, inr, arith, ℕ, zero, suc, length, drop, List, [], Option, Some, None, unwrap_or, slice_index_or}
+use Rattle.std.specs.Prelude.{⊤, MatchOption, slice_get}
+use Rattle.dgt_values.specs.declared.pieces.Piece.{Piece}
+use Rattle.dgt_game.specs.declared.node.Node.{Node}
+use Rattle.dgt_game.specs.declared.node.Place.{Place}
+use Rattle.dgt_game.specs.declared.node.Step.{Step}
+use Rattle.dgt_game.specs.Memory.{By, Chain, Grows, IsSeen, Links, step_at, steps, tip}
+use Rattle.dgt_game.proofs.Told.{links_any, links_moved}
+
+abbrev pub moved : Step → Place → Step
+moved step place = record {
+  state = step.state;
+  is_turned = step.is_turned;
+  way = step.way;
+  parent
+      = place;
+}
+
+pub chain_any : (shown : List (List Piece)) (before : Option Step) (path : List Step)
+    → Chain shown None path → Chain shown before path
+chain_any shown before [] h = tt
+chain_any shown before (step ∷ path) h = (links_any before step h.0, h.1, h.2)
+
+pub tip_any : (before : Option Step) (path : List Step) (step : Step)
+    → Links (tip None path) step → Links (tip before path) step
+tip_any before [] step h = links_any before step h
+tip_any before (first ∷ path) step h = h
+
+pub get_step : (nodes : List Node) (k : ℕ) (node : Node) → slice_get nodes k ≡ Some node
+    → slice_get (steps nodes) k ≡ Some node.step
+get_step [] k node e = absurd (subst (λ (o : Option Node). MatchOption o ⊤ (λ _. ⊥)) e tt)
+get_step (first ∷ nodes) zero node e = ap (λ (o : Option Node). Some (unwrap_or o first).step) e
+get_step (first ∷ nodes) (suc k) node e = get_step nodes k node e
+
+-- a step stands after another, wherever that is
+links_after : (first step : Step) (place : Place) → Links (Some first) step
+    → Links (Some (moved first place)) step
+unfolding Links
+links_after first step place h = elim h [
+  | inl begun ↦ inl begun
+  | inr found ↦
+      let e : found.0 ≡ first = ap (λ (o : Option Step). unwrap_or o first) (sym found.1) in
+      inr (
+        moved first place,
+        refl,
+        subst (λ (s : Step). s.is_turned ≡ step.is_turned) e found.2,
+        subst (λ (s : Step). By s.state step.way step.state) e found.3,
+      )
+]
+
+chain_after : (shown : List (List Piece)) (first : Step) (place : Place) (path : List Step)
+    → Chain shown (Some first) path → Chain shown (Some (moved first place)) path
+chain_after shown first place [] h = tt
+chain_after shown first place (step ∷ path) h = (links_after first step place h.0, h.1, h.2)
+
+tip_after : (first step : Step) (place : Place) (path : List Step)
+    → Links (tip (Some first) path) step → Links (tip (Some (moved first place)) path) step
+tip_after first step place [] h = links_after first step place h
+tip_after first step place (next ∷ path) h = h
+
+pub last_at : (old : List Step) (step : Step) (k : ℕ) → length old ≡ k
+    → slice_get (old ++ step ∷ []) k ≡ Some step
+last_at [] step k e = ap (λ (n : ℕ). slice_get (step ∷ []) n) (sym e)
+last_at (first ∷ old) step zero e = absurd (omega arith)
+last_at (first ∷ old) step (suc k) e = last_at old step k (omega arith)
+
+-- what is at an index stays there
+stays_at : (old : List Step) (new : Step) (k : ℕ) (step : Step) → Links (slice_get old k) step
+    → Links (slice_get (old ++ new ∷ []) k) step
+stays_at [] new k step h = links_any (slice_get (new ∷ []) k) step h
+stays_at (first ∷ old) new zero step h = h
+stays_at (first ∷ old) new (suc k) step h = stays_at old new k step h
+
+stays : (kept old : List Step) (new : Step) (place : Place) (step : Step)
+    → Links (step_at kept old place) step → Links (step_at kept (old ++ new ∷ []) place) step
+stays kept old new (Place.Line k) step h = h
+stays kept old new (Place.Seen k) step h = stays_at old new k step h
+stays kept old new Place.Nowhere step h = h
+
+-- a step at an index is an old one, or the new one
+split_at : (old : List Step) (new : Step) (k : ℕ) (step : Step)
+    → slice_get (old ++ new ∷ []) k ≡ Some step → (slice_get old k ≡ Some step) ⊎ (new ≡ step)
+split_at [] new zero step e = inr (ap (λ (o : Option Step). unwrap_or o new) e)
+split_at [] new (suc k) step e = absurd (subst (λ (o : Option Step). MatchOption o ⊤ (λ _. ⊥)) e tt)
+split_at (first ∷ old) new zero step e = inl e
+split_at (first ∷ old) new (suc k) step e = split_at old new k step e
+
+pub grows_push : (shown : List (List Piece)) (kept old : List Step) (new : Step)
+    → Grows shown kept old → Links (step_at kept old new.parent) new → IsSeen shown new
+    → Grows shown kept (old ++ new ∷ [])
+grows_push shown kept old new grows links seen k step e = elim (split_at old new k step e) [
+  | inl at ↦ (stays kept old new step.parent step (grows k step at).0, (grows k step at).1)
+  | inr same ↦ subst (λ (s : Step). Links (step_at kept (old ++ new ∷ []) s.parent) s
+      × IsSeen shown s) same
+      (stays kept old new new.parent new links, seen)
+]
+
+pub steps_push : (nodes : List Node) (node : Node)
+    → steps (nodes ++ node ∷ []) ≡ steps nodes ++ node.step ∷ []
+steps_push [] node = refl
+steps_push (first ∷ nodes) node = ap (λ (xs : List Step). first.step ∷ xs) (steps_push nodes node)
+
+drops : (nodes : List Node) (k : ℕ) (node : Node) → k < length nodes
+    → node ≡ slice_index_or nodes k node
+    → steps (drop k nodes) ≡ node.step ∷ steps (drop (suc k) nodes)
+drops [] k node l e = absurd (omega arith)
+drops (first ∷ nodes) zero node l e = ap (λ (n : Node). n.step ∷ steps nodes) (sym e)
+drops (first ∷ nodes) (suc k) node l e = drops nodes k node (omega arith) e
+
+pub steps_drop : (nodes : List Node) (k : ℕ) (node : Node) → k < length nodes
+    → node ≡ slice_index_or nodes k node
+    → steps (drop k nodes) ≡ node.step ∷ steps (drop (k + 1) nodes)
+steps_drop nodes k node l e =
+    let next : suc k ≡ k + 1 = omega arith in
+    drops nodes k node l e ∙ ap (λ (n : ℕ). node.step ∷ steps (drop n nodes)) next
+
+-- the next step of a path goes where it is kept
+pub next_chained : (shown : List (List Piece)) (kept old rest : List Step) (step : Step) (place :
+    Place) (k : ℕ) → length old ≡ k → Grows shown kept old
+    → Chain shown (step_at kept old place) (step ∷ rest)
+    → Grows shown kept (old ++ moved step place ∷ [])
+    × Chain shown (step_at kept (old ++ moved step place ∷ []) (Place.Seen k)) rest
+next_chained shown kept old rest step place k e grows chain = (
+  grows_push shown kept old (moved step place) grows (links_moved (step_at kept old place) step
+      place chain.0) chain.1,
+  rw (last_at old (moved step place) k e) (chain_after shown step place rest chain.2),
+)
+
+pub next_tip : (kept old rest : List Step) (first step : Step) (place : Place) (k : ℕ)
+    → length old ≡ k → Links (tip (Some first) rest) step
+    → Links (tip (step_at kept (old ++ moved first place ∷ []) (Place.Seen k)) rest) step
+next_tip kept old rest first step place k e h = rw (last_at old (moved first place) k e) (tip_after
+    first step place rest h)
+
+-- the place of what was not seen since
+pub place_at : (kept seen : List Step) (place : Place) → ((k : ℕ) → place ≢ Place.Seen k)
+    → step_at kept seen place ≡ step_at kept [] place
+place_at kept seen (Place.Line k) h = refl
+place_at kept seen (Place.Seen k) h = absurd (h k refl)
+place_at kept seen Place.Nowhere h = refl

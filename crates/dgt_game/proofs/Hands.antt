@@ -1,0 +1,70 @@
+-- Pieces in hands.
+use Rattle.std.proofs.Common.{◌≡◌, ◌∙◌, ◌⊎◌, refl, sym, subst, inl, inr, ℕ, List, Some, slice_get, Contains}
+use Rattle.std.proofs.lemmas.Option.{get_or_from_slice_get}
+use Rattle.dgt_values.specs.declared.pieces.Piece.{Piece}
+use Rattle.dgt_chess.specs.declared.pieces.Man.{Man}
+use Rattle.dgt_chess.specs.declared.state.Move.{Move}
+use Rattle.dgt_chess.specs.declared.state.State.{State}
+use Rattle.dgt_chess.specs.Attacks.{piece_at, piece_of}
+use Rattle.dgt_chess.specs.Rules.{board}
+use Rattle.dgt_game.specs.declared.node.Place.{Place}
+use Rattle.dgt_game.specs.declared.node.Step.{Step}
+use Rattle.dgt_game.specs.declared.node.Way.{Way}
+use Rattle.dgt_game.specs.Lines.{IsMove}
+use Rattle.dgt_game.specs.Told.{IsHeld, WasShown, as_shown}
+use Rattle.dgt_game.specs.Memory.{IsSeen, Links, step_at}
+use Rattle.dgt_game.proofs.Links.{links}
+
+-- a square of a picture of a state, if the picture lacks at most pieces of the side to move
+abbrev pub LacksAt : List Piece → State → ℕ → Type 0
+LacksAt picture state k =
+    (piece_at picture k ≡ piece_at (board state) k)
+    ⊎ ((piece_at picture k ≡ Piece.Empty)
+    × ((man : Man) × (piece_at (board state) k ≡ piece_of state.turn man)))
+
+pub lacks_at : (picture : List Piece) (state : State) (n at : ℕ) (new old : Piece) → n ≡ at
+    → slice_get picture n ≡ Some new → slice_get (board state) n ≡ Some old → (new ≡ old)
+    ⊎ ((new ≡ Piece.Empty) × ((man : Man) × (old ≡ piece_of state.turn man)))
+    → LacksAt picture state at
+lacks_at picture state n at new old same is was h =
+    let new_is : piece_at picture at ≡ new = get_or_from_slice_get picture at new Piece.Empty
+    (subst (λ (k : ℕ). slice_get picture k ≡ Some new) same is) in
+    let old_is : piece_at (board state) at ≡ old = get_or_from_slice_get (board state) at old
+    Piece.Empty (subst (λ (k : ℕ). slice_get (board state) k ≡ Some old) same was) in
+    elim h [
+      | inl e ↦ inl (new_is ∙ e ∙ sym old_is)
+      | inr none ↦ inr (new_is ∙ none.0, (none.1.0, old_is ∙ none.1.1))
+    ]
+
+-- a half-move that is shown but for pieces in hands
+pub held : (shown : List (List Piece)) (line seen : List Step) (from : Step) (place : Place) (one :
+    Move) (state : State) (step : Step) (picture pieces : List Piece)
+    → step_at line seen place ≡ Some from
+    → step ≡ record {
+      state = state;
+      is_turned = from.is_turned;
+      way = Way.Made one;
+      parent = place;
+    } → IsMove from.state one state → Contains shown picture
+    → pieces ≡ as_shown from.is_turned picture → IsHeld pieces state
+    → Links (step_at line seen step.parent) step × IsSeen shown step
+unfolding WasShown
+held shown line seen from place one state step picture pieces at e move is_shown same is_held =
+    subst (λ (s : Step). Links (step_at line seen s.parent) s × IsSeen shown s) (sym e) (
+      links (step_at line seen place) from (record {
+        state = state;
+        is_turned = from.is_turned;
+        way
+            = Way.Made one;
+        parent = place;
+      }) at refl move,
+      inr (inl (
+        refl,
+        (
+          picture,
+          is_shown,
+          subst (λ (ps : List Piece). IsHeld ps state) same
+              is_held,
+        ),
+      )),
+    )

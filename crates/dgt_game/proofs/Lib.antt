@@ -1,0 +1,13 @@
+pub mod Same
+pub mod HalfMoves
+pub mod Sets
+pub mod Arriving
+pub mod Leaving
+pub mod Promoting
+pub mod Turning
+pub mod Links
+pub mod Told
+pub mod Held
+pub mod Chains
+pub mod Nodes
+pub mod Hands

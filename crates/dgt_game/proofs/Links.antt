@@ -1,0 +1,290 @@
+-- Steps that follow each other.
+use Rattle.std.proofs.Common.{◌≡◌, ◌≤◌, ◌∙◌, refl, sym, ap, arith, subst, inl, inr, ℕ, zero, suc, length, Bool, true, false, List, [], ◌∷◌, Option, Some, slice_get}
+use Rattle.std.specs.Prelude.{Contains, IfSome, ◌≢◌, ◌⊎◌}
+use Rattle.std.proofs.lemmas.List.{reverse-reverse}
+use Rattle.std.proofs.lemmas.Option.{IfSome_then}
+use Rattle.dgt_values.specs.declared.pieces.Piece.{Piece}
+use Rattle.dgt_chess.specs.declared.state.State.{State}
+use Rattle.dgt_chess.specs.Rules.{IsStart, board}
+use Rattle.dgt_game.specs.declared.node.Node.{Node}
+use Rattle.dgt_game.specs.declared.node.Step.{Step}
+use Rattle.dgt_game.specs.declared.node.Way.{Way}
+use Rattle.dgt_game.specs.declared.node.Place.{Place}
+use Rattle.dgt_chess.specs.declared.state.Move.{Move}
+use Rattle.dgt_game.specs.declared.reading.Reading.{Reading}
+use Rattle.dgt_game.specs.declared.memory.Memory.{Memory}
+use Rattle.dgt_game.specs.declared.ways.Ways.{Ways}
+use Rattle.dgt_game.specs.Lines.{IsLine, IsMove, moves_of}
+use Rattle.dgt_game.specs.Ways.{AreWays}
+use Rattle.dgt_game.specs.Told.{Told, IsShown, Joins, WasShown, as_shown, told_pieces}
+use Rattle.dgt_game.specs.Memory.{By, Fits, Holds, IsKept, IsRoot, IsSeen, Links, Reads, halves_of, step_at, steps, told_of}
+
+pub turned_back : (turned : Bool) (pieces shown : List Piece) → pieces ≡ as_shown turned shown
+    → as_shown turned pieces ≡ shown
+turned_back true pieces shown e = rw (e, reverse-reverse shown) refl
+turned_back false pieces shown e = e
+
+pub links : (before : Option Step) (first step : Step) → before ≡ Some first
+    → first.is_turned ≡ step.is_turned → By first.state step.way step.state → Links before step
+unfolding Links
+links before first step at turned by = inr (first, at, turned, by)
+
+pub begins : (before : Option Step) (step : Step) → step.way ≡ Way.Begun → Links before step
+unfolding Links
+begins before step e = inl e
+
+-- a step made of a state that has the pieces shown
+pub fits : (line seen : List Step) (place : Place) (from : Step) (way : Way) (state : State) (step
+    : Step) (shown : List Piece) → step_at line seen place ≡ Some from
+    → step ≡ record { state = state; is_turned = from.is_turned; way = way; parent = place }
+    → By from.state way state → board state ≡ as_shown from.is_turned shown
+    → Links (step_at line seen step.parent) step × (told_pieces (told_of step) ≡ shown)
+fits line seen place from way state step shown at e by same =
+    subst (λ (s : Step). Links (step_at line seen s.parent) s
+    × (told_pieces (told_of s) ≡ shown)) (sym e) (
+      links (step_at line seen place) from (record {
+        state = state;
+        is_turned = from.is_turned;
+        way
+            = way;
+        parent = place;
+      }) at refl by,
+      turned_back from.is_turned (board state) shown same,
+    )
+
+pub one_made : (state new : State) (one : Move) (moves : List Move) → moves ≡ one ∷ []
+    → IsLine state moves new → IsMove state one new
+one_made state new one moves e line =
+    let way : IsLine state (one ∷ []) new = subst (λ (ms : List Move). IsLine state ms new) e line
+    in
+    subst (λ (s : State). IsMove state one s) way.2 way.1
+
+pub joins : (count : ℕ) (state new : State) (moves : List Move) → length moves ≡ count
+    → IsLine state moves new → Joins count state new
+unfolding Joins
+joins count state new moves len line = (moves, len, line)
+
+-- a step that follows the one at a place, of a state that has the pieces shown
+pub fits_at : (line seen : List Step) (place : Place) (from step : Step) (shown : List Piece)
+    → step_at line seen place ≡ Some from → step.parent ≡ place → step.is_turned ≡ from.is_turned
+    → By from.state step.way step.state → board step.state ≡ as_shown from.is_turned shown
+    → Links (step_at line seen step.parent) step × (told_pieces (told_of step) ≡ shown)
+fits_at line seen place from step shown at parent turned by same = (
+  links (step_at line seen step.parent) from step (ap (step_at line seen) parent ∙ at) (sym turned)
+      by,
+  turned_back step.is_turned (board step.state) shown (subst (λ (t : Bool). board step.state ≡
+      as_shown t shown) (sym turned) same),
+)
+
+-- a step made from another, of a state that has the pieces shown
+pub follows : (from : Step) (place : Place) (way : Way) (state : State) (step : Step) (shown : List
+    Piece) → step ≡ record { state = state; is_turned = from.is_turned; way = way; parent = place }
+    → By from.state way state → board state ≡ as_shown from.is_turned shown
+    → (step.parent ≡ place) × Links (Some from) step × (told_pieces (told_of step) ≡ shown)
+follows from place way state step shown e by same =
+    subst (λ (s : Step). (s.parent ≡ place) × Links (Some from) s
+    × (told_pieces (told_of s) ≡ shown)) (sym e) (
+      refl,
+      links (Some from) from (record {
+        state = state;
+        is_turned = from.is_turned;
+        way = way;
+        parent
+            = place;
+      }) refl refl by,
+      turned_back from.is_turned (board state) shown same,
+    )
+
+pub not_begun : (state new : State) (way : Way) → By state way new → way ≢ Way.Begun
+not_begun state new way by e = subst (λ (w : Way). By state w new) e by
+
+-- several lines lead to the picture
+pub several : (halves : ℕ) (state new : State) (pieces : List Piece)
+    → AreWays halves state pieces (Ways.Several new) → Joins halves state new × (board new ≡ pieces)
+several halves state new pieces (one, other, (len, line, same), more, differ) = (
+  joins halves state
+      new one len line,
+  same,
+)
+
+-- one of two
+pub either : (P : Node → Type 0) (result first second : Option Node) → (result ≡ first)
+    ⊎ (result ≡ second) → IfSome first P → IfSome second P → IfSome result P
+either P result first second (inl e) a b = subst (λ (o : Option Node). IfSome o P) (sym e) a
+either P result first second (inr e) a b = subst (λ (o : Option Node). IfSome o P) (sym e) b
+
+pub was_shown : (shown : List (List Piece)) (told : Told) (pieces : List Piece)
+    → Contains shown pieces → told_pieces told ≡ pieces → WasShown shown told
+unfolding WasShown
+was_shown shown told pieces seen same = inl (subst (Contains shown) (sym same) seen)
+
+-- the state in which games begin may begin a line unseen
+pub starts : (shown : List (List Piece)) (step : Step) → step.way ≡ Way.Begun
+    → IsStart step.state → IsSeen shown step
+unfolding WasShown
+starts shown step begun start = inr (inr (ap halves_of begun, start))
+
+-- what several half-moves led to was shown
+pub arrived : (shown : List (List Piece)) (step : Step) → 2 ≤ halves_of step.way
+    → IsSeen shown step → Contains shown (told_pieces (told_of step))
+unfolding WasShown
+arrived shown step some seen = elim seen [
+  | inl here ↦ here
+  | inr other ↦ absurd (elim other [
+    | inl held ↦ let one : halves_of step.way ≡ 1 = held.0 in omega arith
+    | inr start ↦ let none : halves_of step.way ≡ 0 = start.0 in omega arith
+  ])
+]
+
+-- each step at a place was seen
+kept_seen : (shown : List (List Piece)) (steps : List Step) (line : List Told) (k : ℕ) (step :
+    Step) → IsKept steps line → IsShown shown line → slice_get steps k ≡ Some step
+    → IsSeen shown step
+kept_seen shown [] line k step kept seen e = absurd (let wrong : ⊥ = cc in wrong)
+kept_seen shown (other ∷ steps) [] k step kept seen e = absurd kept
+kept_seen shown (other ∷ steps) (told ∷ line) zero step kept seen e =
+    let same : other ≡ step = cc in
+    subst (λ (t : Told). WasShown shown t) (sym kept.0 ∙ ap told_of same) seen.0
+kept_seen shown (other ∷ steps) (told ∷ line) (suc k) step kept seen e =
+    kept_seen shown steps line k step kept.1 seen.1 e
+
+pub seen_at : (shown : List (List Piece)) (line : List Told) (self : Memory) (place : Place) (step
+    : Step) → Holds shown line self
+    → step_at (steps self.line.items) (steps self.seen.items) place ≡ Some step → IsSeen shown step
+seen_at shown line self (Place.Line k) step holds e = kept_seen shown (steps self.line.items) line
+    k step holds.kept holds.shown_line e
+seen_at shown line self (Place.Seen k) step holds e = (holds.grows k step e).1
+seen_at shown line self Place.Nowhere step holds e = absurd (let wrong : ⊥ = cc in wrong)
+
+-- a node that fits is so
+pub reads : (shown : List (List Piece)) (self : Memory) (pieces : List Piece) (node : Node)
+    → Contains shown pieces → Fits self pieces node → Reads shown self (Reading.New node)
+reads shown self pieces node seen (link, same) = (
+  link,
+  was_shown shown (told_of node.step) pieces
+      seen same,
+)
+
+pub same_told : (one other : Step) → one.is_turned ≡ other.is_turned
+    → board one.state ≡ board other.state → told_pieces (told_of one) ≡ told_pieces (told_of other)
+same_told one other turned same = ap (as_shown one.is_turned) same ∙ ap (λ (t : Bool). as_shown t
+    (board other.state)) turned
+
+-- a line begins with what is shown
+pub begun : (shown : List (List Piece)) (self : Memory) (state : State) (turned : Bool) (pieces :
+    List Piece) (node : Node) → node.step ≡ record {
+      state = state;
+      is_turned = turned;
+      way =
+          Way.Begun;
+      parent = Place.Nowhere;
+    } → board state ≡ as_shown turned pieces
+    → Contains shown pieces → Reads shown self (Reading.New node)
+begun shown self state turned pieces node e same seen = (
+  begins (step_at (steps self.line.items) (steps self.seen.items) node.step.parent) node.step (ap
+      (λ (s : Step). s.way) e),
+  subst (λ (s : Step). IsSeen shown s) (sym e) (was_shown shown (record {
+    state = state;
+    halves =
+        0;
+    is_turned = turned;
+  }) pieces seen (turned_back turned (board state) pieces same)),
+)
+
+-- some half-moves are as many half-moves
+joined : (state new : State) (way : Way) → By state way new → Joins (halves_of way) state new
+unfolding Joins
+joined state new Way.Begun by = absurd by
+joined state new (Way.Made one) by = (one ∷ [], refl, (new, by, refl))
+joined state new (Way.Unseen moves) by = (moves_of moves, refl, by.0)
+joined state new (Way.Gap count) by = by
+
+links_gap : (before : Option Step) (step : Step) → step.way ≢ Way.Begun → Links before step
+    → Links before (record {
+      state = step.state;
+      is_turned = step.is_turned;
+      way = Way.Gap
+          (halves_of step.way);
+      parent = step.parent;
+    })
+unfolding Links
+links_gap before step some h = elim h [
+  | inl begun ↦ absurd (some begun)
+  | inr found ↦ inr (found.0, found.1, found.2, joined found.0.state step.state step.way found.3)
+]
+
+-- the same step, with as many half-moves in no certain order
+pub fits_gap : (line seen : List Step) (pieces : List Piece) (old new : Step) (count : ℕ)
+    → count ≡ halves_of old.way
+    → new ≡ record {
+      state = old.state;
+      is_turned = old.is_turned;
+      way = Way.Gap count;
+      parent =
+          old.parent;
+    } → (Links (step_at line seen old.parent) old
+    × (told_pieces (told_of old) ≡ pieces)) × (old.way ≢ Way.Begun)
+    → (Links (step_at line seen new.parent) new × (told_pieces (told_of new) ≡ pieces))
+    × (new.way ≢ Way.Begun)
+fits_gap line seen pieces old new count same e ((link, shown), some) =
+    let P : ℕ → Type 0 = λ n. Links (step_at line seen old.parent) (record {
+      state = old.state;
+      is_turned = old.is_turned;
+      way = Way.Gap n;
+      parent = old.parent;
+    }) in
+    subst (λ (s : Step). (Links (step_at line seen s.parent) s
+    × (told_pieces (told_of s) ≡ pieces)) × (s.way ≢ Way.Begun)) (sym e) (
+      (subst P (sym same) (links_gap (step_at line seen old.parent) old some link), shown),
+      λ wrong.
+          cc,
+    )
+
+-- a step that begins a line and was shown
+pub is_root : (shown : List (List Piece)) (state : State) (turned : Bool) (pieces : List Piece)
+    (step : Step) → step ≡ record {
+      state = state;
+      is_turned = turned;
+      way = Way.Begun;
+      parent =
+          Place.Nowhere;
+    } → board state ≡ as_shown turned pieces → Contains shown pieces
+    → (step.way ≡ Way.Begun) × IsSeen shown step
+is_root shown state turned pieces step e same seen = (
+  ap (λ (s : Step). s.way) e,
+  subst (λ (s : Step). IsSeen shown s) (sym e) (was_shown shown (record {
+    state = state;
+    halves =
+        0;
+    is_turned = turned;
+  }) pieces seen (turned_back turned (board state) pieces same)),
+)
+
+-- what begins a line follows anything
+pub root_links : (shown : List (List Piece)) (before : Option Step) (root : Option Node)
+    → IfSome root (λ node. IsRoot shown node) → IfSome root (λ node. Links before node.step
+    × IsSeen shown node.step)
+root_links shown before root h = IfSome_then root h (λ node (begun, seen). (
+  begins before node.step
+      begun,
+  seen,
+))
+
+-- a game whose first half-moves weren't shown
+pub started : (shown : List (List Piece)) (line seen : List Step) (start : State) (turned : Bool)
+    (pieces : List Piece) (root step : Step)
+    → root ≡ record { state = start; is_turned = turned; way = Way.Begun; parent = Place.Nowhere }
+    → IsStart start → step.is_turned ≡ root.is_turned → By root.state step.way step.state
+    → board step.state ≡ as_shown turned pieces → Contains shown pieces
+    → Links (step_at line seen root.parent) root × IsSeen shown root × Links (Some root) step
+    × IsSeen shown step
+started shown line seen start turned pieces root step e is_start same by here is_shown =
+    let begun : root.way ≡ Way.Begun = ap (λ (s : Step). s.way) e in
+    let turns : step.is_turned ≡ turned = same ∙ ap (λ (s : Step). s.is_turned) e in (
+      begins (step_at line seen root.parent) root begun,
+      starts shown root begun (subst IsStart (sym (ap (λ (s : Step). s.state) e)) is_start),
+      links (Some root) root step refl (sym same) by,
+      was_shown shown (told_of step) pieces is_shown
+          (turned_back step.is_turned (board step.state) pieces (subst (λ (t : Bool). board
+          step.state ≡ as_shown t pieces) (sym turns) here)),
+    )

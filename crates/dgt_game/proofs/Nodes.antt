@@ -1,0 +1,25 @@
+-- Nodes, and their steps.
+use Rattle.std.proofs.Common.{rules, arith, ◌≡◌, ◌∙◌, ap, subst, ℕ, length, List, slice_set, slice_index_or}
+use Rattle.std.specs.List.{refill}
+use Rattle.std.proofs.Math.Seq.{map-set_same}
+use Rattle.std.proofs.lemmas.List.{length-set, places, same_lists}
+use Rattle.dgt_game.specs.declared.node.Node.{Node}
+use Rattle.dgt_game.specs.Memory.{steps}
+
+pub same_steps : (old : List Node) (k : ℕ) (new other : Node)
+    → new.step ≡ (slice_index_or old k other).step → steps (slice_set old k new) ≡ steps old
+same_steps old k new other e = map-set_same (λ (n : Node). n.step) old k new other e
+
+refill_same : (xs ws : List Node) → length ws ≡ length xs → refill (length xs) xs ws ≡ ws
+refill_same xs ws same = same_lists _ _ (search (rules, places)) (λ k d h. grind (arith, places))
+
+-- a node changes in what is no part of its step
+pub same_written : (old read written : List Node) (k : ℕ) (new other : Node) → read ≡ old
+    → written ≡ old → other ≡ slice_index_or read k other → new.step ≡ other.step
+    → steps (refill (length old) old (slice_set written k new)) ≡ steps old
+same_written old read written k new other reads writes at e =
+    let from : other ≡ slice_index_or old k other = subst (λ (xs : List Node). other ≡
+    slice_index_or xs k other) reads at in
+    let same : steps (slice_set old k new) ≡ steps old = same_steps old k new other (e ∙ ap (λ (n :
+    Node). n.step) from) in
+    rw writes (rw (refill_same old (slice_set old k new) (length-set old k new)) same)

@@ -1,0 +1,355 @@
+-- What is found in sets of lines, which differ in their first half-moves.
+use Rattle.std.proofs.lemmas.Bool.{cases_eq}
+use Rattle.std.proofs.Common.{◌≡◌, ◌∙◌, ℕ, ◌<◌, List, [], ◌∷◌, ap, arith, inl, inr, length, refl, subst, sym}
+use Rattle.std.specs.Prelude.{◌≢◌, ◌⊎◌, ◌+◌, ◌≤◌, ⊤, suc, Option}
+use Rattle.dgt_values.specs.declared.pieces.Piece.{Piece}
+use Rattle.dgt_values.specs.Board.{square_number}
+use Rattle.dgt_chess.specs.declared.pieces.Man.{Man}
+use Rattle.dgt_chess.specs.declared.state.Move.{Move}
+use Rattle.dgt_chess.specs.declared.state.State.{State}
+use Rattle.dgt_game.specs.declared.ways.Ways.{Ways}
+use Rattle.dgt_game.specs.declared.ways.Ways.TheVariants.{Nothing, Only, Several}
+use Rattle.dgt_game.specs.Lines.{IsLine, IsMove, IsOnly, LeadsTo, NoLine, moves_of}
+use Rattle.dgt_game.specs.Ways.{AreWays, AreWaysBy, BeginsIn, Ends, Follows, IsSeveral, IsWay, both}
+use Rattle.dgt_game.proofs.Same.{one_next, same_move}
+
+-- the legal half-moves of one set are in another
+abbrev pub Within : State → (Move → Type 0) → (Move → Type 0) → Type 0
+Within state F G = (one : Move) (next : State) → IsMove state one next → F one → G one
+
+within : (F G : Move → Type 0) (halves : ℕ) (state : State) (pieces : List Piece)
+    (moves : List Move) (new : State) → Within state F G → IsWay halves state pieces moves new
+    → BeginsIn F moves → BeginsIn G moves
+within F G halves state pieces [] new h way begins = begins
+within F G halves state pieces (one ∷ moves) new h way begins =
+    h one way.1.0 way.1.1 begins
+
+-- sets with the same lines
+same_lines : (F G : Move → Type 0) (halves : ℕ) (state : State) (pieces : List Piece) (ways : Ways)
+    → ((moves : List Move) (new : State) → IsWay halves state pieces moves new → BeginsIn F moves
+    → BeginsIn G moves)
+    → ((moves : List Move) (new : State) → IsWay halves state pieces moves new → BeginsIn G moves
+    → BeginsIn F moves)
+    → AreWaysBy F halves state pieces ways → AreWaysBy G halves state pieces ways
+same_lines F G halves state pieces Nothing there back h =
+    λ moves new way begins. h moves new way (back moves new way begins)
+same_lines F G halves state pieces (Only moves new) there back (way, begins, only) = (
+  way,
+  there (moves_of moves) new way begins,
+  λ others end other begins'. only others end other (back others end other begins'),
+)
+same_lines F G halves state pieces (Several new) there back
+    (one, other, (way, begins), (end, way', begins'), differ) = (
+      one,
+      other,
+      (way, there one new way begins),
+      (end, way', there other end way' begins'),
+      differ,
+    )
+
+pub same_set : (F G : Move → Type 0) (halves : ℕ) (state : State) (pieces : List Piece)
+    (ways : Ways)
+    → Within state F G → Within state G F → AreWaysBy F halves state pieces ways
+    → AreWaysBy G halves state pieces ways
+same_set F G halves state pieces ways there back h =
+    same_lines F G halves state pieces ways
+    (λ moves new. within F G halves state pieces moves new there)
+    (λ moves new. within G F halves state pieces moves new back) h
+
+-- several lines of a part are several of the whole
+pub several : (F G : Move → Type 0) (halves : ℕ) (state : State) (pieces : List Piece)
+    (ways : Ways) → Within state F G → IsSeveral ways → AreWaysBy F halves state pieces ways
+    → AreWaysBy G halves state pieces ways
+several F G halves state pieces (Several new) there is
+    (one, other, (way, begins), (end, way', begins'), differ) = (
+      one,
+      other,
+      (way, within F G halves state pieces one new there way begins),
+      (end, way', within F G halves state pieces other end there way' begins'),
+      differ,
+    )
+several F G halves state pieces Nothing there is h = absurd is
+several F G halves state pieces (Only moves new) there is h = absurd is
+
+-- a set of half-moves whose legal ones are in two others
+abbrev pub Splits : State → (Move → Type 0) → (Move → Type 0) → (Move → Type 0) → Type 0
+Splits state H F G =
+    (one : Move) (next : State) → IsMove state one next → H one → F one ⊎ G one
+
+split : (F G H : Move → Type 0) (halves : ℕ) (state : State) (pieces : List Piece)
+    (moves : List Move) (new : State) → Splits state H F G → IsWay halves state pieces moves new
+    → BeginsIn H moves → BeginsIn F moves ⊎ BeginsIn G moves
+split F G H halves state pieces [] new h way begins = absurd begins
+split F G H halves state pieces (one ∷ moves) new h way begins = h one way.1.0 way.1.1 begins
+
+differing : (F G : Move → Type 0) (moves others : List Move) → ((one : Move) → F one → ¬ (G one))
+    → BeginsIn F moves → BeginsIn G others → moves ≢ others
+differing F G [] others apart f g e = f
+differing F G (one ∷ moves) others apart f g e =
+    let B : List Move → Type 0 = λ ms. BeginsIn G ms in apart one f (subst B (sym e) g)
+
+-- what is found in one of two sets, if the other has no lines
+alone : (F G H : Move → Type 0) (halves : ℕ) (state : State) (pieces : List Piece) (ways : Ways)
+    → Within state F H → Splits state H F G → AreWaysBy G halves state pieces Nothing
+    → AreWaysBy F halves state pieces ways → AreWaysBy H halves state pieces ways
+alone F G H halves state pieces ways inside parts none h =
+    same_lines F H halves state pieces ways
+    (λ moves new. within F H halves state pieces moves new inside)
+    (λ moves new way begins. elim (split F G H halves state pieces moves new parts way begins) [
+      | inl f ↦ f
+      | inr g ↦ absurd (none moves new way g)
+    ])
+    h
+
+swapped : (F G H : Move → Type 0) (state : State) → Splits state H F G → Splits state H G F
+swapped F G H state parts one next move h =
+    elim (parts one next move h) [ inl f ↦ inr f | inr g ↦ inl g ]
+
+-- what is found in two sets of lines that share none
+pub joined : (F G H : Move → Type 0) (halves : ℕ) (state : State) (pieces : List Piece)
+    (ways other : Ways) → Within state F H → Within state G H → Splits state H F G
+    → ((one : Move) → F one → ¬ (G one)) → AreWaysBy F halves state pieces ways
+    → AreWaysBy G halves state pieces other → AreWaysBy H halves state pieces (both ways other)
+joined F G H halves state pieces ways Nothing in_f in_g parts apart h k =
+    alone F G H halves state pieces ways in_f parts k h
+joined F G H halves state pieces Nothing (Only moves' new') in_f in_g parts apart h k =
+    alone G F H halves state pieces (Only moves' new') in_g (swapped F G H state parts) h k
+joined F G H halves state pieces Nothing (Several new') in_f in_g parts apart h k =
+    alone G F H halves state pieces (Several new') in_g (swapped F G H state parts) h k
+joined F G H halves state pieces (Only moves new) (Only moves' new') in_f in_g parts apart
+    (way, begins, only) (way', begins', only') = (
+      moves_of moves,
+      moves_of moves',
+      (way, within F H halves state pieces (moves_of moves) new in_f way begins),
+      (new', way', within G H halves state pieces (moves_of moves') new' in_g way' begins'),
+      differing F G (moves_of moves) (moves_of moves') apart begins begins',
+    )
+joined F G H halves state pieces (Only moves new) (Several new') in_f in_g parts apart
+    (way, begins, only) (one, other, (way', begins'), more, differ) = (
+      moves_of moves,
+      one,
+      (way, within F H halves state pieces (moves_of moves) new in_f way begins),
+      (new', way', within G H halves state pieces one new' in_g way' begins'),
+      differing F G (moves_of moves) one apart begins begins',
+    )
+joined F G H halves state pieces (Several new) (Only moves' new') in_f in_g parts apart h k =
+    several F H halves state pieces (Several new) in_f tt h
+joined F G H halves state pieces (Several new) (Several new') in_f in_g parts apart h k =
+    several F H halves state pieces (Several new) in_f tt h
+
+begins_so : (F : Move → Type 0) (halves : ℕ) (moves : List Move) → ((one : Move) → F one)
+    → length moves ≡ suc halves → BeginsIn F moves
+begins_so F halves [] every e = absurd (omega (arith, e))
+begins_so F halves (one ∷ moves) every e = every one
+
+-- all lines
+pub all_ways : (F : Move → Type 0) (halves : ℕ) (state : State) (pieces : List Piece) (ways : Ways)
+    → ((one : Move) → F one) → AreWaysBy F (suc halves) state pieces ways
+    → AreWays (suc halves) state pieces ways
+unfolding NoLine LeadsTo IsOnly
+all_ways F halves state pieces Nothing every h =
+    λ moves long (new, line, same).
+    h moves new (long, line, same) (begins_so F halves moves every long)
+all_ways F halves state pieces (Only moves new) every (way, begins, only) = (
+  way,
+  λ others long (end, line, same).
+      let longer : length others ≡ suc halves = long ∙ way.0 in
+      only others end (longer, line, same) (begins_so F halves others every longer),
+)
+all_ways F halves state pieces (Several new) every
+    (one, other, (way, begins), (end, way', begins'), differ) =
+    (one, other, way, (end, way'), differ)
+
+-- the lines after a half-move
+rest_of : (halves : ℕ) (state next : State) (pieces : List Piece) (one : Move) (moves : List Move)
+    (new : State) → IsMove state one next → IsWay (suc halves) state pieces moves new
+    → BeginsIn (λ other. other ≡ one) moves
+    → (rest : List Move) × (moves ≡ one ∷ rest) × IsWay halves next pieces rest new
+rest_of halves state next pieces one [] new move way begins = absurd begins
+rest_of halves state next pieces one (first ∷ rest) new move (long, (next', move', line), same)
+    begins =
+    let M : Move → Type 0 = λ m. IsMove state m next' in
+    let S : State → Type 0 = λ s. IsLine s rest new in
+    let states : next' ≡ next = one_next state one next' next (subst M begins move') move in (
+      rest,
+      ap (λ (m : Move). m ∷ rest) begins,
+      (omega (arith, long), subst S states line, same),
+    )
+
+longer : (halves : ℕ) (state next : State) (pieces : List Piece) (one : Move) (moves : List Move)
+    (new : State) → IsMove state one next → IsWay halves next pieces moves new
+    → IsWay (suc halves) state pieces (one ∷ moves) new
+longer halves state next pieces one moves new move (long, line, same) =
+    (ap suc long, (next, move, line), same)
+
+after_only : (halves : ℕ) (state next : State) (pieces : List Piece) (one : Move)
+    (all moves : List Move) (new : State) → all ≡ one ∷ moves → IsMove state one next
+    → IsWay halves next pieces moves new → IsOnly next moves pieces
+    → IsWay (suc halves) state pieces all new × BeginsIn (λ other. other ≡ one) all
+    × ((others : List Move) (end : State) → IsWay (suc halves) state pieces others end
+    → BeginsIn (λ other. other ≡ one) others → others ≡ all)
+unfolding LeadsTo IsOnly
+after_only halves state next pieces one all moves new listed move way only =
+    let W : List Move → Type 0 = λ ms. IsWay (suc halves) state pieces ms new in
+    let B : List Move → Type 0 = λ ms. BeginsIn (λ other. other ≡ one) ms in (
+      subst W (sym listed) (longer halves state next pieces one moves new move way),
+      subst B (sym listed) refl,
+      λ others end way' begins.
+          let r = rest_of halves state next pieces one others end move way' begins in
+          r.1 ∙ ap (λ ms. one ∷ ms) (only r.0 (r.2.0 ∙ sym way.0) (end, r.2.1, r.2.2)) ∙ sym listed,
+    )
+
+pub after_move : (halves : ℕ) (state next : State) (pieces : List Piece) (one : Move)
+    (ways new : Ways) → Follows one ways new → IsMove state one next
+    → AreWays halves next pieces ways
+    → AreWaysBy (λ other. other ≡ one) (suc halves) state pieces new
+unfolding NoLine LeadsTo
+after_move halves state next pieces one Nothing new follows move h =
+    let P : Ways → Type 0 = λ w. AreWaysBy (λ other. other ≡ one) (suc halves) state pieces w in
+    subst P (sym follows) (λ moves end way begins.
+    let r = rest_of halves state next pieces one moves end move way begins in
+    h r.0 r.2.0 (end, r.2.1, r.2.2))
+after_move halves state next pieces one (Only moves end) new (all, e, listed) move (way, only) =
+    let P : Ways → Type 0 = λ w. AreWaysBy (λ other. other ≡ one) (suc halves) state pieces w in
+    subst P (sym e) (after_only halves state next pieces one (moves_of all) (moves_of moves) end
+    listed move way only)
+after_move halves state next pieces one (Several new') new follows move
+    (first, other, way, (end, way'), differ) =
+    let P : Ways → Type 0 = λ w. AreWaysBy (λ other. other ≡ one) (suc halves) state pieces w in
+    subst P (sym follows) (
+      one ∷ first,
+      one ∷ other,
+      (longer halves state next pieces one first new' move way, refl),
+      (end, longer halves state next pieces one other end move way', refl),
+      λ e. differ (cc),
+    )
+
+pub no_move : (halves : ℕ) (state : State) (pieces : List Piece) (one : Move)
+    → ((next : State) → ¬ (IsMove state one next))
+    → AreWaysBy (λ other. other ≡ one) (suc halves) state pieces Nothing
+no_move halves state pieces one none [] new way begins = begins
+no_move halves state pieces one none (first ∷ rest) new way begins =
+    let M : Move → Type 0 = λ m. IsMove state m way.1.0 in
+    none way.1.0 (subst M begins way.1.1)
+
+pub none_in : (F : Move → Type 0) (halves : ℕ) (state : State) (pieces : List Piece)
+    → ((one : Move) → ¬ (F one)) → AreWaysBy F halves state pieces Nothing
+none_in F halves state pieces none [] new way begins = begins
+none_in F halves state pieces none (one ∷ moves) new way begins = none one begins
+
+-- ---- sets by the ends of half-moves
+
+pub by_parts : (halves : ℕ) (state : State) (pieces : List Piece) (one : Move) (from to : ℕ)
+    (ways : Ways) → square_number one.from ≡ from → square_number one.to ≡ to
+    → AreWaysBy (λ other. other ≡ one) halves state pieces ways
+    → AreWaysBy (Ends from to (λ other. other ≡ one.promotion)) halves state pieces ways
+by_parts halves state pieces one from to ways from_is to_is h =
+    same_set (λ other. other ≡ one) (Ends from to (λ other. other ≡ one.promotion)) halves state
+    pieces ways
+    (λ other next move same. (
+      ap (λ (m : Move). square_number m.from) same ∙ from_is,
+      ap (λ (m : Move). square_number m.to) same ∙ to_is,
+      ap (λ (m : Move). m.promotion) same,
+    ))
+    (λ other next move (from_same, to_same, promotion).
+    same_move other one (from_same ∙ sym from_is) (to_same ∙ sym to_is) promotion)
+    h
+
+-- one more promotion
+pub promoted : (halves : ℕ) (state : State) (pieces : List Piece) (from to : ℕ)
+    (P : Option Man → Type 0) (promotion : Option Man) (ways other : Ways) → ¬ (P promotion)
+    → AreWaysBy (Ends from to P) halves state pieces ways
+    → AreWaysBy (Ends from to (λ p. p ≡ promotion)) halves state pieces other
+    → AreWaysBy (Ends from to (λ p. P p ⊎ (p ≡ promotion))) halves state pieces (both ways other)
+promoted halves state pieces from to P promotion ways other differ h k =
+    joined (Ends from to P) (Ends from to (λ p. p ≡ promotion))
+    (Ends from to (λ p. P p ⊎ (p ≡ promotion))) halves state pieces ways other
+    (λ one next move (a, b, p). (a, b, inl p))
+    (λ one next move (a, b, p). (a, b, inr p))
+    (λ one next move (a, b, either). elim either [ inl p ↦ inl (a, b, p) | inr p ↦ inr (a, b, p) ])
+    (λ one (a, b, p) (a', b', same). differ (subst P same p))
+    h k
+
+-- one more goal
+pub further : (halves : ℕ) (state : State) (pieces : List Piece) (from to : ℕ)
+    (ways other new : Ways) → new ≡ both ways other
+    → AreWaysBy (λ one. (square_number one.from ≡ from) × (square_number one.to < to)) halves state
+    pieces ways
+    → AreWaysBy (λ one. (square_number one.from ≡ from) × (square_number one.to ≡ to)) halves state
+    pieces other
+    → AreWaysBy (λ one. (square_number one.from ≡ from) × (square_number one.to < to + 1)) halves
+    state pieces new
+further halves state pieces from to ways other new e h k =
+    let F : Move → Type 0 = λ one. (square_number one.from ≡ from) × (square_number one.to < to) in
+    let G : Move → Type 0 = λ one. (square_number one.from ≡ from) × (square_number one.to ≡ to) in
+    let H : Move → Type 0 =
+    λ one. (square_number one.from ≡ from) × (square_number one.to < to + 1) in
+    subst (AreWaysBy H halves state pieces) (sym e) (joined F G H halves state pieces ways other
+    (λ one next move (a, b). (a, omega arith))
+    (λ one next move (a, b). (a, omega arith))
+    (λ one next move (a, b). elim (cases_eq (square_number one.to) to) [
+      | inl same ↦ inr (a, same)
+      | inr differ ↦ inl (a, omega arith)
+    ])
+    (λ one (a, b) (a', b'). omega arith)
+    h k)
+
+-- one more first square
+pub next_from : (halves : ℕ) (state : State) (pieces : List Piece) (from : ℕ)
+    (ways other new : Ways) → new ≡ both ways other
+    → AreWaysBy (λ one. square_number one.from < from) halves state pieces ways
+    → AreWaysBy (λ one. square_number one.from ≡ from) halves state pieces other
+    → AreWaysBy (λ one. square_number one.from < from + 1) halves state pieces new
+next_from halves state pieces from ways other new e h k =
+    let F : Move → Type 0 = λ one. square_number one.from < from in
+    let G : Move → Type 0 = λ one. square_number one.from ≡ from in
+    let H : Move → Type 0 = λ one. square_number one.from < from + 1 in
+    subst (AreWaysBy H halves state pieces) (sym e) (joined F G H halves state pieces ways other
+    (λ one next move a. omega arith)
+    (λ one next move a. omega arith)
+    (λ one next move a. elim (cases_eq (square_number one.from) from) [
+      | inl same ↦ inr same
+      | inr differ ↦ inl (omega arith)
+    ])
+    (λ one a b. omega arith)
+    h k)
+
+-- the goals below 64, and the first squares
+pub all_goals : (halves : ℕ) (state : State) (pieces : List Piece) (from to : ℕ) (ways : Ways)
+    → 64 ≤ to
+    → AreWaysBy (λ one. (square_number one.from ≡ from) × (square_number one.to < to)) halves state
+    pieces ways
+    → AreWaysBy (λ one. square_number one.from ≡ from) halves state pieces ways
+all_goals halves state pieces from to ways end h =
+    same_set (λ one. (square_number one.from ≡ from) × (square_number one.to < to))
+    (λ one. square_number one.from ≡ from) halves state pieces ways
+    (λ one next move (a, b). a)
+    (λ one next move a. (a, omega (arith, one.to.small)))
+    h
+
+pub several_from : (halves : ℕ) (state : State) (pieces : List Piece) (from to : ℕ) (ways : Ways)
+    → IsSeveral ways
+    → AreWaysBy (λ one. (square_number one.from ≡ from) × (square_number one.to < to)) halves state
+    pieces ways
+    → AreWaysBy (λ one. square_number one.from ≡ from) halves state pieces ways
+several_from halves state pieces from to ways is h =
+    several (λ one. (square_number one.from ≡ from) × (square_number one.to < to))
+    (λ one. square_number one.from ≡ from) halves state pieces ways
+    (λ one next move (a, b). a) is h
+
+pub all_from : (halves : ℕ) (state : State) (pieces : List Piece) (from : ℕ) (ways : Ways)
+    → 64 ≤ from
+    → AreWaysBy (λ one. square_number one.from < from) (suc halves) state pieces ways
+    → AreWays (suc halves) state pieces ways
+all_from halves state pieces from ways end h =
+    all_ways (λ one. square_number one.from < from) halves state pieces ways
+    (λ one. omega (arith, one.from.small)) h
+
+pub several_ways : (halves : ℕ) (state : State) (pieces : List Piece) (from : ℕ) (ways : Ways)
+    → IsSeveral ways
+    → AreWaysBy (λ one. square_number one.from < from) (suc halves) state pieces ways
+    → AreWays (suc halves) state pieces ways
+several_ways halves state pieces from ways is h =
+    all_ways (λ one. ⊤) halves state pieces ways (λ one. tt)
+    (several (λ one. square_number one.from < from) (λ one. ⊤) (suc halves) state pieces ways
+    (λ one next move a. tt) is h)

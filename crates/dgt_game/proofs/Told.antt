@@ -1,0 +1,218 @@
+-- The line, as it is reported.
+use Rattle.std.proofs.Common.{◌≡◌, ◌≢◌, ◌<◌, ◌-◌, ◌⊎◌, refl, sym, ap, subst, inl, inr, arith, ℕ, zero, suc, length, take, Bool, List, [], ◌∷◌, Option, Some, None, unwrap_or}
+use Rattle.std.specs.Prelude.{⊤, slice_get, MatchOption}
+use Rattle.dgt_values.specs.declared.pieces.Piece.{Piece}
+use Rattle.dgt_chess.specs.declared.state.State.{State}
+use Rattle.dgt_game.specs.declared.event.Event.{Event}
+use Rattle.dgt_game.specs.declared.node.Node.{Node}
+use Rattle.dgt_game.specs.declared.node.Step.{Step}
+use Rattle.dgt_game.specs.declared.node.Way.{Way}
+use Rattle.dgt_game.specs.declared.node.Place.{Place}
+use Rattle.dgt_game.specs.Told.{Told, IsShown, Leads, WasShown}
+use Rattle.dgt_game.specs.Memory.{By, Chain, Grows, IsKept, IsSeen, Links, event_by, event_of, halves_of, line_after, line_by, step_at, steps, tip, told_of}
+
+pub kept_take : (nodes : List Node) (line : List Told) (n : ℕ) → IsKept (steps nodes) line
+    → IsKept (steps (take n nodes)) line
+kept_take nodes line zero h = tt
+kept_take [] line (suc n) h = tt
+kept_take (node ∷ nodes) [] (suc n) h = h
+kept_take (node ∷ nodes) (told ∷ line) (suc n) h = (h.0, kept_take nodes line n h.1)
+
+-- what follows nothing begins a line, and so it follows anything
+pub links_any : (before : Option Step) (step : Step) → Links None step → Links before step
+unfolding Links
+links_any before step h = elim h [
+  | inl begun ↦ inl begun
+  | inr found ↦ absurd (subst (λ (o : Option Step). MatchOption o ⊤ (λ _. ⊥)) found.1 tt)
+]
+
+pub links_first : (first step : Step) → Links (Some first) step → (step.way ≡ Way.Begun)
+    ⊎ ((first.is_turned ≡ step.is_turned) × By first.state step.way step.state)
+unfolding Links
+links_first first step h = elim h [
+  | inl begun ↦ inl begun
+  | inr found ↦ inr (
+      let e : found.0 ≡ first = ap (λ (o : Option Step). unwrap_or o first) (sym found.1) in
+      subst (λ (s : Step). (s.is_turned ≡ step.is_turned)
+      × By s.state step.way step.state) e (found.2, found.3))
+]
+
+leads_same : (first : Step) (line : List Told) (way : Way) (state : State)
+    → By first.state way state
+    → Leads (told_of first ∷ line) (event_by way state first.is_turned) (line_by way (record {
+      state = state;
+      halves = halves_of way;
+      is_turned = first.is_turned;
+    }) (told_of first ∷ line))
+leads_same first line Way.Begun state by = absurd by
+leads_same first line (Way.Made one) state by = (state, by, refl)
+leads_same first line (Way.Unseen moves) state by = (state, by.0, by.1, refl)
+leads_same first line (Way.Gap count) state by = (by, refl)
+
+leads_begun : (line : List Told) (step : Step) → step.way ≡ Way.Begun
+    → Leads line (event_of step) (line_after step line)
+leads_begun line step e =
+    subst (λ (w : Way). Leads line (event_by w step.state step.is_turned) (line_by w (record {
+      state = step.state;
+      halves = halves_of w;
+      is_turned = step.is_turned;
+    }) line)) (sym e) refl
+
+leads_first : (first step : Step) (line : List Told) → Links (Some first) step
+    → Leads (told_of first ∷ line) (event_of step) (line_after step (told_of first ∷ line))
+leads_first first step line h = elim (links_first first step h) [
+  | inl begun ↦ leads_begun (told_of first ∷ line) step begun
+  | inr found ↦
+      subst (λ (t : Bool). Leads (told_of first ∷ line) (event_by step.way step.state t) (line_by
+      step.way (record { state = step.state; halves = halves_of step.way; is_turned = t })
+      (told_of first ∷ line))) found.0
+      (leads_same first line step.way step.state found.1)
+]
+
+pub leads : (kept : List Step) (line : List Told) (step : Step) → IsKept kept line
+    → Links (slice_get kept 0) step → Leads line (event_of step) (line_after step line)
+unfolding Links
+leads [] line step kept h = elim h [
+  | inl begun ↦ leads_begun line step begun
+  | inr found ↦ absurd (subst (λ (o : Option Step). MatchOption o ⊤ (λ _. ⊥)) found.1 tt)
+]
+leads (first ∷ rest) [] step kept h = absurd kept
+leads (first ∷ rest) (told ∷ line) step kept h =
+    subst (λ (t : Told). Leads (t ∷ line) (event_of step) (line_after step (t ∷ line))) kept.0
+    (leads_first first step line h)
+
+shown_by : (shown : List (List Piece)) (way : Way) (told : Told) (line : List Told)
+    → WasShown shown told → IsShown shown line → IsShown shown (line_by way told line)
+shown_by shown Way.Begun told line seen h = (seen, tt)
+shown_by shown (Way.Made one) told line seen h = (seen, h)
+shown_by shown (Way.Unseen moves) told line seen h = (seen, h)
+shown_by shown (Way.Gap count) told line seen h = (seen, h)
+
+pub makes : (shown : List (List Piece)) (line : List Told) (kept new rest : List Step) (step :
+    Step) → IsKept kept line → IsShown shown line → Chain shown (slice_get kept 0) (step ∷ rest)
+    → slice_get new 0 ≡ Some step → Leads line (event_of step) (line_after step line)
+    × IsShown shown (line_after step line) × Chain shown (slice_get new 0) rest
+makes shown line kept new rest step is_kept is_shown chain first = (
+  leads kept line step is_kept chain.0,
+  shown_by shown step.way (told_of step) line chain.1 is_shown,
+  subst (λ (o : Option Step). Chain shown o rest) (sym first) chain.2,
+)
+
+-- a state further back stands before the last one
+takes_back : (shown : List (List Piece)) (line : List Told) (first : Node) (kept : List Node) (back
+    : ℕ) → back ≢ 0 → (back ≡ 0) ⊎ (back < length (steps (first ∷ kept)))
+    → IsKept (steps (first ∷ kept)) line → IsShown shown line → (new : List Told)
+    × Leads line (Event.Back (halves_of first.step.way)) new × IsShown shown new
+    × IsKept (steps kept) new × ((back - 1 ≡ 0) ⊎ (back - 1 < length (steps kept)))
+    × (slice_get (steps (first ∷ kept)) back ≡ slice_get (steps kept) (back - 1))
+takes_back shown line first kept zero some within is_kept is_shown = absurd (some refl)
+takes_back shown [] first kept (suc k) some within is_kept is_shown = absurd is_kept
+takes_back shown (told ∷ line) first [] (suc k) some within is_kept is_shown = absurd (elim within
+    [ inl e ↦ omega arith | inr l ↦ omega arith ])
+takes_back shown (told ∷ []) first (second ∷ kept) (suc k) some within is_kept is_shown = absurd
+    is_kept.1
+takes_back shown (told ∷ before ∷ line) first (second ∷ kept) (suc k) some within is_kept is_shown
+    = (
+      before ∷ line,
+      (
+        (λ e. let l : length (before ∷ line) ≡ 0 = ap length e in omega arith),
+        ap (λ (t : Told).
+            t.halves) is_kept.0,
+        refl,
+      ),
+      is_shown.1,
+      is_kept.1,
+      elim within [ inl e ↦ absurd (omega arith) | inr l ↦ inr (omega arith) ],
+      ap (λ (n : ℕ). slice_get (steps (second ∷ kept)) n) (omega arith),
+    )
+
+pub taken_back : (shown : List (List Piece)) (line : List Told) (nodes new : List Node) (back
+    halves : ℕ) → ((first : Node) (rest : List Node) → nodes ≡ first ∷ rest → new ≡ rest)
+    → ((first : Node) (rest : List Node) → nodes ≡ first ∷ rest
+    → halves ≡ halves_of first.step.way) → back ≢ 0 → (back ≡ 0) ⊎ (back < length (steps nodes))
+    → IsKept (steps nodes) line → IsShown shown line → (told : List Told)
+    × Leads line (Event.Back halves) told × IsShown shown told × IsKept (steps new) told
+    × ((back - 1 ≡ 0) ⊎ (back - 1 < length (steps new)))
+    × (slice_get (steps nodes) back ≡ slice_get (steps new) (back - 1))
+taken_back shown line [] new back halves drops counts some within is_kept is_shown = absurd (elim
+    within [ inl e ↦ some e | inr l ↦ omega arith ])
+taken_back shown line (first ∷ rest) new back halves drops counts some within is_kept is_shown =
+    let e : new ≡ rest = drops first rest refl in
+    let n : halves ≡ halves_of first.step.way = counts first rest refl in
+    subst (λ (xs : List Node). (told : List Told) × Leads line (Event.Back halves) told
+    × IsShown shown told × IsKept (steps xs) told × ((back - 1 ≡ 0)
+    ⊎ (back - 1 < length (steps xs)))
+    × (slice_get (steps (first ∷ rest)) back ≡ slice_get (steps xs) (back - 1))) (sym e)
+    (subst (λ (k : ℕ). (told : List Told) × Leads line (Event.Back k) told × IsShown shown told
+    × IsKept (steps rest) told × ((back - 1 ≡ 0) ⊎ (back - 1 < length (steps rest)))
+    × (slice_get (steps (first ∷ rest)) back ≡ slice_get (steps rest) (back - 1))) (sym n)
+    (takes_back shown line first rest back some within is_kept is_shown))
+
+pub nothing_seen : (seen : List Step) (unsaid rest : List Node) (node : Node) (back : ℕ)
+    → (seen ≡ []) ⊎ ((back ≡ 0) × (unsaid ≡ [])) → unsaid ≡ node ∷ rest → seen ≡ []
+nothing_seen seen unsaid rest node back quiet e = elim quiet [
+  | inl none ↦ none
+  | inr q ↦ absurd (let l : length (node ∷ rest) ≡ 0 = ap length (subst (λ (xs : List Node). xs ≡
+      []) e q.1) in omega arith)
+]
+
+-- the tip stays where it is when a step is reported
+pub same_tip : (kept new : List Step) (unsaid rest : List Node) (node : Node) (back : ℕ)
+    → back ≡ 0 → unsaid ≡ node ∷ rest → slice_get new 0 ≡ Some node.step
+    → tip (slice_get kept back) (steps unsaid) ≡ tip (slice_get new back) (steps rest)
+same_tip kept new unsaid rest node back b e first = rw (e, b, first) refl
+
+-- the links of a step don't speak of the place that it names
+pub links_moved : (before : Option Step) (step : Step) (place : Place) → Links before step
+    → Links before (record {
+      state = step.state;
+      is_turned = step.is_turned;
+      way = step.way;
+      parent
+          = place;
+    })
+unfolding Links
+links_moved before step place h = h
+
+-- a step may name another place, and so may the one before
+pub links_after : (first step : Step) (place other : Place) → Links (Some first) step
+    → Links (Some (record {
+      state = first.state;
+      is_turned = first.is_turned;
+      way = first.way;
+      parent = place;
+    })) (record {
+      state = step.state;
+      is_turned = step.is_turned;
+      way = step.way;
+      parent = other;
+    })
+unfolding Links
+links_after first step place other h = elim (links_first first step h) [
+  | inl begun ↦ inl begun
+  | inr found ↦ inr (
+    record {
+      state = first.state;
+      is_turned = first.is_turned;
+      way = first.way;
+      parent = place;
+    },
+    refl,
+    found.0,
+    found.1,
+  )
+]
+
+-- a single node after the line's last state
+pub grows_one : (shown : List (List Piece)) (kept : List Step) (step : Step)
+    → Links (step_at kept (step ∷ []) step.parent) step → IsSeen shown step
+    → Grows shown kept (step ∷ [])
+grows_one shown kept step h seen zero other e =
+    let same : step ≡ other = ap (λ (o : Option Step). unwrap_or o step) e in
+    subst (λ (s : Step). Links (step_at kept (step ∷ []) s.parent) s
+    × IsSeen shown s) same (h, seen)
+grows_one shown kept step h seen (suc k) other e =
+    absurd (subst (λ (o : Option Step). MatchOption o ⊤ (λ _. ⊥)) e tt)
+
+pub grows_none : (shown : List (List Piece)) (kept : List Step) → Grows shown kept []
+grows_none shown kept k step e = absurd (subst (λ (o : Option Step). MatchOption o ⊤ (λ _. ⊥)) e tt)

@@ -1,0 +1,31 @@
+use Rattle.std.proofs.Common.{◌≡◌, [], refl, sym, subst, Option}
+use Rattle.dgt_game.specs.declared.node.Place.{Place}
+use Rattle.dgt_game.specs.declared.node.Step.{Step}
+use Rattle.dgt_game.specs.Memory.{Chain, Links, step_at, steps, tip}
+use Rattle.dgt_game.proofs.Chains.{place_at}
+use Rattle.dgt_game.proofs.Held.{seen_new}
+use Rattle.dgt_game.proofs.memory.Memory.keep_path.Goals as goal
+
+pub returns : goal.returns
+returns c =
+    let m = c.args.self.now in
+    let kept = steps m.line.items in
+    let seen = steps m.seen.items in
+    let path = steps c.path-path.result.0.items in
+    let start = c.path-path.result.1 in
+    let at : step_at kept seen start ≡ step_at kept [] start =
+    place_at kept seen start c.in_default-start.not-Seen in
+    record {
+      holds = λ shown line back nothing h.
+          seen_new shown line m _ refl refl refl refl back nothing
+          (c.chained-seen.ensures.grows shown kept (subst (λ (o : Option Step). Chain shown o path)
+          at (c.path-path.ensures.path shown line h)))
+          h;
+      links = λ step h.
+          c.chained-seen.ensures.links kept step
+          (subst (λ (o : Option Step). Links (tip o path) step) at
+          (subst (λ (o : Option Step). Links o step) (sym c.path-path.ensures.tip)
+          (subst (λ (p : Place). Links (step_at kept seen p) step) c.in-Seen.is h)));
+      back = refl;
+      unsaid = refl;
+    }

@@ -1,0 +1,15 @@
+use Rattle.std.proofs.Common.{◌≡◌, List}
+use Rattle.dgt_values.specs.declared.pieces.Piece.{Piece}
+use Rattle.dgt_game.specs.declared.node.Place.{Place}
+use Rattle.dgt_game.specs.Told.{Told}
+use Rattle.dgt_game.specs.Memory.{Chain, Holds, step_at, steps, tip}
+use Rattle.dgt_game.proofs.memory.Memory.path.Given as goal
+
+abbrev pub invariant-loop-at : goal.invariant-loop-at
+invariant-loop-at l =
+    ((shown : List (List Piece)) (line : List Told) → Holds shown line l.self
+    → Chain shown (step_at (steps l.self.line.items) (steps l.self.seen.items) l.place)
+    (steps l.path.items))
+    × (tip (step_at (steps l.self.line.items) (steps l.self.seen.items) l.place)
+    (steps l.path.items)
+    ≡ step_at (steps l.self.line.items) (steps l.self.seen.items) (Place.Seen l.k))

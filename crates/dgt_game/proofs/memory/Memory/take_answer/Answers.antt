@@ -1,0 +1,44 @@
+use Rattle.std.proofs.Common.{◌∷◌, [], ℕ, sym, subst, inr, List, Option}
+use Rattle.std.specs.Prelude.{slice_get, IfSome}
+use Rattle.dgt_game.specs.declared.node.Node.{Node}
+use Rattle.dgt_game.specs.declared.node.Place.{Place}
+use Rattle.dgt_game.specs.declared.node.Step.{Step}
+use Rattle.dgt_game.specs.Memory.{Grows, IsSeen, Links, steps, tip}
+use Rattle.dgt_game.proofs.Told.{grows_one, links_moved}
+use Rattle.dgt_game.proofs.memory.Memory.take_answer.Goals as goal
+
+pub returns : goal.returns
+returns c = λ shown line back nothing h.
+    let m = c.args.self.now in
+    let kept = steps m.line.items in
+    let node = c.in-Some.node in
+    let new : Step = record {
+      state = node.step.state;
+      is_turned = node.step.is_turned;
+      way =
+          node.step.way;
+      parent = Place.Line 0;
+    } in
+    let answer : Links (tip (slice_get kept m.back) (steps m.unsaid.items)) node.step
+    × IsSeen shown node.step =
+    subst (λ (o : Option Node). IfSome o (λ n. Links (tip (slice_get kept m.back) (steps
+    m.unsaid.items)) n.step × IsSeen shown n.step)) (sym c.in-Some.ensures.value) h.answer in
+    let first : Links (tip (slice_get kept 0) (steps m.unsaid.items)) node.step =
+    subst (λ (n : ℕ). Links (tip (slice_get kept n) (steps m.unsaid.items)) node.step) back
+    answer.0 in
+    let after : Links (slice_get kept 0) node.step =
+    subst (λ (xs : List Node). Links (tip (slice_get kept 0) (steps xs)) node.step) nothing first in
+    let grows : Grows shown kept (new ∷ []) =
+    grows_one shown kept new (links_moved (slice_get kept 0) node.step (Place.Line 0) after)
+    answer.1 in
+    record {
+      shown_line = h.shown_line;
+      kept = h.kept;
+      back = h.back;
+      unsaid = h.unsaid;
+      answer = rw c.in-Some.ensures.after tt;
+      grows = rw (c.push.ensures.items, c.clear.ensures)
+          (subst (λ (step : Step). Grows shown kept (step ∷ [])) (sym c.after_line-new.ensures)
+          grows);
+      quiet = inr (back, nothing);
+    }

@@ -1,0 +1,32 @@
+use Rattle.std.proofs.Common.{◌≡◌, [], sym, subst, inl, inr, List, Option}
+use Rattle.std.specs.Prelude.{slice_get, IfSome}
+use Rattle.dgt_game.specs.declared.node.Step.{Step}
+use Rattle.dgt_game.specs.Memory.{Chain, Grows, IsSeen, Links, steps, tip}
+use Rattle.dgt_game.proofs.Told.{grows_none, taken_back}
+use Rattle.dgt_game.proofs.memory.Memory.take_back.Goals as goal
+
+pub returns : goal.returns
+returns c = λ shown line some h.
+    let m = c.args.self.now in
+    let new = c.drop_first.new.nodes.items in
+    let t = taken_back shown line m.line.items new m.back c.drop_first.result
+    c.drop_first.ensures.rest c.drop_first.ensures.halves some h.back h.kept h.shown_line in
+    let less = c.saturating_sub-self.ensures in
+    let same : slice_get (steps m.line.items) m.back ≡ slice_get (steps new)
+    c.saturating_sub-self.result =
+    rw less t.5 in
+    let none : steps m.seen.items ≡ [] = elim h.quiet [ inl e ↦ e | inr q ↦ absurd (some q.0) ] in (
+      t.0,
+      t.1,
+      record {
+        shown_line = t.2;
+        kept = t.3;
+        back = rw less t.4;
+        unsaid = subst (λ (o : Option Step). Chain shown o (steps m.unsaid.items)) same h.unsaid;
+        answer = subst (λ (o : Option Step). IfSome m.answer (λ n. Links (tip o (steps
+            m.unsaid.items)) n.step × IsSeen shown n.step)) same h.answer;
+        grows = subst (λ (xs : List Step). Grows shown (steps new) xs) (sym none) (grows_none shown
+            (steps new));
+        quiet = inl none;
+      },
+    )

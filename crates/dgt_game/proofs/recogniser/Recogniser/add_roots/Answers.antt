@@ -1,0 +1,12 @@
+use Rattle.std.proofs.Common.{◌∙◌}
+use Rattle.dgt_game.proofs.recogniser.Recogniser.add_roots.Goals as goal
+
+pub returns-clause-holds : goal.returns-clause-holds
+returns-clause-holds c = λ shown line back unsaid seen holds.
+    let roots = c.roots-white.ensures shown seen in
+    let room = c.make_room.ensures in
+    let first = c.add_root.ensures in
+    let one = first.holds shown line (room.back ∙ back) (room.unsaid ∙ unsaid) roots.0
+    (room.holds shown line holds) in
+    c.add_root-2.ensures.holds shown line (first.back ∙ room.back ∙ back)
+    (first.unsaid ∙ room.unsaid ∙ unsaid) roots.1 one

@@ -1,0 +1,19 @@
+use Rattle.std.proofs.Common.{rules, ◌≡◌, ◌∙◌, ap, sym}
+use Rattle.std.proofs.lemmas.Option.{IfSome_then}
+use Rattle.dgt_values.specs.Board.{pieces_of}
+use Rattle.dgt_game.specs.Memory.{step_at, steps}
+use Rattle.dgt_game.proofs.Links.{links, same_told}
+use Rattle.dgt_game.proofs.recogniser.Recogniser.other_jump.Goals as goal
+
+pub returns : goal.returns
+returns c =
+    let line = steps c.args.self.now.memory.line.items in
+    let seen = steps c.args.self.now.memory.seen.items in
+    let from = c.in_ok-from.from.step in
+    let node = c.args.node.now.step in
+    let same : from.is_turned ≡ node.is_turned = search rules in
+    IfSome_then c.jumped_from.result c.jumped_from.ensures (λ other (parent, turned, by, here). (
+      links (step_at line seen other.step.parent) from other.step
+          (ap (step_at line seen) parent ∙ c.in_ok-from.ensures) (sym turned) by,
+      same_told other.step node (turned ∙ same) (here ∙ ap pieces_of c.position.ensures),
+    ))

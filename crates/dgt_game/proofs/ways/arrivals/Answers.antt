@@ -1,0 +1,13 @@
+use Rattle.std.proofs.Common.{◌<◌, arith, length}
+use Rattle.dgt_values.specs.Board.{pieces_of}
+use Rattle.dgt_game.proofs.Arriving.{one_more}
+use Rattle.dgt_game.proofs.ways.arrivals.Goals as goal
+
+pub loop-square-preserved : goal.loop-square-preserved
+loop-square-preserved c =
+    let olds = pieces_of c.args.old.now in
+    let news = pieces_of c.args.new.now in
+    let small : c.loop-square.square < length olds = omega (arith, c.pieces-olds.ensures.len) in
+    let small' : c.loop-square.square < length news = omega (arith, c.pieces-news.ensures.len) in
+    let more = one_more c.args.colour olds news c.loop-square.square small small' in
+    (grind arith, grind arith)

@@ -1,0 +1,23 @@
+use Rattle.std.proofs.Common.{◌≡◌, ◌<◌, arith, inl, inr}
+use Rattle.std.specs.Prelude.{◌/◌}
+use Rattle.dgt_values.specs.Board.{pieces_of}
+use Rattle.dgt_chess.specs.Attacks.{other}
+use Rattle.dgt_chess.specs.Rules.{board}
+use Rattle.dgt_game.specs.Arrivals.{arrivals}
+use Rattle.dgt_game.proofs.Arriving.{too_far}
+use Rattle.dgt_game.proofs.ways.is_far.Goals as goal
+
+pub returns-then-arrivals-halves : goal.returns-then-arrivals-halves
+returns-then-arrivals-halves c = λ yes.
+    let state = c.args.state.now in
+    let pieces = pieces_of c.args.picture.now in
+    let count : c.arrivals.result ≡ arrivals state.turn (board state) pieces = cc in
+    too_far state pieces c.args.halves (inl (omega arith))
+
+pub returns : goal.returns
+returns c = λ yes.
+    let state = c.args.state.now in
+    let pieces = pieces_of c.args.picture.now in
+    let count : c.arrivals-2.result ≡ arrivals (other state.turn) (board state) pieces = cc in
+    let more : c.args.halves / 2 < c.arrivals-2.result = grind arith in
+    too_far state pieces c.args.halves (inr (omega arith))

@@ -1,0 +1,8 @@
+-- Cited by public contracts, in the order to read.
+pub mod Lines
+pub mod Told
+pub mod Memory
+pub mod Recogniser
+-- Only for bodies.
+pub mod Ways
+pub mod Arrivals

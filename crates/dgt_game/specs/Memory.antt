@@ -1,0 +1,135 @@
+-- What a recogniser holds, after these positions were shown and this line was reported.
+use Rattle.std.specs.Prelude.{◌≡◌, ◌≢◌, ◌<◌, ◌⊎◌, ⊤, ℕ, Bool, List, [], ◌∷◌, Option, Some, None, IfSome, length, map, slice_get}
+use Rattle.dgt_values.specs.declared.pieces.Piece.{Piece}
+use Rattle.dgt_chess.specs.declared.state.State.{State}
+use Rattle.dgt_chess.specs.Rules.{board}
+use Rattle.dgt_game.specs.declared.event.Event.{Event}
+use Rattle.dgt_game.specs.declared.node.Node.{Node}
+use Rattle.dgt_game.specs.declared.node.Step.{Step}
+use Rattle.dgt_game.specs.declared.node.Way.{Way}
+use Rattle.dgt_game.specs.declared.node.Place.{Place}
+use Rattle.dgt_game.specs.declared.reading.Reading.{Reading}
+use Rattle.dgt_game.specs.declared.memory.Memory.{Memory}
+use Rattle.dgt_game.specs.Lines.{IsMove, IsLine, IsOnly, moves_of}
+use Rattle.dgt_game.specs.Told.{Told, IsShown, Joins, WasShown, told_pieces}
+
+abbrev pub halves_of : Way → ℕ
+halves_of Way.Begun = 0
+halves_of (Way.Made one) = 1
+halves_of (Way.Unseen moves) = length (moves_of moves)
+halves_of (Way.Gap count) = count
+
+abbrev pub told_of : Step → Told
+told_of step = record {
+  state = step.state;
+  halves = halves_of step.way;
+  is_turned = step.is_turned;
+}
+
+abbrev pub steps : List Node → List Step
+steps nodes = map (λ node. node.step) nodes
+
+-- the half-moves lead from the one state to the other
+abbrev pub By : State → Way → State → Type 0
+By state Way.Begun new = ⊥
+By state (Way.Made one) new = IsMove state one new
+By state (Way.Unseen moves) new =
+    IsLine state (moves_of moves) new × IsOnly state (moves_of moves) (board new)
+By state (Way.Gap count) new = Joins count state new
+
+-- a line begins with the step, or it follows the one before by its half-moves
+unfoldable pub Links : Option Step → Step → Type 0
+Links before step =
+    (step.way ≡ Way.Begun)
+    ⊎ ((first : Step) × (before ≡ Some first) × (first.is_turned ≡ step.is_turned)
+    × By first.state step.way step.state)
+
+-- what is reported of a step
+abbrev pub event_by : Way → State → Bool → Event
+event_by Way.Begun state is_turned = Event.Begun state is_turned
+event_by (Way.Made one) state is_turned = Event.Made one
+event_by (Way.Unseen moves) state is_turned = Event.Unseen moves
+event_by (Way.Gap count) state is_turned = Event.Gap state count
+
+abbrev pub event_of : Step → Event
+event_of step = event_by step.way step.state step.is_turned
+
+-- the line after a step
+abbrev pub line_by : Way → Told → List Told → List Told
+line_by Way.Begun told line = told ∷ []
+line_by way told line = told ∷ line
+
+abbrev pub line_after : Step → List Told → List Told
+line_after step line = line_by step.way (told_of step) line
+
+-- the board has shown the step
+abbrev pub IsSeen : List (List Piece) → Step → Type 0
+IsSeen shown step = WasShown shown (told_of step)
+
+-- steps in turn, each after the one before
+abbrev pub Chain : List (List Piece) → Option Step → List Step → Type 0
+Chain shown before [] = ⊤
+Chain shown before (step ∷ steps) =
+    Links before step × IsSeen shown step × Chain shown (Some step) steps
+
+-- the last of steps
+abbrev pub tip : Option Step → List Step → Option Step
+tip before [] = before
+tip before (step ∷ steps) = tip (Some step) steps
+
+-- the step at a place
+abbrev pub step_at : List Step → List Step → Place → Option Step
+step_at line seen (Place.Line k) = slice_get line k
+step_at line seen (Place.Seen k) = slice_get seen k
+step_at line seen Place.Nowhere = None
+
+-- each step follows the one that it names
+abbrev pub Grows : List (List Piece) → List Step → List Step → Type 0
+Grows shown line seen =
+    (k : ℕ) (step : Step) → slice_get seen k ≡ Some step
+    → Links (step_at line seen step.parent) step × IsSeen shown step
+
+-- the steps kept are the last ones of the line
+abbrev pub IsKept : List Step → List Told → Type 0
+IsKept [] line = ⊤
+IsKept (step ∷ steps) [] = ⊥
+IsKept (step ∷ steps) (told ∷ line) = (told_of step ≡ told) × IsKept steps line
+
+pub record Holds (shown : List (List Piece)) (line : List Told) (self : Memory) : Type 0 where
+  pub shown_line : IsShown shown line
+  pub kept : IsKept (steps self.line.items) line
+  pub back : (self.back ≡ 0) ⊎ (self.back < length (steps self.line.items))
+  pub unsaid : Chain shown (slice_get (steps self.line.items) self.back) (steps self.unsaid.items)
+  pub answer : IfSome self.answer (λ node. Links
+      (tip (slice_get (steps self.line.items) self.back) (steps self.unsaid.items)) node.step
+      × IsSeen shown node.step)
+  pub grows : Grows shown (steps self.line.items) (steps self.seen.items)
+  -- while something is reported, nothing else is seen
+  pub quiet : (steps self.seen.items ≡ []) ⊎ ((self.back ≡ 0) × (self.unsaid.items ≡ []))
+
+-- the node follows the one that it names, and has these pieces
+abbrev pub Fits : Memory → List Piece → Node → Type 0
+Fits self pieces node =
+    Links (step_at (steps self.line.items) (steps self.seen.items) node.step.parent) node.step
+    × (told_pieces (told_of node.step) ≡ pieces)
+
+-- the same, by some half-moves
+abbrev pub FitsBy : Memory → List Piece → Node → Type 0
+FitsBy self pieces node = Fits self pieces node × (node.step.way ≢ Way.Begun)
+
+-- a line begins with the node, which was shown
+abbrev pub IsRoot : List (List Piece) → Node → Type 0
+IsRoot shown node = (node.step.way ≡ Way.Begun) × IsSeen shown node.step
+
+-- what a reading says is so
+abbrev pub Reads : List (List Piece) → Memory → Reading → Type 0
+Reads shown self (Reading.At place) = ⊤
+Reads shown self (Reading.New node) =
+    Links (step_at (steps self.line.items) (steps self.seen.items) node.step.parent) node.step
+    × IsSeen shown node.step
+Reads shown self (Reading.Held node) =
+    Links (step_at (steps self.line.items) (steps self.seen.items) node.step.parent) node.step
+    × IsSeen shown node.step
+Reads shown self (Reading.Two first second) =
+    Links (step_at (steps self.line.items) (steps self.seen.items) first.step.parent) first.step
+    × IsSeen shown first.step × Links (Some first.step) second.step × IsSeen shown second.step

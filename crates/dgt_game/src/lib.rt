@@ -1,0 +1,49 @@
+//! Games, recognised in what a board shows.
+//!
+//! A [`Recogniser`] is given each [`Observation`] of a board, and reports the game as [`Event`]s,
+//! one a call, once positions have rested. It has no clock of its own, and allocates no memory.
+//!
+//! | To | Use |
+//! |---|---|
+//! | pass on what a board shows | [`Recogniser::see`] |
+//! | know when something is due | [`Recogniser::due_at`] |
+//! | get the next event | [`Recogniser::due`] |
+//! | go on with a game | [`Recogniser::go_on`] |
+//!
+//! ```rust
+//! use dgt_game::{Event, Observation, Recogniser, Sight};
+//! use dgt_values::Position;
+//!
+//! /// Whether a game begins once this position was shown and confirmed.
+//! pub fn begins(recogniser: &mut Recogniser, now: u64, picture: Position) -> bool {
+//!     let seen = Observation {
+//!         at: now,
+//!         sight: Sight::Sure(picture),
+//!         is_confirmed: true,
+//!         running: None,
+//!     };
+//!     if recogniser.see(&seen).is_err() {
+//!         return false;
+//!     }
+//!     matches!(recogniser.due(now), Some(Event::Begun(_, _)))
+//! }
+//! ```
+#![tactic(auto)]
+
+mod event;
+mod kings;
+mod memory;
+mod node;
+mod observation;
+mod reading;
+mod recogniser;
+mod resting;
+mod searching;
+mod telling;
+mod times;
+mod view;
+mod ways;
+
+pub use event::{Event, GAP, GameResult, Moves};
+pub use observation::{Observation, Sight};
+pub use recogniser::{Recogniser, StillDue};

@@ -1,0 +1,455 @@
+//! What was reported, and what was seen since.
+
+ghost use Rattle.std.specs.Prelude.{◌≡◌, ◌≢◌, ◌⊎◌, ◌<◌, ◌↔◌, ℕ, List, [], ◌∷◌, ◌++◌, Option, Some, None, IfSome, IsTrue, MatchOption, Contains, length, slice_get};
+ghost use Rattle.dgt_values.specs.declared.pieces.Piece.{Piece};
+ghost use Rattle.dgt_game.specs.declared.node.Place.{Place};
+ghost use Rattle.dgt_game.specs.declared.node.Step.{Step};
+ghost use Rattle.dgt_game.specs.Told.{Leads, Told};
+ghost use Rattle.dgt_game.specs.Memory.{Chain, Grows, IsKept, Links, event_of, halves_of, line_after, step_at, steps, tip, told_of};
+
+use crate::event::Event;
+use crate::node::{Node, Place, Way};
+use crate::times::{KEPT, SEEN, SETTLE};
+use arrayvec::ArrayVec;
+use dgt_chess::State;
+
+/// What was reported, and what was seen since.
+#[derive(Drop)]
+pub(crate) struct Memory {
+    /// The last states of the line that was reported, the last one first.
+    pub(crate) line: ArrayVec<Node, KEPT>,
+    /// To be reported: how many nodes of the line are taken back, and then these follow.
+    pub(crate) back: usize,
+    pub(crate) unsaid: ArrayVec<Node, SEEN>,
+    /// What follows these.
+    pub(crate) answer: Option<Node>,
+    /// What was seen since, each node after its parent.
+    pub(crate) seen: ArrayVec<Node, SEEN>,
+}
+
+impl Memory {
+    ghost use Rattle.dgt_game.specs.Memory.{Holds, IsSeen};
+    ghost use Rattle.dgt_game.specs.Recogniser.{new_memory};
+
+    pub(crate) fn new() -> Self
+        ensures is { result ≡ new_memory }
+        ensures holds { (shown : List (List Piece)) → Holds shown [] result }
+    {
+        Memory {
+            line: ArrayVec::new(),
+            back: 0,
+            unsaid: ArrayVec::new(),
+            answer: None,
+            seen: ArrayVec::new(),
+        }
+    }
+
+    /// Whether nothing waits to be reported.
+    pub(crate) fn is_quiet(&self) -> bool
+        ensures { IsTrue result ↔ ((self.now.back ≡ 0) × (self.now.unsaid.items ≡ [])) }
+    {
+        self.back == 0 && self.unsaid.is_empty()
+    }
+
+    /// The node at a place.
+    pub(crate) fn node(&self, place: Place) -> Option<Node>
+        ensures { MatchOption result
+            (step_at (steps self.now.line.items) (steps self.now.seen.items) place ≡ None)
+            (λ node. step_at (steps self.now.line.items) (steps self.now.seen.items) place
+            ≡ Some node.step) }
+    {
+        match place {
+            Place::Line(k) => self.line.get(k).copied(),
+            Place::Seen(k) => self.seen.get(k).copied(),
+            Place::Nowhere => None,
+        }
+    }
+
+    /// The board leaves a place at this time.
+    pub(crate) fn leave(&mut self, place: Place, now: u64)
+        ensures holds { (shown : List (List Piece)) (line : List Told) → Holds shown line self.old
+            → Holds shown line self.new }
+        ensures back { self.new.back ≡ self.old.back }
+        ensures unsaid { self.new.unsaid.items ≡ self.old.unsaid.items }
+    {
+        match place {
+            Place::Line(k) => set_left(&mut self.line, k, now),
+            Place::Seen(k) => set_left(&mut self.seen, k, now),
+            Place::Nowhere => {}
+        }
+    }
+
+    /// A node was shown without a doubt.
+    pub(crate) fn set_sure(&mut self, k: usize)
+        ensures holds { (shown : List (List Piece)) (line : List Told) → Holds shown line self.old
+            → Holds shown line self.new }
+        ensures back { self.new.back ≡ self.old.back }
+        ensures unsaid { self.new.unsaid.items ≡ self.old.unsaid.items }
+    {
+        set_sure(&mut self.seen, k);
+    }
+
+    pub(crate) fn forget_seen(&mut self)
+        ensures holds { (shown : List (List Piece)) (line : List Told) → Holds shown line self.old
+            → Holds shown line self.new }
+        ensures back { self.new.back ≡ self.old.back }
+        ensures unsaid { self.new.unsaid.items ≡ self.old.unsaid.items }
+    {
+        self.seen.clear();
+    }
+
+    /// Forgets what was seen, unless there is room for as many more nodes.
+    pub(crate) fn make_room(&mut self, room: usize)
+        ensures holds { (shown : List (List Piece)) (line : List Told) → Holds shown line self.old
+            → Holds shown line self.new }
+        ensures back { self.new.back ≡ self.old.back }
+        ensures unsaid { self.new.unsaid.items ≡ self.old.unsaid.items }
+    {
+        if self.seen.remaining_capacity() < room {
+            self.forget_seen();
+        }
+    }
+
+    /// Adds a node, and makes room for it if need be. Returns its index.
+    pub(crate) fn push(&mut self, node: Node) -> Option<usize>
+        ensures holds { (shown : List (List Piece)) (line : List Told)
+            → self.old.back ≡ 0 → self.old.unsaid.items ≡ []
+            → Links (step_at (steps self.old.line.items) (steps self.old.seen.items)
+            node.step.parent) node.step
+            → IsSeen shown node.step → Holds shown line self.old → Holds shown line self.new }
+        ensures back { self.new.back ≡ self.old.back }
+        ensures unsaid { self.new.unsaid.items ≡ self.old.unsaid.items }
+        ensures seen { IfSome result (λ k. (place : Place)
+            × (slice_get (steps self.new.seen.items) k ≡ Some (record {
+              state = node.step.state;
+              is_turned = node.step.is_turned;
+              way = node.step.way;
+              parent = place;
+            }))) }
+    {
+        let parent = self.keep_path(node.step.parent)?;
+        if self.seen.is_full() {
+            return None;
+        }
+        let len = self.seen.len();
+        let mut new = node;
+        new.step.parent = parent;
+        self.seen.push(new);
+        Some(len)
+    }
+
+    // Makes room for a node after a place, if need be: only the path to the place is kept then.
+    // Returns where the place is then.
+    fn keep_path(&mut self, place: Place) -> Option<Place>
+        ensures holds { (shown : List (List Piece)) (line : List Told)
+            → self.old.back ≡ 0 → self.old.unsaid.items ≡ []
+            → Holds shown line self.old → Holds shown line self.new }
+        ensures links { IfSome result (λ new. (step : Step)
+            → Links (step_at (steps self.old.line.items) (steps self.old.seen.items) place) step
+            → Links (step_at (steps self.new.line.items) (steps self.new.seen.items) new) step) }
+        ensures back { self.new.back ≡ self.old.back }
+        ensures unsaid { self.new.unsaid.items ≡ self.old.unsaid.items }
+    {
+        if !self.seen.is_full() {
+            return Some(place);
+        }
+        let Place::Seen(k) = place else {
+            self.seen.clear();
+            return Some(place);
+        };
+        let (path, start) = self.path(k);
+        if let Place::Seen(_) = start {
+            return None;
+        }
+        let (seen, last) = chained(&path, start);
+        self.seen = seen;
+        Some(last)
+    }
+
+    // The nodes that lead to one, with it, and the place that they begin at.
+    fn path(&self, k: usize) -> (ArrayVec<Node, SEEN>, Place)
+        ensures path { (shown : List (List Piece)) (line : List Told) → Holds shown line self.now
+            → Chain shown (step_at (steps self.now.line.items) (steps self.now.seen.items)
+            result.1) (steps result.0.items) }
+        ensures tip { tip (step_at (steps self.now.line.items) (steps self.now.seen.items)
+            result.1) (steps result.0.items)
+            ≡ step_at (steps self.now.line.items) (steps self.now.seen.items) (Place.Seen k) }
+    {
+        let mut path = ArrayVec::new();
+        let mut place = Place::Seen(k);
+        for _at in 0..SEEN {
+            let Place::Seen(k) = place else {
+                return (path, place);
+            };
+            if path.is_full() || k >= self.seen.len() {
+                return (path, place);
+            }
+            path.insert(0, self.seen[k]);
+            place = self.seen[k].step.parent;
+        }
+        (path, place)
+    }
+
+    /// Has the path to a place reported, and then the answer. Before another line begins, a
+    /// half-move that had rested is reported, if the line may go on.
+    pub(crate) fn tell(&mut self, place: Place, answer: Option<Node>, is_open: bool)
+        ensures { (shown : List (List Piece)) (line : List Told)
+            → self.old.back ≡ 0 → self.old.unsaid.items ≡ []
+            → IfSome answer (λ node. Links (step_at (steps self.old.line.items)
+            (steps self.old.seen.items) place) node.step × IsSeen shown node.step)
+            → Holds shown line self.old → Holds shown line self.new }
+    {
+        let way = self.way_to(place, is_open);
+        self.seen.clear();
+        self.answer = None;
+        if let Some((back, unsaid)) = way {
+            self.back = back;
+            self.unsaid = unsaid;
+            self.answer = answer;
+        }
+    }
+
+    // How far the line is taken back and what follows then, so that the board stands at a place.
+    fn way_to(&self, place: Place, is_open: bool) -> Option<(usize, ArrayVec<Node, SEEN>)>
+        ensures within { IfSome result (λ way. (way.0 ≡ 0)
+            ⊎ (way.0 < length (steps self.now.line.items))) }
+        ensures chain { (shown : List (List Piece)) (line : List Told) → Holds shown line self.now
+            → IfSome result (λ way. Chain shown (slice_get (steps self.now.line.items) way.0)
+            (steps way.1.items)) }
+        ensures tip { IfSome result (λ way. (step : Step) → Links (step_at
+            (steps self.now.line.items) (steps self.now.seen.items) place) step
+            → Links (tip (slice_get (steps self.now.line.items) way.0) (steps way.1.items)) step) }
+    {
+        let (path, start) = match place {
+            Place::Seen(k) => self.path(k),
+            _ => (ArrayVec::new(), place),
+        };
+        match start {
+            Place::Line(base) => {
+                if base < self.line.len() {
+                    Some((base, path))
+                } else {
+                    None
+                }
+            }
+            Place::Nowhere => {
+                if is_open {
+                    Some((0, self.with_last(path)))
+                } else {
+                    Some((0, path))
+                }
+            }
+            Place::Seen(_) => None,
+        }
+    }
+
+    fn with_last(&self, path: ArrayVec<Node, SEEN>) -> ArrayVec<Node, SEEN>
+        ensures chain { (shown : List (List Piece)) (line : List Told) → Holds shown line self.now
+            → Chain shown None (steps path.items)
+            → Chain shown (slice_get (steps self.now.line.items) 0) (steps result.items) }
+        ensures tip { (step : Step) → Links (tip None (steps path.items)) step
+            → Links (tip (slice_get (steps self.now.line.items) 0) (steps result.items)) step }
+    {
+        if path.is_full() || path.is_empty() {
+            return path;
+        }
+        match self.rested() {
+            Some(node) => inserted(path, node),
+            None => path,
+        }
+    }
+
+    // The half-move after the line's last state that has rested last.
+    fn rested(&self) -> Option<Node>
+        ensures { IfSome result (λ node. (k : ℕ)
+            × (slice_get self.now.seen.items k ≡ Some node)
+            × (node.step.parent ≡ Place.Line 0)) }
+    {
+        let len = self.seen.len();
+        for at in 0..len {
+            let node = &self.seen[len - 1 - at];
+            if node.step.parent == Place::Line(0)
+                && node.is_sure
+                && !node.is_quick
+                && node.rested() >= SETTLE
+            {
+                return Some(*node);
+            }
+        }
+        None
+    }
+
+    /// Reports the next event, if one waits.
+    pub(crate) fn next_event(&mut self) -> Option<Event>
+        ensures told { (shown : List (List Piece)) (line : List Told) → Holds shown line self.old
+            → MatchOption result (Holds shown line self.new)
+            (λ event. (new : List Told) × Leads line event new × Holds shown new self.new) }
+        ensures none { result ≡ None → (self.new.back ≡ 0) × (self.new.unsaid.items ≡ []) }
+    {
+        if self.back > 0 {
+            Some(self.take_back())
+        } else {
+            self.make()
+        }
+    }
+
+    fn take_back(&mut self) -> Event
+        ensures { (shown : List (List Piece)) (line : List Told) → self.old.back ≢ 0
+            → Holds shown line self.old
+            → (new : List Told) × Leads line result new × Holds shown new self.new }
+    {
+        self.back = self.back.saturating_sub(1);
+        Event::Back(drop_first(&mut self.line))
+    }
+
+    // Makes the first half-moves that are to be reported.
+    fn make(&mut self) -> Option<Event>
+        ensures told { (shown : List (List Piece)) (line : List Told) → self.old.back ≡ 0
+            → Holds shown line self.old
+            → MatchOption result (Holds shown line self.new)
+            (λ event. (new : List Told) × Leads line event new × Holds shown new self.new) }
+        ensures none { result ≡ None → (self.new.back ≡ self.old.back)
+            × (self.new.unsaid.items ≡ []) }
+    {
+        let Some(node) = take_first(&mut self.unsaid) else {
+            return None;
+        };
+        put_first(&mut self.line, node);
+        Some(told_event(&node))
+    }
+
+    /// All was reported. The answer, if there is one, is the only node that was seen since.
+    pub(crate) fn take_answer(&mut self) -> Option<Node>
+        ensures { (shown : List (List Piece)) (line : List Told) → self.old.back ≡ 0
+            → self.old.unsaid.items ≡ [] → Holds shown line self.old
+            → Holds shown line self.new }
+    {
+        let Some(node) = self.answer.take() else {
+            return None;
+        };
+        let new = node.after_line();
+        self.seen.clear();
+        self.seen.push(new);
+        Some(new)
+    }
+}
+
+// What is known of when a node was shown is no part of its step.
+#[tactic(auto, using(crate::proofs::Nodes::same_steps))]
+fn set_left<const ROOM: usize>(nodes: &mut ArrayVec<Node, ROOM>, k: usize, now: u64)
+    ensures { steps nodes.new.items ≡ steps nodes.old.items }
+{
+    if k < nodes.len() {
+        let mut node = nodes[k];
+        node.left = now;
+        nodes[k] = node;
+    }
+}
+
+#[tactic(auto, using(crate::proofs::Nodes::same_steps))]
+fn set_sure(nodes: &mut ArrayVec<Node, SEEN>, k: usize)
+    ensures { steps nodes.new.items ≡ steps nodes.old.items }
+{
+    if k < nodes.len() {
+        let mut node = nodes[k];
+        node.is_sure = true;
+        node.is_held = false;
+        nodes[k] = node;
+    }
+}
+
+fn inserted(path: ArrayVec<Node, SEEN>, node: Node) -> ArrayVec<Node, SEEN>
+    requires { length path.items < SEEN }
+    ensures { result.items ≡ node ∷ path.items }
+{
+    let mut nodes = path;
+    nodes.insert(0, node);
+    nodes
+}
+
+// The same nodes, each after the one before, and the first after a place that was not seen since.
+// Returns where the last one is, too.
+fn chained(path: &ArrayVec<Node, SEEN>, start: Place) -> (ArrayVec<Node, SEEN>, Place)
+    ensures grows { (shown : List (List Piece)) (kept : List Step)
+        → Chain shown (step_at kept [] start) (steps path.now.items)
+        → Grows shown kept (steps result.0.items) }
+    ensures links { (kept : List Step) (step : Step)
+        → Links (tip (step_at kept [] start) (steps path.now.items)) step
+        → Links (step_at kept (steps result.0.items) result.1) step }
+{
+    let mut nodes = ArrayVec::new();
+    let mut parent = start;
+    for k in 0..path.len() {
+        let mut node = path[k];
+        node.step.parent = parent;
+        nodes.push(node);
+        parent = Place::Seen(k);
+    }
+    (nodes, parent)
+}
+
+fn take_first(nodes: &mut ArrayVec<Node, SEEN>) -> Option<Node>
+    ensures rest { MatchOption result (nodes.new.items ≡ nodes.old.items)
+        (λ node. nodes.old.items ≡ node ∷ nodes.new.items) }
+    ensures none { result ≡ None → nodes.new.items ≡ [] }
+{
+    if nodes.is_empty() {
+        return None;
+    }
+    Some(nodes.remove(0))
+}
+
+// Puts a node first. The last one goes if there is no room, and all go if a line begins.
+fn put_first(nodes: &mut ArrayVec<Node, KEPT>, node: Node)
+    ensures kept { (line : List Told) → IsKept (steps nodes.old.items) line
+        → IsKept (steps nodes.new.items) (line_after node.step line) }
+    ensures first { slice_get (steps nodes.new.items) 0 ≡ Some node.step }
+{
+    match node.step.way {
+        Way::Begun => begin_line(nodes, node),
+        Way::Made(_) => push_first(nodes, node),
+        Way::Unseen(_) => push_first(nodes, node),
+        Way::Gap(_) => push_first(nodes, node),
+    }
+}
+
+fn begin_line(nodes: &mut ArrayVec<Node, KEPT>, node: Node)
+    ensures { nodes.new.items ≡ node ∷ [] }
+{
+    nodes.clear();
+    nodes.push(node);
+}
+
+#[tactic(auto, using(crate::proofs::Told::kept_take))]
+fn push_first(nodes: &mut ArrayVec<Node, KEPT>, node: Node)
+    ensures kept { (line : List Told) → IsKept (steps nodes.old.items) line
+        → IsKept (steps nodes.new.items) (told_of node.step ∷ line) }
+    ensures first { slice_get (steps nodes.new.items) 0 ≡ Some node.step }
+{
+    nodes.truncate(KEPT - 1);
+    nodes.insert(0, node);
+}
+
+// Drops the first node. Returns its half-moves.
+fn drop_first(nodes: &mut ArrayVec<Node, KEPT>) -> u8
+    ensures rest { (first : Node) (rest : List Node) → nodes.old.items ≡ first ∷ rest
+        → nodes.new.items ≡ rest }
+    ensures halves { (first : Node) (rest : List Node) → nodes.old.items ≡ first ∷ rest
+        → result ≡ halves_of first.step.way }
+{
+    if nodes.is_empty() {
+        return 0;
+    }
+    nodes.remove(0).step.way.halves()
+}
+
+fn told_event(node: &Node) -> Event
+    ensures { result ≡ event_of node.now.step }
+{
+    match node.step.way {
+        Way::Begun => Event::Begun(node.step.state, node.step.is_turned),
+        Way::Made(one) => Event::Made(one),
+        Way::Unseen(moves) => Event::Unseen(moves),
+        Way::Gap(count) => Event::Gap(node.step.state, count),
+    }
+}

@@ -1,0 +1,164 @@
+//! States that the board has shown, and how they follow each other.
+
+ghost use Rattle.std.specs.Prelude.{◌≡◌};
+ghost use Rattle.dgt_game.specs.Memory.{halves_of};
+
+use crate::event::Moves;
+use dgt_chess::{Colour, Move, State};
+
+/// How a state follows the one before.
+#[derive(Clone, Copy, Debug, PartialEq, Eq)]
+pub(crate) enum Way {
+    /// A line begins with it.
+    Begun,
+    Made(Move),
+    Unseen(Moves),
+    Gap(u8),
+}
+
+impl Way {
+    pub(crate) fn halves(self) -> u8
+        ensures { result ≡ halves_of self }
+    {
+        match self {
+            Way::Begun => 0,
+            Way::Made(_) => 1,
+            Way::Unseen(moves) => moves.len() as u8,
+            Way::Gap(count) => count,
+        }
+    }
+
+    pub(crate) fn is_jump(self) -> bool {
+        match self {
+            Way::Unseen(_) | Way::Gap(_) => true,
+            _ => false,
+        }
+    }
+
+    /// Whether half-moves lie between that are in no certain order, or more than one of them.
+    pub(crate) fn is_long_jump(self) -> bool {
+        match self {
+            Way::Unseen(moves) => moves.len() > 2,
+            Way::Gap(_) => true,
+            _ => false,
+        }
+    }
+}
+
+/// Where a position stands in what is known.
+#[derive(Clone, Copy, Debug, PartialEq, Eq)]
+pub(crate) enum Place {
+    /// In the line, so far before its last state.
+    Line(usize),
+    /// At this node of those that were seen since.
+    Seen(usize),
+    Nowhere,
+}
+
+/// Where the path of a node begins.
+#[derive(Clone, Copy, Debug, PartialEq, Eq)]
+pub(crate) enum Origin {
+    /// At the state of the line that is so far before its last.
+    Line(usize),
+    /// With the state in which a game begins.
+    Start,
+    /// With a position that nothing led to.
+    Shadow,
+}
+
+/// A state that the board has shown, and how it follows another.
+#[derive(Clone, Copy, Debug, PartialEq, Eq)]
+pub(crate) struct Step {
+    pub(crate) state: State,
+    pub(crate) is_turned: bool,
+    /// How it follows its parent.
+    pub(crate) way: Way,
+    pub(crate) parent: Place,
+}
+
+/// A step, and what is known of when it was shown.
+#[derive(Clone, Copy, Debug, PartialEq, Eq)]
+pub(crate) struct Node {
+    pub(crate) step: Step,
+    pub(crate) origin: Origin,
+    /// When it was shown first, and last.
+    pub(crate) at: u64,
+    pub(crate) left: u64,
+    /// Whether it was shown without a doubt.
+    pub(crate) is_sure: bool,
+    /// Whether it was shown only without pieces of the side to move, which were in hands.
+    pub(crate) is_held: bool,
+    /// Whether its last two half-moves were faster than hands.
+    pub(crate) is_quick: bool,
+    /// Whether its path has a jump, and a long one.
+    pub(crate) jumps: bool,
+    pub(crate) jumps_far: bool,
+    /// How many nodes its path has.
+    pub(crate) depth: u8,
+}
+
+impl Node {
+    /// The first node of a line.
+    pub(crate) fn root(state: State, is_turned: bool, origin: Origin, at: u64) -> Self
+        ensures { result.step ≡ record {
+          state = state;
+          is_turned = is_turned;
+          way = Way.Begun;
+          parent = Place.Nowhere;
+        } }
+    {
+        Node {
+            step: Step {
+                state,
+                is_turned,
+                way: Way::Begun,
+                parent: Place::Nowhere,
+            },
+            origin,
+            at,
+            left: at,
+            is_sure: false,
+            is_held: false,
+            is_quick: false,
+            jumps: false,
+            jumps_far: false,
+            depth: 1,
+        }
+    }
+
+    /// The same node, as one that follows the line's last state.
+    pub(crate) fn after_line(&self) -> Self
+        ensures { result.step ≡ record {
+          state = self.now.step.state;
+          is_turned = self.now.step.is_turned;
+          way = self.now.step.way;
+          parent = Place.Line 0;
+        } }
+    {
+        let mut new = *self;
+        new.step.parent = Place::Line(0);
+        if self.step.way != Way::Begun {
+            new.origin = Origin::Line(0);
+            new.depth = 1;
+            new.jumps = self.step.way.is_jump();
+            new.jumps_far = self.step.way.is_long_jump();
+        }
+        new
+    }
+
+    /// The player who made the last half-move.
+    pub(crate) fn mover(&self) -> Colour {
+        self.step.state.turn().other()
+    }
+
+    /// The time for which it was shown.
+    pub(crate) fn rested(&self) -> u64 {
+        self.left.saturating_sub(self.at)
+    }
+}
+
+impl Default for Node {
+    fn default() -> Self {
+        Node::root(State::start(), false, Origin::Start, 0)
+    }
+}

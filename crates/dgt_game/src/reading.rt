@@ -1,0 +1,746 @@
+//! What a picture means: the likeliest of the few half-moves that lead to it.
+
+ghost use Rattle.std.specs.Prelude.{◌≡◌, ◌⊎◌, List, Option, None, Some, IfSome, IsTrue, Contains, length};
+ghost use Rattle.dgt_values.specs.declared.pieces.Piece.{Piece};
+ghost use Rattle.dgt_values.specs.Board.{pieces_of};
+ghost use Rattle.dgt_chess.specs.Rules.{board};
+ghost use Rattle.dgt_chess.specs.declared.state.State.{State};
+ghost use Rattle.dgt_game.specs.Lines.{IsLine, IsOnly, moves_of};
+ghost use Rattle.dgt_chess.specs.declared.pieces.Man.{Man};
+ghost use Rattle.dgt_chess.specs.Attacks.{piece_of};
+ghost use Rattle.dgt_game.specs.Told.{IsHeld, Told, told_pieces};
+ghost use Rattle.dgt_game.specs.Memory.{By, told_of};
+
+use crate::event::{GAP, Moves};
+use crate::node::{Node, Origin, Place, Step, Way};
+use crate::recogniser::{Over, Recogniser, lacks_only};
+use crate::times::{HANDS, NEAR, SETTLE};
+use crate::view::View;
+use crate::ways::{Ways, find_ways, half_move, is_same};
+use dgt_chess::{Colour, State};
+use dgt_values::{Piece, Position, Square};
+
+/// What a picture means.
+#[derive(Clone, Copy, Debug, PartialEq, Eq)]
+pub(crate) enum Reading {
+    At(Place),
+    New(Node),
+    /// A node, but for pieces of the side to move that are in hands.
+    Held(Node),
+    /// Two nodes, the second after the first.
+    Two(Node, Node),
+}
+
+impl Recogniser {
+    ghost use Rattle.dgt_game.specs.Memory.{Fits, FitsBy, Holds, Links, Reads, step_at, steps};
+
+    /// The likeliest meaning.
+    pub(crate) fn read(&self, view: &View) -> Reading
+        ensures { (shown : List (List Piece)) (line : List Told) → Holds shown line self.now.memory
+            → Contains shown (pieces_of view.now.shown) → Reads shown self.now.memory result }
+    {
+        if let Some(place) = self.read_line(view) {
+            return Reading::At(place);
+        }
+        if let Some(reading) = self.read_half_move(view) {
+            return reading;
+        }
+        if let Some(reading) = self.read_start(view) {
+            return reading;
+        }
+        if let Some(k) = self.read_earlier(view) {
+            return Reading::At(Place::Line(k));
+        }
+        if let Some(node) = self.read_held(view) {
+            return Reading::Held(node);
+        }
+        if let Some(reading) = self.read_jump(view) {
+            return reading;
+        }
+        if let Some(node) = self.read_replaced(view) {
+            return Reading::New(node);
+        }
+        self.read_shadow(view)
+    }
+
+    // The line's last state, or one that was left too quickly for hands. No other line begins with
+    // the state in which a game has ended, but for the one in which all begin.
+    fn read_line(&self, view: &View) -> Option<Place> {
+        let last = self.memory.line.get(0)?;
+        let may_begin = last.step.state.position() == State::start().position();
+        if view.is(&last.step.state, last.step.is_turned) && (self.over == Over::No || !may_begin) {
+            return Some(Place::Line(0));
+        }
+        let k = self.earlier(view)?;
+        if k > NEAR {
+            return None;
+        }
+        for at in 0..k {
+            if self.memory.line.get(at)?.is_quick {
+                return Some(Place::Line(k));
+            }
+        }
+        None
+    }
+
+    // An earlier state of the line. If it is far back, and something wasn't shown meanwhile, it is
+    // rather another game that has begun in the same way.
+    fn read_earlier(&self, view: &View) -> Option<usize> {
+        let k = self.earlier(view)?;
+        if k > NEAR && self.is_behind && self.from_start(view).is_some() {
+            return None;
+        }
+        Some(k)
+    }
+
+    // An earlier state of the line.
+    fn earlier(&self, view: &View) -> Option<usize> {
+        if !self.is_live() {
+            return None;
+        }
+        for k in 1..self.memory.line.len() {
+            if view.is(
+                &self.memory.line[k].step.state,
+                self.memory.line[k].step.is_turned,
+            ) {
+                return Some(k);
+            }
+        }
+        None
+    }
+
+    // One half-move, or a node that was seen before.
+    fn read_half_move(&self, view: &View) -> Option<Reading>
+        ensures { (shown : List (List Piece)) → Contains shown (pieces_of view.now.shown)
+            → IfSome result (λ reading. Reads shown self.now.memory reading) }
+    {
+        if self.returned > 0 && self.is_live() {
+            if let Some(node) = self.made(Place::Line(self.returned), view) {
+                return Some(self.known(node));
+            }
+        }
+        if let Some(k) = self.seen_before(view, false) {
+            return Some(Reading::At(Place::Seen(k)));
+        }
+        let node = self.one_more(view)?;
+        Some(Reading::New(node))
+    }
+
+    // A node that follows a state of the line, unless it was seen before.
+    fn known(&self, node: Node) -> Reading
+        ensures { (shown : List (List Piece)) (pieces : List Piece) → Contains shown pieces
+            → Fits self.now.memory pieces node → Reads shown self.now.memory result }
+    {
+        for k in 0..self.memory.seen.len() {
+            let other = &self.memory.seen[k];
+            if other.step.parent == node.step.parent && other.step.state == node.step.state {
+                return Reading::At(Place::Seen(k));
+            }
+        }
+        Reading::New(node)
+    }
+
+    // The node with these pieces that was seen last.
+    fn seen_before(&self, view: &View, is_shadow: bool) -> Option<usize> {
+        let len = self.memory.seen.len();
+        for at in 0..len {
+            let node = &self.memory.seen[len - 1 - at];
+            if node.step.way != Way::Begun
+                && self.is_shadow(node) == is_shadow
+                && view.is(&node.step.state, node.step.is_turned)
+            {
+                return Some(len - 1 - at);
+            }
+        }
+        None
+    }
+
+    // A half-move after which the other side has its next piece in a hand already.
+    fn read_held(&self, view: &View) -> Option<Node>
+        ensures { (shown : List (List Piece)) → Contains shown (pieces_of view.now.shown)
+            → IfSome result (λ node. Reads shown self.now.memory (Reading.Held node)) }
+    {
+        let len = self.memory.seen.len();
+        for at in 0..len {
+            if !self.is_shadow(&self.memory.seen[len - 1 - at]) {
+                if let Some(node) = self.held(Place::Seen(len - 1 - at), view) {
+                    return Some(node);
+                }
+            }
+        }
+        if self.is_live() {
+            self.held(Place::Line(0), view)
+        } else {
+            None
+        }
+    }
+
+    fn held(&self, place: Place, view: &View) -> Option<Node>
+        ensures { (shown : List (List Piece)) → Contains shown (pieces_of view.now.shown)
+            → IfSome result (λ node. Reads shown self.now.memory (Reading.Held node)) }
+    {
+        let from = self.memory.node(place)?;
+        let shown = view.from(from.step.is_turned);
+        let whole = put_back(shown, &from.step.state);
+        if whole == *shown {
+            return None;
+        }
+        let (one, state) = half_move(&from.step.state, &whole)?;
+        if is_held(shown, &state) {
+            let mut node = self.follow(&from, place, Way::Made(one), state);
+            node.is_held = true;
+            return Some(node);
+        }
+        None
+    }
+
+    /// The node with the same half-moves after the same place, if there is one.
+    pub(crate) fn same_node(&self, node: &Node) -> Option<usize> {
+        for k in 0..self.memory.seen.len() {
+            if self.memory.seen[k].step == node.step {
+                return Some(k);
+            }
+        }
+        None
+    }
+
+    // The shortest way by one half-move more. Of several, one that moved what has just changed.
+    // A square that a piece slid over leads nowhere, unless nothing else does.
+    fn one_more(&self, view: &View) -> Option<Node>
+        ensures { IfSome result (λ node. Fits self.now.memory (pieces_of view.now.shown) node) }
+    {
+        let mut best = None;
+        let len = self.memory.seen.len();
+        for at in 0..len {
+            if !self.is_shadow(&self.memory.seen[len - 1 - at]) {
+                best = self.better(best, self.made(Place::Seen(len - 1 - at), view));
+            }
+        }
+        if self.is_live() {
+            best = self.better(best, self.made(Place::Line(0), view));
+        }
+        best
+    }
+
+    fn better(&self, best: Option<Node>, other: Option<Node>) -> Option<Node>
+        ensures { (result ≡ best) ⊎ (result ≡ other) }
+    {
+        let (Some(first), Some(second)) = (best, other) else {
+            return best.or(other);
+        };
+        let has_rested = self.has_rested(first.step.parent);
+        if has_rested != self.has_rested(second.step.parent) {
+            return if has_rested { best } else { other };
+        }
+        let is_shorter = second.depth < first.depth;
+        let is_fresher = second.depth == first.depth
+            && !self.has_changed_last(&first)
+            && self.has_changed_last(&second);
+        if is_shorter || is_fresher {
+            other
+        } else {
+            best
+        }
+    }
+
+    // Whether a state is reported, or was shown for longer than a piece slides.
+    pub(crate) fn has_rested(&self, place: Place) -> bool {
+        match (place, self.memory.node(place)) {
+            (Place::Seen(_), Some(node)) => node.rested() >= SETTLE && !node.jumps,
+            _ => true,
+        }
+    }
+
+    /// Whether half-moves that weren't shown may follow. A square that a piece slid over doesn't
+    /// count, unless something else wasn't shown.
+    pub(crate) fn may_jump(&self, place: Place) -> bool {
+        match (place, self.memory.node(place)) {
+            (_, None) => false,
+            (Place::Seen(_), Some(node)) => {
+                !self.is_shadow(&node) && (self.is_behind || node.rested() >= SETTLE)
+            }
+            _ => self.is_live(),
+        }
+    }
+
+    // Whether the half-moves to a node changed a square that has just changed.
+    fn has_changed_last(&self, node: &Node) -> bool {
+        let Some(parent) = self.memory.node(node.step.parent) else {
+            return false;
+        };
+        let changed = parent
+            .step
+            .state
+            .position()
+            .differ(node.step.state.position());
+        let shown = if node.step.is_turned {
+            changed.reverse_bits()
+        } else {
+            changed
+        };
+        shown & self.changed != 0
+    }
+
+    // The state in which a game begins, seen from either side.
+    fn read_start(&self, view: &View) -> Option<Reading>
+        ensures { (shown : List (List Piece)) → Contains shown (pieces_of view.now.shown)
+            → IfSome result (λ reading. Reads shown self.now.memory reading) }
+    {
+        let start = State::start();
+        for is_turned in [false, true] {
+            if view.is(&start, is_turned) {
+                if let Some(k) = self.earlier(view) {
+                    if k <= 2 && self.memory.line.get(k)?.step.way == Way::Begun {
+                        return Some(Reading::At(Place::Line(k)));
+                    }
+                }
+                let node = Node::root(start, is_turned, Origin::Start, self.since);
+                return Some(Reading::New(self.dated(node)));
+            }
+        }
+        None
+    }
+
+    // Two half-moves, or a correction of how many there were before.
+    fn read_jump(&self, view: &View) -> Option<Reading>
+        ensures { (shown : List (List Piece)) (line : List Told) → Holds shown line self.now.memory
+            → Contains shown (pieces_of view.now.shown)
+            → IfSome result (λ reading. Reads shown self.now.memory reading) }
+    {
+        if let Some(node) = self.two_more(view) {
+            return Some(Reading::New(node));
+        }
+        let len = self.memory.seen.len();
+        for at in 0..len {
+            if let Some(reading) = self.recounted(Place::Seen(len - 1 - at), view) {
+                return Some(reading);
+            }
+        }
+        if self.is_live() {
+            return self.recounted(Place::Line(0), view);
+        }
+        None
+    }
+
+    // Two half-moves more. Of several, those that moved what has just changed.
+    fn two_more(&self, view: &View) -> Option<Node>
+        ensures { IfSome result (λ node. Fits self.now.memory (pieces_of view.now.shown) node) }
+    {
+        let mut found = None;
+        let len = self.memory.seen.len();
+        for at in 0..len {
+            let place = Place::Seen(len - 1 - at);
+            if self.may_jump(place) {
+                found = self.fresher(found, self.jumped(place, view, 2));
+            }
+        }
+        if self.is_live() {
+            if self.returned > 0 {
+                found = self.fresher(found, self.jumped(Place::Line(self.returned), view, 2));
+            }
+            found = self.fresher(found, self.jumped(Place::Line(0), view, 2));
+        }
+        found
+    }
+
+    // The first of both, unless only the second moved what has just changed.
+    fn fresher(&self, first: Option<Node>, second: Option<Node>) -> Option<Node>
+        ensures { (result ≡ first) ⊎ (result ≡ second) }
+    {
+        let (Some(old), Some(new)) = (first, second) else {
+            return first.or(second);
+        };
+        if !self.has_changed_last(&old) && self.has_changed_last(&new) {
+            second
+        } else {
+            first
+        }
+    }
+
+    // If the other side has moved after a jump, the jump had one half-move more or less.
+    fn recounted(&self, place: Place, view: &View) -> Option<Reading>
+        ensures { (shown : List (List Piece)) (line : List Told) → Holds shown line self.now.memory
+            → Contains shown (pieces_of view.now.shown)
+            → IfSome result (λ reading. Reads shown self.now.memory reading) }
+    {
+        let node = self.memory.node(place)?;
+        if node.step.way.halves() < 2 {
+            return None;
+        }
+        half_move(
+            &other_side(&node.step.state)?,
+            view.from(node.step.is_turned),
+        )?;
+        let mut before = self.parent_of(place);
+        let mut halves = node.step.way.halves();
+        for _ in 0..GAP {
+            for count in [halves.saturating_add(1), halves.saturating_sub(1)] {
+                if let Some(reading) = self.recounted_by(before, &node, view, count) {
+                    return Some(reading);
+                }
+            }
+            halves = halves.saturating_add(self.memory.node(before)?.step.way.halves());
+            before = self.parent_of(before);
+        }
+        None
+    }
+
+    fn parent_of(&self, place: Place) -> Place {
+        match (place, self.memory.node(place)) {
+            (Place::Line(k), _) => Place::Line(k.saturating_add(1)),
+            (_, Some(node)) => node.step.parent,
+            _ => Place::Nowhere,
+        }
+    }
+
+    // As many half-moves to a node, and one more.
+    fn recounted_by(&self, parent: Place, node: &Node, view: &View, halves: u8) -> Option<Reading>
+        ensures { (shown : List (List Piece))
+            → Contains shown (told_pieces (told_of node.now.step))
+            → Contains shown (pieces_of view.now.shown)
+            → IfSome result (λ reading. Reads shown self.now.memory reading) }
+    {
+        let first = self.other_jump(parent, node, halves)?;
+        let second = self.next(&first, Place::Nowhere, view)?;
+        Some(Reading::Two(first, second))
+    }
+
+    // The node with the pieces of another that as many half-moves from a place lead to.
+    fn other_jump(&self, place: Place, node: &Node, halves: u8) -> Option<Node>
+        ensures { IfSome result (λ other.
+            Fits self.now.memory (told_pieces (told_of node.now.step)) other) }
+    {
+        let from = self.memory.node(place)?;
+        if from.step.is_turned != node.step.is_turned {
+            return None;
+        }
+        self.jumped_from(&from, place, node.step.state.position(), halves)
+    }
+
+    // Another half-move, or another two, after one of the last states of the line.
+    fn read_replaced(&self, view: &View) -> Option<Node>
+        ensures { IfSome result (λ node. Fits self.now.memory (pieces_of view.now.shown) node) }
+    {
+        if !self.is_live() || self.is_set_up {
+            return None;
+        }
+        for k in 1..NEAR + 1 {
+            if let Some(node) = self.made(Place::Line(k), view) {
+                return Some(node);
+            }
+        }
+        for k in 1..3 {
+            if !self.is_behind {
+                return None;
+            }
+            if let Some(node) = self.jumped(Place::Line(k), view, 2) {
+                return Some(node);
+            }
+        }
+        None
+    }
+
+    fn read_shadow(&self, view: &View) -> Reading
+        ensures { (shown : List (List Piece)) → Contains shown (pieces_of view.now.shown)
+            → Reads shown self.now.memory result }
+    {
+        if let Some(k) = self.seen_before(view, true) {
+            return Reading::At(Place::Seen(k));
+        }
+        let mut best = None;
+        for k in 0..self.memory.seen.len() {
+            if self.is_shadow(&self.memory.seen[k]) {
+                best = self.better(best, self.made(Place::Seen(k), view));
+            }
+        }
+        match best {
+            Some(node) => Reading::New(node),
+            None => Reading::At(Place::Nowhere),
+        }
+    }
+
+    // Whether a position rested since the last doubt that isn't on the way, not even with pieces in
+    // hands: then it isn't known in which order half-moves were made.
+    fn is_contradicted(&self, place: Place, from: &Node, moves: &Moves) -> bool {
+        for k in 0..self.memory.seen.len() {
+            let node = &self.memory.seen[k];
+            if node.is_sure
+                && node.left > self.sure_since
+                && (self.is_shadow(node) || node.step.way.is_jump())
+                && !self.is_before(k, place)
+                && !is_between(node, from, moves)
+            {
+                return true;
+            }
+        }
+        false
+    }
+
+    // Whether a node is on the path to a place.
+    fn is_before(&self, k: usize, place: Place) -> bool {
+        let mut at = place;
+        for _ in 0..self.memory.seen.len() {
+            if at == Place::Seen(k) {
+                return true;
+            }
+            at = match self.memory.node(at) {
+                Some(node) => node.step.parent,
+                None => Place::Nowhere,
+            };
+        }
+        false
+    }
+
+    /// Whether the other side has made a half-move before its turn: it waits for the answer.
+    pub(crate) fn is_early(&self) -> bool {
+        let (Some(view), Some(last)) = (&self.view, self.memory.line.get(0)) else {
+            return false;
+        };
+        if last.step.way.is_jump() || !self.is_live() {
+            return false;
+        }
+        match other_side(&last.step.state) {
+            Some(state) => half_move(&state, view.from(last.step.is_turned)).is_some(),
+            None => false,
+        }
+    }
+
+    /// Whether a node goes on from a position that nothing led to.
+    pub(crate) fn is_shadow(&self, node: &Node) -> bool {
+        node.origin == Origin::Shadow && !self.is_same_start(node)
+    }
+
+    // Whether the line has begun with the node's position, and no half-move was reported yet: then
+    // either side may move first.
+    pub(crate) fn is_same_start(&self, node: &Node) -> bool {
+        let Some(last) = self.memory.line.get(0) else {
+            return false;
+        };
+        last.step.way == Way::Begun
+            && last.step.is_turned == node.step.is_turned
+            && self.root_position(node) == *last.step.state.position()
+    }
+
+    fn root_position(&self, node: &Node) -> Position {
+        let mut at = *node;
+        for _ in 0..self.memory.seen.len() {
+            if let Place::Seen(k) = at.step.parent {
+                if let Some(parent) = self.memory.seen.get(k) {
+                    at = *parent;
+                }
+            }
+        }
+        *at.step.state.position()
+    }
+
+    /// The node that one half-move from a place leads to.
+    pub(crate) fn made(&self, place: Place, view: &View) -> Option<Node>
+        ensures { IfSome result (λ node. Fits self.now.memory (pieces_of view.now.shown) node) }
+    {
+        let from = self.memory.node(place)?;
+        self.next(&from, place, view)
+    }
+
+    // The node that one half-move from another leads to.
+    fn next(&self, from: &Node, place: Place, view: &View) -> Option<Node>
+        ensures { IfSome result (λ node. (node.step.parent ≡ place)
+            × Links (Some from.now.step) node.step
+            × (told_pieces (told_of node.step) ≡ pieces_of view.now.shown)) }
+    {
+        let (one, state) = half_move(&from.step.state, view.from(from.step.is_turned))?;
+        Some(self.follow(from, place, Way::Made(one), state))
+    }
+
+    /// The node that as many half-moves from a place lead to.
+    pub(crate) fn jumped(&self, place: Place, view: &View, halves: u8) -> Option<Node>
+        ensures { IfSome result (λ node. FitsBy self.now.memory (pieces_of view.now.shown) node) }
+    {
+        let from = self.memory.node(place)?;
+        self.jumped_from(&from, place, view.from(from.step.is_turned), halves)
+    }
+
+    /// The same, where the picture is seen from White's side.
+    pub(crate) fn jumped_from(
+        &self,
+        from: &Node,
+        place: Place,
+        shown: &Position,
+        halves: u8,
+    ) -> Option<Node>
+        ensures { IfSome result (λ node. (node.step.parent ≡ place)
+            × (node.step.is_turned ≡ from.now.step.is_turned)
+            × By from.now.step.state node.step.way node.step.state
+            × (board node.step.state ≡ pieces_of shown.now)) }
+    {
+        let (way, state) = self.jump(from, place, shown, halves)?;
+        Some(self.follow(from, place, way, state))
+    }
+
+    // As many half-moves that lead to a picture, and the state after them.
+    fn jump(&self, from: &Node, place: Place, shown: &Position, halves: u8) -> Option<(Way, State)>
+        ensures { IfSome result (λ found. By from.now.step.state found.0 found.1
+            × (board found.1 ≡ pieces_of shown.now)) }
+    {
+        if halves == 0 || halves > GAP as u8 {
+            return None;
+        }
+        match find_ways(&from.step.state, shown, halves) {
+            Ways::Nothing => None,
+            Ways::Only(moves, new) => Some((self.way_of(from, place, moves, halves), new)),
+            Ways::Several(new) => Some((Way::Gap(halves), new)),
+        }
+    }
+
+    // How the only half-moves of as many are reported.
+    fn way_of(&self, from: &Node, place: Place, moves: Moves, halves: u8) -> Way
+        ensures { (state new : State) → length (moves_of moves) ≡ halves
+            → IsLine state (moves_of moves) new → IsOnly state (moves_of moves) (board new)
+            → By state result new }
+    {
+        match moves.as_slice() {
+            [one] => Way::Made(*one),
+            _ if self.is_contradicted(place, from, &moves) => Way::Gap(halves),
+            _ => Way::Unseen(moves),
+        }
+    }
+
+    // A node that follows another.
+    fn follow(&self, from: &Node, parent: Place, way: Way, state: State) -> Node
+        ensures { result.step ≡ record {
+          state = state;
+          is_turned = from.now.step.is_turned;
+          way = way;
+          parent = parent;
+        } }
+    {
+        let origin = match parent {
+            Place::Line(k) => Origin::Line(k),
+            _ => from.origin,
+        };
+        let is_told = match parent {
+            Place::Line(_) => true,
+            _ => false,
+        };
+        self.dated(Node {
+            step: Step {
+                state,
+                is_turned: from.step.is_turned,
+                way,
+                parent,
+            },
+            origin,
+            at: self.since,
+            left: self.since,
+            is_sure: false,
+            is_held: false,
+            is_quick: self.is_quick(from, parent, way),
+            jumps: way.is_jump() || !is_told && from.jumps,
+            jumps_far: way.is_long_jump() || !is_told && from.jumps_far,
+            depth: if is_told {
+                1
+            } else {
+                from.depth.saturating_add(1)
+            },
+        })
+    }
+
+    // A node that is shown now.
+    fn dated(&self, node: Node) -> Node
+        ensures { result.step ≡ node.step }
+    {
+        let mut new = node;
+        new.is_sure = self.is_sure;
+        new
+    }
+
+    // Whether the last two half-moves were made faster than by hands, with no doubt meanwhile.
+    fn is_quick(&self, from: &Node, parent: Place, way: Way) -> bool {
+        let before = match parent {
+            Place::Line(k) => self.memory.node(Place::Line(k.saturating_add(1))),
+            _ => self.memory.node(from.step.parent),
+        };
+        let mut left = from.left;
+        let mut halves = way.halves();
+        if halves < 2 {
+            let Some(node) = before else {
+                return false;
+            };
+            left = node.left;
+            halves = halves.saturating_add(from.step.way.halves());
+        }
+        halves >= 2 && !self.is_behind && self.since.saturating_sub(left) < HANDS * halves as u64
+    }
+}
+
+// What is shown, with the missing pieces of the side that has to move next put back.
+fn put_back(shown: &Position, state: &State) -> Position {
+    let side = state.turn().other();
+    let mut whole = *shown;
+    for at in 0..64u8 {
+        let square = Square::from_small(at);
+        let piece = state.position().get(square);
+        if shown.get(square) == Piece::Empty && side.man(piece).is_some() {
+            whole.set(square, piece);
+        }
+    }
+    whole
+}
+
+// Whether all of a state is shown but pieces of the side to move.
+fn is_held(shown: &Position, state: &State) -> bool
+    ensures { IsTrue result → IsHeld (pieces_of shown.now) state.now }
+{
+    for at in 0..64u8 {
+        let square = Square::from_small(at);
+        if !may_lack(
+            shown.get(square),
+            state.position().get(square),
+            state.turn(),
+        ) {
+            return false;
+        }
+    }
+    true
+}
+
+fn may_lack(shown: Piece, piece: Piece, side: Colour) -> bool
+    ensures { IsTrue result → (shown ≡ piece)
+        ⊎ ((shown ≡ Piece.Empty) × ((man : Man) × (piece ≡ piece_of side man))) }
+{
+    if is_same(shown, piece) {
+        return true;
+    }
+    match side.man(piece) {
+        Some(_) => is_same(shown, Piece::Empty),
+        None => false,
+    }
+}
+
+// Whether a node has the pieces of a state of a line, or lacks some of them.
+fn is_between(node: &Node, from: &Node, moves: &Moves) -> bool {
+    let shown = node.step.state.position();
+    let mut state = from.step.state;
+    for one in moves.as_slice() {
+        if lacks_only(shown, &state) {
+            return true;
+        }
+        state = match state.play(*one) {
+            Ok(new) => new,
+            Err(_) => return false,
+        };
+    }
+    lacks_only(shown, &state)
+}
+
+// The same position with the other side to move.
+fn other_side(state: &State) -> Option<State> {
+    State::new(
+        *state.position(),
+        state.turn().other(),
+        state.rights(),
+        None,
+        state.half_moves(),
+        state.number(),
+    )
+    .ok()
+}

@@ -1,0 +1,290 @@
+//! What is due, and when.
+
+use crate::event::Event;
+use crate::node::{Node, Origin, Place, Way};
+use crate::recogniser::{Over, Recogniser, Search};
+use crate::times::*;
+use dgt_chess::Move;
+use dgt_values::Square;
+
+/// What is done next.
+#[derive(Clone, Copy, Debug, PartialEq, Eq)]
+pub(crate) enum Task {
+    EndByKings,
+    Search,
+    Tell,
+    Begin,
+}
+
+impl Recogniser {
+    /// When [`Recogniser::due`] has something to do next, if nothing else is seen until then.
+    pub fn due_at(&self) -> Option<u64> {
+        if self.has_news() {
+            return Some(self.since);
+        }
+        let (at, _) = self.next_task()?;
+        Some(at)
+    }
+
+    /// Reports the next event that is due at this time, if there is one. Call it until there is
+    /// none.
+    pub fn due(&mut self, now: u64) -> Option<Event> {
+        for _ in 0..3 {
+            if let Some(event) = self.next_event() {
+                return Some(event);
+            }
+            let (at, task) = self.next_task()?;
+            if at > now {
+                return None;
+            }
+            self.act(task);
+        }
+        self.next_event()
+    }
+
+    pub(crate) fn is_due(&self, now: u64) -> bool {
+        self.has_news()
+            || match self.next_task() {
+                Some((at, _)) => at <= now,
+                None => false,
+            }
+    }
+
+    fn next_task(&self) -> Option<(u64, Task)> {
+        if !self.is_sure {
+            return None;
+        }
+        let other = self.next_of_position();
+        if self.kings.is_some() && self.is_confirmed {
+            let at = self.since.saturating_add(KINGS);
+            match other {
+                Some((sooner, _)) if sooner < at => {}
+                _ => return Some((at, Task::EndByKings)),
+            }
+        }
+        other
+    }
+
+    // What is done next with the position that is shown.
+    fn next_of_position(&self) -> Option<(u64, Task)> {
+        let (wait, task) = if self.is_next {
+            (self.rest(), Task::Tell)
+        } else if self.here != Place::Nowhere {
+            return None;
+        } else {
+            match self.search {
+                Search::Waiting if self.is_behind => (GLANCE, Task::Search),
+                Search::Waiting => (JUMP, Task::Search),
+                Search::Done if self.is_lifted() => return None,
+                Search::Done => (self.new_wait()?, Task::Begin),
+                Search::Hopeless => return None,
+            }
+        };
+        if !self.is_confirmed && !(task == Task::Search && self.is_behind) {
+            return None;
+        }
+        Some((self.since.saturating_add(wait), task))
+    }
+
+    fn act(&mut self, task: Task) {
+        match task {
+            Task::EndByKings => self.end_by_kings(),
+            Task::Search => self.look_deep(),
+            Task::Tell => {
+                self.is_next = false;
+                self.tell_here();
+            }
+            Task::Begin => self.begin(),
+        }
+    }
+
+    // Before another game begins, the last half-moves are reported that rested, even if in doubt:
+    // they aren't shown again.
+    fn tell_here(&mut self) {
+        match (self.memory.node(self.here), self.last_rested()) {
+            (Some(root), Some(k)) if root.origin == Origin::Start && root.depth == 1 => {
+                self.tell(Place::Seen(k), Some(root));
+            }
+            _ => self.tell(self.here, None),
+        }
+    }
+
+    // The last half-moves after the line's last state that rested.
+    fn last_rested(&self) -> Option<usize> {
+        let len = self.memory.seen.len();
+        for at in 0..len {
+            let node = &self.memory.seen[len - 1 - at];
+            if self.over == Over::No
+                && node.origin == Origin::Line(0)
+                && !node.is_quick
+                && node.rested() >= JUMP
+            {
+                return Some(len - 1 - at);
+            }
+        }
+        None
+    }
+
+    // How long a position that no half-moves lead to rests before a line begins with it.
+    fn new_wait(&self) -> Option<u64> {
+        if self.memory.line.is_empty() {
+            Some(FIRST)
+        } else if self.is_set_up || self.is_behind {
+            Some(NEW)
+        } else if self.over == Over::No {
+            Some(NEW_STILL)
+        } else {
+            None
+        }
+    }
+
+    // How long the position that is shown rests before it is reported.
+    fn rest(&self) -> u64 {
+        let Place::Seen(k) = self.here else {
+            return SETTLE;
+        };
+        let Some(node) = self.memory.seen.get(k) else {
+            return SETTLE;
+        };
+        match node.origin {
+            Origin::Line(base) => self.rest_after(node, base),
+            Origin::Start if node.depth == 1 => 0,
+            Origin::Start => SETTLE,
+            Origin::Shadow => {
+                if node.depth > SHADOW || self.is_same_start(node) {
+                    SETTLE
+                } else {
+                    self.new_wait().unwrap_or(NEW_STILL)
+                }
+            }
+        }
+    }
+
+    // The same, of half-moves that follow a state of the line.
+    fn rest_after(&self, node: &Node, base: usize) -> u64 {
+        let mut wait = SETTLE;
+        if self.is_quick_path(node) || node.jumps_far && !self.is_behind {
+            wait = AT_ONCE;
+        } else if node.jumps {
+            wait = JUMP;
+        }
+        if self.may_castle(node) {
+            wait = wait.max(CASTLE);
+        }
+        if base > 1 && base != self.returned {
+            wait = wait.max(REPLACE);
+        }
+        if base == 0 && self.running == Some(node.mover()) && node.step.state.can_move() {
+            wait = wait.max(PRESS);
+        }
+        wait
+    }
+
+    // Whether one of the last three half-moves was faster than hands.
+    fn is_quick_path(&self, node: &Node) -> bool {
+        let mut at = *node;
+        for _ in 0..3 {
+            if at.is_quick {
+                return true;
+            }
+            let Place::Seen(k) = at.step.parent else {
+                return false;
+            };
+            let Some(parent) = self.memory.seen.get(k) else {
+                return false;
+            };
+            at = *parent;
+        }
+        false
+    }
+
+    // Whether the last half-move is a rook's that may be the first half of a castling.
+    fn may_castle(&self, node: &Node) -> bool {
+        let Way::Made(one) = node.step.way else {
+            return false;
+        };
+        let (king, to) = match (one.from.index(), one.to.index()) {
+            (63, 61) => (60, 62),
+            (56, 59) => (60, 58),
+            (7, 5) => (4, 6),
+            (0, 3) => (4, 2),
+            _ => return false,
+        };
+        match self.memory.node(node.step.parent) {
+            Some(parent) => parent.step.state.is_legal(Move {
+                from: Square::from_small(king),
+                to: Square::from_small(to),
+                promotion: None,
+            }),
+            None => false,
+        }
+    }
+
+    /// Whether a half-move after a node means that the node was meant.
+    pub(crate) fn is_answered(&self, parent: usize, node: &Node) -> bool {
+        let Some(before) = self.memory.seen.get(parent) else {
+            return false;
+        };
+        if !before.is_sure || node.origin == Origin::Shadow {
+            return false;
+        }
+        if node.step.way.is_jump() || self.has_slid(parent) {
+            return false;
+        }
+        if self.is_long(node) {
+            return true;
+        }
+        if self.is_quick_path(node) || node.jumps_far {
+            return false;
+        }
+        if self.running == Some(before.mover()) && before.step.way != Way::Begun {
+            return false;
+        }
+        // bumped pieces that are put back look like half-moves undone, but not during a doubt
+        self.is_behind && self.running == Some(node.mover()) || !self.undoes(before, node)
+    }
+
+    // Whether as many half-moves were shown one by one before a node that they are sure.
+    fn is_long(&self, node: &Node) -> bool {
+        let mut at = *node;
+        for _ in 0..LONG {
+            let Place::Seen(k) = at.step.parent else {
+                return false;
+            };
+            let Some(parent) = self.memory.seen.get(k) else {
+                return false;
+            };
+            if at.step.way.is_jump() {
+                return false;
+            }
+            at = *parent;
+        }
+        true
+    }
+
+    // Whether a piece stood there for a moment, and then another half-move was made instead.
+    fn has_slid(&self, k: usize) -> bool {
+        let Some(node) = self.memory.seen.get(k) else {
+            return false;
+        };
+        for later in 0..self.memory.seen.len() {
+            let other = &self.memory.seen[later];
+            if later > k && other.step.parent == node.step.parent {
+                return node.rested() < SETTLE;
+            }
+        }
+        false
+    }
+
+    // Whether a half-move puts back the piece that the same player moved before.
+    fn undoes(&self, before: &Node, node: &Node) -> bool {
+        let earlier = match before.step.parent {
+            Place::Nowhere => return false,
+            place => self.memory.node(place),
+        };
+        match (earlier.map(|node| node.step.way), node.step.way) {
+            (Some(Way::Made(old)), Way::Made(new)) => old.from == new.to && old.to == new.from,
+            _ => false,
+        }
+    }
+}

@@ -1,0 +1,345 @@
+//! Positions that no half-move leads to: several half-moves, or another line.
+
+ghost use Rattle.std.specs.Prelude.{◌≡◌, ◌⊎◌, ℕ, List, [], Option, Some, None, IfSome, Contains, slice_get};
+ghost use Rattle.dgt_values.specs.declared.pieces.Piece.{Piece};
+ghost use Rattle.dgt_values.specs.Board.{DifferingSquares, pieces_of};
+ghost use Rattle.dgt_chess.specs.Rules.{board};
+ghost use Rattle.dgt_game.specs.declared.reading.Reading.{Reading};
+ghost use Rattle.dgt_game.specs.declared.recogniser.Notice.{Notice};
+ghost use Rattle.dgt_game.specs.Told.{Told, as_shown};
+
+use crate::event::GAP;
+use crate::node::{Node, Origin, Place, Way};
+use crate::recogniser::{Notice, Over, Recogniser, Search};
+use crate::view::View;
+use dgt_chess::{Colour, Rights, State};
+use dgt_values::{Piece, Position, Square};
+
+impl Recogniser {
+    ghost use Rattle.dgt_game.specs.Memory.{Fits, FitsBy, Holds, IsRoot, Reads};
+
+    /// Looks for several half-moves, also from the start of another game. If there are none, the
+    /// line is lost.
+    pub(crate) fn look_deep(&mut self)
+        ensures { (shown : List (List Piece)) (line : List Told)
+            → self.old.memory.back ≡ 0 → self.old.memory.unsaid.items ≡ []
+            → IfSome self.old.view (λ view. Contains shown (pieces_of view.shown))
+            → Holds shown line self.old.memory → Holds shown line self.new.memory }
+    {
+        self.search = Search::Done;
+        let Some(view) = self.view else {
+            return;
+        };
+        if let Some(node) = self.deep(&view) {
+            self.add_jump(node, &view);
+            return;
+        }
+        if !self.start_deep(&view) {
+            self.lose(&view);
+        }
+    }
+
+    fn add_jump(&mut self, node: Node, view: &View)
+        ensures { (shown : List (List Piece)) (line : List Told)
+            → self.old.memory.back ≡ 0 → self.old.memory.unsaid.items ≡ []
+            → Reads shown self.old.memory (Reading.New node)
+            → Holds shown line self.old.memory → Holds shown line self.new.memory }
+    {
+        self.lose_by(&node, view);
+        self.add(node);
+        self.is_next = self.here != Place::Nowhere;
+    }
+
+    fn lose_by(&mut self, node: &Node, view: &View)
+        ensures { self.new.memory ≡ self.old.memory }
+    {
+        if node.jumps_far && !self.is_behind {
+            self.lose(view);
+        }
+    }
+
+    // The fewest half-moves from the line's last state or from a node that was seen since. The
+    // player whose clock runs moves next, if there is such a line.
+    fn deep(&self, view: &View) -> Option<Node>
+        ensures { IfSome result (λ node. FitsBy self.now.memory (pieces_of view.now.shown) node) }
+    {
+        if self.is_early() {
+            return None;
+        }
+        let mut other = None;
+        for halves in 2..GAP as u8 + 1 {
+            let found = self.deep_by(view, halves);
+            if self.is_in_turn(&found) {
+                return found;
+            }
+            other = self.or_unordered(other, found);
+        }
+        other
+    }
+
+    // The same, by as many half-moves. If there are some from the line's last state, and some from
+    // a node that was shown for a moment, it isn't known which were made.
+    fn deep_by(&self, view: &View, halves: u8) -> Option<Node>
+        ensures { IfSome result (λ node. FitsBy self.now.memory (pieces_of view.now.shown) node) }
+    {
+        let first = self.jumped_far(Place::Line(0), view, halves);
+        let len = self.memory.seen.len();
+        for at in 0..len {
+            let place = Place::Seen(len - 1 - at);
+            if let Some(node) = self.jumped_far(place, view, halves) {
+                return Some(self.or_line(first, node, place));
+            }
+        }
+        first
+    }
+
+    fn or_line(&self, line: Option<Node>, node: Node, place: Place) -> Node
+        ensures { (pieces : List Piece)
+            → IfSome line (λ other. FitsBy self.now.memory pieces other)
+            → FitsBy self.now.memory pieces node → FitsBy self.now.memory pieces result }
+    {
+        match line {
+            Some(other) => {
+                if self.has_rested(place) {
+                    node
+                } else {
+                    self.unordered(other)
+                }
+            }
+            None => node,
+        }
+    }
+
+    fn jumped_far(&self, place: Place, view: &View, halves: u8) -> Option<Node>
+        ensures { IfSome result (λ node. FitsBy self.now.memory (pieces_of view.now.shown) node) }
+    {
+        if !self.may_jump(place) {
+            return None;
+        }
+        self.jumped(place, view, halves)
+    }
+
+    // Whether there is a node after which the player whose clock runs moves next.
+    fn is_in_turn(&self, found: &Option<Node>) -> bool {
+        match found {
+            Some(node) => { self.running.is_none() || self.running == Some(node.step.state.turn()) }
+            None => false,
+        }
+    }
+
+    // The first of both. It isn't known by which half-moves the second was reached.
+    fn or_unordered(&self, first: Option<Node>, second: Option<Node>) -> Option<Node>
+        ensures { (pieces : List Piece)
+            → IfSome first (λ node. FitsBy self.now.memory pieces node)
+            → IfSome second (λ node. FitsBy self.now.memory pieces node)
+            → IfSome result (λ node. FitsBy self.now.memory pieces node) }
+    {
+        if first.is_some() {
+            return first;
+        }
+        let node = second?;
+        Some(self.unordered(node))
+    }
+
+    // The same node, but it isn't known by which half-moves it was reached.
+    fn unordered(&self, node: Node) -> Node
+        ensures { (pieces : List Piece) → FitsBy self.now.memory pieces node
+            → FitsBy self.now.memory pieces result }
+    {
+        let mut new = node;
+        new.step.way = Way::Gap(node.step.way.halves());
+        new.jumps_far = true;
+        new
+    }
+
+    fn may_start(&self) -> bool {
+        self.is_set_up || self.is_behind || self.memory.line.is_empty()
+    }
+
+    // A game whose first half-moves weren't shown, if one may begin. Returns whether there is one.
+    fn start_deep(&mut self, view: &View) -> bool
+        ensures { (shown : List (List Piece)) (line : List Told)
+            → self.old.memory.back ≡ 0 → self.old.memory.unsaid.items ≡ []
+            → Contains shown (pieces_of view.now.shown)
+            → Holds shown line self.old.memory → Holds shown line self.new.memory }
+    {
+        if !self.may_start() {
+            return false;
+        }
+        let Some((root, node)) = self.from_start(view) else {
+            return false;
+        };
+        self.add_two(root, node);
+        self.is_next = self.here != Place::Nowhere;
+        true
+    }
+
+    /// The start of a game, and the fewest half-moves from there.
+    pub(crate) fn from_start(&self, view: &View) -> Option<(Node, Node)>
+        ensures { (shown : List (List Piece)) → Contains shown (pieces_of view.now.shown)
+            → IfSome result (λ two. Reads shown self.now.memory (Reading.Two two.0 two.1)) }
+    {
+        for halves in 1..GAP as u8 + 1 {
+            for is_turned in [false, true] {
+                if let Some(two) = self.from_start_by(view, is_turned, halves) {
+                    return Some(two);
+                }
+            }
+        }
+        None
+    }
+
+    fn from_start_by(&self, view: &View, is_turned: bool, halves: u8) -> Option<(Node, Node)>
+        ensures { (shown : List (List Piece)) → Contains shown (pieces_of view.now.shown)
+            → IfSome result (λ two. Reads shown self.now.memory (Reading.Two two.0 two.1)) }
+    {
+        let mut root = Node::root(State::start(), is_turned, Origin::Start, self.since);
+        root.is_sure = true;
+        root.jumps = true;
+        let node = self.jumped_from(&root, Place::Nowhere, view.from(is_turned), halves)?;
+        Some((root, node))
+    }
+
+    fn lose(&mut self, view: &View)
+        ensures same { self.new.memory ≡ self.old.memory }
+        ensures lost { (self.new.notice ≡ self.old.notice) ⊎ ((squares : ℕ)
+            × (self.new.notice ≡ Some (Notice.Lost squares))
+            × IfSome (slice_get self.old.memory.line.items 0) (λ last. DifferingSquares
+            (board last.step.state)
+            (as_shown last.step.is_turned (pieces_of view.now.shown)) squares)) }
+    {
+        if self.over != Over::No || self.is_lost || self.is_lifted() {
+            return;
+        }
+        let Some(last) = self.memory.line.get(0) else {
+            return;
+        };
+        let squares = last
+            .step
+            .state
+            .position()
+            .differ(view.from(last.step.is_turned));
+        self.is_lost = true;
+        self.notice = Some(Notice::Lost(squares));
+    }
+
+    /// A line begins with the position that is shown.
+    pub(crate) fn begin(&mut self)
+        ensures { (shown : List (List Piece)) (line : List Told)
+            → self.old.memory.back ≡ 0 → self.old.memory.unsaid.items ≡ []
+            → IfSome self.old.view (λ view. Contains shown (pieces_of view.shown))
+            → Holds shown line self.old.memory → Holds shown line self.new.memory }
+    {
+        self.search = Search::Hopeless;
+        self.memory.forget_seen();
+        let Some((root, other)) = self.first_root() else {
+            return;
+        };
+        self.memory.push(root);
+        self.tell(Place::Seen(0), other);
+    }
+
+    /// Keeps the position that is shown, for lines that may go on from it.
+    pub(crate) fn add_roots(&mut self)
+        ensures holds { (shown : List (List Piece)) (line : List Told)
+            → self.old.memory.back ≡ 0 → self.old.memory.unsaid.items ≡ []
+            → IfSome self.old.view (λ view. Contains shown (pieces_of view.shown))
+            → Holds shown line self.old.memory → Holds shown line self.new.memory }
+        ensures back { self.new.memory.back ≡ self.old.memory.back }
+        ensures unsaid { self.new.memory.unsaid.items ≡ self.old.memory.unsaid.items }
+    {
+        let (white, black) = self.roots();
+        self.memory.make_room(2);
+        self.add_root(white);
+        self.add_root(black);
+    }
+
+    fn add_root(&mut self, root: Option<Node>)
+        ensures holds { (shown : List (List Piece)) (line : List Told)
+            → self.old.memory.back ≡ 0 → self.old.memory.unsaid.items ≡ []
+            → IfSome root (λ node. IsRoot shown node)
+            → Holds shown line self.old.memory → Holds shown line self.new.memory }
+        ensures back { self.new.memory.back ≡ self.old.memory.back }
+        ensures unsaid { self.new.memory.unsaid.items ≡ self.old.memory.unsaid.items }
+    {
+        if let Some(node) = root {
+            self.memory.push(node);
+        }
+    }
+
+    // One of the next two, and the other if there are both.
+    fn first_root(&self) -> Option<(Node, Option<Node>)>
+        ensures { (shown : List (List Piece))
+            → IfSome self.now.view (λ view. Contains shown (pieces_of view.shown))
+            → IfSome result (λ found. IsRoot shown found.0
+            × IfSome found.1 (λ node. IsRoot shown node)) }
+    {
+        let (white, black) = self.roots();
+        match white {
+            Some(node) => Some((node, black)),
+            None => Some((black?, None)),
+        }
+    }
+
+    // The position that is shown, with White to move and with Black, where that is possible.
+    fn roots(&self) -> (Option<Node>, Option<Node>)
+        ensures { (shown : List (List Piece))
+            → IfSome self.now.view (λ view. Contains shown (pieces_of view.shown))
+            → IfSome result.0 (λ node. IsRoot shown node)
+            × IfSome result.1 (λ node. IsRoot shown node) }
+    {
+        (self.root(Colour::White), self.root(Colour::Black))
+    }
+
+    fn root(&self, turn: Colour) -> Option<Node>
+        ensures { (shown : List (List Piece))
+            → IfSome self.now.view (λ view. Contains shown (pieces_of view.shown))
+            → IfSome result (λ node. IsRoot shown node) }
+    {
+        let view = self.view?;
+        if self.is_confirmed && self.running == Some(turn.other()) {
+            return None;
+        }
+        let is_turned = match self.memory.line.get(0) {
+            Some(last) => last.step.is_turned,
+            None => is_white_above(&view.shown),
+        };
+        let state = placed(view.from(is_turned), turn)?;
+        let mut node = Node::root(state, is_turned, Origin::Shadow, self.since);
+        node.is_sure = self.is_sure;
+        Some(node)
+    }
+}
+
+// The state of pieces that were set up: castlings are allowed where king and rook are at home.
+fn placed(position: &Position, turn: Colour) -> Option<State>
+    ensures { IfSome result (λ state. board state ≡ pieces_of position.now) }
+{
+    let is_on = |at: u8, piece: Piece| position.get(Square::from_small(at)) == piece;
+    let white = is_on(60, Piece::WhiteKing);
+    let black = is_on(4, Piece::BlackKing);
+    let rights = Rights {
+        white_short: white && is_on(63, Piece::WhiteRook),
+        white_long: white && is_on(56, Piece::WhiteRook),
+        black_short: black && is_on(7, Piece::BlackRook),
+        black_long: black && is_on(0, Piece::BlackRook),
+    };
+    State::new(*position, turn, rights, None, 0, 1).ok()
+}
+
+// Whether most of White's pieces are on the upper half.
+fn is_white_above(shown: &Position) -> bool {
+    let mut above = 0u8;
+    let mut below = 0u8;
+    for at in 0..64u8 {
+        let piece = shown.get(Square::from_small(at));
+        let is_white = Colour::White.man(piece).is_some();
+        let is_black = Colour::Black.man(piece).is_some();
+        if is_white && at < 32 || is_black && at >= 32 {
+            above = above.saturating_add(1);
+        } else if is_white || is_black {
+            below = below.saturating_add(1);
+        }
+    }
+    above > below
+}

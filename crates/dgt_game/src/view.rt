@@ -1,0 +1,75 @@
+//! A picture, seen from both sides.
+
+ghost use Rattle.std.specs.Prelude.{◌≡◌, ◌↔◌, IsTrue, reverse};
+ghost use Rattle.dgt_values.specs.Board.{pieces_of};
+ghost use Rattle.dgt_chess.specs.Rules.{board};
+ghost use Rattle.dgt_game.specs.Told.{as_shown};
+
+use dgt_chess::{Colour, Man, State};
+use dgt_values::{Piece, Position, Square};
+
+/// A picture, and the same with the board turned by 180 degrees.
+#[derive(Clone, Copy, Debug, PartialEq, Eq)]
+pub(crate) struct View {
+    pub(crate) shown: Position,
+    turned: Position,
+    ghost is_turned: { pieces_of turned ≡ reverse (pieces_of shown) },
+}
+
+impl View {
+    pub(crate) fn new(shown: Position) -> Self
+        ensures { result.shown ≡ shown }
+    {
+        View {
+            shown,
+            turned: turned(&shown),
+        }
+    }
+
+    /// The picture as White sees it, if the board is turned or not.
+    pub(crate) fn from(&self, is_turned: bool) -> &Position
+        ensures { pieces_of result.now ≡ as_shown is_turned (pieces_of self.now.shown) }
+    {
+        if is_turned { &self.turned } else { &self.shown }
+    }
+
+    /// Whether the state has these pieces.
+    pub(crate) fn is(&self, state: &State, is_turned: bool) -> bool
+        ensures { IsTrue result
+            ↔ (board state.now ≡ as_shown is_turned (pieces_of self.now.shown)) }
+    {
+        dgt_values::laws::equal_is_same();
+        state.position() == self.from(is_turned)
+    }
+}
+
+/// The position on a board that is turned by 180 degrees.
+fn turned(position: &Position) -> Position
+    ensures { pieces_of result ≡ reverse (pieces_of position.now) }
+{
+    let mut new = *position;
+    for at in 0..64 {
+        let to = Square::from_small(63 - at);
+        new.set(to, position.get(Square::from_small(at)));
+    }
+    new
+}
+
+/// The only square with this piece, if there is just one.
+pub(crate) fn only_square(position: &Position, piece: Piece) -> Option<u8> {
+    let mut found = None;
+    for at in 0..64 {
+        if position.get(Square::from_small(at)) == piece {
+            if found.is_some() {
+                return None;
+            }
+            found = Some(at);
+        }
+    }
+    found
+}
+
+/// The king of a colour.
+pub(crate) fn king(colour: Colour) -> Piece {
+    colour.piece(Man::King)
+}
