@@ -399,6 +399,52 @@ void chess() {
     CHECK(thrown<Impossible>(turn)->why() == Why::bad_member);
 }
 
+// Moves from the initial position, the rest of each, and the events: a move that was made, or the
+// index of another event.
+const struct {
+    std::vector<std::string> moves;
+    dgt::Milliseconds rest;
+    std::string events;
+} GAMES[] = {{{"e2e4", "e7e5"}, dgt::Milliseconds(2000), "0 e2e4 e7e5"}};
+
+void add(std::string &text, const std::vector<dgt::GameEvent> &events) {
+    for (const dgt::GameEvent &event : events) {
+        const auto *made = std::get_if<dgt::game::Made>(&event);
+        text += text.empty() ? "" : " ";
+        text += made ? made->move.from.name() + made->move.to.name()
+                     : std::to_string(event.index());
+    }
+}
+
+void games() {
+    for (const auto &[moves, rest, wanted] : GAMES) {
+        dgt::Recogniser recogniser;
+        auto state = dgt::chess::State::start();
+        dgt::Milliseconds now(0);
+        std::string text;
+        add(text, recogniser.see(now, state.position()));
+        for (const std::string &move : moves) {
+            state = state.play({dgt::Square(move.substr(0, 2)), dgt::Square(move.substr(2))});
+            add(text, recogniser.see(now += rest, state.position()));
+        }
+        add(text, recogniser.due(now + rest));
+        CHECK(text == wanted && recogniser.state() == state);
+        recogniser.go_on(state, true);
+        CHECK(recogniser.state() == state && recogniser.due(now + rest).empty());
+    }
+}
+
+void nothing_seen() {
+    dgt::Recogniser recogniser;
+    const auto start = dgt::Position::start();
+    CHECK(!recogniser.state() && !recogniser.due_at());
+    CHECK(refuses([&] { recogniser.see(dgt::Milliseconds(-1), start); }));
+    CHECK(refuses([&] { recogniser.due(dgt::Milliseconds(-1)); }));
+    const dgt::Sight wrong{true, true, static_cast<dgt::chess::Colour>(2)};
+    CHECK(refuses([&] { recogniser.see(dgt::Milliseconds(0), start, wrong); }));
+    CHECK(recogniser.see(dgt::Milliseconds(0), std::nullopt).empty() && !recogniser.state());
+}
+
 /* What only a later library reports is read as dgt.h says. */
 void later_kinds() {
     dgt_event event{};
@@ -870,6 +916,8 @@ int main(int count, char **words) {
     encodings();
     names();
     chess();
+    nothing_seen();
+    games();
     later_kinds();
     hosts();
     clock_commands(dgt::Host());

@@ -1,6 +1,6 @@
 /*
  * dgt.h: a host, a follower, a decoder, a decoder of commands and a board for the DGT electronic
- * chess board.
+ * chess board, the rules of chess, and a recogniser of games.
  *
  * Nothing here opens a line, allocates memory or waits. You read bytes from the serial line and
  * pass them in chunks of any length; you send the bytes that a call wrote into your buffer. You
@@ -31,10 +31,10 @@
  *    pointer is aligned for its type. A length is at most 2^63 - 1, and all of that memory may be
  *    read or written: for an array of events, `capacity` times sizeof(dgt_event) bytes. An array
  *    parameter has its declared length. Everything that a call reads is initialised.
- *  - A handle is a dgt_host, a dgt_follower, a dgt_decoder, a dgt_command_decoder or a dgt_board.
- *    Its _init or its _make is called before any other call. Afterwards it is never copied or
- *    moved, neither by assignment nor by memcpy or realloc: it points into itself. Don't touch its
- *    members. There is nothing to free: stop using it, and its memory is yours again.
+ *  - A handle is a dgt_host, a dgt_follower, a dgt_decoder, a dgt_command_decoder, a dgt_board or a
+ *    dgt_recogniser. Its _init or its _make is called before any other call. Afterwards it is never
+ *    copied or moved, neither by assignment nor by memcpy or realloc: it points into itself. Don't
+ *    touch its members. There is nothing to free: stop using it, and its memory is yours again.
  *  - The arguments of one call don't overlap: not a slice and a struct, not a slice and the handle.
  *    Until the call returns, nobody else writes to its arguments, or reads what it writes.
  *  - Two calls with the same handle never run at once: neither in two threads without a lock
@@ -152,6 +152,7 @@ uint32_t dgt_version(void);
 #define DGT_MAX_KEPT 64         /* the most bytes of a trademark, a battery body or a long serial
                                    number that a board keeps */
 #define DGT_PLACEMENT_ROOM 72   /* room for any placement and its final zero byte */
+#define DGT_MAX_UNSEEN 4        /* the most moves of a dgt_game_event */
 
 /* ---- Handles. Their members are private. */
 
@@ -163,6 +164,7 @@ uint32_t dgt_version(void);
 #define DGT_DECODER_SIZE 21504
 #define DGT_COMMAND_DECODER_SIZE 512
 #define DGT_BOARD_SIZE 1280
+#define DGT_RECOGNISER_SIZE 16384
 
 typedef struct dgt_host {
     void *at_;
@@ -188,6 +190,11 @@ typedef struct dgt_board {
     void *at_;
     uint64_t room_[(DGT_BOARD_SIZE - 8) / 8];
 } dgt_board;
+
+typedef struct dgt_recogniser {
+    void *at_;
+    uint64_t room_[(DGT_RECOGNISER_SIZE - 8) / 8];
+} dgt_recogniser;
 
 /* ---- What a clock shows. */
 
@@ -1355,6 +1362,124 @@ uint8_t dgt_chess_parse_san_leniently(const dgt_chess_state *state, const char *
                                       dgt_chess_move *move)
     DGT_MUST_USE_ DGT_NONNULL_(1, 4) DGT_READS_(2, 3) DGT_WRITES_(4);
 
+/* ---- A recogniser: reports the games that are played on a board.
+ *
+ * Pass it what the board shows, whenever that changes. It waits until pieces rest, so it also has
+ * something to do at times when nothing changes:
+ *
+ *     static dgt_recogniser recogniser;             // 16 KiB
+ *     dgt_game_event event;
+ *     uint64_t time;
+ *     if (!dgt_recogniser_init(&recogniser)) return 1;
+ *     for (;;) {
+ *         uint64_t at = now();                      // in milliseconds
+ *         while (dgt_recogniser_due(&recogniser, at, &event)) show(&event);
+ *         if (changed && dgt_recogniser_see(&recogniser, at, pieces, DGT_SIGHT_SURE, confirmed,
+ *                                           DGT_NO_SUCH) != DGT_SEEN) return 1;
+ *         if (!dgt_recogniser_due_at(&recogniser, &time)) time = UINT64_MAX;
+ *         ...                                       // wait until `time`, or for the next change
+ *     }
+ *
+ * It sees the board as the host does, and finds out by itself whether the board is turned. Its
+ * events are about the game: a state and a move are those of White's side at the bottom. */
+
+/* The kinds of sight that dgt_recogniser_see takes. */
+enum {
+    DGT_SIGHT_SURE = 0,    /* the board shows these pieces */
+    DGT_SIGHT_DOUBTED = 1, /* it does, unless something was lost on the line */
+    DGT_SIGHT_AWAY = 2     /* the board can't be heard: the pieces are ignored */
+};
+
+/* What dgt_recogniser_see returns. */
+enum {
+    DGT_SEEN = 0,
+    DGT_SEE_BAD_PIECES = 1, /* a byte isn't a piece */
+    DGT_SEE_BAD_SIGHT = 2,  /* there is no such sight */
+    DGT_SEE_BAD_SIDE = 3,   /* `running` isn't a side */
+    DGT_SEE_STILL_DUE = 4   /* something is due until then: call dgt_recogniser_due with this time
+                               until it returns false, and then this again */
+};
+
+/* dgt_game_event.kind, and which members it sets. The other members are 0. */
+enum {
+    DGT_GAME_BEGUN = 1,  /* a game begins with a state: state, turned. The one before is broken off,
+                            if it hasn't ended */
+    DGT_GAME_MADE = 2,   /* a move was made: moves[0]; count is 1 */
+    DGT_GAME_UNSEEN = 3, /* moves were made, of which only the position after the last was shown:
+                            count, moves. No other legal line of as many leads there */
+    DGT_GAME_GAP = 4,    /* moves were made that aren't known, since several legal lines of as many
+                            lead to the position: count, and the state after one of these lines */
+    DGT_GAME_BACK = 5,   /* moves are taken back, of the last DGT_GAME_MADE, DGT_GAME_UNSEEN or
+                            DGT_GAME_GAP: count */
+    DGT_GAME_ENDED = 6,  /* the game has ended: result */
+    DGT_GAME_LOST = 7,   /* no moves lead to what the board shows: squares */
+    DGT_GAME_FOUND = 8   /* the board shows a position of the game again */
+};
+
+/* dgt_game_event.result */
+enum {
+    DGT_RESULT_WHITE_WINS = 1,
+    DGT_RESULT_BLACK_WINS = 2,
+    DGT_RESULT_DRAW = 3
+};
+
+typedef struct dgt_game_event {
+    uint8_t kind;
+    uint8_t count;         /* how many moves of either side */
+    uint8_t result;
+    uint8_t turned;        /* 1 if White's pieces began on the ranks 8 and 7 of the board, and
+                              otherwise 0 */
+    dgt_chess_move moves[DGT_MAX_UNSEEN]; /* the first `count`; the others are 0 */
+    dgt_chess_state state;
+    uint8_t reserved[20];  /* each 0 */
+    uint64_t squares;      /* the squares whose pieces differ from those of the last state: bit n is
+                              square n of that state. On a turned board that is square 63 - n */
+} dgt_game_event;
+
+/* The size of a dgt_recogniser in bytes, according to the linked library. */
+size_t dgt_recogniser_size(void);
+
+/* Makes a recogniser that has seen nothing in the memory at `recogniser`: dgt_recogniser_size()
+ * bytes, aligned to 8. */
+void dgt_recogniser_make(dgt_recogniser *recogniser) DGT_NONNULL_(1);
+
+/* The same. Returns false and does nothing if the sizes differ, as with dgt_host_init. */
+DGT_MUST_USE_ DGT_NONNULL_(1)
+static inline bool dgt_recogniser_init(dgt_recogniser *recogniser) {
+    if (dgt_recogniser_size() != sizeof *recogniser) return false;
+    dgt_recogniser_make(recogniser);
+    return true;
+}
+
+/* Takes what is seen of the board at this time, in milliseconds of a clock that is never set back.
+ * `confirmed` says whether the board was asked again, and has shown the same. `running` is the side
+ * whose clock runs, DGT_CHESS_WHITE or DGT_CHESS_BLACK, or DGT_NO_SUCH if that isn't known. If the
+ * result isn't DGT_SEEN, nothing changed. */
+uint8_t dgt_recogniser_see(dgt_recogniser *recogniser, uint64_t now, const uint8_t pieces[64],
+                           uint8_t sight, bool confirmed, uint8_t running)
+    DGT_MUST_USE_ DGT_NONNULL_(1, 3) DGT_READS_(3);
+
+/* The first time at which dgt_recogniser_due has something to do, if nothing is seen before.
+ * Returns false and writes nothing if there is none. */
+bool dgt_recogniser_due_at(dgt_recogniser *recogniser, uint64_t *time)
+    DGT_MUST_USE_ DGT_NONNULL_(1, 2) DGT_WRITES_(2);
+
+/* Writes the next event that is due at this time. Returns false and writes nothing if there is
+ * none. Call it until then. */
+bool dgt_recogniser_due(dgt_recogniser *recogniser, uint64_t now, dgt_game_event *event)
+    DGT_MUST_USE_ DGT_NONNULL_(1, 3);
+
+/* Writes the state that the events so far lead to. Returns false and writes nothing if no game has
+ * begun. */
+bool dgt_recogniser_state(dgt_recogniser *recogniser, dgt_chess_state *state)
+    DGT_MUST_USE_ DGT_NONNULL_(1, 2);
+
+/* Goes on from this state of a game, as if events had led to it, and forgets everything else.
+ * `turned` says whether White's pieces are on the ranks 8 and 7 of the board when a game begins.
+ * Returns what dgt_chess_check returns: unless that is DGT_CHESS_DONE, nothing changes. */
+uint8_t dgt_recogniser_go_on(dgt_recogniser *recogniser, const dgt_chess_state *state, bool turned)
+    DGT_MUST_USE_ DGT_NONNULL_(1, 2);
+
 /* ---- The library's sizes. If they differ, this is another platform. */
 
 #if defined(__cplusplus) || (defined(__STDC_VERSION__) && __STDC_VERSION__ >= 201112L)
@@ -1368,6 +1493,7 @@ DGT_SIZE_(dgt_follower, DGT_FOLLOWER_SIZE);
 DGT_SIZE_(dgt_decoder, DGT_DECODER_SIZE);
 DGT_SIZE_(dgt_command_decoder, DGT_COMMAND_DECODER_SIZE);
 DGT_SIZE_(dgt_board, DGT_BOARD_SIZE);
+DGT_SIZE_(dgt_recogniser, DGT_RECOGNISER_SIZE);
 DGT_SIZE_(dgt_time, 4);
 DGT_SIZE_(dgt_clock, 16);
 DGT_SIZE_(dgt_event, 160);
@@ -1386,6 +1512,7 @@ DGT_SIZE_(dgt_parsed, 16);
 DGT_SIZE_(dgt_chess_state, 80);
 DGT_SIZE_(dgt_chess_move, 4);
 DGT_SIZE_(dgt_chess_fen_read, 16);
+DGT_SIZE_(dgt_game_event, 128);
 #undef DGT_SIZE_
 #endif
 
@@ -1520,6 +1647,17 @@ static inline dgt_board *dgt_board_(dgt_board *handle) {
 #define dgt_board_mode(it) dgt_board_mode(dgt_board_(it))
 #define dgt_board_position(it, ...) dgt_board_position(dgt_board_(it), __VA_ARGS__)
 #define dgt_board_clock(it, ...) dgt_board_clock(dgt_board_(it), __VA_ARGS__)
+
+static inline dgt_recogniser *dgt_recogniser_(dgt_recogniser *handle) {
+    assert(dgt_is_inside_(handle->at_, handle, sizeof *handle) &&
+           "this dgt_recogniser was not made, or was copied or moved");
+    return handle;
+}
+#define dgt_recogniser_see(it, ...) dgt_recogniser_see(dgt_recogniser_(it), __VA_ARGS__)
+#define dgt_recogniser_due_at(it, ...) dgt_recogniser_due_at(dgt_recogniser_(it), __VA_ARGS__)
+#define dgt_recogniser_due(it, ...) dgt_recogniser_due(dgt_recogniser_(it), __VA_ARGS__)
+#define dgt_recogniser_state(it, ...) dgt_recogniser_state(dgt_recogniser_(it), __VA_ARGS__)
+#define dgt_recogniser_go_on(it, ...) dgt_recogniser_go_on(dgt_recogniser_(it), __VA_ARGS__)
 #endif
 
 #undef DGT_HAS_

@@ -14,10 +14,10 @@
 // std::vector, a std::array or a std::span, or {pointer, length}. Bytes for the line are in the
 // object that a call returns, which has data(), size(), begin() and end().
 //
-// Nothing here opens a line or waits. A Host, a Follower, a Decoder, a CommandDecoder and a Board
-// can't be copied or moved, since they point into themselves: don't move them, or keep them in a
-// std::unique_ptr. Nothing has to be closed. Only one thread at a time may use one, even for a call
-// that only reads.
+// Nothing here opens a line or waits. A Host, a Follower, a Decoder, a CommandDecoder, a Board and
+// a Recogniser can't be copied or moved, since they point into themselves: don't move them, or keep
+// them in a std::unique_ptr. Nothing has to be closed. Only one thread at a time may use one, even
+// for a call that only reads.
 //
 // Each call names the exceptions that it throws: std::invalid_argument for an argument out of
 // range (BadPlacement is one), TooManyAwaited and WrongLibrary. Then nothing has changed. A call
@@ -1368,6 +1368,8 @@ private:
 
 // ---- The rules of chess.
 
+class Recogniser;
+
 namespace chess {
 
 enum class Colour : std::uint8_t { white = DGT_CHESS_WHITE, black = DGT_CHESS_BLACK };
@@ -1606,7 +1608,9 @@ public:
     friend bool operator!=(const State &a, const State &b) { return !(a == b); }
 
 private:
+    friend Recogniser;
     State() : state_{} {}
+    explicit State(const dgt_chess_state &state) : state_(state) {}
 
     static dgt_chess_move write(const Move &move) {
         std::uint8_t promotion = move.promotion ? static_cast<std::uint8_t>(*move.promotion) : 0;
@@ -1630,6 +1634,139 @@ private:
 };
 
 } // namespace chess
+
+// ---- Games.
+
+enum class GameResult : std::uint8_t {
+    white_wins = DGT_RESULT_WHITE_WINS,
+    black_wins = DGT_RESULT_BLACK_WINS,
+    draw = DGT_RESULT_DRAW
+};
+
+/// The events of a game.
+namespace game {
+
+/// A game begins with a state. The one before is broken off, if it hasn't ended. The board is
+/// turned if White's pieces began on its ranks 8 and 7.
+struct Begun { chess::State state; bool is_turned; };
+/// A move was made, and the position after it was shown.
+struct Made { chess::Move move; };
+/// These moves were made, and only the position after the last was shown. No other legal line of as
+/// many moves leads there.
+struct Unseen { std::vector<chess::Move> moves; };
+/// `count` moves were made, and several legal lines lead to the position. The state is the one
+/// after one of them.
+struct Gap { unsigned count; chess::State state; };
+/// `count` moves are taken back: those of the last Made, Unseen or Gap.
+struct Back { unsigned count; };
+/// The game has ended.
+struct Ended { GameResult result; };
+/// No moves lead to what the board shows. Bit n is set if square n differs from the last state's.
+struct Lost { std::uint64_t squares; };
+/// The board shows a position of the game again.
+struct Found {};
+
+} // namespace game
+
+using GameEvent = std::variant<game::Begun, game::Made, game::Unseen, game::Gap, game::Back,
+                               game::Ended, game::Lost, game::Found>;
+
+/// What is known of the pieces that a board shows.
+struct Sight {
+    bool is_sure = true;      ///< nothing was lost on the line
+    bool is_confirmed = true; ///< the board was asked again, and has shown the same
+    std::optional<chess::Colour> running = std::nullopt; ///< the side whose clock runs
+};
+
+/// Recognises the games that are played on a board (see dgt.h). Throws std::invalid_argument for a
+/// negative time. 16 KiB.
+class Recogniser {
+public:
+    /// A recogniser that has seen nothing. Throws WrongLibrary.
+    Recogniser() {
+        if (!dgt_recogniser_init(&recogniser_)) throw WrongLibrary();
+    }
+    Recogniser(const Recogniser &) = delete;
+    Recogniser &operator=(const Recogniser &) = delete;
+
+    /// Takes what the board shows at this time, or nothing while it can't be heard. Returns the
+    /// events until then.
+    std::vector<GameEvent> see(Milliseconds now, const std::optional<Position> &position,
+                               const Sight &sight = {}) {
+        std::vector<GameEvent> events;
+        std::uint8_t status = take(now, position, sight);
+        if (status == DGT_SEE_STILL_DUE) add_due(now, events), status = take(now, position, sight);
+        if (status != DGT_SEEN) throw std::invalid_argument("the side whose clock runs isn't one");
+        add_due(now, events);
+        return events;
+    }
+
+    /// The first time at which `due` has something to do, if nothing is seen before.
+    std::optional<Milliseconds> due_at() {
+        std::uint64_t time = 0;
+        bool is_known = dgt_recogniser_due_at(&recogniser_, &time);
+        return detail::time(is_known, time);
+    }
+
+    /// The events that are due at this time.
+    std::vector<GameEvent> due(Milliseconds now) {
+        std::vector<GameEvent> events;
+        add_due(now, events);
+        return events;
+    }
+
+    /// The state that the events so far lead to, once a game has begun.
+    std::optional<chess::State> state() {
+        dgt_chess_state state;
+        if (!dgt_recogniser_state(&recogniser_, &state)) return std::nullopt;
+        return chess::State(state);
+    }
+
+    /// Goes on from this state of a game, as if events had led to it, and forgets everything else.
+    void go_on(const chess::State &state, bool is_turned = false) {
+        if (dgt_recogniser_go_on(&recogniser_, &state.state_, is_turned) != DGT_CHESS_DONE)
+            throw std::invalid_argument("not a state"); // a state is never refused
+    }
+
+private:
+    std::uint8_t take(Milliseconds now, const std::optional<Position> &position,
+                      const Sight &sight) {
+        const Position shown = position.value_or(Position());
+        const auto kind = !position       ? DGT_SIGHT_AWAY
+                          : sight.is_sure ? DGT_SIGHT_SURE
+                                          : DGT_SIGHT_DOUBTED;
+        const auto running = sight.running ? static_cast<std::uint8_t>(*sight.running)
+                                           : std::uint8_t{DGT_NO_SUCH};
+        return dgt_recogniser_see(&recogniser_, detail::count(now), shown.codes().data(),
+                                  static_cast<std::uint8_t>(kind), sight.is_confirmed, running);
+    }
+
+    void add_due(Milliseconds now, std::vector<GameEvent> &events) {
+        dgt_game_event event;
+        while (dgt_recogniser_due(&recogniser_, detail::count(now), &event))
+            events.push_back(read(event));
+    }
+
+    static GameEvent read(const dgt_game_event &event) {
+        auto move = [&](std::size_t at) { return chess::State::read(event.moves[at]); };
+        switch (event.kind) {
+        case DGT_GAME_BEGUN: return game::Begun{chess::State(event.state), event.turned != 0};
+        case DGT_GAME_MADE: return game::Made{move(0)};
+        case DGT_GAME_UNSEEN: {
+            game::Unseen unseen;
+            for (std::size_t at = 0; at < event.count; at++) unseen.moves.push_back(move(at));
+            return unseen;
+        }
+        case DGT_GAME_GAP: return game::Gap{event.count, chess::State(event.state)};
+        case DGT_GAME_BACK: return game::Back{event.count};
+        case DGT_GAME_ENDED: return game::Ended{static_cast<GameResult>(event.result)};
+        case DGT_GAME_LOST: return game::Lost{event.squares};
+        default: return game::Found{};
+        }
+    }
+
+    dgt_recogniser recogniser_;
+};
 
 } // namespace dgt
 

@@ -1238,6 +1238,8 @@ static void no_states(void) {
     dgt_chess_move *move = room(sizeof *move), made = {52, 36, 0, 0};
     uint64_t *goals = room(64 * sizeof *goals);
     char *text = room(DGT_CHESS_FEN_ROOM);
+    dgt_recogniser *recogniser = room(sizeof *recogniser);
+    CHECK(dgt_recogniser_init(recogniser));
     dgt_chess_start(&start);
     for (size_t each = 0; each < sizeof STRUCTS / sizeof *STRUCTS; each++) {
         uint8_t bytes[sizeof *state], status = STRUCTS[each].status;
@@ -1255,10 +1257,12 @@ static void no_states(void) {
         CHECK(!dgt_chess_fen(state, text) && !dgt_chess_san(state, &made, text));
         CHECK(dgt_chess_parse_san(state, "e4", 2, move) == status);
         CHECK(dgt_chess_parse_san_leniently(state, "e4", 2, move) == status);
+        CHECK(dgt_recogniser_go_on(recogniser, state, false) == status);
+        CHECK(!dgt_recogniser_state(recogniser, &start));
         CHECK(!memcmp(state, bytes, sizeof bytes) && move->from == 0xa5 && text[0] == '\xa5');
         CHECK(goals[0] == UINT64_C(0xa5a5a5a5a5a5a5a5));
     }
-    free(state), free(move), free(goals), free(text);
+    free(state), free(move), free(goals), free(text), free(recogniser);
 }
 
 static void chess(void) {
@@ -1292,11 +1296,108 @@ static void chess(void) {
     free(state), free(after), free(move), free(fen), free(san);
 }
 
+/* ---- A recogniser. */
+
+/* Moves from the initial position, the rest of each in milliseconds, and the events: a move that
+ * was made, or the kind of another event. */
+static const struct { const char *moves[8]; uint64_t rest; const char *events; } GAMES[] = {
+    {{"e2e4", "e7e5"}, 2000, "1 e2e4 e7e5"},
+};
+
+/* Arguments that are refused: the code on a8, the sight, the side, and the status. */
+static const struct { uint8_t piece, sight, side, status; } REFUSALS[] = {
+    {16, DGT_SIGHT_SURE, DGT_NO_SUCH, DGT_SEE_BAD_PIECES},
+    {255, DGT_SIGHT_DOUBTED, DGT_NO_SUCH, DGT_SEE_BAD_PIECES},
+    {0, 3, DGT_NO_SUCH, DGT_SEE_BAD_SIGHT},
+    {0, 255, DGT_CHESS_WHITE, DGT_SEE_BAD_SIGHT},
+    {0, DGT_SIGHT_SURE, 2, DGT_SEE_BAD_SIDE},
+    {255, DGT_SIGHT_AWAY, 254, DGT_SEE_BAD_SIDE},
+};
+
+/* Writes the events that are due after the text. */
+static void add_due(dgt_recogniser *recogniser, uint64_t now, char text[64]) {
+    dgt_game_event *event = room(sizeof *event);
+    char from[3], to[3];
+    while (dgt_recogniser_due(recogniser, now, event)) {
+        size_t n = strlen(text);
+        CHECK(event->kind >= DGT_GAME_BEGUN && event->kind <= DGT_GAME_FOUND && n < 48);
+        for (size_t each = 0; each < sizeof event->reserved; each++) CHECK(!event->reserved[each]);
+        if (event->kind == DGT_GAME_MADE) {
+            CHECK(dgt_square_name(event->moves[0].from, from));
+            CHECK(dgt_square_name(event->moves[0].to, to) && event->count == 1);
+            snprintf(text + n, 64 - n, "%s%s%s", n ? " " : "", from, to);
+        } else {
+            snprintf(text + n, 64 - n, "%s%d", n ? " " : "", event->kind);
+        }
+        memset(event, 0xa5, sizeof *event);
+    }
+    CHECK(event->kind == 0xa5 && event->squares == UINT64_C(0xa5a5a5a5a5a5a5a5));
+    free(event);
+}
+
+/* What is seen at a time, and the events until then. */
+static void see(dgt_recogniser *recogniser, uint64_t now, const uint8_t pieces[64], char text[64]) {
+    uint8_t *given = copy(pieces, 64);
+    add_due(recogniser, now, text);
+    CHECK(dgt_recogniser_see(recogniser, now, given, DGT_SIGHT_SURE, true, DGT_NO_SUCH) ==
+          DGT_SEEN);
+    add_due(recogniser, now, text);
+    free(given);
+}
+
+static void games(void) {
+    dgt_recogniser *recogniser = room(sizeof *recogniser);
+    dgt_chess_state *state = room(sizeof *state), known;
+    for (size_t each = 0; each < sizeof GAMES / sizeof *GAMES; each++) {
+        char text[64] = "";
+        uint64_t now = 0;
+        CHECK(dgt_recogniser_init(recogniser));
+        dgt_chess_start(state);
+        see(recogniser, now, state->pieces, text);
+        for (const char *const *name = GAMES[each].moves; *name; name++) {
+            uint8_t from = dgt_square_number((uint8_t)(*name)[0], (uint8_t)(*name)[1]);
+            uint8_t to = dgt_square_number((uint8_t)(*name)[2], (uint8_t)(*name)[3]);
+            dgt_chess_move move = {from, to, 0, 0};
+            CHECK(dgt_chess_play(state, &move));
+            see(recogniser, now += GAMES[each].rest, state->pieces, text);
+        }
+        add_due(recogniser, now + GAMES[each].rest, text);
+        CHECK(!strcmp(text, GAMES[each].events));
+        CHECK(dgt_recogniser_state(recogniser, &known) && !memcmp(&known, state, sizeof known));
+        CHECK(dgt_recogniser_go_on(recogniser, state, true) == DGT_CHESS_DONE);
+        CHECK(dgt_recogniser_state(recogniser, &known) && !memcmp(&known, state, sizeof known));
+    }
+    free(recogniser), free(state);
+}
+
+/* What is refused changes nothing: neither the recogniser nor what a call would write. */
+static void nothing_seen(void) {
+    dgt_recogniser *recogniser = room(sizeof *recogniser);
+    uint8_t *before = room(sizeof *recogniser), *pieces = room(64);
+    uint64_t *time = room(sizeof *time);
+    dgt_chess_state *state = room(sizeof *state);
+    CHECK(dgt_recogniser_init(recogniser));
+    CHECK(!dgt_recogniser_due_at(recogniser, time) && *time == UINT64_C(0xa5a5a5a5a5a5a5a5));
+    CHECK(!dgt_recogniser_state(recogniser, state) && state->turn == 0xa5);
+    memcpy(before, recogniser, sizeof *recogniser);
+    for (size_t each = 0; each < sizeof REFUSALS / sizeof *REFUSALS; each++) {
+        memset(pieces, 0, 64);
+        pieces[0] = REFUSALS[each].piece;
+        CHECK(dgt_recogniser_see(recogniser, 5, pieces, REFUSALS[each].sight, true,
+                                 REFUSALS[each].side) == REFUSALS[each].status);
+        CHECK(!memcmp(before, recogniser, sizeof *recogniser));
+    }
+    CHECK(dgt_recogniser_see(recogniser, 5, pieces, DGT_SIGHT_AWAY, false, DGT_CHESS_BLACK) ==
+          DGT_SEEN); /* its code on a8 is 255 */
+    free(recogniser), free(before), free(pieces), free(time), free(state);
+}
+
 static void all_calls(void) {
     CHECK(dgt_version() == DGT_VERSION);
     CHECK(sizeof(dgt_host) == dgt_host_size() && sizeof(dgt_decoder) == dgt_decoder_size());
     CHECK(sizeof(dgt_board) == dgt_board_size() && sizeof(dgt_follower) == dgt_follower_size());
     CHECK(sizeof(dgt_command_decoder) == dgt_command_decoder_size());
+    CHECK(sizeof(dgt_recogniser) == dgt_recogniser_size());
     host_and_board();
     lost_reply();
     start();
@@ -1323,6 +1424,8 @@ static void all_calls(void) {
     chess();
     chess_texts();
     no_states();
+    nothing_seen();
+    games();
     no_bytes_of_hosts();
     no_bytes_for_commands();
     no_bytes_of_followers();

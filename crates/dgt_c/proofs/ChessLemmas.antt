@@ -75,7 +75,7 @@ same_state a b p t r s h n =
 
 -- ---- the numbers of members
 
-colour_once : (a b : Colour) → colour_number a ≡ colour_number b → a ≡ b
+pub colour_once : (a b : Colour) → colour_number a ≡ colour_number b → a ≡ b
 colour_once Colour.White Colour.White e = refl
 colour_once Colour.White Colour.Black e = absurd (omega (arith, e))
 colour_once Colour.Black Colour.White e = absurd (omega (arith, e))

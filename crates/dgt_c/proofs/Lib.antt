@@ -11,6 +11,7 @@ pub mod ChessTextLemmas
 pub mod ChunkLemmas
 pub mod Codes
 pub mod EncodingLemmas
+pub mod GameLemmas
 pub mod HearingLemmas
 pub mod OnceLemmas
 pub mod ReservedLemmas

@@ -19,8 +19,10 @@ pub mod Followers
 pub mod PlainFollower
 pub mod Chess
 pub mod ChessTexts
+pub mod Games
 -- That reports are unique.
 pub mod Once
 pub mod ChessOnce
+pub mod GamesOnce
 -- Structs of C in memory.
 pub mod Layouts

@@ -29,7 +29,8 @@ fn read_flag(byte: u8) -> Option<bool>
     }
 }
 
-fn read_colour(byte: u8) -> Option<Colour>
+/// The side with this number.
+pub(crate) fn read_colour(byte: u8) -> Option<Colour>
     ensures { MatchOption result ((colour : AnyColour) → byte ≢ colour_number colour)
         (λ colour. byte ≡ colour_number colour) }
 {

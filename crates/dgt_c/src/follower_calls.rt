@@ -120,8 +120,8 @@ pub extern "C" fn dgt_follower_ask(follower: &mut DgtFollower, now: u64, out: &m
     asked_for_c(follower.get().ask(now, out))
 }
 
-// Writes a time, if there is one, and returns whether there is.
-fn put_time(said: Option<u64>, time: &mut u64) -> bool
+/// Writes a time, if there is one, and returns whether there is.
+pub(crate) fn put_time(said: Option<u64>, time: &mut u64) -> bool
     ensures known { IsTrue result ↔ IsSome said }
     ensures time { MatchOption said (time.new ≡ time.old) (λ at. time.new ≡ at) }
 {

@@ -10,6 +10,8 @@ ghost use Rattle.dgt_command.specs.contracts.decoder.CommandDecoder.{the_row as 
 ghost use Rattle.dgt_decode.specs.contracts.decoder.Decoder.{the_row as decoder_row};
 ghost use Rattle.dgt_follow.specs.Follower.{FollowerView};
 ghost use Rattle.dgt_follow.specs.contracts.follower.Follower.{the_row as follower_row};
+ghost use Rattle.dgt_game.specs.contracts.recogniser.Recogniser.{the_row as recogniser_row};
+ghost use Rattle.dgt_game.specs.declared.recogniser.Recogniser.{Recogniser as AnyRecogniser};
 ghost use Rattle.dgt_host.specs.Host.{HostView};
 ghost use Rattle.dgt_host.specs.contracts.host.Host.{the_row as host_row};
 
@@ -17,10 +19,11 @@ use dgt_board::Board;
 use dgt_command::CommandDecoder;
 use dgt_decode::Decoder;
 use dgt_follow::Follower;
+use dgt_game::Recogniser;
 use dgt_host::Host;
 use std::marker::{Model, Send};
 
-// The handles are five structs with one proof: a struct with type arguments can't be passed to C,
+// The handles are six structs with one proof: a struct with type arguments can't be passed to C,
 // and the gate refuses an impl that a macro wrote.
 
 /// A host in C's memory.
@@ -160,5 +163,33 @@ impl DgtBoard {
         ensures value { result.now ≡ self.old.inside }
     {
         unsafe { &mut *(self.at as *mut Board) }
+    }
+}
+
+/// A recogniser in C's memory.
+#[repr(C)]
+#[derive(Drop)]
+pub struct DgtRecogniser {
+    pub(crate) at: *mut u8,
+    ghost inside: { AnyRecogniser },
+}
+
+impl Model for DgtRecogniser {
+    ghost also_owns = { λ handle. lies_at recogniser_row full_share handle.at handle.inside };
+}
+
+// It can be sent to another thread, as the value that it points to can.
+unsafe impl Send for DgtRecogniser {}
+
+impl DgtRecogniser {
+    ghost use Rattle.dgt_c.specs.contracts.handles.DgtRecogniser.{the_row};
+
+    /// The recogniser, borrowed.
+    pub(crate) fn get(&mut self) -> &mut Recogniser
+        ensures* writes_back { sem 𝓛 (Lends the_row recogniser_row self.entry result
+            (λ inside. record self.old { inside = inside })) }
+        ensures value { result.now ≡ self.old.inside }
+    {
+        unsafe { &mut *(self.at as *mut Recogniser) }
     }
 }

@@ -2,6 +2,7 @@
 //! tools/c_boundary generates from `dgt.h`, compare them with it.
 
 use dgt_board::MAX_KEPT_BODY;
+use dgt_game::GAP;
 
 /// Enough room for any placement and a zero byte.
 pub const PLACEMENT_ROOM: usize = 72;
@@ -20,6 +21,9 @@ pub const COMMAND_DECODER_ROOM: usize = 512;
 
 /// The size of a `dgt_board` in bytes.
 pub const BOARD_ROOM: usize = 1280;
+
+/// The size of a `dgt_recogniser` in bytes.
+pub const RECOGNISER_ROOM: usize = 16 * 1024;
 
 /// The number for no piece, no square and no segments.
 pub const NONE: u8 = 255;
@@ -170,6 +174,44 @@ pub const CHESS_FEN_ROOM: usize = 96;
 
 /// Enough room for the text of any move and a zero byte.
 pub const CHESS_SAN_ROOM: usize = 16;
+
+pub const SIGHT_SURE: u8 = 0;
+
+pub const SIGHT_DOUBTED: u8 = 1;
+
+pub const SIGHT_AWAY: u8 = 2;
+
+pub const SEEN: u8 = 0;
+
+pub const SEE_BAD_PIECES: u8 = 1;
+
+pub const SEE_BAD_SIGHT: u8 = 2;
+
+pub const SEE_BAD_SIDE: u8 = 3;
+
+pub const SEE_STILL_DUE: u8 = 4;
+
+pub const GAME_BEGUN: u8 = 1;
+
+pub const GAME_MADE: u8 = 2;
+
+pub const GAME_UNSEEN: u8 = 3;
+
+pub const GAME_GAP: u8 = 4;
+
+pub const GAME_BACK: u8 = 5;
+
+pub const GAME_ENDED: u8 = 6;
+
+pub const GAME_LOST: u8 = 7;
+
+pub const GAME_FOUND: u8 = 8;
+
+pub const RESULT_WHITE_WINS: u8 = 1;
+
+pub const RESULT_BLACK_WINS: u8 = 2;
+
+pub const RESULT_DRAW: u8 = 3;
 
 /// The time of one player.
 #[repr(C)]
@@ -445,6 +487,49 @@ pub struct DgtChessMove {
     pub promotion: u8,
     pub reserved: u8,
 }
+
+pub(crate) const NO_CHESS_STATE: DgtChessState = DgtChessState {
+    pieces: [0; 64],
+    half_moves: 0,
+    number: 0,
+    turn: 0,
+    rights: [0; 4],
+    passed: 0,
+    reserved: [0; 6],
+};
+
+pub(crate) const NO_CHESS_MOVE: DgtChessMove = DgtChessMove {
+    from: 0,
+    to: 0,
+    promotion: 0,
+    reserved: 0,
+};
+
+/// An event of a game.
+#[repr(C)]
+#[derive(Clone, Copy)]
+pub struct DgtGameEvent {
+    pub kind: u8,
+    pub count: u8,
+    pub result: u8,
+    pub turned: u8,
+    pub moves: [DgtChessMove; GAP],
+    pub state: DgtChessState,
+    pub reserved: [u8; 20],
+    pub squares: u64,
+}
+
+/// No event of a game.
+pub const NO_GAME_EVENT: DgtGameEvent = DgtGameEvent {
+    kind: 0,
+    count: 0,
+    result: 0,
+    turned: 0,
+    moves: [NO_CHESS_MOVE; GAP],
+    state: NO_CHESS_STATE,
+    reserved: [0; 20],
+    squares: 0,
+};
 
 /// The result of reading a FEN.
 #[repr(C)]

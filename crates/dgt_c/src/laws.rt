@@ -1,5 +1,6 @@
-//! Laws of what calls report to C. [`header`] contains those of numbers and structs, and [`chess`]
-//! those of the rules of chess. Each function does nothing at run time: its contract states a fact.
+//! Laws of what calls report to C. [`header`] contains those of numbers and structs, [`chess`]
+//! those of the rules of chess, and [`games`] those of a recogniser. Each function does nothing at
+//! run time: its contract states a fact.
 
 ghost use Rattle.std.specs.Prelude.{◌≡◌, ◌⊎◌, ◌≤◌, ◌<◌, ◌∷◌, ◌↔◌, ℕ, List, [], map, replicate, take, None, Some, All, Bool, Contains, IsTrue};
 ghost use Rattle.dgt_values.specs.declared.pieces.Piece.{Piece as AnyPiece};
@@ -46,6 +47,7 @@ ghost use Rattle.dgt_c.specs.Starting.{ArePieces};
 ghost use Rattle.dgt_c.specs.Texts.{SaysEvent, SaysFault};
 
 pub mod chess;
+pub mod games;
 pub mod header;
 
 /// A chunk of a board's bytes has one report: the number of bytes used, the structs and the bodies.

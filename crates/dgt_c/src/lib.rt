@@ -1,5 +1,5 @@
-//! A host, a follower, a decoder, a decoder of commands, a board and the rules of chess for C, and
-//! through C for other languages.
+//! A host, a follower, a decoder, a decoder of commands, a board, the rules of chess and a
+//! recogniser of games for C, and through C for other languages.
 //!
 //! The header `bindings/c/include/dgt.h` documents each call and the rules for callers.
 //! `bindings/c/build` builds the archive and the shared library.
@@ -26,7 +26,8 @@
 //! `dgt_board_poll` doesn't repeat that the board was well-formed before. The clause `place` says
 //! that the handle still points to its own room. `dgt_host_hear_many` and `dgt_decoder_feed_many`
 //! wrap as many calls as a chunk takes, and state the list of their results (`specs/Chunks.antt`).
-//! A call for chess states the clauses of dgt_chess for the state that its struct describes.
+//! A call for chess states the clauses of dgt_chess for the state that its struct describes, and a
+//! call of a recogniser those of dgt_game.
 //!
 //! | In Rust | In C |
 //! |---|---|
@@ -36,7 +37,7 @@
 //! | a clock, an identity, pieces | accepted if they are valid (`SaysClock`, `IsIdentity`) |
 //! | a state or a move of chess | a struct, which each call checks (`SaysState`, `SaysMove`) |
 //!
-//! `dgt_host_make` and the other four such calls make a handle in C's memory, which is
+//! `dgt_host_make` and the other five such calls make a handle in C's memory, which is
 //! uninitialised before. No other call has a `requires`. A caller in C has to ensure the facts that
 //! the type of a Rust reference ensures: it points to an object, and no other reference points
 //! there.
@@ -56,6 +57,7 @@ mod copying;
 mod encoding;
 mod events;
 mod follower_calls;
+mod game_events;
 mod handles;
 mod header;
 mod hearing;
@@ -67,16 +69,19 @@ mod places;
 mod plain;
 mod plain_board;
 mod plain_follower;
+mod recogniser_calls;
 mod sender;
 mod sending;
 mod starting;
 mod texts;
 mod version;
 
-pub use handles::{DgtBoard, DgtCommandDecoder, DgtDecoder, DgtFollower, DgtHost};
+pub use handles::{DgtBoard, DgtCommandDecoder, DgtDecoder, DgtFollower, DgtHost, DgtRecogniser};
 pub use header::{
     DgtBattery, DgtBody, DgtChessFenRead, DgtChessMove, DgtChessState, DgtClock, DgtCommand,
-    DgtEncoded, DgtEvent, DgtIdentity, DgtParsed, DgtPolled, DgtSent, DgtSignal, DgtStored,
-    DgtTaken, DgtTime, DgtTold,
+    DgtEncoded, DgtEvent, DgtGameEvent, DgtIdentity, DgtParsed, DgtPolled, DgtSent, DgtSignal,
+    DgtStored, DgtTaken, DgtTime, DgtTold,
 };
-pub use places::{BoardPlace, CommandDecoderPlace, DecoderPlace, FollowerPlace, HostPlace};
+pub use places::{
+    BoardPlace, CommandDecoderPlace, DecoderPlace, FollowerPlace, HostPlace, RecogniserPlace,
+};

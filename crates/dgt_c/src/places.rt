@@ -7,20 +7,26 @@ ghost use Rattle.std.specs.Borrow.{full_share, sem};
 ghost use Rattle.std.specs.Mem.{type_size};
 ghost use Rattle.std.specs.Ptr.{lies_at, room_at};
 ghost use denote.RawPtr.{◌+ₚ◌};
+ghost use Rattle.dgt_game.specs.Recogniser.{new_recogniser};
 ghost use Rattle.dgt_host.specs.Host.{new_host};
 ghost use Rattle.dgt_c.specs.PlainBoard.{plain_board};
 ghost use Rattle.dgt_c.specs.PlainFollower.{plain_follower};
-ghost use Rattle.dgt_c.specs.contracts.handles.{DgtBoard.the_row as board_handle, DgtCommandDecoder.the_row as command_decoder_handle, DgtDecoder.the_row as decoder_handle, DgtFollower.the_row as follower_handle, DgtHost.the_row as host_handle};
-ghost use Rattle.dgt_c.specs.contracts.places.{BoardPlace.the_row as board_place, CommandDecoderPlace.the_row as command_decoder_place, DecoderPlace.the_row as decoder_place, FollowerPlace.the_row as follower_place, HostPlace.the_row as host_place};
+ghost use Rattle.dgt_c.specs.contracts.handles.{DgtBoard.the_row as board_handle, DgtCommandDecoder.the_row as command_decoder_handle, DgtDecoder.the_row as decoder_handle, DgtFollower.the_row as follower_handle, DgtHost.the_row as host_handle, DgtRecogniser.the_row as recogniser_handle};
+ghost use Rattle.dgt_c.specs.contracts.places.{BoardPlace.the_row as board_place, CommandDecoderPlace.the_row as command_decoder_place, DecoderPlace.the_row as decoder_place, FollowerPlace.the_row as follower_place, HostPlace.the_row as host_place, RecogniserPlace.the_row as recogniser_place};
 
-use crate::handles::{DgtBoard, DgtCommandDecoder, DgtDecoder, DgtFollower, DgtHost};
-use crate::header::{BOARD_ROOM, COMMAND_DECODER_ROOM, DECODER_ROOM, FOLLOWER_ROOM, HOST_ROOM};
+use crate::handles::{
+    DgtBoard, DgtCommandDecoder, DgtDecoder, DgtFollower, DgtHost, DgtRecogniser,
+};
+use crate::header::{
+    BOARD_ROOM, COMMAND_DECODER_ROOM, DECODER_ROOM, FOLLOWER_ROOM, HOST_ROOM, RECOGNISER_ROOM,
+};
 use crate::plain_board::board_of_program;
 use crate::plain_follower::default_follower;
 use dgt_board::Board;
 use dgt_command::CommandDecoder;
 use dgt_decode::Decoder;
 use dgt_follow::Follower;
+use dgt_game::Recogniser;
 use dgt_host::Host;
 
 // Makes a handle in this place, and the value in the part after the handle.
@@ -168,4 +174,30 @@ pub extern "C" fn dgt_board_size() -> usize
     ensures enough { type_size board_place ≤ result }
 {
     BOARD_ROOM
+}
+
+/// A `dgt_recogniser` of C: the handle, and the room that it points to.
+#[repr(C)]
+pub struct RecogniserPlace {
+    at: *mut u8,
+    inside: Recogniser,
+}
+
+/// Makes a recogniser that has seen nothing. `recogniser` points to room for a `dgt_recogniser`.
+#[unsafe(no_mangle)]
+pub unsafe extern "C" fn dgt_recogniser_make(recogniser: *mut DgtRecogniser)
+    requires* { sem 𝓛 (room_at recogniser_place recogniser) }
+    ensures* { sem 𝓛 (lies_at recogniser_handle full_share recogniser
+        (record { at = recogniser +ₚ 8; inside = new_recogniser })) }
+{
+    make!(recogniser: DgtRecogniser in RecogniserPlace, Recogniser::new());
+}
+
+/// The size of a `dgt_recogniser` in bytes.
+#[unsafe(no_mangle)]
+pub extern "C" fn dgt_recogniser_size() -> usize
+    ensures number { result ≡ RECOGNISER_ROOM }
+    ensures enough { type_size recogniser_place ≤ result }
+{
+    RECOGNISER_ROOM
 }

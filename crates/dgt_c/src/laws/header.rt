@@ -11,15 +11,16 @@ ghost use Rattle.dgt_names.specs.declared.clock.Button.{Button};
 ghost use Rattle.dgt_stored.specs.Stored.{mark_byte};
 ghost use Rattle.dgt_stored.specs.declared.stored.Mark.{Mark};
 ghost use Rattle.dgt_c.specs.Layouts.{◌⊗◌, Ascend, FitsIn, LiesAs, bit_alone};
-ghost use Rattle.dgt_c.specs.contracts.header.{DgtTime.the_row as time_row, DgtClock.the_row as clock_row, DgtEvent.the_row as event_row, DgtCommand.the_row as command_row, DgtTold.the_row as told_row, DgtSent.the_row as sent_row, DgtBody.the_row as body_row, DgtIdentity.the_row as identity_row, DgtTaken.the_row as taken_row, DgtPolled.the_row as polled_row, DgtEncoded.the_row as encoded_row, DgtStored.the_row as stored_row, DgtSignal.the_row as signal_row, DgtBattery.the_row as battery_row, DgtParsed.the_row as parsed_row, DgtChessState.the_row as chess_state_row, DgtChessMove.the_row as chess_move_row, DgtChessFenRead.the_row as chess_fen_read_row};
-ghost use Rattle.dgt_c.specs.contracts.header.{DgtTime.the_type as time_type, DgtClock.the_type as clock_type, DgtEvent.the_type as event_type, DgtCommand.the_type as command_type, DgtTold.the_type as told_type, DgtSent.the_type as sent_type, DgtBody.the_type as body_type, DgtIdentity.the_type as identity_type, DgtTaken.the_type as taken_type, DgtPolled.the_type as polled_type, DgtEncoded.the_type as encoded_type, DgtStored.the_type as stored_type, DgtSignal.the_type as signal_type, DgtBattery.the_type as battery_type, DgtParsed.the_type as parsed_type, DgtChessState.the_type as chess_state_type, DgtChessMove.the_type as chess_move_type, DgtChessFenRead.the_type as chess_fen_read_type};
-ghost use Rattle.dgt_c.specs.contracts.places.{HostPlace.the_row as host_row, FollowerPlace.the_row as follower_row, DecoderPlace.the_row as decoder_row, CommandDecoderPlace.the_row as command_decoder_row, BoardPlace.the_row as board_row};
-ghost use Rattle.dgt_c.specs.declared.header.{DgtTime.DgtTime, DgtClock.DgtClock, DgtEvent.DgtEvent, DgtCommand.DgtCommand, DgtTold.DgtTold, DgtSent.DgtSent, DgtBody.DgtBody, DgtIdentity.DgtIdentity, DgtTaken.DgtTaken, DgtPolled.DgtPolled, DgtEncoded.DgtEncoded, DgtStored.DgtStored, DgtSignal.DgtSignal, DgtBattery.DgtBattery, DgtParsed.DgtParsed, DgtChessState.DgtChessState, DgtChessMove.DgtChessMove, DgtChessFenRead.DgtChessFenRead};
+ghost use Rattle.dgt_c.specs.contracts.header.{DgtTime.the_row as time_row, DgtClock.the_row as clock_row, DgtEvent.the_row as event_row, DgtCommand.the_row as command_row, DgtTold.the_row as told_row, DgtSent.the_row as sent_row, DgtBody.the_row as body_row, DgtIdentity.the_row as identity_row, DgtTaken.the_row as taken_row, DgtPolled.the_row as polled_row, DgtEncoded.the_row as encoded_row, DgtStored.the_row as stored_row, DgtSignal.the_row as signal_row, DgtBattery.the_row as battery_row, DgtParsed.the_row as parsed_row, DgtChessState.the_row as chess_state_row, DgtChessMove.the_row as chess_move_row, DgtChessFenRead.the_row as chess_fen_read_row, DgtGameEvent.the_row as game_event_row};
+ghost use Rattle.dgt_c.specs.contracts.header.{DgtTime.the_type as time_type, DgtClock.the_type as clock_type, DgtEvent.the_type as event_type, DgtCommand.the_type as command_type, DgtTold.the_type as told_type, DgtSent.the_type as sent_type, DgtBody.the_type as body_type, DgtIdentity.the_type as identity_type, DgtTaken.the_type as taken_type, DgtPolled.the_type as polled_type, DgtEncoded.the_type as encoded_type, DgtStored.the_type as stored_type, DgtSignal.the_type as signal_type, DgtBattery.the_type as battery_type, DgtParsed.the_type as parsed_type, DgtChessState.the_type as chess_state_type, DgtChessMove.the_type as chess_move_type, DgtChessFenRead.the_type as chess_fen_read_type, DgtGameEvent.the_type as game_event_type};
+ghost use Rattle.dgt_c.specs.contracts.places.{HostPlace.the_row as host_row, FollowerPlace.the_row as follower_row, DecoderPlace.the_row as decoder_row, CommandDecoderPlace.the_row as command_decoder_row, BoardPlace.the_row as board_row, RecogniserPlace.the_row as recogniser_row};
+ghost use Rattle.dgt_c.specs.declared.header.{DgtTime.DgtTime, DgtClock.DgtClock, DgtEvent.DgtEvent, DgtCommand.DgtCommand, DgtTold.DgtTold, DgtSent.DgtSent, DgtBody.DgtBody, DgtIdentity.DgtIdentity, DgtTaken.DgtTaken, DgtPolled.DgtPolled, DgtEncoded.DgtEncoded, DgtStored.DgtStored, DgtSignal.DgtSignal, DgtBattery.DgtBattery, DgtParsed.DgtParsed, DgtChessState.DgtChessState, DgtChessMove.DgtChessMove, DgtChessFenRead.DgtChessFenRead, DgtGameEvent.DgtGameEvent};
 
 use crate::header::*;
 use dgt_board::{MAX_KEPT_BODY, MAX_OWED, MAX_SENT};
 use dgt_command::{MAX_LED_BYTES, MAX_PAYLOAD, MAX_WORD};
 use dgt_follow::{LEAST_PERIOD, MAX_ASKING};
+use dgt_game::GAP;
 use dgt_host::{MAX_AWAITED, RESTART_LENGTH};
 use dgt_values::MAX_BODY;
 
@@ -38,11 +39,13 @@ pub fn limits()
     ensures max_sent { MAX_SENT ≡ 67 }
     ensures max_kept { MAX_KEPT_BODY ≡ 64 }
     ensures placement_room { PLACEMENT_ROOM ≡ 72 }
+    ensures max_unseen { GAP ≡ 4 }
     ensures host_size { HOST_ROOM ≡ 22528 }
     ensures follower_size { FOLLOWER_ROOM ≡ 23552 }
     ensures decoder_size { DECODER_ROOM ≡ 21504 }
     ensures command_decoder_size { COMMAND_DECODER_ROOM ≡ 512 }
     ensures board_size { BOARD_ROOM ≡ 1280 }
+    ensures recogniser_size { RECOGNISER_ROOM ≡ 16384 }
     ensures clock_unknown { CLOCK_UNKNOWN ≡ 0 }
     ensures clock_times { CLOCK_TIMES ≡ 1 }
     ensures clock_none { CLOCK_NONE ≡ 2 }
@@ -161,6 +164,25 @@ pub fn limits()
     ensures chess_bad_text { CHESS_BAD_TEXT ≡ 9 }
     ensures chess_no_move { CHESS_NO_MOVE ≡ 10 }
     ensures chess_ambiguous { CHESS_AMBIGUOUS ≡ 11 }
+    ensures sight_sure { SIGHT_SURE ≡ 0 }
+    ensures sight_doubted { SIGHT_DOUBTED ≡ 1 }
+    ensures sight_away { SIGHT_AWAY ≡ 2 }
+    ensures seen { SEEN ≡ 0 }
+    ensures see_bad_pieces { SEE_BAD_PIECES ≡ 1 }
+    ensures see_bad_sight { SEE_BAD_SIGHT ≡ 2 }
+    ensures see_bad_side { SEE_BAD_SIDE ≡ 3 }
+    ensures see_still_due { SEE_STILL_DUE ≡ 4 }
+    ensures game_begun { GAME_BEGUN ≡ 1 }
+    ensures game_made { GAME_MADE ≡ 2 }
+    ensures game_unseen { GAME_UNSEEN ≡ 3 }
+    ensures game_gap { GAME_GAP ≡ 4 }
+    ensures game_back { GAME_BACK ≡ 5 }
+    ensures game_ended { GAME_ENDED ≡ 6 }
+    ensures game_lost { GAME_LOST ≡ 7 }
+    ensures game_found { GAME_FOUND ≡ 8 }
+    ensures result_white_wins { RESULT_WHITE_WINS ≡ 1 }
+    ensures result_black_wins { RESULT_BLACK_WINS ≡ 2 }
+    ensures result_draw { RESULT_DRAW ≡ 3 }
 {}
 
 /// The constants of one kind differ: each is greater than the last.
@@ -186,6 +208,12 @@ pub fn cases_differ()
     ensures chess { Ascend (CHESS_DONE ∷ CHESS_BAD_KINGS ∷ CHESS_EXTRA_PIECE ∷ CHESS_BAD_PAWN
         ∷ CHESS_IN_CHECK ∷ CHESS_BAD_RIGHTS ∷ CHESS_BAD_PASSED ∷ CHESS_BAD_NUMBER ∷ CHESS_BAD_MEMBER
         ∷ CHESS_BAD_TEXT ∷ CHESS_NO_MOVE ∷ CHESS_AMBIGUOUS ∷ []) }
+    ensures sights { Ascend (SIGHT_SURE ∷ SIGHT_DOUBTED ∷ SIGHT_AWAY ∷ []) }
+    ensures seen { Ascend (SEEN ∷ SEE_BAD_PIECES ∷ SEE_BAD_SIGHT ∷ SEE_BAD_SIDE ∷ SEE_STILL_DUE
+        ∷ []) }
+    ensures games { Ascend (GAME_BEGUN ∷ GAME_MADE ∷ GAME_UNSEEN ∷ GAME_GAP ∷ GAME_BACK ∷ GAME_ENDED
+        ∷ GAME_LOST ∷ GAME_FOUND ∷ []) }
+    ensures results { Ascend (RESULT_WHITE_WINS ∷ RESULT_BLACK_WINS ∷ RESULT_DRAW ∷ []) }
 {}
 
 /// The layouts of the structs of `dgt.h`: the size, the alignment, and the offsets of the members
@@ -196,6 +224,7 @@ pub fn layouts()
     ensures decoder { FitsIn decoder_row 21504 8 (0 ∷ 8 ∷ []) }
     ensures command_decoder { FitsIn command_decoder_row 512 8 (0 ∷ 8 ∷ []) }
     ensures board { FitsIn board_row 1280 8 (0 ∷ 8 ∷ []) }
+    ensures recogniser { FitsIn recogniser_row 16384 8 (0 ∷ 8 ∷ []) }
     ensures time { LiesAs time_row 4 1 (0 ∷ 1 ∷ 2 ∷ 3 ∷ []) }
     ensures clock { LiesAs clock_row 16 1 (0 ∷ 1 ∷ 2 ∷ 8 ∷ 12 ∷ []) }
     ensures event { LiesAs event_row 160 8 (0 ∷ 1 ∷ 2 ∷ 3 ∷ 4 ∷ 5 ∷ 6 ∷ 7 ∷ 8 ∷ 9 ∷ 10 ∷ 14 ∷ 19
@@ -215,6 +244,7 @@ pub fn layouts()
     ensures chess_state { LiesAs chess_state_row 80 2 (0 ∷ 64 ∷ 66 ∷ 68 ∷ 69 ∷ 73 ∷ 74 ∷ []) }
     ensures chess_move { LiesAs chess_move_row 4 1 (0 ∷ 1 ∷ 2 ∷ 3 ∷ []) }
     ensures chess_fen_read { LiesAs chess_fen_read_row 16 8 (0 ∷ 1 ∷ 8 ∷ []) }
+    ensures game_event { LiesAs game_event_row 128 8 (0 ∷ 1 ∷ 2 ∷ 3 ∷ 4 ∷ 20 ∷ 100 ∷ 120 ∷ []) }
 {}
 
 /// The members of the structs of `dgt.h`, in the order of their declaration.
@@ -252,6 +282,8 @@ pub fn members()
         ⊗ it.promotion ⊗ it.reserved ⊗ tt }
     ensures chess_fen_read { (it : DgtChessFenRead) → chess_fen_read_type.as_values it ≡ it.status
         ⊗ it.field ⊗ it.at ⊗ tt }
+    ensures game_event { (it : DgtGameEvent) → game_event_type.as_values it ≡ it.kind ⊗ it.count
+        ⊗ it.result ⊗ it.turned ⊗ it.moves ⊗ it.state ⊗ it.reserved ⊗ it.squares ⊗ tt }
 {}
 
 /// A clone is the value itself, and cloning never fails.
@@ -274,4 +306,5 @@ pub fn clone_is_same()
     ensures chess_state { CloneIsSame ⟦<DgtChessState as Clone>⟧ }
     ensures chess_move { CloneIsSame ⟦<DgtChessMove as Clone>⟧ }
     ensures chess_fen_read { CloneIsSame ⟦<DgtChessFenRead as Clone>⟧ }
+    ensures game_event { CloneIsSame ⟦<DgtGameEvent as Clone>⟧ }
 {}
