@@ -206,7 +206,7 @@ export class State {
     const dgt = this.#dgt;
     if (position.length !== 64) throw new BadValue(`${position.length} pieces instead of 64`);
     const isOne = dgt.calls.chess_move_to(this.#put(), dgt.put(dgt.other, position), dgt.small);
-    return isOne ? this.#readMove() : null;
+    return isOne ? dgt.move(dgt.small) : null;
   }
 
   /** Whether the side to move is in check. */
@@ -299,7 +299,12 @@ export class State {
     const call = dgt.calls[options.lenient ? "chess_parse_san_leniently" : "chess_parse_san"];
     const status = call(this.#put(), place, length, dgt.small);
     if (status !== CHESS.done) throw new BadSan(text, status);
-    return this.#readMove();
+    return dgt.move(dgt.small);
+  }
+
+  /** The bytes of its `dgt_chess_state`. */
+  get bytes() {
+    return this.#bytes.slice();
   }
 
   /** @param {Question} question */
@@ -325,13 +330,6 @@ export class State {
     const promotion = letter ? dgt.pieceCode(letter.toUpperCase()) : 0;
     const [a, b] = [dgt.squareNumber(from), dgt.squareNumber(to)];
     return dgt.write("chess_move", dgt.other, { from: a, to: b, promotion });
-  }
-
-  /** The move that a call has written to `small`. */
-  #readMove() {
-    const dgt = this.#dgt, { from, to, promotion } = dgt.read("chess_move", dgt.small);
-    const letter = promotion ? dgt.pieceLetter(promotion).toLowerCase() : "";
-    return dgt.squareName(from) + dgt.squareName(to) + letter;
   }
 
   /** @param {string} move */

@@ -127,7 +127,10 @@ export class BadPlacement extends DgtError {
 /**
  * @typedef {{[N in keyof Calls as N extends `dgt_${infer M}` ? M : never]: Call<Calls[N]>}} Named
  */
-/** @typedef {"host" | "follower" | "decoder" | "command_decoder" | "board"} Kind  of a handle */
+/**
+ * @typedef {"host" | "follower" | "decoder" | "command_decoder" | "board" | "recogniser"} Kind
+ *   of a handle
+ */
 /**
  * The calls of a kind of handle, without the kind's prefix.
  * @template {Kind} K
@@ -195,7 +198,7 @@ function chunk(bytes) {
  * A time or a period in whole milliseconds.
  * @param {number} time
  */
-function whole(time) {
+export function whole(time) {
   if (!(time >= 0 && time <= Number.MAX_SAFE_INTEGER)) {
     throw new BadValue(`not a time in milliseconds: ${time}`);
   }
@@ -666,8 +669,26 @@ export class Library {
     const [one, other] = [this.put(this.in, checked(pieces, 64)),
                           this.put(this.other, checked(others, 64))];
     if (!this.calls.differ(one, other, this.small)) throw new BadValue("a piece is above 15");
-    const bits = this.#view.getBigUint64(this.small, true);
+    return this.squares(this.small);
+  }
+
+  /**
+   * The squares of a set.
+   * @param {number} at
+   */
+  squares(at) {
+    const bits = this.#view.getBigUint64(at, true);
     return [...Array(64).keys()].filter(n => bits >> BigInt(n) & 1n);
+  }
+
+  /**
+   * The move at a place, as a text.
+   * @param {number} at
+   */
+  move(at) {
+    const { from, to, promotion } = this.read("chess_move", at);
+    const letter = promotion ? this.pieceLetter(promotion).toLowerCase() : "";
+    return this.squareName(from) + this.squareName(to) + letter;
   }
 
   /**
@@ -782,7 +803,7 @@ const forgotten = new FinalizationRegistry(({ dgt, at, size }) => dgt.giveBack(a
  * The base of all handles. `close` releases their memory, and so does the garbage collector.
  * @template {Kind} K
  */
-class Handle {
+export class Handle {
   #at;
   #size;
 

@@ -30,6 +30,11 @@ export const TURNS = Object.freeze({ white: 0, black: 1 });
 export const CHESS = Object.freeze({ done: 0, badKings: 1, extraPiece: 2, badPawn: 3, inCheck: 4,
                                      badRights: 5, badPassed: 6, badNumber: 7, badMember: 8,
                                      badText: 9, noMove: 10, ambiguous: 11 });
+export const SIGHTS = Object.freeze({ sure: 0, doubted: 1, away: 2 });
+export const SEE = Object.freeze({ seen: 0, badPieces: 1, badSight: 2, badSide: 3, stillDue: 4 });
+export const GAMES = Object.freeze({ begun: 1, made: 2, unseen: 3, gap: 4, back: 5, ended: 6,
+                                     lost: 7, found: 8 });
+export const RESULTS = Object.freeze({ whiteWins: 1, blackWins: 2, draw: 3 });
 export const MAX_BODY = 16380;
 export const MAX_WORD = 257;
 export const MAX_PAYLOAD = 252;
@@ -42,11 +47,13 @@ export const MAX_OWED = 8;
 export const MAX_SENT = 67;
 export const MAX_KEPT = 64;
 export const PLACEMENT_ROOM = 72;
+export const MAX_UNSEEN = 4;
 export const HOST_SIZE = 22528;
 export const FOLLOWER_SIZE = 23552;
 export const DECODER_SIZE = 21504;
 export const COMMAND_DECODER_SIZE = 512;
 export const BOARD_SIZE = 1280;
+export const RECOGNISER_SIZE = 16384;
 export const DONE = 0;
 export const TOO_MANY_AWAITED = 1;
 export const NO_ROOM = 2;
@@ -70,6 +77,7 @@ export const STRUCTS = /** @type {const} */ ({
   decoder: { size: 21504, members: [] },
   command_decoder: { size: 512, members: [] },
   board: { size: 1280, members: [] },
+  recogniser: { size: 16384, members: [] },
   time: { size: 4, members: [["hours", 0, "u8"], ["minutes", 1, "u8"], ["seconds", 2, "u8"],
                              ["flags", 3, "u8"]] },
   clock: { size: 16, members: [["kind", 0, "u8"], ["status", 1, "u8"], ["raw", 2, 6],
@@ -109,6 +117,9 @@ export const STRUCTS = /** @type {const} */ ({
   chess_move: { size: 4, members: [["from", 0, "u8"], ["to", 1, "u8"], ["promotion", 2, "u8"]] },
   chess_fen_read: { size: 16, members: [["status", 0, "u8"], ["field", 1, "u8"], ["at", 8, "wide"]]
                                         },
+  game_event: { size: 128, members: [["kind", 0, "u8"], ["count", 1, "u8"], ["result", 2, "u8"],
+                                     ["turned", 3, "u8"], ["moves", 4, 16],
+                                     ["state", 20, "chess_state"], ["squares", 120, "wide"]] },
 });
 
 // What each call returns, and what it takes.
@@ -235,4 +246,11 @@ export const CALLS = /** @type {const} */ ({
   dgt_chess_san: "bool,wide,wide,wide",
   dgt_chess_parse_san: "u8,wide,wide,wide,wide",
   dgt_chess_parse_san_leniently: "u8,wide,wide,wide,wide",
+  dgt_recogniser_size: "wide",
+  dgt_recogniser_make: "void,wide",
+  dgt_recogniser_see: "u8,wide,wide,wide,u8,bool,u8",
+  dgt_recogniser_due_at: "bool,wide,wide",
+  dgt_recogniser_due: "bool,wide,wide,wide",
+  dgt_recogniser_state: "bool,wide,wide",
+  dgt_recogniser_go_on: "u8,wide,wide,bool",
 });

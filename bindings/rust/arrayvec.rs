@@ -4,7 +4,7 @@
 #![forbid(unsafe_code)]
 
 use core::fmt::{self, Debug, Formatter};
-use core::ops::Deref;
+use core::ops::{Deref, DerefMut};
 
 #[derive(Clone)]
 pub struct ArrayVec<T, const ROOM: usize> {
@@ -31,6 +31,19 @@ impl<T: Copy + Default, const ROOM: usize> ArrayVec<T, ROOM> {
 
     pub fn clear(&mut self) {
         self.len = 0;
+    }
+
+    pub fn remaining_capacity(&self) -> usize {
+        ROOM - self.len
+    }
+
+    pub fn truncate(&mut self, len: usize) {
+        self.len = self.len.min(len);
+    }
+
+    pub fn insert(&mut self, at: usize, item: T) {
+        self.push(item);
+        self[at..].rotate_right(1);
     }
 
     pub fn remove(&mut self, at: usize) -> T {
@@ -62,6 +75,12 @@ impl<T, const ROOM: usize> Deref for ArrayVec<T, ROOM> {
 
     fn deref(&self) -> &[T] {
         &self.room[..self.len]
+    }
+}
+
+impl<T, const ROOM: usize> DerefMut for ArrayVec<T, ROOM> {
+    fn deref_mut(&mut self) -> &mut [T] {
+        &mut self.room[..self.len]
     }
 }
 

@@ -44,15 +44,15 @@ The package contains::
     ClockCommands   are the calls of `follow`, Host and Follower for the board's clock
     MoveRecogniser  finds the moves of a game in the host's pictures, as states (GameState)
     chess.State     applies the rules of chess: legal moves, draws, FEN, SAN
+    recogniser      has a Recogniser, which reports the games that are played on a board
     Games, PgnFile  make games from the pictures, and keep them in a file; PgnGame, san write PGN
     WhiteClock      learns which side of the clock is White's
 
-A Host, Follower, Decoder, CommandDecoder and Board is one of the library libdgt, in memory that
-Python owns. The Rattle code of libdgt is proved; all else, such as World, is written in Python and
-tested. Each object has a lock, so that threads may share it: a call waits
-for a call of another thread, and raises `Nested` within a call of its own thread. A process that
-was forked while another thread was in a call of an object must not use that object: its calls would
-wait for ever.
+A Host, Follower, Decoder, CommandDecoder, Board and Recogniser is one of the library libdgt, in
+memory that Python owns. The Rattle code of libdgt is proved; all else, such as World, is written in
+Python and tested. Each object has a lock, so that threads may share it: a call waits for a call of
+another thread, and raises `Nested` within a call of its own thread. A process that was forked while
+another thread was in a call of an object must not use that object: its calls would wait for ever.
 """
 
 from ._pgn_file import KeptGame, PgnFile

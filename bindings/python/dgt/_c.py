@@ -17,11 +17,13 @@ MAX_OWED = 8
 MAX_SENT = 67
 MAX_KEPT = 64
 PLACEMENT_ROOM = 72
+MAX_UNSEEN = 4
 HOST_SIZE = 22528
 FOLLOWER_SIZE = 23552
 DECODER_SIZE = 21504
 COMMAND_DECODER_SIZE = 512
 BOARD_SIZE = 1280
+RECOGNISER_SIZE = 16384
 CLOCK_UNKNOWN = 0
 CLOCK_TIMES = 1
 CLOCK_NONE = 2
@@ -139,6 +141,25 @@ CHESS_BAD_MEMBER = 8
 CHESS_BAD_TEXT = 9
 CHESS_NO_MOVE = 10
 CHESS_AMBIGUOUS = 11
+SIGHT_SURE = 0
+SIGHT_DOUBTED = 1
+SIGHT_AWAY = 2
+SEEN = 0
+SEE_BAD_PIECES = 1
+SEE_BAD_SIGHT = 2
+SEE_BAD_SIDE = 3
+SEE_STILL_DUE = 4
+GAME_BEGUN = 1
+GAME_MADE = 2
+GAME_UNSEEN = 3
+GAME_GAP = 4
+GAME_BACK = 5
+GAME_ENDED = 6
+GAME_LOST = 7
+GAME_FOUND = 8
+RESULT_WHITE_WINS = 1
+RESULT_BLACK_WINS = 2
+RESULT_DRAW = 3
 
 
 class Fault(IntEnum):
@@ -347,9 +368,16 @@ class ChessFenReadStruct(Structure):
     _fields_ = [("status", c_uint8), ("field", c_uint8), ("at", c_size_t)]
 
 
+class GameEventStruct(Structure):
+    _fields_ = [("kind", c_uint8), ("count", c_uint8), ("result", c_uint8), ("turned", c_uint8),
+                ("moves", ChessMoveStruct * MAX_UNSEEN), ("state", ChessStateStruct),
+                ("reserved", c_uint8 * 20), ("squares", c_uint64)]
+
+
 # How many bytes each handle takes.
 SIZES = {"dgt_host": HOST_SIZE, "dgt_follower": FOLLOWER_SIZE, "dgt_decoder": DECODER_SIZE,
-         "dgt_command_decoder": COMMAND_DECODER_SIZE, "dgt_board": BOARD_SIZE}
+         "dgt_command_decoder": COMMAND_DECODER_SIZE, "dgt_board": BOARD_SIZE,
+         "dgt_recogniser": RECOGNISER_SIZE}
 
 # What each call returns, and what it takes.
 CALLS: dict[str, tuple[Any, ...]] = {
@@ -484,4 +512,11 @@ CALLS: dict[str, tuple[Any, ...]] = {
     "dgt_chess_san": (c_bool, c_void_p, c_void_p, c_void_p),
     "dgt_chess_parse_san": (c_uint8, c_void_p, c_void_p, c_size_t, c_void_p),
     "dgt_chess_parse_san_leniently": (c_uint8, c_void_p, c_void_p, c_size_t, c_void_p),
+    "dgt_recogniser_size": (c_size_t,),
+    "dgt_recogniser_make": (None, c_void_p),
+    "dgt_recogniser_see": (c_uint8, c_void_p, c_uint64, c_void_p, c_uint8, c_bool, c_uint8),
+    "dgt_recogniser_due_at": (c_bool, c_void_p, POINTER(c_uint64)),
+    "dgt_recogniser_due": (c_bool, c_void_p, c_uint64, c_void_p),
+    "dgt_recogniser_state": (c_bool, c_void_p, c_void_p),
+    "dgt_recogniser_go_on": (c_uint8, c_void_p, c_void_p, c_bool),
 }

@@ -1,5 +1,5 @@
 //! A host, a follower, a decoder, a decoder of commands and a board for DGT electronic chess
-//! boards, and the rules of chess.
+//! boards, the rules of chess, and a recogniser of games.
 //!
 //! | Type | What it does |
 //! |---|---|
@@ -9,6 +9,7 @@
 //! | [`Board`] | simulates a board, so that a host can be tested without one |
 //! | [`CommandDecoder`] | reads a host's bytes |
 //! | [`chess::State`] | a state of a game: its legal moves, and the state after each |
+//! | [`game::Recogniser`] | reports the games that are played on a board |
 //!
 //! None of them opens a line, waits or allocates memory: you pass the received bytes in chunks of
 //! any length, and send the bytes that a call wrote into your slice. With the feature `std`, which
@@ -66,6 +67,7 @@ macro_rules! generated {
 generated! {
     values "generated/values/mod.rs",
     chess "generated/chess/mod.rs",
+    game "generated/game/mod.rs",
     message "generated/message/mod.rs",
     stored "generated/stored/mod.rs",
     decode "generated/decode/mod.rs",

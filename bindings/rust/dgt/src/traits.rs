@@ -4,6 +4,7 @@
 use crate::chess::State;
 use crate::command::WordFramer;
 use crate::decode::Framer;
+use crate::game::Recogniser;
 use crate::values::Kept;
 use crate::{
     BadPlacement, Board, CommandDecoder, Decoder, Event, Follower, Host, Identity, Listener,
@@ -23,7 +24,7 @@ macro_rules! new_by_default {
     )*};
 }
 
-new_by_default!(CommandDecoder, Decoder, Framer, Host, WordFramer);
+new_by_default!(CommandDecoder, Decoder, Framer, Host, Recogniser, WordFramer);
 
 impl Default for Follower {
     /// A follower that sends a request every ten seconds, and starts over after six heartbeats.
