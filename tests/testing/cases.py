@@ -22,6 +22,7 @@ import importlib
 import importlib.util
 import os
 import pathlib
+import select
 import shutil
 import signal
 import subprocess
@@ -81,6 +82,19 @@ def wait(what: str, holds: Callable[[], Any], seconds: float = SECONDS) -> Any:
             raise wrong.Wrong(f"{what}: not within {seconds} s")
         time.sleep(0.02)
     return held
+
+
+def take(descriptor: int, count: int) -> bytes:
+    """`count` bytes, or fewer if the rest doesn't come in time."""
+    taken, end = b"", time.monotonic() + SECONDS
+    while len(taken) < count:
+        if not select.select([descriptor], [], [], max(0, end - time.monotonic()))[0]:
+            break
+        more = os.read(descriptor, count - len(taken))
+        if not more:
+            break
+        taken += more
+    return taken
 
 
 class Case(unittest.TestCase):

@@ -16,6 +16,7 @@ import cases
 import dgt
 import model
 import worked
+from dgt.recogniser import Recogniser
 from wrong import Wrong, wanted
 
 START = "rnbqkbnr/pppppppp/8/8/8/8/PPPPPPPP/RNBQKBNR"
@@ -213,7 +214,7 @@ def calls():
     """Calls, each with right arguments."""
     position, state, times = dgt.Position.start(), dgt.GameState.start(), dgt.Times()
     world, board, host, follower = dgt.World(), dgt.Board(), dgt.Host(), dgt.Follower()
-    games, recogniser = dgt.Games(len, len), dgt.MoveRecogniser()
+    games, recogniser, seer = dgt.Games(len, len), dgt.MoveRecogniser(), Recogniser()
     encoded = [(dgt.encode_message, dgt.Dump, position), (dgt.encode_message, dgt.Field, "e2", "."),
                (dgt.encode_message, dgt.Ack, bytes(4), 0), (dgt.encode_message, dgt.Version, 1, 3),
                (dgt.encode_message, dgt.Serial, bytes(5)), (dgt.encode_message, dgt.Battery, b""),
@@ -249,6 +250,7 @@ def calls():
         (dgt.PgnGame().add, "e2e4", None),
         (dgt.MoveRecogniser, dgt.START_FEN, 0.3, 1.0), (recogniser.see, position, 0.0),
         (recogniser.tick, 0.0), (dgt.Games, len, len, None, {}, "left", dgt.START_FEN, ""),
+        (seer.see, 0, position), (seer.due, 0), (seer.go_on, state.chess, False),
         (games.see, dgt.BoardView(position), 0.0), (games.set_tags, {}, True), (games.tick, 0.0),
         (dgt.follow, "/", 10.0),
         (lambda tags: dgt.PgnGame(tags).text(), {"White": "Ann"}),

@@ -14,6 +14,7 @@ import threading
 import time
 
 import running
+from wrong import Wrong
 
 ROOT = pathlib.Path(__file__).resolve().parent.parent.parent
 SCREEN = "1240x760x24"
@@ -22,10 +23,6 @@ ENGINE = """#!/bin/sh
 export PYTHONPATH={root}/bindings/python PYTHONDONTWRITEBYTECODE=1
 tee -a {room}/asked | {python} -m dgt uci "$@" | tee -a {room}/told
 """
-
-
-class Wrong(Exception):
-    """Something is not as it should be."""
 
 
 class Player(threading.Thread):
