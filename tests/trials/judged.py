@@ -10,10 +10,13 @@ from typing import Any, NamedTuple
 from dgt.chess import State
 from dgt.errors import IllegalMove
 from handled import START, Game, Session
+from watched import Seen
 
 Events = list[tuple[int, Any]]  # with their times
 HALF_MOVES = ("Made", "Gap")
 MOST_WRONG = 4  # squares after a right half-move, as after an altered dump
+LONGEST = 4  # half-moves that are looked for between two positions
+CHANGED = 4  # the most squares that a half-move changes
 
 
 class Item(NamedTuple):
@@ -31,6 +34,7 @@ class Counts:
 
     games: int = 0
     whole: int = 0
+    most: int = 0
     made: int = 0
     right: int = 0
     invented: int = 0
@@ -144,6 +148,34 @@ def close(counts: Counts, missing: int, between: list[Item], is_first: bool) -> 
         counts.unmarked += not (hidden or "Lost" in kinds or begun and is_anew)
 
 
+def lines(state: State, goal: bytes, halves: int) -> int:
+    """How many legal lines of as many half-moves lead to the squares: 0, 1 or 2 if several do."""
+    wrong = sum(map(operator.ne, state.position.codes, goal))
+    if halves == 0 or wrong > CHANGED * halves:
+        return int(wrong == 0)
+    found = 0
+    for move in state.moves():
+        found += lines(state.play(move), goal, halves - 1)
+        if found > 1:
+            return 2
+    return found
+
+
+def may_be_whole(game: Game, shown: list[tuple[int, bytes]]) -> bool:
+    """Whether all half-moves follow from the positions that were shown at these times: they are
+    the only legal line between two of them. That knows what was played, and guesses nothing."""
+    state, last, moves = State.start(), 0, game.record.moves
+    for number, (done, squares) in enumerate(zip(game.done, game.record.squares[1:]), 1):
+        if any(at >= done and squares == each for at, each in shown):
+            halves = number - last
+            if halves > LONGEST or halves > 1 and lines(state, squares, halves) != 1:
+                return False
+            for move in moves[last:number]:
+                state = state.play(move)
+            last = number
+    return last == len(moves)
+
+
 def reports_of(session: Session, events: Events) -> list[Report]:
     """What was reported of each game. What begins after a set-up began belongs to its game."""
     reports, number = [Report() for _ in session.games], 0
@@ -154,9 +186,14 @@ def reports_of(session: Session, events: Events) -> list[Report]:
     return reports
 
 
-def judge(session: Session, events: Events) -> Iterator[Counts]:
+def judge(session: Session, seen: list[Seen], events: Events) -> Iterator[Counts]:
     """Counts for each game of a session."""
     reports = reports_of(session, events)
+    ends = [*(game.cleared_at for game in session.games[1:]), seen[-1].at + 1]
     for number, (report, game) in enumerate(zip(reports, session.games)):
+        shown = [(each.at, each.squares[::-1] if session.turned else each.squares)
+                 for each in seen if each.squares and game.begun_at <= each.at < ends[number]]
         is_last = not any(each.items for each in reports[number + 1:])
-        yield report.judge(game, session.turned, is_last)
+        counts = report.judge(game, session.turned, is_last)
+        counts.most = int(may_be_whole(game, shown))
+        yield counts
