@@ -26,7 +26,7 @@ told_pieces told = as_shown told.is_turned (board told.state)
 unfoldable pub Joins : ℕ → State → State → Type 0
 Joins count state new = (moves : List _) × (length moves ≡ count) × IsLine state moves new
 
--- The line after an event, where that is legal. A line is what was reported of a game, the last
+-- The line after an event, if that is legal. A line is what was reported of a game, the last
 -- state first.
 abbrev pub Leads : List Told → Event → List Told → Type 0
 Leads line (Event.Begun state is_turned) new =

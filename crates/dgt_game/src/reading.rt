@@ -559,7 +559,7 @@ impl Recogniser {
         self.jumped_from(&from, place, view.from(from.step.is_turned), halves)
     }
 
-    /// The same, where the picture is seen from White's side.
+    /// The same, if the picture is seen from White's side.
     pub(crate) fn jumped_from(
         &self,
         from: &Node,

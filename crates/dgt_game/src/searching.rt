@@ -281,7 +281,7 @@ impl Recogniser {
         }
     }
 
-    // The position that is shown, with White to move and with Black, where that is possible.
+    // The position that is shown, with White to move and with Black, if that is possible.
     fn roots(&self) -> (Option<Node>, Option<Node>)
         ensures { (shown : List (List Piece))
             → IfSome self.now.view (λ view. Contains shown (pieces_of view.shown))
@@ -311,7 +311,7 @@ impl Recogniser {
     }
 }
 
-// The state of pieces that were set up: castlings are allowed where king and rook are at home.
+// The state of pieces that were set up: castlings are allowed if king and rook are at home.
 fn placed(position: &Position, turn: Colour) -> Option<State>
     ensures { IfSome result (λ state. board state ≡ pieces_of position.now) }
 {
