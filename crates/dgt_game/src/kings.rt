@@ -49,6 +49,7 @@ impl Recogniser {
                 && node.step.way != crate::node::Way::Begun
                 && !self.is_shadow(node)
                 && !node.step.way.is_jump()
+                && !node.is_held
                 && stands(view, node)
             {
                 return Some((result, Place::Seen(len - 1 - at)));

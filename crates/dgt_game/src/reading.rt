@@ -155,6 +155,17 @@ impl Recogniser {
         None
     }
 
+    /// The meaning of a picture that lacks a king: it may be the next piece that moves.
+    pub(crate) fn read_king_in_hand(&self, view: &View) -> Reading
+        ensures { (shown : List (List Piece)) → Contains shown (pieces_of view.now.shown)
+            → Reads shown self.now.memory result }
+    {
+        match self.read_held(view) {
+            Some(node) => Reading::Held(node),
+            None => Reading::At(Place::Nowhere),
+        }
+    }
+
     // A half-move after which the other side has its next piece in a hand already.
     fn read_held(&self, view: &View) -> Option<Node>
         ensures { (shown : List (List Piece)) → Contains shown (pieces_of view.now.shown)

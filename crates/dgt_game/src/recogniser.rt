@@ -206,6 +206,8 @@ impl Recogniser {
         let reading = if has_white && has_black {
             self.search = Search::Waiting;
             self.read(view)
+        } else if has_white || has_black {
+            self.read_king_in_hand(view)
         } else {
             Reading::At(Place::Nowhere)
         };
