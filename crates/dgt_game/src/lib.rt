@@ -30,6 +30,7 @@
 //! ```
 #![tactic(auto)]
 
+mod early;
 mod event;
 mod kings;
 mod memory;

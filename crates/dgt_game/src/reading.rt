@@ -11,6 +11,7 @@ ghost use Rattle.dgt_chess.specs.Attacks.{piece_of};
 ghost use Rattle.dgt_game.specs.Told.{IsHeld, Told, told_pieces};
 ghost use Rattle.dgt_game.specs.Memory.{By, told_of};
 
+use crate::early::moves_again;
 use crate::event::{GAP, Moves};
 use crate::node::{Node, Origin, Place, Step, Way};
 use crate::recogniser::{Over, Recogniser, lacks_only};
@@ -480,6 +481,7 @@ impl Recogniser {
                 && (self.is_shadow(node) || node.step.way.is_jump())
                 && !self.is_before(k, place)
                 && !is_between(node, from, moves)
+                && !moves_again(node.step.state.position(), &from.step.state)
             {
                 return true;
             }
@@ -500,20 +502,6 @@ impl Recogniser {
             };
         }
         false
-    }
-
-    /// Whether the other side has made a half-move before its turn: it waits for the answer.
-    pub(crate) fn is_early(&self) -> bool {
-        let (Some(view), Some(last)) = (&self.view, self.memory.line.get(0)) else {
-            return false;
-        };
-        if last.step.way.is_jump() || !self.is_live() {
-            return false;
-        }
-        match other_side(&last.step.state) {
-            Some(state) => half_move(&state, view.from(last.step.is_turned)).is_some(),
-            None => false,
-        }
     }
 
     /// Whether a node goes on from a position that nothing led to.
