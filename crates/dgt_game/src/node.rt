@@ -90,6 +90,8 @@ pub(crate) struct Node {
     pub(crate) is_held: bool,
     /// Whether its last two half-moves were faster than hands.
     pub(crate) is_quick: bool,
+    /// Whether something wasn't shown before it: a jump may have more half-moves than it seems.
+    pub(crate) was_behind: bool,
     /// Whether its path has a jump, and a long one.
     pub(crate) jumps: bool,
     pub(crate) jumps_far: bool,
@@ -120,6 +122,7 @@ impl Node {
             is_sure: false,
             is_held: false,
             is_quick: false,
+            was_behind: false,
             jumps: false,
             jumps_far: false,
             depth: 1,

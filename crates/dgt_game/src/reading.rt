@@ -76,12 +76,25 @@ impl Recogniser {
         if k > NEAR {
             return None;
         }
+        if k == 2 && self.running.is_none() && self.has_held() {
+            return Some(Place::Line(k));
+        }
         for at in 0..k {
             if self.memory.line.get(at)?.is_quick {
                 return Some(Place::Line(k));
             }
         }
         None
+    }
+
+    // Whether a piece was put down while one of the other side was in a hand.
+    fn has_held(&self) -> bool {
+        for k in 0..self.memory.seen.len() {
+            if self.memory.seen[k].is_held {
+                return true;
+            }
+        }
+        false
     }
 
     // An earlier state of the line. If it is far back, and something wasn't shown meanwhile, it is
@@ -376,7 +389,7 @@ impl Recogniser {
             → IfSome result (λ reading. Reads shown self.now.memory reading) }
     {
         let node = self.memory.node(place)?;
-        if node.step.way.halves() < 2 {
+        if node.step.way.halves() < 2 || !node.was_behind {
             return None;
         }
         half_move(
@@ -442,9 +455,6 @@ impl Recogniser {
             }
         }
         for k in 1..3 {
-            if !self.is_behind {
-                return None;
-            }
             if let Some(node) = self.jumped(Place::Line(k), view, 2) {
                 return Some(node);
             }
@@ -633,6 +643,7 @@ impl Recogniser {
             is_sure: false,
             is_held: false,
             is_quick: self.is_quick(from, parent, way),
+            was_behind: self.is_behind,
             jumps: way.is_jump() || !is_told && from.jumps,
             jumps_far: way.is_long_jump() || !is_told && from.jumps_far,
             depth: if is_told {
