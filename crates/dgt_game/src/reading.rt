@@ -281,8 +281,8 @@ impl Recogniser {
     pub(crate) fn may_jump(&self, place: Place) -> bool {
         match (place, self.memory.node(place)) {
             (_, None) => false,
-            (Place::Seen(_), Some(node)) => {
-                !self.is_shadow(&node) && (self.is_behind || node.rested() >= SETTLE)
+            (Place::Seen(k), Some(node)) => {
+                !self.is_shadow(&node) && (self.is_behind || !self.has_slid(k))
             }
             _ => self.is_live(),
         }

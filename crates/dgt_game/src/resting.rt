@@ -263,7 +263,7 @@ impl Recogniser {
     }
 
     // Whether a piece stood there for a moment, and then another half-move was made instead.
-    fn has_slid(&self, k: usize) -> bool {
+    pub(crate) fn has_slid(&self, k: usize) -> bool {
         let Some(node) = self.memory.seen.get(k) else {
             return false;
         };
