@@ -332,6 +332,9 @@ impl Recogniser {
             → Contains shown (pieces_of view.now.shown)
             → IfSome result (λ reading. Reads shown self.now.memory reading) }
     {
+        if self.lifts_after_back(view) {
+            return None;
+        }
         if let Some(node) = self.two_more(view) {
             return Some(Reading::New(node));
         }
@@ -345,6 +348,16 @@ impl Recogniser {
             return self.recounted(Place::Line(0), view);
         }
         None
+    }
+
+    // Whether pieces are lifted from the state to which the line is taken back.
+    fn lifts_after_back(&self, view: &View) -> bool {
+        match self.memory.line.get(self.returned) {
+            Some(node) => {
+                self.returned > 0 && lacks_only(view.from(node.step.is_turned), &node.step.state)
+            }
+            None => false,
+        }
     }
 
     // Two half-moves more. Of several, those that moved what has just changed.

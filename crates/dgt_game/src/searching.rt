@@ -63,7 +63,8 @@ impl Recogniser {
     fn deep(&self, view: &View) -> Option<Node>
         ensures { IfSome result (λ node. FitsBy self.now.memory (pieces_of view.now.shown) node) }
     {
-        if self.is_early() {
+        // pieces are rather in a hand than captured in half-moves that weren't shown
+        if self.is_early() || !self.is_behind && self.is_lifted() {
             return None;
         }
         let mut other = None;
