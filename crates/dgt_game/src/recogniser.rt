@@ -178,6 +178,22 @@ impl Recogniser {
         {
             self.add_roots();
         }
+        if self.may_either_move() {
+            self.add_roots();
+        }
+    }
+
+    // Whether either side may make the next half-move, as it is the first since pieces were set up.
+    fn may_either_move(&self) -> bool {
+        match self.memory.line.get(0) {
+            Some(node) => {
+                self.here == Place::Line(0)
+                    && self.memory.seen.is_empty()
+                    && node.step.way == Way::Begun
+                    && node.origin == Origin::Shadow
+            }
+            None => false,
+        }
     }
 
     fn show(&mut self, view: Option<View>, now: u64) {

@@ -5,7 +5,7 @@ use crate::node::{Node, Origin, Place, Way};
 use crate::recogniser::{Over, Recogniser, Search};
 use crate::times::*;
 use dgt_chess::Move;
-use dgt_values::Square;
+use dgt_values::{Piece, Square};
 
 /// What is done next.
 #[derive(Clone, Copy, Debug, PartialEq, Eq)]
@@ -228,7 +228,7 @@ impl Recogniser {
         if !before.is_sure || node.origin == Origin::Shadow {
             return false;
         }
-        if node.step.way.is_jump() || self.has_slid(parent) {
+        if node.step.way.is_jump() || self.has_slid(parent) || self.slides_on(before, node) {
             return false;
         }
         if self.is_long(node) {
@@ -274,6 +274,21 @@ impl Recogniser {
             }
         }
         false
+    }
+
+    // Whether the piece that has just moved was up again while the other side moved.
+    fn slides_on(&self, before: &Node, node: &Node) -> bool {
+        let Some(view) = &self.view else {
+            return false;
+        };
+        match before.step.way {
+            Way::Made(one) => {
+                node.is_held
+                    && before.rested() < SETTLE
+                    && view.from(node.step.is_turned).get(one.to) == Piece::Empty
+            }
+            _ => false,
+        }
     }
 
     // Whether a half-move puts back the piece that the same player moved before.
