@@ -11,6 +11,7 @@ ghost use Rattle.dgt_game.specs.Told.{Told, as_shown};
 use crate::event::GAP;
 use crate::node::{Node, Origin, Place, Way};
 use crate::recogniser::{Notice, Over, Recogniser, Search};
+use crate::times::ROOTS;
 use crate::view::View;
 use dgt_chess::{Colour, Rights, State};
 use dgt_values::{Piece, Position, Square};
@@ -114,10 +115,28 @@ impl Recogniser {
     fn jumped_far(&self, place: Place, view: &View, halves: u8) -> Option<Node>
         ensures { IfSome result (λ node. FitsBy self.now.memory (pieces_of view.now.shown) node) }
     {
-        if !self.may_jump(place) {
+        if !self.may_jump(place) || !self.may_jump_far(place, view, halves) {
             return None;
         }
         self.jumped(place, view, halves)
+    }
+
+    // Whether as many half-moves are looked for from there. If a side has no man on another square,
+    // it has gone out and back: rather the other one has moved twice, but in a doubt.
+    fn may_jump_far(&self, place: Place, view: &View, halves: u8) -> bool {
+        let Some(node) = self.memory.node(place) else {
+            return false;
+        };
+        let shown = view.from(node.step.is_turned);
+        let have_moved = has_moved(shown, &node.step.state, Colour::White)
+            && has_moved(shown, &node.step.state, Colour::Black);
+        let most = if have_moved { ROOTS } else { ROOTS / 2 };
+        match place {
+            Place::Seen(k) if halves as usize == GAP => {
+                (have_moved || self.is_behind) && self.memory.seen.len().saturating_sub(k) <= most
+            }
+            _ => halves < 3 || have_moved || self.is_behind,
+        }
     }
 
     // Whether there is a node after which the player whose clock runs moves next.
@@ -310,6 +329,21 @@ impl Recogniser {
         node.is_sure = self.is_sure;
         Some(node)
     }
+}
+
+// Whether men of a side have arrived on squares, or left some that are empty now.
+fn has_moved(shown: &Position, state: &State, side: Colour) -> bool {
+    for at in 0..64u8 {
+        let square = Square::from_small(at);
+        let old = state.position().get(square);
+        let new = shown.get(square);
+        if old != new
+            && (side.man(new).is_some() || new == Piece::Empty && side.man(old).is_some())
+        {
+            return true;
+        }
+    }
+    false
 }
 
 // The state of pieces that were set up: castlings are allowed if king and rook are at home.

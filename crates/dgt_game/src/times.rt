@@ -53,3 +53,6 @@ pub(crate) const KEPT: usize = 16;
 
 /// The nodes that were shown since, and aren't reported.
 pub(crate) const SEEN: usize = 24;
+
+/// From how many of the nodes that were seen last more than two half-moves are looked for.
+pub(crate) const ROOTS: usize = 8;
