@@ -11,3 +11,5 @@ pub mod Held
 pub mod Chains
 pub mod Nodes
 pub mod Hands
+pub mod Known
+pub mod Meaning

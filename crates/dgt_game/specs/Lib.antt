@@ -3,6 +3,8 @@ pub mod Lines
 pub mod Told
 pub mod Memory
 pub mod Recogniser
+pub mod Runs
+pub mod Laws
 -- Only for bodies.
 pub mod Ways
 pub mod Arrivals

@@ -95,6 +95,10 @@ IsKept [] line = ⊤
 IsKept (step ∷ steps) [] = ⊥
 IsKept (step ∷ steps) (told ∷ line) = (told_of step ≡ told) × IsKept steps line
 
+-- all of the line was reported
+abbrev pub IsTold : Memory → Type 0
+IsTold self = (self.back ≡ 0) × (self.unsaid.items ≡ [])
+
 pub record Holds (shown : List (List Piece)) (line : List Told) (self : Memory) : Type 0 where
   pub shown_line : IsShown shown line
   pub kept : IsKept (steps self.line.items) line
@@ -105,7 +109,7 @@ pub record Holds (shown : List (List Piece)) (line : List Told) (self : Memory) 
       × IsSeen shown node.step)
   pub grows : Grows shown (steps self.line.items) (steps self.seen.items)
   -- while something is reported, nothing else is seen
-  pub quiet : (steps self.seen.items ≡ []) ⊎ ((self.back ≡ 0) × (self.unsaid.items ≡ []))
+  pub quiet : (steps self.seen.items ≡ []) ⊎ IsTold self
 
 -- the node follows the one that it names, and has these pieces
 abbrev pub Fits : Memory → List Piece → Node → Type 0

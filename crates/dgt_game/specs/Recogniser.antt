@@ -1,10 +1,17 @@
--- A recogniser.
-use Rattle.std.specs.Prelude.{[], None, false}
+-- A recogniser, and what its calls do.
+use Rattle.std.specs.Prelude.{List, [], ◌∷◌, Bool, false, Option, None, Contains, IfSome, MatchOption}
+use Rattle.dgt_values.specs.declared.pieces.Piece.{Piece}
+use Rattle.dgt_values.specs.Board.{pieces_of}
+use Rattle.dgt_chess.specs.declared.state.State.{State}
+use Rattle.dgt_game.specs.declared.event.Event.{Event}
 use Rattle.dgt_game.specs.declared.memory.Memory.{Memory}
 use Rattle.dgt_game.specs.declared.node.Place.{Place}
+use Rattle.dgt_game.specs.declared.observation.Sight.{Sight}
 use Rattle.dgt_game.specs.declared.recogniser.Over.{Over}
 use Rattle.dgt_game.specs.declared.recogniser.Recogniser.{Recogniser}
 use Rattle.dgt_game.specs.declared.recogniser.Search.{Search}
+use Rattle.dgt_game.specs.Told.{Leads, Told, told_pieces}
+use Rattle.dgt_game.specs.Memory.{Holds, IsTold}
 
 abbrev pub new_memory : Memory
 new_memory = record {
@@ -40,3 +47,39 @@ new_recogniser = record {
   is_white_king_lifted = false;
   is_black_king_lifted = false;
 }
+
+-- what is so after these pictures were shown and this line was reported
+pub record Knows (shown : List (List Piece)) (line : List Told) (self : Recogniser) : Type 0 where
+  pub held : Holds shown line self.memory
+  pub seen : IfSome self.view (λ view. Contains shown (pieces_of view.shown))
+
+-- if all of the line was reported, it stays so
+abbrev pub Stays : Recogniser → Recogniser → Type 0
+Stays old new =
+    (shown : List (List Piece)) (line : List Told) → IsTold old.memory → Knows shown line old
+    → Knows shown line new
+
+-- the pictures shown so far, the last one first
+abbrev pub shown_after : Sight → List (List Piece) → List (List Piece)
+shown_after (Sight.Sure position) shown = pieces_of position ∷ shown
+shown_after (Sight.Doubted position) shown = pieces_of position ∷ shown
+shown_after Sight.Away shown = shown
+
+-- `see` takes what is seen, and the line stays as it is.
+abbrev pub Sees : Recogniser → Sight → Recogniser → Type 0
+Sees old sight new =
+    (shown : List (List Piece)) (line : List Told) → Knows shown line old
+    → Knows (shown_after sight shown) line new
+
+-- `due` reports an event that leads on from the line, or nothing.
+abbrev pub Reports : Recogniser → Option Event → Recogniser → Type 0
+Reports old report new =
+    (shown : List (List Piece)) (line : List Told) → Knows shown line old
+    → MatchOption report (Knows shown line new)
+    (λ event. (next : List Told) × Leads line event next × Knows shown next new)
+
+-- After `go_on` the state counts as shown and reported, and nothing else.
+abbrev pub GoesOn : State → Bool → Recogniser → Type 0
+GoesOn state is_turned new =
+    let told : Told = record { state = state; halves = 0; is_turned = is_turned } in
+    Knows (told_pieces told ∷ []) (told ∷ []) new

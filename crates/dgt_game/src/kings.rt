@@ -16,7 +16,8 @@ impl Recogniser {
     /// Looks whether both kings were lifted since the line's last state, and stand on squares that
     /// give a result, while everything else stands as in a known state.
     pub(crate) fn look_at_kings(&mut self, view: &View)
-        ensures { self.new.memory ≡ self.old.memory }
+        ensures same { self.new.memory ≡ self.old.memory }
+        ensures view { self.new.view ≡ self.old.view }
     {
         let Some(last) = self.memory.line.get(0) else {
             return;
@@ -63,9 +64,10 @@ impl Recogniser {
 
     /// The kings have rested in the centre.
     pub(crate) fn end_by_kings(&mut self)
-        ensures { (shown : List (List Piece)) (line : List Told)
+        ensures holds { (shown : List (List Piece)) (line : List Told)
             → self.old.memory.back ≡ 0 → self.old.memory.unsaid.items ≡ []
             → Holds shown line self.old.memory → Holds shown line self.new.memory }
+        ensures view { self.new.view ≡ self.old.view }
     {
         let Some((result, place)) = self.kings.take() else {
             return;

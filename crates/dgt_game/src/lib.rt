@@ -33,6 +33,7 @@
 mod early;
 mod event;
 mod kings;
+pub mod laws;
 mod memory;
 mod node;
 mod observation;

@@ -1,6 +1,6 @@
 //! The recogniser of games.
 
-ghost use Rattle.std.specs.Prelude.{IsErr, ◌≡◌, ◌⊎◌, ℕ, List, [], ◌∷◌, Option, Some, None, IfSome, MatchOption, Contains, option_map, map, length, slice_get};
+ghost use Rattle.std.specs.Prelude.{IsErr, IsOk, ◌≡◌, ◌⊎◌, ℕ, List, [], ◌∷◌, Option, Some, None, IfSome, MatchOption, Contains, option_map, map, length, slice_get};
 ghost use Rattle.dgt_values.specs.declared.pieces.Piece.{Piece};
 ghost use Rattle.dgt_values.specs.Board.{pieces_of};
 ghost use Rattle.dgt_game.specs.declared.node.Place.{Place};
@@ -81,7 +81,7 @@ pub struct Recogniser {
 
 impl Recogniser {
     ghost use Rattle.dgt_game.specs.Memory.{Holds, Reads};
-    ghost use Rattle.dgt_game.specs.Recogniser.{new_recogniser};
+    ghost use Rattle.dgt_game.specs.Recogniser.{GoesOn, Knows, Sees, new_recogniser};
 
     /// A recogniser that has seen nothing.
     pub fn new() -> Self
@@ -116,15 +116,13 @@ impl Recogniser {
     /// [`Recogniser::due`] with the same time until it returns nothing, and then this again.
     pub fn see(&mut self, observation: &Observation) -> Result<(), StillDue>
         ensures refused { IsErr result → self.new ≡ self.old }
+        ensures seen { IsOk result → Sees self.old observation.now.sight self.new }
     {
         if self.is_due(observation.at) {
             return Err(StillDue);
         }
-        let (view, is_sure) = match observation.sight {
-            Sight::Sure(position) => (Some(View::new(position)), true),
-            Sight::Doubted(position) => (Some(View::new(position)), false),
-            Sight::Away => (None, false),
-        };
+        let view = View::of(observation.sight);
+        let is_sure = matches!(observation.sight, Sight::Sure(_));
         self.running = observation.running;
         if view != self.view || is_sure != self.is_sure {
             self.leave(observation.at);
@@ -150,7 +148,9 @@ impl Recogniser {
 
     /// Goes on from this state of a game, as if it had been reported, and forgets all else. If the
     /// second is true, the board is turned.
-    pub fn go_on(&mut self, state: State, is_turned: bool) {
+    pub fn go_on(&mut self, state: State, is_turned: bool)
+        ensures on { GoesOn state is_turned self.new }
+    {
         *self = Recogniser::new();
         self.memory
             .line
@@ -168,7 +168,15 @@ impl Recogniser {
     }
 
     // What was shown ends now. If it rested though nothing led to it, a line may go on from it.
-    fn leave(&mut self, now: u64) {
+    fn leave(&mut self, now: u64)
+        ensures holds { (shown : List (List Piece)) (line : List Told)
+            → self.old.memory.back ≡ 0 → self.old.memory.unsaid.items ≡ []
+            → IfSome self.old.view (λ view. Contains shown (pieces_of view.shown))
+            → Holds shown line self.old.memory → Holds shown line self.new.memory }
+        ensures view { self.new.view ≡ self.old.view }
+        ensures back { self.new.memory.back ≡ self.old.memory.back }
+        ensures unsaid { self.new.memory.unsaid.items ≡ self.old.memory.unsaid.items }
+    {
         self.memory.leave(self.here, now);
         if self.here == Place::Nowhere
             && now.saturating_sub(self.since) >= GLANCE
@@ -196,7 +204,12 @@ impl Recogniser {
         }
     }
 
-    fn show(&mut self, view: Option<View>, now: u64) {
+    fn show(&mut self, view: Option<View>, now: u64)
+        ensures knows { (shown : List (List Piece)) (line : List Told)
+            → self.old.memory.back ≡ 0 → self.old.memory.unsaid.items ≡ []
+            → IfSome view (λ view. Contains shown (pieces_of view.shown))
+            → Holds shown line self.old.memory → Knows shown line self.new }
+    {
         self.changed = match (&self.view, &view) {
             (Some(old), Some(new)) => old.shown.differ(&new.shown),
             _ => 0,
@@ -215,7 +228,13 @@ impl Recogniser {
         }
     }
 
-    fn look(&mut self, view: &View) {
+    fn look(&mut self, view: &View)
+        ensures holds { (shown : List (List Piece)) (line : List Told)
+            → self.old.memory.back ≡ 0 → self.old.memory.unsaid.items ≡ []
+            → Contains shown (pieces_of view.now.shown)
+            → Holds shown line self.old.memory → Holds shown line self.new.memory }
+        ensures view { self.new.view ≡ self.old.view }
+    {
         let has_white = self.has_king(view, Colour::White);
         let has_black = self.has_king(view, Colour::Black);
         self.is_set_up = self.is_set_up || !has_white && !has_black;
@@ -245,7 +264,11 @@ impl Recogniser {
         found
     }
 
-    fn stand_on_line(&mut self, k: usize) {
+    fn stand_on_line(&mut self, k: usize)
+        ensures holds { (shown : List (List Piece)) (line : List Told)
+            → Holds shown line self.old.memory → Holds shown line self.new.memory }
+        ensures view { self.new.view ≡ self.old.view }
+    {
         self.here = Place::Line(k);
         self.returned = k;
         if !self.is_sure {
@@ -262,7 +285,11 @@ impl Recogniser {
         self.notice = found(&mut self.is_lost).or(self.notice);
     }
 
-    fn stand_on(&mut self, place: Place) {
+    fn stand_on(&mut self, place: Place)
+        ensures holds { (shown : List (List Piece)) (line : List Told)
+            → Holds shown line self.old.memory → Holds shown line self.new.memory }
+        ensures view { self.new.view ≡ self.old.view }
+    {
         self.here = place;
         if let Place::Seen(k) = place {
             if self.is_sure {
@@ -273,7 +300,13 @@ impl Recogniser {
     }
 
     // The board shows a node but for pieces in hands. It isn't reported before they are put down.
-    fn hold(&mut self, node: Node) {
+    fn hold(&mut self, node: Node)
+        ensures holds { (shown : List (List Piece)) (line : List Told)
+            → self.old.memory.back ≡ 0 → self.old.memory.unsaid.items ≡ []
+            → Reads shown self.old.memory (Reading.Held node)
+            → Holds shown line self.old.memory → Holds shown line self.new.memory }
+        ensures view { self.new.view ≡ self.old.view }
+    {
         match self.same_node(&node) {
             Some(k) => self.here = Place::Seen(k),
             None => self.add(node),
@@ -296,6 +329,7 @@ impl Recogniser {
             → self.old.memory.back ≡ 0 → self.old.memory.unsaid.items ≡ []
             → Reads shown self.old.memory (Reading.Two first second)
             → Holds shown line self.old.memory → Holds shown line self.new.memory }
+        ensures view { self.new.view ≡ self.old.view }
     {
         if let Some(k) = self.memory.push(first) {
             let mut node = second;
@@ -310,6 +344,7 @@ impl Recogniser {
             → self.old.memory.back ≡ 0 → self.old.memory.unsaid.items ≡ []
             → Reads shown self.old.memory (Reading.New node)
             → Holds shown line self.old.memory → Holds shown line self.new.memory }
+        ensures view { self.new.view ≡ self.old.view }
     {
         let Some(k) = self.memory.push(node) else {
             return;

@@ -1,5 +1,9 @@
 //! What is due, and when.
 
+ghost use Rattle.std.specs.Prelude.{◌≡◌, false, List, []};
+ghost use Rattle.dgt_values.specs.declared.pieces.Piece.{Piece};
+ghost use Rattle.dgt_game.specs.Told.{Told};
+
 use crate::event::Event;
 use crate::node::{Node, Origin, Place, Way};
 use crate::recogniser::{Over, Recogniser, Search};
@@ -17,6 +21,9 @@ pub(crate) enum Task {
 }
 
 impl Recogniser {
+    ghost use Rattle.dgt_game.specs.Memory.{Holds, IsTold};
+    ghost use Rattle.dgt_game.specs.Recogniser.{Reports, Stays};
+
     /// When [`Recogniser::due`] has something to do next, if nothing else is seen until then.
     pub fn due_at(&self) -> Option<u64> {
         if self.has_news() {
@@ -28,7 +35,9 @@ impl Recogniser {
 
     /// Reports the next event that is due at this time, if there is one. Call it until there is
     /// none.
-    pub fn due(&mut self, now: u64) -> Option<Event> {
+    pub fn due(&mut self, now: u64) -> Option<Event>
+        ensures told { Reports self.old result self.new }
+    {
         for _ in 0..3 {
             if let Some(event) = self.next_event() {
                 return Some(event);
@@ -42,7 +51,9 @@ impl Recogniser {
         self.next_event()
     }
 
-    pub(crate) fn is_due(&self, now: u64) -> bool {
+    pub(crate) fn is_due(&self, now: u64) -> bool
+        ensures { result ≡ false → IsTold self.now.memory }
+    {
         self.has_news()
             || match self.next_task() {
                 Some((at, _)) => at <= now,
@@ -86,7 +97,9 @@ impl Recogniser {
         Some((self.since.saturating_add(wait), task))
     }
 
-    fn act(&mut self, task: Task) {
+    fn act(&mut self, task: Task)
+        ensures stays { Stays self.old self.new }
+    {
         match task {
             Task::EndByKings => self.end_by_kings(),
             Task::Search => self.look_deep(),
@@ -100,13 +113,19 @@ impl Recogniser {
 
     // Before another game begins, the last half-moves are reported that rested, even if in doubt:
     // they aren't shown again.
-    fn tell_here(&mut self) {
-        match (self.memory.node(self.here), self.last_rested()) {
-            (Some(root), Some(k)) if root.origin == Origin::Start && root.depth == 1 => {
+    fn tell_here(&mut self)
+        ensures holds { (shown : List (List Piece)) (line : List Told)
+            → self.old.memory.back ≡ 0 → self.old.memory.unsaid.items ≡ []
+            → Holds shown line self.old.memory → Holds shown line self.new.memory }
+        ensures view { self.new.view ≡ self.old.view }
+    {
+        if let (Some(root), Some(k)) = (self.memory.node(self.here), self.last_rested()) {
+            if root.origin == Origin::Start && root.step.way == Way::Begun {
                 self.tell(Place::Seen(k), Some(root));
+                return;
             }
-            _ => self.tell(self.here, None),
         }
+        self.tell(self.here, None);
     }
 
     // The last half-moves after the line's last state that rested.

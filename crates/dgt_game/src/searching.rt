@@ -22,10 +22,11 @@ impl Recogniser {
     /// Looks for several half-moves, also from the start of another game. If there are none, the
     /// line is lost.
     pub(crate) fn look_deep(&mut self)
-        ensures { (shown : List (List Piece)) (line : List Told)
+        ensures holds { (shown : List (List Piece)) (line : List Told)
             → self.old.memory.back ≡ 0 → self.old.memory.unsaid.items ≡ []
             → IfSome self.old.view (λ view. Contains shown (pieces_of view.shown))
             → Holds shown line self.old.memory → Holds shown line self.new.memory }
+        ensures view { self.new.view ≡ self.old.view }
     {
         self.search = Search::Done;
         let Some(view) = self.view else {
@@ -41,10 +42,11 @@ impl Recogniser {
     }
 
     fn add_jump(&mut self, node: Node, view: &View)
-        ensures { (shown : List (List Piece)) (line : List Told)
+        ensures holds { (shown : List (List Piece)) (line : List Told)
             → self.old.memory.back ≡ 0 → self.old.memory.unsaid.items ≡ []
             → Reads shown self.old.memory (Reading.New node)
             → Holds shown line self.old.memory → Holds shown line self.new.memory }
+        ensures view { self.new.view ≡ self.old.view }
     {
         self.lose_by(&node, view);
         self.add(node);
@@ -52,7 +54,8 @@ impl Recogniser {
     }
 
     fn lose_by(&mut self, node: &Node, view: &View)
-        ensures { self.new.memory ≡ self.old.memory }
+        ensures same { self.new.memory ≡ self.old.memory }
+        ensures view { self.new.view ≡ self.old.view }
     {
         if node.jumps_far && !self.is_behind {
             self.lose(view);
@@ -178,10 +181,11 @@ impl Recogniser {
 
     // A game whose first half-moves weren't shown, if one may begin. Returns whether there is one.
     fn start_deep(&mut self, view: &View) -> bool
-        ensures { (shown : List (List Piece)) (line : List Told)
+        ensures holds { (shown : List (List Piece)) (line : List Told)
             → self.old.memory.back ≡ 0 → self.old.memory.unsaid.items ≡ []
             → Contains shown (pieces_of view.now.shown)
             → Holds shown line self.old.memory → Holds shown line self.new.memory }
+        ensures view { self.new.view ≡ self.old.view }
     {
         if !self.may_start() {
             return false;
@@ -222,6 +226,7 @@ impl Recogniser {
 
     fn lose(&mut self, view: &View)
         ensures same { self.new.memory ≡ self.old.memory }
+        ensures view { self.new.view ≡ self.old.view }
         ensures lost { (self.new.notice ≡ self.old.notice) ⊎ ((squares : ℕ)
             × (self.new.notice ≡ Some (Notice.Lost squares))
             × IfSome (slice_get self.old.memory.line.items 0) (λ last. DifferingSquares
@@ -245,10 +250,11 @@ impl Recogniser {
 
     /// A line begins with the position that is shown.
     pub(crate) fn begin(&mut self)
-        ensures { (shown : List (List Piece)) (line : List Told)
+        ensures holds { (shown : List (List Piece)) (line : List Told)
             → self.old.memory.back ≡ 0 → self.old.memory.unsaid.items ≡ []
             → IfSome self.old.view (λ view. Contains shown (pieces_of view.shown))
             → Holds shown line self.old.memory → Holds shown line self.new.memory }
+        ensures view { self.new.view ≡ self.old.view }
     {
         self.search = Search::Hopeless;
         self.memory.forget_seen();
@@ -265,6 +271,7 @@ impl Recogniser {
             → self.old.memory.back ≡ 0 → self.old.memory.unsaid.items ≡ []
             → IfSome self.old.view (λ view. Contains shown (pieces_of view.shown))
             → Holds shown line self.old.memory → Holds shown line self.new.memory }
+        ensures view { self.new.view ≡ self.old.view }
         ensures back { self.new.memory.back ≡ self.old.memory.back }
         ensures unsaid { self.new.memory.unsaid.items ≡ self.old.memory.unsaid.items }
     {
@@ -279,6 +286,7 @@ impl Recogniser {
             → self.old.memory.back ≡ 0 → self.old.memory.unsaid.items ≡ []
             → IfSome root (λ node. IsRoot shown node)
             → Holds shown line self.old.memory → Holds shown line self.new.memory }
+        ensures view { self.new.view ≡ self.old.view }
         ensures back { self.new.memory.back ≡ self.old.memory.back }
         ensures unsaid { self.new.memory.unsaid.items ≡ self.old.memory.unsaid.items }
     {

@@ -1,6 +1,6 @@
 //! What is reported, one event at a time.
 
-ghost use Rattle.std.specs.Prelude.{◌≡◌, List, [], IfSome};
+ghost use Rattle.std.specs.Prelude.{◌≡◌, List, [], None, IfSome, false};
 ghost use Rattle.dgt_values.specs.declared.pieces.Piece.{Piece};
 ghost use Rattle.dgt_game.specs.Told.{Told};
 ghost use Rattle.dgt_game.specs.Memory.{steps};
@@ -11,20 +11,24 @@ use crate::recogniser::{Notice, Over, Recogniser};
 use dgt_chess::{Colour, State};
 
 impl Recogniser {
-    ghost use Rattle.dgt_game.specs.Memory.{Holds, IsSeen, Links, step_at};
+    ghost use Rattle.dgt_game.specs.Memory.{Holds, IsSeen, IsTold, Links, step_at};
+    ghost use Rattle.dgt_game.specs.Recogniser.{Knows, Reports};
 
     /// Whether an event waits to be reported.
-    pub(crate) fn has_news(&self) -> bool {
+    pub(crate) fn has_news(&self) -> bool
+        ensures { result ≡ false → IsTold self.now.memory }
+    {
         self.notice.is_some() || !self.memory.is_quiet() || self.ended.is_some()
     }
 
     /// Has the path to a place reported, and then the board stands there, or at the answer.
     pub(crate) fn tell(&mut self, place: Place, answer: Option<Node>)
-        ensures { (shown : List (List Piece)) (line : List Told)
+        ensures holds { (shown : List (List Piece)) (line : List Told)
             → self.old.memory.back ≡ 0 → self.old.memory.unsaid.items ≡ []
             → IfSome answer (λ node. Links (step_at (steps self.old.memory.line.items)
             (steps self.old.memory.seen.items) place) node.step × IsSeen shown node.step)
             → Holds shown line self.old.memory → Holds shown line self.new.memory }
+        ensures view { self.new.view ≡ self.old.view }
     {
         self.notice = found(&mut self.is_lost).or(self.notice);
         self.memory.tell(place, answer, self.over == Over::No);
@@ -39,7 +43,10 @@ impl Recogniser {
     }
 
     /// The next event that waits to be reported.
-    pub(crate) fn next_event(&mut self) -> Option<Event> {
+    pub(crate) fn next_event(&mut self) -> Option<Event>
+        ensures told { Reports self.old result self.new }
+        ensures none { result ≡ None → IsTold self.new.memory }
+    {
         if let Some(notice) = self.notice.take() {
             return Some(match notice {
                 Notice::Lost(squares) => Event::Lost(squares),
@@ -57,7 +64,10 @@ impl Recogniser {
 
     // What an event means for the rest: a result is taken back with its half-moves, and once all
     // was reported, the board stands at the line's last state, or at the answer to it.
-    fn follow_up(&mut self, event: &Event) {
+    fn follow_up(&mut self, event: &Event)
+        ensures knows { (shown : List (List Piece)) (line : List Told) → Knows shown line self.old
+            → Knows shown line self.new }
+    {
         match event {
             Event::Begun(_, _) | Event::Back(_) => self.over = Over::No,
             _ => {}

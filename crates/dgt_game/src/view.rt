@@ -1,10 +1,12 @@
 //! A picture, seen from both sides.
 
-ghost use Rattle.std.specs.Prelude.{◌≡◌, ◌↔◌, IsTrue, reverse};
+ghost use Rattle.std.specs.Prelude.{◌≡◌, ◌↔◌, List, Contains, IfSome, IsTrue, reverse};
+ghost use Rattle.dgt_values.specs.declared.pieces.Piece.{Piece};
 ghost use Rattle.dgt_values.specs.Board.{pieces_of};
 ghost use Rattle.dgt_chess.specs.Rules.{board};
 ghost use Rattle.dgt_game.specs.Told.{as_shown};
 
+use crate::observation::Sight;
 use dgt_chess::{Colour, Man, State};
 use dgt_values::{Piece, Position, Square};
 
@@ -17,12 +19,25 @@ pub(crate) struct View {
 }
 
 impl View {
+    ghost use Rattle.dgt_game.specs.Recogniser.{shown_after};
+
     pub(crate) fn new(shown: Position) -> Self
         ensures { result.shown ≡ shown }
     {
         View {
             shown,
             turned: turned(&shown),
+        }
+    }
+
+    /// What is seen, if the board isn't away.
+    pub(crate) fn of(sight: Sight) -> Option<Self>
+        ensures { (shown : List (List Piece)) → IfSome result (λ view.
+            Contains (shown_after sight shown) (pieces_of view.shown)) }
+    {
+        match sight {
+            Sight::Sure(position) | Sight::Doubted(position) => Some(View::new(position)),
+            Sight::Away => None,
         }
     }
 

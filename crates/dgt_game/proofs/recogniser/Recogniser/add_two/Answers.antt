@@ -22,4 +22,5 @@ returns-in-Some c = record {
         reads.3,
       )
       (c.push.ensures.holds shown line back unsaid reads.0 reads.1 holds);
+  view = c.add.ensures.view;
 }

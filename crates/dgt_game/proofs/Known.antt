@@ -1,0 +1,202 @@
+-- What is known stays so when more is shown, and over whole runs.
+use Rattle.std.proofs.Common.{◌≡◌, ◌∙◌, ◌++◌, ◌⊎◌, ◌<◌, refl, sym, ap, subst, inl, inr, arith, ℕ, zero, suc, length, slice_index_or, Bool, List, [], ◌∷◌, Option, Some, None}
+use Rattle.std.specs.Prelude.{Contains, IfSome}
+use Rattle.dgt_values.specs.declared.pieces.Piece.{Piece}
+use Rattle.dgt_values.specs.Board.{pieces_of}
+use Rattle.dgt_chess.specs.declared.state.State.{State}
+use Rattle.dgt_game.specs.declared.event.Event.{Event}
+use Rattle.dgt_game.specs.declared.memory.Memory.{Memory}
+use Rattle.dgt_game.specs.declared.node.Node.{Node}
+use Rattle.dgt_game.specs.declared.node.Place.{Place}
+use Rattle.dgt_game.specs.declared.node.Step.{Step}
+use Rattle.dgt_game.specs.declared.node.Way.{Way}
+use Rattle.dgt_game.specs.declared.observation.Sight.{Sight}
+use Rattle.dgt_game.specs.declared.recogniser.Recogniser.{Recogniser}
+use Rattle.dgt_game.specs.declared.view.View.{View}
+use Rattle.dgt_game.specs.Told.{IsLegalTold, IsShown, Leads, Told, WasShown, as_shown, told_pieces}
+use Rattle.dgt_game.specs.Memory.{Chain, Holds, Links, steps, tip}
+use Rattle.dgt_game.specs.Recogniser.{GoesOn, Knows, Reports, Sees, new_recogniser, shown_after}
+use Rattle.dgt_game.specs.Runs.{Call, Does, IsLegalAndShown, Runs, events_of, shown_in}
+use Rattle.dgt_game.proofs.Links.{was_shown}
+use Rattle.dgt_game.proofs.Told.{grows_none}
+
+-- all pictures of the first are among the second
+abbrev pub Within : List (List Piece) → List (List Piece) → Type 0
+Within shown more = (picture : List Piece) → Contains shown picture → Contains more picture
+
+pub within_cons : (shown : List (List Piece)) (first : List Piece) → Within shown (first ∷ shown)
+within_cons shown first picture h = (suc h.0, omega (arith, h.1), h.2)
+
+pub first_shown : (shown : List (List Piece)) (first : List Piece) → Contains (first ∷ shown) first
+first_shown shown first = (zero, omega arith, refl)
+
+first_among : (shown : List (List Piece)) (first picture : List Piece) (k : ℕ)
+    → k < length (first ∷ []) → slice_index_or (first ∷ []) k picture ≡ picture
+    → Contains (first ∷ shown) picture
+first_among shown first picture zero l e = (zero, omega arith, e)
+first_among shown first picture (suc k) l e = absurd (omega (arith, l))
+
+within_first : (shown : List (List Piece)) (first : List Piece)
+    → Within (first ∷ []) (first ∷ shown)
+within_first shown first picture h = first_among shown first picture h.0 h.1 h.2
+
+pub within_after : (sight : Sight) (shown : List (List Piece))
+    → Within shown (shown_after sight shown)
+within_after (Sight.Sure position) shown = within_cons shown (pieces_of position)
+within_after (Sight.Doubted position) shown = within_cons shown (pieces_of position)
+within_after Sight.Away shown = λ picture h. h
+
+was_more : (shown more : List (List Piece)) (told : Told) → Within shown more
+    → WasShown shown told → WasShown more told
+unfolding WasShown
+was_more shown more told within h = elim h [
+  | inl seen ↦ inl (within (told_pieces told) seen)
+  | inr other ↦ inr (elim other [
+    | inl held ↦ inl (held.0, (held.1.0, within held.1.0 held.1.1, held.1.2))
+    | inr start ↦ inr start
+  ])
+]
+
+shown_more : (shown more : List (List Piece)) (line : List Told) → Within shown more
+    → IsShown shown line → IsShown more line
+shown_more shown more [] within h = tt
+shown_more shown more (told ∷ line) within h =
+    (was_more shown more told within h.0, shown_more shown more line within h.1)
+
+chain_more : (shown more : List (List Piece)) (before : Option Step) (path : List Step)
+    → Within shown more → Chain shown before path → Chain more before path
+chain_more shown more before [] within h = tt
+chain_more shown more before (step ∷ path) within h =
+    (h.0, was_more shown more _ within h.1, chain_more shown more (Some step) path within h.2)
+
+some_more : {X : Type 0} (P Q : X → Type 0) (found : Option X) → ((x : X) → P x → Q x)
+    → IfSome found P → IfSome found Q
+some_more P Q None more h = tt
+some_more P Q (Some x) more h = more x h
+
+pub holds_more : (shown more : List (List Piece)) (line : List Told) (self : Memory)
+    → Within shown more → Holds shown line self → Holds more line self
+holds_more shown more line self within h = record {
+  shown_line = shown_more shown more line within h.shown_line;
+  kept = h.kept;
+  back = h.back;
+  unsaid = chain_more shown more _ _ within h.unsaid;
+  answer = some_more _ _ self.answer (λ node seen. (seen.0, was_more shown more _ within seen.1))
+      h.answer;
+  grows = λ k step e. let seen = h.grows k step e in (seen.0, was_more shown more _ within seen.1);
+  quiet = h.quiet;
+}
+
+pub knows_more : (shown more : List (List Piece)) (line : List Told) (self : Recogniser)
+    → Within shown more → Knows shown line self → Knows more line self
+knows_more shown more line self within h = record {
+  held = holds_more shown more line self.memory within h.held;
+  seen = some_more _ _ self.view (λ view. within (pieces_of view.shown)) h.seen;
+}
+
+-- only these two are known
+abbrev pub memory_of : Recogniser → Memory
+memory_of self = self.memory
+
+abbrev pub view_of : Recogniser → Option View
+view_of self = self.view
+
+pub knows_same : (shown : List (List Piece)) (line : List Told) (old new : Recogniser)
+    → memory_of new ≡ memory_of old → view_of new ≡ view_of old → Knows shown line old
+    → Knows shown line new
+knows_same shown line old new memory view h = record {
+  held = subst (Holds shown line) (sym memory) h.held;
+  seen = subst (λ (v : Option View). IfSome v (λ view. Contains shown (pieces_of view.shown)))
+      (sym view) h.seen;
+}
+
+knows_nothing : Knows [] [] new_recogniser
+knows_nothing = record {
+  held = record {
+    shown_line = tt;
+    kept = tt;
+    back = inl refl;
+    unsaid = tt;
+    answer = tt;
+    grows = grows_none [] [];
+    quiet = inl refl;
+  };
+  seen = tt;
+}
+
+-- the first step of a line
+abbrev first_step : State → Bool → Step
+first_step state is_turned = record {
+  state = state;
+  is_turned = is_turned;
+  way = Way.Begun;
+  parent = Place.Nowhere;
+}
+
+pub goes_on : (state : State) (is_turned : Bool) (old self : Recogniser) (node : Node)
+    → old ≡ new_recogniser → node.step ≡ first_step state is_turned
+    → self.memory.line.items ≡ old.memory.line.items ++ node ∷ []
+    → self.memory.back ≡ old.memory.back → self.memory.unsaid.items ≡ old.memory.unsaid.items
+    → self.memory.answer ≡ old.memory.answer → self.memory.seen.items ≡ old.memory.seen.items
+    → self.view ≡ old.view → GoesOn state is_turned self
+goes_on state is_turned old self node new step line back unsaid answer seen view =
+    let told : Told = record { state = state; halves = 0; is_turned = is_turned } in
+    let lines : steps self.memory.line.items ≡ first_step state is_turned ∷ [] =
+    ap steps line ∙ ap (λ (r : Recogniser). steps (r.memory.line.items ++ node ∷ [])) new
+    ∙ ap (λ (s : Step). s ∷ []) step in
+    let none : steps self.memory.unsaid.items ≡ [] =
+    ap steps unsaid
+    ∙ ap (λ (r : Recogniser). steps r.memory.unsaid.items) new in
+    let nothing : steps self.memory.seen.items ≡ [] =
+    ap steps seen
+    ∙ ap (λ (r : Recogniser). steps r.memory.seen.items) new in
+    let no_answer : self.memory.answer ≡ None =
+    answer ∙ ap (λ (r : Recogniser). r.memory.answer) new in
+    let no_view : self.view ≡ None = view ∙ ap (λ (r : Recogniser). r.view) new in
+    record {
+      held = record {
+        shown_line = (
+          was_shown (told_pieces told ∷ []) told (told_pieces told)
+              (first_shown [] (told_pieces told)) refl,
+          tt,
+        );
+        kept = rw lines (refl, tt);
+        back = inl (back ∙ ap (λ (r : Recogniser). r.memory.back) new);
+        unsaid = rw none tt;
+        answer = rw no_answer tt;
+        grows = rw nothing (grows_none _ _);
+        quiet = inl nothing;
+      };
+      seen = rw no_view tt;
+    }
+
+-- where a run leads to
+abbrev Leads_on : List (List Piece) → List Told → List Call → Recogniser → Type 0
+Leads_on shown line calls ended =
+    (after : List Told) × IsLegalTold line (events_of calls) after
+    × Knows (shown_in shown calls) after ended
+
+over_calls : (calls : List Call) (shown : List (List Piece)) (line : List Told) (old ended :
+    Recogniser) → Knows shown line old → Runs old calls ended → Leads_on shown line calls ended
+over_calls [] shown line old ended h runs =
+    (line, refl, subst (λ (self : Recogniser). Knows shown line self) (sym runs) h)
+over_calls (Call.See sight ∷ calls) shown line old ended h runs =
+    over_calls calls (shown_after sight shown) line runs.0 ended (runs.1 shown line h) runs.2
+over_calls (Call.Due None ∷ calls) shown line old ended h runs =
+    over_calls calls shown line runs.0 ended (runs.1 shown line h) runs.2
+over_calls (Call.Due (Some event) ∷ calls) shown line old ended h runs =
+    let (next, leads, known) = runs.1 shown line h in
+    let (after, legal, last) = over_calls calls shown next runs.0 ended known runs.2 in
+    (after, (next, leads, legal), last)
+over_calls (Call.GoOn state is_turned ∷ calls) shown line old ended h runs =
+    let told : Told = record { state = state; halves = 0; is_turned = is_turned } in
+    let known : Knows (told_pieces told ∷ shown) (told ∷ []) runs.0 = knows_more (told_pieces told ∷ []) (told_pieces told ∷ shown) (told ∷ []) runs.0
+    (within_first shown (told_pieces told)) runs.1 in
+    let (after, legal, last) = over_calls calls (told_pieces told ∷ shown) (told ∷ []) runs.0 ended
+    known runs.2 in
+    (after, (told ∷ [], refl, legal), last)
+
+pub legal_and_shown : IsLegalAndShown
+legal_and_shown calls ended runs =
+    let (line, legal, known) = over_calls calls [] [] new_recogniser ended knows_nothing runs in
+    (line, legal, known.held.shown_line)

@@ -1,0 +1,165 @@
+-- What lines, events and pictures mean, in other words.
+use Rattle.std.proofs.Common.{◌≡◌, ◌∙◌, ◌<◌, ◌≤◌, ◌⊎◌, refl, sym, ap, subst, inl, inr, arith, ℕ, zero, suc, length, List, [], ◌∷◌, Option, Some, None, unwrap_or}
+use Rattle.std.specs.Prelude.{⊤, Contains, MatchOption, slice_get}
+use Rattle.dgt_values.specs.declared.pieces.Piece.{Piece}
+use Rattle.dgt_chess.specs.declared.state.Move.{Move}
+use Rattle.dgt_chess.specs.declared.state.State.{State}
+use Rattle.dgt_chess.specs.Attacks.{piece_at}
+use Rattle.dgt_chess.specs.Rules.{board}
+use Rattle.dgt_game.specs.declared.event.Event.{Event}
+use Rattle.dgt_game.specs.Lines.{IsLine, IsMove, IsOnly, LeadsTo, moves_of}
+use Rattle.dgt_game.specs.Told.{IsHeld, IsLegalTold, IsShown, Joins, Leads, Told, WasShown, as_shown, told_pieces}
+use Rattle.dgt_game.specs.Laws.{AreJoined, BackIsCounted, LegalIsJoined, NoneAndOne, OneIsShown, OneLine, OthersAreHeld, SeveralAreShown, ShownIsHeld, StartIsShown, UnseenIsOnly}
+use Rattle.dgt_game.proofs.Links.{turned_back}
+use Rattle.dgt_game.proofs.Same.{one_next}
+
+rest_joined : (told : Told) (line : List Told) → AreJoined (told ∷ line) → AreJoined line
+rest_joined told [] h = tt
+rest_joined told (before ∷ line) h = h.2
+
+joined_on : (line new : List Told) (event : Event) → AreJoined line → Leads line event new
+    → AreJoined new
+unfolding Joins
+joined_on line new (Event.Begun state is_turned) h leads = subst AreJoined (sym leads) refl
+joined_on (last ∷ line) new (Event.Made one) h leads =
+    subst AreJoined (sym leads.2) ((one ∷ [], refl, (leads.0, leads.1, refl)), refl, h)
+joined_on (last ∷ line) new (Event.Unseen moves) h leads =
+    subst AreJoined (sym leads.3) ((moves_of moves, refl, leads.1), refl, h)
+joined_on (last ∷ line) new (Event.Gap state count) h leads =
+    subst AreJoined (sym leads.1) (leads.0, refl, h)
+joined_on (last ∷ line) new (Event.Back count) h leads =
+    subst AreJoined (sym leads.2) (rest_joined last line h)
+joined_on line new (Event.Ended result) h leads = subst AreJoined (sym leads) h
+joined_on line new (Event.Lost squares) h leads = subst AreJoined (sym leads) h
+joined_on line new Event.Found h leads = subst AreJoined (sym leads) h
+joined_on [] new (Event.Made one) h leads = absurd leads
+joined_on [] new (Event.Unseen moves) h leads = absurd leads
+joined_on [] new (Event.Gap state count) h leads = absurd leads
+joined_on [] new (Event.Back count) h leads = absurd leads
+
+joined_after : (events : List Event) (line new : List Told) → AreJoined line
+    → IsLegalTold line events new → AreJoined new
+joined_after [] line new h legal = subst AreJoined (sym legal) h
+joined_after (event ∷ events) line new h legal =
+    joined_after events legal.0 new (joined_on line legal.0 event h legal.1) legal.2
+
+pub legal_is_joined : LegalIsJoined
+legal_is_joined events line legal = joined_after events [] line tt legal
+
+no_line : (state new : State) (moves : List Move) → length moves ≡ 0 → IsLine state moves new
+    → state ≡ new
+no_line state new [] e h = h
+no_line state new (one ∷ moves) e h = absurd (omega arith)
+
+single : (state new : State) (moves : List Move) → length moves ≡ 1 → IsLine state moves new
+    → (one : Move) × IsMove state one new
+single state new [] e h = absurd (omega arith)
+single state new (one ∷ moves) e h =
+    let same : h.0 ≡ new = no_line h.0 new moves (omega (arith, e)) h.2 in
+    (one, subst (λ (s : State). IsMove state one s) same h.1)
+
+pub none_and_one : NoneAndOne
+unfolding Joins IsMove
+none_and_one state new = (
+  (λ h. no_line state new h.0 h.1 h.2),
+  (λ h. let (one, made) = single state new h.0 h.1 h.2 in (one, made, (made.0, made.1))),
+)
+
+one_end : (state a b : State) (moves : List Move) → IsLine state moves a → IsLine state moves b
+    → a ≡ b
+one_end state a b [] h k = sym h ∙ k
+one_end state a b (one ∷ moves) h k =
+    one_end k.0 a b moves (subst (λ (s : State). IsLine s moves a)
+    (one_next state one h.0 k.0 h.1 k.1) h.2) k.2
+
+pub one_line : OneLine
+one_line line new other (Event.Begun state is_turned) h k = h ∙ sym k
+one_line (last ∷ line) new other (Event.Made one) h k =
+    h.2 ∙ ap (λ (s : State). record {
+      state = s;
+      halves = 1;
+      is_turned = last.is_turned;
+    } ∷ last ∷ line) (one_next last.state one h.0 k.0 h.1 k.1) ∙ sym k.2
+one_line (last ∷ line) new other (Event.Unseen moves) h k =
+    h.3 ∙ ap (λ (s : State). record {
+      state = s;
+      halves = length (moves_of moves);
+      is_turned = last.is_turned;
+    } ∷ last ∷ line) (one_end last.state h.0 k.0 (moves_of moves) h.1 k.1) ∙ sym k.3
+one_line (last ∷ line) new other (Event.Gap state count) h k = h.1 ∙ sym k.1
+one_line (last ∷ line) new other (Event.Back count) h k = h.2 ∙ sym k.2
+one_line line new other (Event.Ended result) h k = h ∙ sym k
+one_line line new other (Event.Lost squares) h k = h ∙ sym k
+one_line line new other Event.Found h k = h ∙ sym k
+one_line [] new other (Event.Made one) h k = absurd h
+one_line [] new other (Event.Unseen moves) h k = absurd h
+one_line [] new other (Event.Gap state count) h k = absurd h
+one_line [] new other (Event.Back count) h k = absurd h
+
+pub unseen_is_only : UnseenIsOnly
+unfolding IsOnly LeadsTo
+unseen_is_only last told line new moves others end leads legal count same =
+    let here : told.state ≡ leads.0 = cc leads.3 in
+    leads.2 others count (end, legal, same ∙ ap board here)
+
+pub back_is_counted : BackIsCounted
+back_is_counted [] new count leads = absurd leads
+back_is_counted (last ∷ line) new count leads =
+    (rw leads.2 leads.0, rw (leads.2, leads.1) refl)
+
+arrived : (shown : List (List Piece)) (told : Told) → WasShown shown told → 2 ≤ told.halves
+    → Contains shown (told_pieces told)
+unfolding WasShown
+arrived shown told h some = elim h [
+  | inl seen ↦ seen
+  | inr other ↦ absurd (elim other [
+    | inl held ↦ let e : told.halves ≡ 1 = held.0 in omega arith
+    | inr start ↦ let e : told.halves ≡ 0 = start.0 in omega arith
+  ])
+]
+
+pub several_are_shown : SeveralAreShown
+several_are_shown shown [] n told h e some =
+    absurd (subst (λ (o : Option Told). MatchOption o ⊤ (λ _. ⊥)) e tt)
+several_are_shown shown (first ∷ line) zero told h e some =
+    let same : first ≡ told = ap (λ (o : Option Told). unwrap_or o first) e in
+    arrived shown told (subst (WasShown shown) same h.0) some
+several_are_shown shown (first ∷ line) (suc n) told h e some =
+    several_are_shown shown line n told h.1 e some
+
+pub one_is_shown : OneIsShown
+unfolding WasShown
+one_is_shown shown told h one = elim h [
+  | inl seen ↦ (
+    told_pieces told,
+    seen,
+    (λ k small. inl (ap (λ (l : List Piece). piece_at l k)
+        (turned_back told.is_turned (told_pieces told) (board told.state) refl))),
+  )
+  | inr other ↦ elim other [
+    | inl held ↦ held.1
+    | inr start ↦ absurd (let e : told.halves ≡ 0 = start.0 in omega (arith, e, one))
+  ]
+]
+
+pub others_are_held : OthersAreHeld
+others_are_held picture state k h small none = elim (h k small) [
+  | inl same ↦ same
+  | inr held ↦ absurd (none held.1.0 held.1.1)
+]
+
+pub shown_is_held : ShownIsHeld
+shown_is_held picture state k h small some = elim (h k small) [
+  | inl same ↦ same
+  | inr held ↦ absurd (some held.0)
+]
+
+pub start_is_shown : StartIsShown
+unfolding WasShown
+start_is_shown told h = elim h [
+  | inl seen ↦ absurd (let l : seen.0 < 0 = seen.1 in omega arith)
+  | inr other ↦ elim other [
+    | inl held ↦ absurd (let l : held.1.1.0 < 0 = held.1.1.1 in omega arith)
+    | inr start ↦ start
+  ]
+]

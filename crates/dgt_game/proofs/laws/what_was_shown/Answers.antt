@@ -1,0 +1,17 @@
+use Rattle.dgt_game.proofs.Meaning.{one_is_shown, others_are_held, several_are_shown, shown_is_held, start_is_shown}
+use Rattle.dgt_game.proofs.laws.what_was_shown.Goals as goal
+
+pub returns-clause-several : goal.returns-clause-several
+returns-clause-several c = several_are_shown
+
+pub returns-clause-one : goal.returns-clause-one
+returns-clause-one c = one_is_shown
+
+pub returns-clause-others : goal.returns-clause-others
+returns-clause-others c = others_are_held
+
+pub returns-clause-pieces : goal.returns-clause-pieces
+returns-clause-pieces c = shown_is_held
+
+pub returns-clause-start : goal.returns-clause-start
+returns-clause-start c = start_is_shown

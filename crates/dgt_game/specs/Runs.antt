@@ -1,0 +1,49 @@
+-- What a recogniser reports over whole runs.
+use Rattle.std.specs.Prelude.{◌≡◌, Bool, List, [], ◌∷◌, Option, None, Some}
+use Rattle.dgt_values.specs.declared.pieces.Piece.{Piece}
+use Rattle.dgt_chess.specs.declared.state.State.{State}
+use Rattle.dgt_chess.specs.Rules.{board}
+use Rattle.dgt_game.specs.declared.event.Event.{Event}
+use Rattle.dgt_game.specs.declared.observation.Sight.{Sight}
+use Rattle.dgt_game.specs.declared.recogniser.Recogniser.{Recogniser}
+use Rattle.dgt_game.specs.Told.{IsLegalTold, IsShown, Told, as_shown}
+use Rattle.dgt_game.specs.Recogniser.{GoesOn, Reports, Sees, new_recogniser, shown_after}
+
+-- A call that was done: what was seen, what was reported if anything, or what was gone on from.
+pub data Call : Type 0 where
+  See : (sight : Sight) → Call
+  Due : (report : Option Event) → Call
+  GoOn : (state : State) (is_turned : Bool) → Call
+
+abbrev pub Does : Recogniser → Call → Recogniser → Type 0
+Does old (Call.See sight) new = Sees old sight new
+Does old (Call.Due report) new = Reports old report new
+Does old (Call.GoOn state is_turned) new = GoesOn state is_turned new
+
+-- consecutive calls
+abbrev pub Runs : Recogniser → List Call → Recogniser → Type 0
+Runs old [] new = new ≡ old
+Runs old (call ∷ calls) new = (next : Recogniser) × Does old call next × Runs next calls new
+
+-- The pictures shown, after these. A state that a line goes on from counts as shown.
+abbrev pub shown_in : List (List Piece) → List Call → List (List Piece)
+shown_in shown [] = shown
+shown_in shown (Call.See sight ∷ calls) = shown_in (shown_after sight shown) calls
+shown_in shown (Call.Due report ∷ calls) = shown_in shown calls
+shown_in shown (Call.GoOn state is_turned ∷ calls) =
+    shown_in (as_shown is_turned (board state) ∷ shown) calls
+
+-- The events reported. A line that goes on from a state begins there.
+abbrev pub events_of : List Call → List Event
+events_of [] = []
+events_of (Call.Due (Some event) ∷ calls) = event ∷ events_of calls
+events_of (Call.GoOn state is_turned ∷ calls) = Event.Begun state is_turned ∷ events_of calls
+events_of (call ∷ calls) = events_of calls
+
+-- **What is reported is legal, and was shown.** Whatever is seen and whenever a recogniser is
+-- asked, its events in turn are legal, and lead to a line whose positions were shown before.
+abbrev pub IsLegalAndShown : Type 0
+IsLegalAndShown =
+    (calls : List Call) (ended : Recogniser) → Runs new_recogniser calls ended
+    → (line : List Told) × IsLegalTold [] (events_of calls) line
+    × IsShown (shown_in [] calls) line

@@ -1,0 +1,27 @@
+//! Laws of a recogniser. Each function does nothing at run time: its contract states the facts.
+
+ghost use Rattle.dgt_game.specs.Laws.{BackIsCounted, LegalIsJoined, NoneAndOne, OneIsShown, OneLine, OthersAreHeld, SeveralAreShown, ShownIsHeld, StartIsShown, UnseenIsOnly};
+ghost use Rattle.dgt_game.specs.Runs.{IsLegalAndShown};
+
+/// What is reported is legal and was shown, over whole runs.
+pub fn reports_are_legal()
+    ensures { IsLegalAndShown }
+{}
+
+/// What events say of the line.
+pub fn what_events_say()
+    ensures joined { LegalIsJoined }
+    ensures moves { NoneAndOne }
+    ensures one { OneLine }
+    ensures only { UnseenIsOnly }
+    ensures back { BackIsCounted }
+{}
+
+/// What was shown of a line.
+pub fn what_was_shown()
+    ensures several { SeveralAreShown }
+    ensures one { OneIsShown }
+    ensures others { OthersAreHeld }
+    ensures pieces { ShownIsHeld }
+    ensures start { StartIsShown }
+{}
