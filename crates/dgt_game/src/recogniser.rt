@@ -182,7 +182,6 @@ impl Recogniser {
             && now.saturating_sub(self.since) >= GLANCE
             && (self.is_behind || self.over == Over::No)
             && !self.is_lifted()
-            && !self.is_early()
         {
             self.add_roots();
         }
