@@ -26,7 +26,7 @@ enum { SERIAL_TEXT = 0x1f00, BUS_ADDRESS_TEXT, VERSION_TEXT, TRADEMARK_TEXT, DRI
 
 enum {
     CLICK = 1,         /* the event "a piece was lifted", which eboard treats as a click */
-    SETTLE = 300,      /* the rest of a move before it is reported */
+    SETTLE = 300,      /* the least rest of a move before it is reported */
     BOARD_WAIT = 3000, /* for all squares, at the start */
     TEXTS_WAIT = 700   /* for the texts, which not every board sends */
 };
@@ -50,15 +50,7 @@ static char serial[8], version[16], trademark[128]; /* set before the thread sta
 
 /* Only for the reader while it runs. */
 static line board = {.port = -1};
-static struct progress {
-    game game;
-    bool begun;
-} followed, sure;              /* by each picture of the board, and by the last one confirmed */
-static uint8_t last[64];       /* the last picture */
-static move found[REMEMBERED]; /* the moves after the picture that was last confirmed */
-static int finds;
-static enum plays plays;
-static int settle;
+static game followed;
 
 static pthread_mutex_t lock = PTHREAD_MUTEX_INITIALIZER;
 static char shown[65]; /* under the lock: the squares that GetBoard returns */
@@ -68,45 +60,31 @@ static char shown[65]; /* under the lock: the squares that GetBoard returns */
 /* eboard treats each event as a click on its window's board, which it turns if the player has
  * Black; but it assumes that the squares are those of a turned board, too. */
 static void set_click(uint8_t event[4], uint8_t square, uint8_t piece) {
-    if (game_player(&followed.game) == BLACK) square = (uint8_t)(63 - square);
+    if (game_player(&followed) == BLACK) square = (uint8_t)(63 - square);
     event[0] = CLICK;
     event[1] = (uint8_t)('A' + square % 8);
     event[2] = (uint8_t)(8 - square / 8);
     event[3] = (uint8_t)dgt_piece_letter(piece);
 }
 
-/* Reports on standard error that eboard never gets a move, and why. The squares are the game's. */
-static void log_dropped(const move *made, const char *why) {
+/* Reports on standard error that eboard never gets a move. The squares are the game's. */
+static void log_dropped(const move *made) {
     char from[3], to[3];
     dgt_square_name(made->from, from);
     dgt_square_name(made->to, to);
-    fprintf(stderr, "dgtnix: move %s%s dropped: %s\n", from, to, why);
+    fprintf(stderr, "dgtnix: move %s%s dropped: the pipe is full, nobody reads it\n", from, to);
 }
 
 /* Two clicks are a move. They are one write, which the pipe takes completely or not at all. */
 static void tell(const move *made) {
     uint8_t clicks[8];
-    if (!game_wants(&followed.game, side_of(made->piece))) return;
+    if (!game_wants(&followed, side_of(made->piece))) return;
     set_click(clicks, made->from, made->piece);
     set_click(clicks + 4, made->to, made->becomes);
-    if (write(events[1], clicks, sizeof clicks) != sizeof clicks)
-        log_dropped(made, "the pipe is full, nobody reads it");
+    if (write(events[1], clicks, sizeof clicks) != sizeof clicks) log_dropped(made);
 }
 
-/* ---- Moves for eboard. A picture may be wrong until the board has sent all its squares again, and
- * eboard can't take a move back. So a move waits until a picture is confirmed. */
-
-static void find(const move *made) {
-    if (finds < REMEMBERED) found[finds++] = *made;
-    else log_dropped(made, "the board confirms none");
-}
-
-/* Confirms the picture, and with it the moves that have led to it. */
-static void trust(void) {
-    for (int each = 0; each < finds; each++) tell(&found[each]);
-    finds = 0;
-    sure = followed;
-}
+/* ---- The board's squares */
 
 static void show(const uint8_t pieces[64]) {
     pthread_mutex_lock(&lock);
@@ -115,31 +93,19 @@ static void show(const uint8_t pieces[64]) {
     pthread_mutex_unlock(&lock);
 }
 
-/* If a dump differs from the last picture, that was wrong, or the board was away. Then the game
- * continues from the last confirmed picture. */
-static void see(const uint8_t pieces[64], bool is_dump) {
-    move made;
-    if (is_dump && memcmp(last, pieces, sizeof last) != 0) {
-        followed = sure;
-        finds = 0;
-    }
-    memcpy(last, pieces, sizeof last);
-    if (line_is_sure(&board)) show(pieces);
-    if (!followed.begun) game_begin(&followed.game, pieces, plays, settle);
-    else if (game_see(&followed.game, pieces, line_now(), &made)) find(&made);
-    followed.begun = true;
-    if (line_is_confirmed(&board)) trust();
+static void see(void) {
+    uint8_t pieces[64] = {0}, sight = line_sight(&board, pieces);
+    if (sight == DGT_SIGHT_SURE) show(pieces);
+    game_see(&followed, line_now(), pieces, sight, line_is_confirmed(&board));
 }
 
-/* Checks whether a move has rested. While one waits, all squares are requested. */
+/* Reports moves. While one may wait, all squares are requested: eboard can't take a move back, and
+ * a picture may be wrong until the board has sent all its squares again. */
 static void look(void) {
     move made;
-    if (line_is_confirmed(&board)) {
-        if (game_wait(&followed.game, line_now(), &made)) find(&made);
-        trust();
-    } else if (finds > 0 || followed.game.due != 0 || !sure.begun) {
-        line_hurry(&board);
-    }
+    see();
+    while (game_next(&followed, line_now(), &made)) tell(&made);
+    if (!line_is_confirmed(&board) && game_waits(&followed)) line_hurry(&board);
 }
 
 /* ---- The thread */
@@ -152,8 +118,8 @@ static int left_until(long long time) {
 
 /* When there is something to do besides reading. */
 static long long next_time(void) {
-    long long due = line_due(&board), rested = followed.game.due;
-    return line_is_confirmed(&board) && rested != 0 && rested < due ? rested : due;
+    long long due = line_due(&board), rested = game_due(&followed);
+    return rested < due ? rested : due;
 }
 
 static void *read_board(void *unused) {
@@ -180,26 +146,29 @@ static bool start_reader(void) {
 
 /* ---- Start and end */
 
-static void read_settings(void) {
+/* Begins a game with the settings. False, with the reason in errno, if this is another library. */
+static bool begin(void) {
     const char *side = getenv("DGT_SIDE"), *wait = getenv("DGT_SETTLE");
-    plays = BY_THE_BOARD;
+    enum plays plays = BY_THE_BOARD;
     if (side && strcmp(side, "white") == 0) plays = PLAYS_WHITE;
     if (side && strcmp(side, "black") == 0) plays = PLAYS_BLACK;
     if (side && strcmp(side, "both") == 0) plays = PLAYS_BOTH;
-    settle = wait ? atoi(wait) : 0;
-    if (settle <= 0 || settle > 60000) settle = SETTLE;
+    int settle = wait ? atoi(wait) : 0;
+    errno = ELIBBAD;
+    return game_begin(&followed, plays, settle > SETTLE && settle <= 60000 ? settle - SETTLE : 0);
 }
 
 /* Reads the board until its squares are confirmed, or it has reported `texts` texts. False, with
  * the reason in errno, if that takes too long. Squares that are sure by then are enough. */
 static bool hear_for(int milliseconds, int texts) {
+    uint8_t pieces[64];
     long long end = line_now() + milliseconds;
     while (texts > 0 ? board.texts < texts : !line_is_confirmed(&board)) {
         long long due = line_due(&board);
         struct pollfd waits = {board.port, POLLIN, 0};
         errno = board.port < 0 ? ENODEV : ETIMEDOUT;
         if (board.port < 0) return false;
-        if (line_now() >= end) return texts == 0 && line_is_sure(&board);
+        if (line_now() >= end) return texts == 0 && line_sight(&board, pieces) == DGT_SIGHT_SURE;
         if (poll(&waits, 1, left_until(due < end ? due : end)) > 0) line_read(&board, see);
         look();
         if (board.port >= 0) line_keep(&board);
@@ -231,10 +200,8 @@ static bool start(const char *port) {
         return false;
     }
     strcpy(name, port);
-    followed.begun = sure.begun = false;
-    finds = 0;
-    read_settings();
-    if (!open_pipe() || !line_open(&board, name) || !hear_for(BOARD_WAIT, 0)) return false;
+    if (!begin() || !open_pipe() || !line_open(&board, name)) return false;
+    if (!hear_for(BOARD_WAIT, 0)) return false;
     line_ask_texts(&board);
     hear_for(TEXTS_WAIT, 3);
     memcpy(serial, board.serial, sizeof serial);

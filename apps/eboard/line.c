@@ -153,21 +153,14 @@ void line_close(line *line) {
 
 /* ---- Reports */
 
-bool line_is_sure(line *line) {
+uint8_t line_sight(line *line, uint8_t pieces[64]) {
     dgt_follower *follower = &line->follower;
-    uint8_t pieces[64];
-    return dgt_follower_picture(follower, pieces) && !dgt_follower_in_doubt(follower);
+    if (line->port < 0 || !dgt_follower_picture(follower, pieces)) return DGT_SIGHT_AWAY;
+    return dgt_follower_in_doubt(follower) ? DGT_SIGHT_DOUBTED : DGT_SIGHT_SURE;
 }
 
 bool line_is_confirmed(line *line) {
     return dgt_follower_confirmed(&line->follower);
-}
-
-/* Whether a square or all of them were reported. */
-static void show(line *line, bool is_dump, seen *seen) {
-    uint8_t pieces[64];
-    if (is_dump) line->hurries = false;
-    if (dgt_follower_picture(&line->follower, pieces)) seen(pieces, is_dump);
 }
 
 static void keep_text(char *text, size_t room, const uint8_t *body, size_t length) {
@@ -181,7 +174,10 @@ static void hear(line *line, const dgt_event *event, const uint8_t *body, size_t
     size_t length = event->body_len < room ? event->body_len : room;
     switch (event->kind) {
     case DGT_EVENT_DUMP:
-    case DGT_EVENT_FIELD: show(line, event->kind == DGT_EVENT_DUMP, seen); break;
+    case DGT_EVENT_FIELD:
+        if (event->kind == DGT_EVENT_DUMP) line->hurries = false;
+        seen();
+        break;
     case DGT_EVENT_SERIAL:
         keep_text(line->serial, sizeof line->serial, event->serial, sizeof event->serial);
         line->texts++;

@@ -14,8 +14,8 @@ typedef struct line {
     char serial[8], version[16], trademark[128];
 } line;
 
-/* Called with all squares, right or wrong, each time that one of them or all were reported. */
-typedef void seen(const uint8_t pieces[64], bool is_dump);
+/* Called each time that one square or all were reported. */
+typedef void seen(void);
 
 long long line_now(void);
 
@@ -23,7 +23,7 @@ long long line_now(void);
  * port can't be opened. */
 bool line_open(line *line, const char *name);
 
-/* Reads received bytes, and calls `seen` after each report of squares, if all are known by then. */
+/* Reads received bytes, and calls `seen` after each report of squares. */
 void line_read(line *line, seen *seen);
 
 /* Sends a request, or looks for the port, if that is due. */
@@ -32,8 +32,9 @@ void line_keep(line *line);
 /* The next time to call line_keep, if nothing is read before. */
 long long line_due(line *line);
 
-/* Whether all squares are known, and aren't in doubt. */
-bool line_is_sure(line *line);
+/* Writes the squares, and returns the sight of them that dgt_recogniser_see takes. If it is
+ * DGT_SIGHT_AWAY, they aren't known, and none is written. */
+uint8_t line_sight(line *line, uint8_t pieces[64]);
 
 /* Whether a report of all squares has repeated the known ones (see dgt.h). */
 bool line_is_confirmed(line *line);

@@ -4,8 +4,8 @@
  * number waits for milliseconds. `e2e4` is a complete move: a piece on e4 is removed first, and it
  * rests afterwards. `seen` shows the same position again, `black` gives the player Black, and
  * `both` requests both sides' moves. There are 60 ms between two steps; a move is reported when it
- * has rested for 300. Squares in the steps are the board's, and those in reported moves of both
- * sides are the game's.
+ * has rested for 300, and 12 s pass at the end, since moves faster than hands wait for 10 s.
+ * Squares in the steps are the board's, and those in reported moves of both sides are the game's.
  */
 #include "moves.h"
 
@@ -94,8 +94,9 @@ static const struct test_case {
     {"the same, and answered at once", ITALIAN "h1. f1R d7. d6p", ITALIAN "h1f1 d7d6"},
     {"a queen's move is none that looks like it", QUEEN_IN_CORNER "h1. f1Q 400 f1. h1Q",
      QUEEN_IN_CORNER "h1f1"},
+    /* White's castling isn't reported without its rook, and then answers nothing. */
     {"castling, Black's, long, the king first",
-     "d2d4 d7d5 c1f4 c8f5 e2e3 b8c6 g1f3 d8d7 f1e2 e8. c8k 500 a8. d8r e1g1",
+     "d2d4 d7d5 c1f4 c8f5 e2e3 b8c6 g1f3 d8d7 f1e2 e8. c8k 500 a8. d8r e1g1 h1f1",
      "d2d4 d7d5 c1f4 c8f5 e2e3 b8c6 g1f3 d8d7 f1e2 e8c8 e1g1"},
     {"half castled, and another adjusted", ITALIAN "e1. g1K 900 a2. 900 a2P 900 h1. f1R d7d6",
      ITALIAN "e1g1 d7d6"},
@@ -158,7 +159,8 @@ static const struct test_case {
      ITALIAN "e1g1 d2d3"},
     {"castling taken back, the rook first", ITALIAN "e1. g1K h1. f1R 900 f1. h1R 900 g1. e1K d2d3",
      ITALIAN "e1g1 d2d3"},
-    {"half castling taken back", ITALIAN "e1. g1K 900 g1. e1K d2d3", ITALIAN "e1g1 d2d3"},
+    /* Half a castling isn't reported: the position is none of the game. */
+    {"half castling taken back", ITALIAN "e1. g1K 900 g1. e1K d2d3", ITALIAN "d2d3"},
     {"a promotion taken back", SEVENTH "g8. h7. g8Q 900 g8. 900 h7P 900 g8n 900 h7. g8. g8R b7b6",
      SEVENTH "h7g8Q b7b6"},
     {"a promotion taken back with its answer, and both made again",
@@ -233,14 +235,13 @@ static void pass(int milliseconds) {
     move made;
     for (; milliseconds > 0; milliseconds -= 10) {
         now += 10;
-        if (game_wait(&followed, now, &made)) tell(&made);
+        while (game_next(&followed, now, &made)) tell(&made);
     }
 }
 
 /* Shows the position again. */
 static void show(void) {
-    move made;
-    if (game_see(&followed, squares, now, &made)) tell(&made);
+    game_see(&followed, now, squares, DGT_SIGHT_SURE, true);
     pass(60);
 }
 
@@ -267,7 +268,8 @@ static void set_up_turned(void) {
 
 /* The same position, in a game with another player. */
 static void begin_for(enum plays plays) {
-    game_begin(&followed, squares, plays, 300);
+    if (!game_begin(&followed, plays, 0)) abort();
+    show();
 }
 
 static void make(const char *step) {
@@ -301,7 +303,7 @@ static bool passes(const struct test_case *tried) {
     begin_for(BY_THE_BOARD);
     snprintf(steps, sizeof steps, "%s", tried->steps);
     for (char *step = strtok(steps, " "); step; step = strtok(NULL, " ")) make(step);
-    pass(2500);
+    pass(12000);
     if (strcmp(told, tried->told) == 0) return true;
     printf("%s: told '%s' instead of '%s'\n", tried->name, told, tried->told);
     return false;

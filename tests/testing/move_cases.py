@@ -19,9 +19,6 @@ TABLE = pathlib.Path(__file__).resolve().parents[2] / "apps/eboard/test_moves.c"
 OTHERS = {
     "seen once more while it rests": "e2e4 -e2e4",
     "a queen's move is none that looks like it": "QUEEN_IN_CORNER h1f1 -h1f1",
-    # Only the king moves to g1 at the end, which replies to nothing.
-    "castling, Black's, long, the king first":
-        "d2d4 d7d5 c1f4 c8f5 e2e3 b8c6 g1f3 d8d7 f1e2",
     "taken back": "e2e4 -e2e4 d2d4",
     "the first move, taken back and made again": "e2e4 -e2e4 e2e4 e7e5",
     "taken back and made again": "e2e4 e7e5 g1f3 -g1f3 g1f3 b8c6",
@@ -37,7 +34,6 @@ OTHERS = {
     "a capture taken back, the taken one first": "e2e4 d7d5 e4d5 -e4d5 e4e5",
     "castling taken back": "ITALIAN e1g1 -e1g1 d2d3",
     "castling taken back, the rook first": "ITALIAN e1g1 -e1g1 d2d3",
-    "half castling taken back": "ITALIAN d2d3",
     "a promotion taken back": "SEVENTH h7g8q -h7g8q h7g8r b7b6",
     "a promotion taken back with its answer, and both made again":
         "SEVENTH h7g8q b7b6 -b7b6 -h7g8q h7g8r b7b6 g1f3",
