@@ -17,6 +17,13 @@ const SHAPES = { // the path of each piece in a square of 100 by 100
 };
 const SQUARES = [...Array(64).keys()];
 
+/**
+ * The letters of pieces, with "." for none.
+ * @param {import("../../bindings/javascript/dgt.js").Library} dgt @param {ArrayLike<number>} pieces
+ */
+export const lettersOf = (dgt, pieces) =>
+  Array.from(pieces, one => dgt.pieceLetter(one)).join("");
+
 /** @param {string} name @param {Record<string, string | number>} attributes */
 function element(name, attributes, text = "") {
   const made = document.createElementNS(SVG, name);

@@ -1,6 +1,6 @@
 // Keeps games in the browser.
 
-const GAMES = "dgt-games", MOST_GAMES = 50;
+const PLACE = "dgt-games", MOST_GAMES = 50;
 
 /**
  * A game. `at` is when it began, in milliseconds.
@@ -9,7 +9,7 @@ const GAMES = "dgt-games", MOST_GAMES = 50;
 
 /** @returns {Kept[]} */
 function storedGames() {
-  const all = JSON.parse(localStorage.getItem(GAMES) ?? "[]");
+  const all = JSON.parse(localStorage.getItem(PLACE) ?? "[]");
   return Array.isArray(all) ? all : [];
 }
 
@@ -20,9 +20,7 @@ export class Games {
   at = 0; // when the game that was kept last began
   #of = {};
   #count = 0;
-  /** @type {{} | undefined} */
-  #last;
-  #wasLost = false;
+  #changes = 0;
 
   constructor() {
     this.#change(all => all);
@@ -31,15 +29,14 @@ export class Games {
   /**
    * Keeps a game, also while it goes on. Pieces that are set up one by one look like moves that are
    * taken back, so these are kept until the next move. At the starting position a game begins.
-   * @param {import("../../bindings/javascript/moves.js").Game} game
+   * @param {import("./game.js").Game} game
    */
   keep(game) {
-    const { line, lost } = game, last = line.at(-1), isLost = lost.length > 0;
-    if (last === this.#last && isLost === this.#wasLost) return;
-    this.#wasLost = isLost;
+    const { line, changes } = game;
+    if (line === this.#of && changes === this.#changes) return;
     const isTakenBack = line === this.#of && line.length < this.#count;
     if (line !== this.#of || line.length < 2) this.at = Date.now();
-    [this.#of, this.#last, this.#count] = [line, last, line.length];
+    [this.#of, this.#count, this.#changes] = [line, line.length, changes];
     const { moves, result, pgn } = game;
     if (!moves.length || isTakenBack) return;
     const kept = { at: this.at, moves: moves.join(" "), result, pgn };
@@ -56,7 +53,7 @@ export class Games {
   #change(change) {
     try {
       this.all = change(storedGames()).slice(0, MOST_GAMES);
-      localStorage.setItem(GAMES, JSON.stringify(this.all));
+      localStorage.setItem(PLACE, JSON.stringify(this.all));
       this.isStored = true;
     } catch {
       this.all = change(this.all).slice(0, MOST_GAMES);

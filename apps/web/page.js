@@ -2,8 +2,7 @@
 
 import { DgtError, FLAGS, STATUS, isWide, lighting,
          load } from "../../bindings/javascript/dgt.js";
-import { lettersOf } from "../../bindings/javascript/moves.js";
-import { Drawing } from "./drawing.js";
+import { Drawing, lettersOf } from "./drawing.js";
 import { Games } from "./games.js";
 import { Session } from "./session.js";
 import { SimulatedPort } from "./simulated.js";
@@ -23,7 +22,7 @@ const asked = new URLSearchParams(location.search);
 const PERIODS = { serial: Number(asked.get("period")) || 10000, simulated: 2000 }; // milliseconds
 const START = "rnbqkbnr/pppppppp/8/8/8/8/PPPPPPPP/RNBQKBNR";
 const NO_PIECES = ".".repeat(64);
-const NO_GAME = { moves: [], ended: "", lacks: /** @type {const} */ (""), lost: [], advice: "" };
+const NO_GAME = { moves: [], result: "*", lost: [], lacks: "" };
 const STATES = {
   none: "no board", gone: "disconnected: waiting for the port", silent: "the board doesn't answer",
   refused: "the port can't be opened", asking: "asking the board", doubt: "in doubt: asking again",
@@ -31,12 +30,6 @@ const STATES = {
 };
 const ADVICE = "The port can't be opened. Close another program or another tab that uses it. On " +
   "Linux, join the group dialout (sudo adduser $USER dialout), and log in again.";
-const LACKS = {
-  "": "",
-  late: "No moves: this page has not seen the starting position. Set up the pieces for a game.",
-  turned: "No moves: the board is turned round. Turn it, or the pieces.",
-  lost: "No move leads to this",
-};
 const seen = drawing("seen"), table = drawing("table"), games = new Games();
 /** @type {Library} */
 let library;
@@ -77,9 +70,9 @@ function drawNow() {
     isAdvised = !isAdvised;
     say(isAdvised ? ADVICE : "");
   }
-  const { moves, ended, lacks, lost, advice } = session?.game ?? NO_GAME;
-  drawMoves([...moves, ended].filter(Boolean));
-  write(find("lacks"), LACKS[lacks] + (lacks === "lost" ? `: ${advice}.` : ""));
+  const { moves, result, lost, lacks } = session?.game ?? NO_GAME;
+  drawMoves(result === "*" ? moves : [...moves, result]);
+  write(find("lacks"), lacks);
   seen.frame(lost);
   if (session) games.keep(session.game);
   drawGames();

@@ -1,7 +1,7 @@
 // Follows a board on a port, and reopens the port if it disappears.
 
 import { Follower } from "../../bindings/javascript/dgt.js";
-import { Game, lettersOf } from "../../bindings/javascript/moves.js";
+import { Game } from "./game.js";
 
 const SERIAL = { baudRate: 9600, dataBits: 8, stopBits: 1, parity: "none", flowControl: "none",
                  bufferSize: 4096 };
@@ -98,7 +98,7 @@ export class Session {
     this.isOpen = false;
     clearTimeout(this.#timer);
     this.follower.lineLost();
-    this.game.doubt();
+    this.#see(performance.now());
     this.#askedAt = this.#askedBefore = -Infinity;
     try {
       this.#reader?.releaseLock();
@@ -132,9 +132,10 @@ export class Session {
    */
   #disturbed(fault) {
     this.page.note("fault", `line: ${fault}`);
-    this.#disturbedUntil = performance.now() + LATE;
+    const now = performance.now();
+    this.#disturbedUntil = now + LATE;
     this.follower.lineDisturbed();
-    this.game.doubt();
+    this.#see(now);
     this.#drive();
     this.page.changed();
   }
@@ -144,6 +145,7 @@ export class Session {
     const now = performance.now();
     for (const event of this.follower.hearEach(now, chunk)) this.#note(event, now);
     if (now < this.#disturbedUntil) this.follower.lineDisturbed();
+    this.#see(now);
     this.#drive(); // timers of a hidden page are late; bytes aren't
     this.page.changed();
   }
@@ -158,11 +160,14 @@ export class Session {
     // The clock shows no digits, for instance while somebody sets it.
     if ("fault" in event && event.fault === "badReading") this.clock = null;
     if (event.type === "dump" && follower.confirmed) this.confirmedAt = now;
-    const { picture } = follower;
-    if (!picture) return;
-    this.picture = picture;
-    if (follower.inDoubt) this.game.doubt();
-    else this.game.see(lettersOf(dgt, picture), now);
+    this.#see(now);
+  }
+
+  /** @param {number} now */
+  #see(now) {
+    const { picture, inDoubt, confirmed } = this.follower;
+    this.picture = picture ?? this.picture;
+    this.game.see(now, this.isOpen ? picture : null, { isSure: !inDoubt, isConfirmed: confirmed });
   }
 
   // Sends a request if one is due and the line has taken the one before.
@@ -178,11 +183,12 @@ export class Session {
       this.send(bytes);
       this.#seeOthers();
     }
+    const due = Math.min(this.follower.dueAt, this.game.recogniser.dueAt);
     this.#timer = setTimeout(() => {
-      if (this.state === "confirmed") this.game.rest(performance.now());
+      this.#see(performance.now());
       this.#drive();
       this.page.changed();
-    }, Math.min(500, Math.max(10, Math.ceil(this.follower.dueAt - now))));
+    }, Math.min(500, Math.max(10, Math.ceil(due - now))));
   }
 
   /** @param {Uint8Array} bytes */

@@ -1,7 +1,6 @@
 // Performs the acts of `dgt simulate`, and shows what is promised after each.
 
-import { Drawing } from "./drawing.js";
-import { lettersOf } from "../../bindings/javascript/moves.js";
+import { Drawing, lettersOf } from "./drawing.js";
 import { World } from "../../bindings/javascript/world.js";
 
 const KEPT_LINES = 200;

@@ -8,7 +8,7 @@ import assert from "node:assert/strict";
 import { readFileSync } from "node:fs";
 import { State } from "../../../bindings/javascript/chess.js";
 import { Board, load } from "../../../bindings/javascript/dgt.js";
-import { lettersOf } from "../../../bindings/javascript/moves.js";
+import { lettersOf } from "../drawing.js";
 import { Session } from "../session.js";
 import { SimulatedPort } from "../simulated.js";
 import { chance } from "../../../bindings/javascript/tests/random.mjs";
@@ -17,6 +17,8 @@ const [module, count, seed = "1"] = process.argv.slice(2);
 const dgt = await load(readFileSync(module));
 const START = "rnbqkbnr/pppppppp/8/8/8/8/PPPPPPPP/RNBQKBNR";
 const PLIES = 40, PERIOD = 2000, MOST = 12000; // PERIOD, MOST: milliseconds
+const numbered = (state, move) =>
+  (state.turn === "white" ? `${state.number}. ` : "") + state.san(move);
 
 const random = chance(seed);
 Math.random = () => random(2 ** 32) / 2 ** 32; // for the noise of the line
@@ -55,7 +57,7 @@ async function play(number) {
   for (let ply = 0; ply < PLIES && state.canMove; ply++) {
     const moves = state.moves(), move = moves[random(moves.length)];
     const name = random(3) ? "none" : Object.keys(FAULTS)[random(6)], [begin, end] = FAULTS[name];
-    texts.push(state.san(move));
+    texts.push(numbered(state, move));
     state = state.play(move);
     begin(port);
     await show(port, state.position);
@@ -65,12 +67,13 @@ async function play(number) {
       assert.equal(session.state, "doubt", `game ${number}, ply ${ply}: ${name}`);
     }
     if (name !== "none") faults++;
-    await pass(name === "none" && random(2) ? 500 : MOST, isRight);
-    assert(name === "none" || isRight(), `game ${number}, ply ${ply} with ${name}: not healed`);
-    if (isRight()) assert.equal(session.game.line.at(-1).text, texts.at(-1), `game ${number}`);
+    const isFound = () => isRight() && session.game.moves.at(-1) === texts.at(-1);
+    const isHurried = name === "none" && random(2) > 0;
+    await pass(isHurried ? 500 : MOST, isFound);
+    assert(isHurried || isFound(), `game ${number}, ply ${ply} with ${name}: not found`);
   }
-  await pass(MOST, isRight);
-  assert.deepEqual(session.game.line.slice(1).map(({ text }) => text), texts, `game ${number}`);
+  await pass(MOST);
+  assert.deepEqual(session.game.moves, texts, `game ${number}`);
   await session.end();
   port.close();
   port.board.close();
@@ -134,6 +137,7 @@ async function checkFault(name) {
 }
 
 // A position that no move leads to makes the game lost, and after a pulled cable begins another.
+// Moves that were made meanwhile are missing if several orders of them are legal.
 async function checkLost() {
   const port = new SimulatedPort(dgt, dgt.parsePlacement(START));
   const session = new Session(dgt, port, port, PERIOD, page), ran = session.run();
@@ -146,16 +150,20 @@ async function checkLost() {
   await pass(MOST, () => session.state === "confirmed");
   put("g1. g3N");
   await pass(MOST, () => game.lost.length > 0);
-  assert.equal(game.advice, "put the white knight from g3 on g1");
+  assert.equal(game.lacks, "No move leads to this: put the white knight from g3 on g1.");
   put("g3. f3N");
-  await pass(PERIOD);
+  await pass(MOST, () => game.moves.length > 0);
   assert.deepEqual([game.moves, game.lost], [["1. Nf3"], []]);
-  port.plug(false);
-  put("g8. f6n d2. d4P d7. d5p");
-  port.plug(true);
-  await pass(MOST, () => game.line.length === 1);
+  for (const steps of ["g8. f6n d2. d4P d7. d5p", "a1. a5R h1. h5R"]) {
+    port.plug(false);
+    put(steps);
+    await pass(PERIOD);
+    port.plug(true);
+    await pass(MOST);
+    assert.deepEqual(game.moves, steps[0] === "a" ? [] : ["1. Nf3", "(3 moves not seen)"]);
+  }
   put("c2. c4P");
-  await pass(PERIOD);
+  await pass(MOST, () => game.moves.length > 0);
   assert.deepEqual(game.moves, ["1. c4"]);
   await session.end();
   port.close();

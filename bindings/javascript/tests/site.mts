@@ -5,12 +5,10 @@ import { ASK, Board, CommandDecoder, Follower, Host, IDS, MODES, lighting, load,
          type Command, type Event, type Library } from "dgt-board";
 import { BadFen, State } from "dgt-board/chess.js";
 import { follow, type BoardView } from "dgt-board/following.js";
-import { Game } from "dgt-board/moves.js";
 import { Recogniser, type GameEvent } from "dgt-board/recogniser.js";
 
 const dgt: Library = await load(new URL("https://example.org/dgt64.wasm"));
 const follower = new Follower(dgt, { period: 2000, clock: true, confirm: true });
-const game = new Game(dgt);
 
 function describe(event: Event): string {
   switch (event.type) {
@@ -27,7 +25,7 @@ export function hear(now: number, chunk: Uint8Array): string[] {
   if (asked) console.log(asked.length, follower.dueAt - now);
   for (const event of follower.hearEach(now, chunk)) said.push(describe(event));
   const placement: string | null = follower.placement, isRight: boolean = !follower.inDoubt;
-  if (isRight && follower.confirmed && placement && game.see(placement)) console.log(game.pgn);
+  if (isRight && follower.confirmed && placement) console.log(placement);
   return said;
 }
 
@@ -112,5 +110,5 @@ dgt.calls.host_hears;
 new State(dgt, { position: board.position, turn: "w" });
 // @ts-expect-error a move is a text
 begin.play({ from: "e2", to: "e4" });
-// @ts-expect-error a game needs the library
-new Game();
+// @ts-expect-error a recogniser needs the library
+new Recogniser();
