@@ -8,7 +8,6 @@ import { dirname, resolve } from "node:path";
 import { pathToFileURL } from "node:url";
 import { State } from "../chess.js";
 import { BadValue, Closed, load } from "../dgt.js";
-import { GAMES, RESULTS, STRUCTS } from "../header.js";
 import { Recogniser } from "../recogniser.js";
 
 const dgt = await load(readFileSync(process.argv[2]));
@@ -36,40 +35,39 @@ for (const [moves, rest, known] of GAME_ROWS) {
   assert.deepEqual([recogniser.due(now + rest), recogniser.state.fen], [[], state.fen]);
 }
 
-// Members of the library's struct, and the event that they report.
-const MOVES = [52, 36, 0, 0, 8, 1, 6, 0, 57, 42, 0, 0, 0, 0, 0, 0], { fen } = START;
-const EVENTS = [
-  [{ kind: GAMES.begun, turned: 1, state: true }, { type: "begun", state: fen, isTurned: true }],
-  [{ kind: GAMES.made, count: 1, moves: MOVES }, { type: "made", move: "e2e4" }],
-  [{ kind: GAMES.unseen, count: 3, moves: MOVES },
-   { type: "unseen", moves: ["e2e4", "a7b8q", "b1c3"] }],
-  [{ kind: GAMES.gap, count: 2, state: true }, { type: "gap", count: 2, state: fen }],
-  [{ kind: GAMES.back, count: 4 }, { type: "back", count: 4 }],
-  [{ kind: GAMES.ended, result: RESULTS.whiteWins }, { type: "ended", result: "1-0" }],
-  [{ kind: GAMES.ended, result: RESULTS.blackWins }, { type: "ended", result: "0-1" }],
-  [{ kind: GAMES.ended, result: RESULTS.draw }, { type: "ended", result: "1/2-1/2" }],
-  [{ kind: GAMES.lost, squares: [1, 0, 0, 0, 0, 0, 16, 128] },
-   { type: "lost", squares: ["a8", "e2", "h1"] }],
-  [{ kind: GAMES.found }, { type: "found" }],
+// Placements, null while the board is away, each shown for 12 s, and all events.
+const INITIAL = "rnbqkbnr/pppppppp/8/8/8/8/PPPPPPPP/RNBQKBNR", LIFTED = INITIAL.replace(/k/gi, "1");
+const E4 = "rnbqkbnr/pppppppp/8/8/4P3/8/PPPP1PPP/RNBQKBNR";
+const OPEN = "rnbqkbnr/pppp1ppp/8/4p3/4P3/5N2/PPPP1PPP/RNBQKB1R";
+const kings = rows => [INITIAL, LIFTED, LIFTED.replace("8/8/8/8", `8/${rows}/8`)];
+const BEGUN = { type: "begun", state: START.fen, isTurned: false };
+const ended = result => [BEGUN, { type: "ended", result }];
+const SHOWN = [
+  [[...INITIAL].reverse().join(""), "RNBKQBNR/PPP1PPPP/8/3P4/8/8/pppppppp/rnbkqbnr"],
+  [{ ...BEGUN, isTurned: true }, { type: "made", move: "e2e4" }],
+  [INITIAL, E4, null, OPEN, E4],
+  [BEGUN, { type: "made", move: "e2e4" }, { type: "unseen", moves: ["e7e5", "g1f3"] },
+   { type: "back", count: 2 }],
+  [INITIAL, null, OPEN], // the knight may have been moved before the pawn or after it
+  [BEGUN, { type: "gap", count: 3, state: OPEN }],
+  [INITIAL, "rnbqkbnr/pppppppp/8/8/8/7R/PPPPPPPP/RNBQKBN1", INITIAL],
+  [BEGUN, { type: "lost", squares: ["h3", "h1"] }, { type: "found" }],
+  ["k7/2P5/1K6/8/8/8/PP6/8", "k1Q5/8/1K6/8/8/8/PP6/8"],
+  [{ ...BEGUN, state: "k7/2P5/1K6/8/8/8/PP6/8 w - - 0 1" }, { type: "made", move: "c7c8q" },
+   { type: "ended", result: "1-0" }],
+  kings("3k4/4K3"), ended("1-0"), kings("4k3/3K4"), ended("0-1"), kings("4k3/4K3"),
+  ended("1/2-1/2"),
 ];
-const PLACES = Object.fromEntries(STRUCTS.game_event.members.map(([name, at]) => [name, at]));
-const { recogniser_due: due } = dgt.calls, told = [];
-dgt.calls.recogniser_due = (_, now, at) => {
-  const members = told.shift();
-  if (!members) return false;
-  const { squares = [], state, ...others } = members;
-  dgt.write("game_event", at, others);
-  dgt.put(at + PLACES.squares, squares);
-  if (state) dgt.put(at + PLACES.state, START.bytes);
-  return true;
-};
-for (const [members, known] of EVENTS) {
-  told.push(members);
-  assert.deepEqual(new Recogniser(dgt).due(0).map(shown), [known]);
+for (let n = 0; n < SHOWN.length; n += 2) {
+  const recogniser = new Recogniser(dgt), events = [];
+  for (const [at, placement] of SHOWN[n].entries()) {
+    const position = placement && dgt.parsePlacement(placement);
+    events.push(...recogniser.see(12_000 * at, position), ...recogniser.due(12_000 * at + 11_999));
+  }
+  const known = events.map(event => event.type === "gap" ?
+    { ...event, state: dgt.placement(event.state.position) } : shown(event));
+  assert.deepEqual(known, SHOWN[n + 1], `${SHOWN[n]}`);
 }
-told.push(...EVENTS.map(([members]) => members));
-assert.deepEqual(new Recogniser(dgt).due(0).map(shown), EVENTS.map(([, known]) => known));
-dgt.calls.recogniser_due = due;
 
 // A new one, and what is refused.
 const recogniser = new Recogniser(dgt), { position } = START;
