@@ -13,3 +13,4 @@ pub mod Nodes
 pub mod Hands
 pub mod Known
 pub mod Meaning
+pub mod Waiting

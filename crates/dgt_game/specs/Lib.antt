@@ -5,6 +5,8 @@ pub mod Memory
 pub mod Recogniser
 pub mod Runs
 pub mod Laws
+pub mod Results
+pub mod Waiting
 -- Only for bodies.
 pub mod Ways
 pub mod Arrivals

@@ -7,6 +7,7 @@ use Rattle.dgt_game.specs.declared.event.Event.{Event}
 use Rattle.dgt_game.specs.declared.memory.Memory.{Memory}
 use Rattle.dgt_game.specs.declared.node.Place.{Place}
 use Rattle.dgt_game.specs.declared.observation.Sight.{Sight}
+use Rattle.dgt_game.specs.declared.recogniser.Lost.{Lost}
 use Rattle.dgt_game.specs.declared.recogniser.Over.{Over}
 use Rattle.dgt_game.specs.declared.recogniser.Recogniser.{Recogniser}
 use Rattle.dgt_game.specs.declared.recogniser.Search.{Search}
@@ -27,8 +28,7 @@ abbrev pub new_recogniser : Recogniser
 new_recogniser = record {
   memory = new_memory;
   over = Over.No;
-  is_lost = false;
-  notice = None;
+  lost = Lost.No;
   ended = None;
   view = None;
   since = 0;
@@ -40,7 +40,7 @@ new_recogniser = record {
   here = Place.Nowhere;
   is_next = false;
   search = Search.Hopeless;
-  kings = None;
+  has_kings = false;
   returned = 0;
   is_behind = false;
   is_set_up = false;

@@ -1,23 +1,31 @@
 //! Results that the players show by their kings, on squares in the centre.
 
-ghost use Rattle.std.specs.Prelude.{◌≡◌, List, []};
+ghost use Rattle.std.specs.Prelude.{◌≡◌, ◌<◌, List, [], None, Some, IfSome, IsTrue};
 ghost use Rattle.dgt_values.specs.declared.pieces.Piece.{Piece};
-ghost use Rattle.dgt_game.specs.Told.{Told};
+ghost use Rattle.dgt_values.specs.Board.{pieces_of};
+ghost use Rattle.dgt_chess.specs.Rules.{board};
+ghost use Rattle.dgt_game.specs.declared.node.Step.{Step};
+ghost use Rattle.dgt_game.specs.Memory.{step_at, steps};
+ghost use Rattle.dgt_game.specs.Results.{ByKings, FitsAt, IsCentre, IsLike, IsOnlyOn, KingsMean};
+ghost use Rattle.dgt_game.specs.Told.{Told, as_shown};
 
 use crate::event::GameResult;
 use crate::node::{Node, Place};
 use crate::recogniser::{Over, Recogniser};
 use crate::view::{View, only_square};
-use dgt_values::{Piece, Square};
+use crate::ways::is_same;
+use dgt_values::{Piece, Position, Square};
 
 impl Recogniser {
     ghost use Rattle.dgt_game.specs.Memory.{Holds};
+    ghost use Rattle.dgt_game.specs.Waiting.{Follows, IsQuiet, Keeps, Waits, coming};
 
     /// Looks whether both kings were lifted since the line's last state, and stand on squares that
     /// give a result, while everything else stands as in a known state.
     pub(crate) fn look_at_kings(&mut self, view: &View)
         ensures same { self.new.memory ≡ self.old.memory }
         ensures view { self.new.view ≡ self.old.view }
+        ensures keeps { Keeps self.old self.new }
     {
         let Some(last) = self.memory.line.get(0) else {
             return;
@@ -33,11 +41,16 @@ impl Recogniser {
         self.is_white_king_lifted = self.is_white_king_lifted || is_away(Piece::WhiteKing);
         self.is_black_king_lifted = self.is_black_king_lifted || is_away(Piece::BlackKing);
         if self.is_white_king_lifted && self.is_black_king_lifted {
-            self.kings = self.kings_result(view);
+            self.has_kings = self.kings_result(view).is_some();
         }
     }
 
-    fn kings_result(&self, view: &View) -> Option<(GameResult, Place)> {
+    fn kings_result(&self, view: &View) -> Option<(GameResult, Place)>
+        ensures { IfSome result (λ end. (step : Step)
+            × (step_at (steps self.now.memory.line.items) (steps self.now.memory.seen.items) end.1
+            ≡ Some step)
+            × ByKings (as_shown step.is_turned (pieces_of view.now.shown)) step.state end.0) }
+    {
         let last = self.memory.line.get(0)?;
         let shown = view.from(last.step.is_turned);
         let white = only_square(shown, Piece::WhiteKing)?;
@@ -68,47 +81,72 @@ impl Recogniser {
             → self.old.memory.back ≡ 0 → self.old.memory.unsaid.items ≡ []
             → Holds shown line self.old.memory → Holds shown line self.new.memory }
         ensures view { self.new.view ≡ self.old.view }
+        ensures right { IsQuiet self.old → Waits self.old → Waits self.new }
+        ensures follows { Follows self.old None self.new }
     {
-        let Some((result, place)) = self.kings.take() else {
+        self.has_kings = false;
+        let Some(view) = self.view else {
             return;
         };
-        if place == Place::Line(0) {
-            self.memory.forget_seen();
-            self.is_set_up = false;
-        } else {
-            self.tell(place, None);
-        }
+        let Some((result, place)) = self.kings_result(&view) else {
+            return;
+        };
+        let is_there = self.end_at(place);
         self.here = Place::Nowhere;
         self.is_next = false;
         self.search = crate::recogniser::Search::Hopeless;
-        self.ended = Some((result, Over::Kings));
+        if is_there {
+            self.ended = Some((result, Over::Kings));
+        }
+    }
+
+    // Has the path to a place reported, in which the line ends. Returns whether it does then.
+    fn end_at(&mut self, place: Place) -> bool
+        ensures holds { (shown : List (List Piece)) (line : List Told)
+            → self.old.memory.back ≡ 0 → self.old.memory.unsaid.items ≡ []
+            → Holds shown line self.old.memory → Holds shown line self.new.memory }
+        ensures keeps { Keeps self.old self.new }
+        ensures told { (step : Step)
+            → self.old.memory.back ≡ 0 → self.old.memory.unsaid.items ≡ []
+            → step_at (steps self.old.memory.line.items) (steps self.old.memory.seen.items) place
+            ≡ Some step → IsTrue result → coming self.new.memory ≡ Some step }
+    {
+        if place == Place::Line(0) {
+            self.memory.forget_seen();
+            self.is_set_up = false;
+            return true;
+        }
+        self.tell(place, None);
+        !self.memory.is_quiet()
     }
 }
 
 // The result that kings on these squares give: on e4 and d5 White has won, on d4 and e5 Black;
 // both on one file are a draw.
-fn result_of(white: u8, black: u8) -> Option<GameResult> {
-    match (white.min(black), white.max(black)) {
-        (27, 36) => Some(GameResult::WhiteWins),
-        (28, 35) => Some(GameResult::BlackWins),
-        (28, 36) | (27, 35) => Some(GameResult::Draw),
+fn result_of(white: u8, black: u8) -> Option<GameResult>
+    ensures { (picture : List Piece) → IsOnlyOn picture Piece.WhiteKing white
+        → IsOnlyOn picture Piece.BlackKing black
+        → IfSome result (λ end. KingsMean picture end) }
+{
+    match (white, black) {
+        (27, 36) | (36, 27) => Some(GameResult::WhiteWins),
+        (28, 35) | (35, 28) => Some(GameResult::BlackWins),
+        (28, 36) | (36, 28) | (27, 35) | (35, 27) => Some(GameResult::Draw),
         _ => None,
     }
 }
 
 // Whether the board shows a state, but for the kings, the centre, pieces that are gone, and one
 // square.
-fn stands(view: &View, node: &Node) -> bool {
+fn stands(view: &View, node: &Node) -> bool
+    ensures { IsTrue result → IsLike (as_shown node.now.step.is_turned (pieces_of view.now.shown))
+        (board node.now.step.state) }
+{
     let shown = view.from(node.step.is_turned);
     let position = node.step.state.position();
     let mut has_other = false;
     for at in 0..64u8 {
-        let square = Square::from_small(at);
-        let piece = position.get(square);
-        let is_king = piece == Piece::WhiteKing || piece == Piece::BlackKing;
-        let is_centre = at == 27 || at == 28 || at == 35 || at == 36;
-        let now = shown.get(square);
-        if !is_king && !is_centre && piece != now && now != Piece::Empty {
+        if !fits(shown, position, at) {
             if has_other {
                 return false;
             }
@@ -116,4 +154,21 @@ fn stands(view: &View, node: &Node) -> bool {
         }
     }
     true
+}
+
+fn fits(shown: &Position, position: &Position, at: u8) -> bool
+    requires { at < 64 }
+    ensures { IsTrue result → FitsAt (pieces_of shown.now) (pieces_of position.now) at }
+{
+    let square = Square::from_small(at);
+    let piece = position.get(square);
+    let now = shown.get(square);
+    let is_king = is_same(piece, Piece::WhiteKing) || is_same(piece, Piece::BlackKing);
+    is_king || is_centre(at) || is_same(now, piece) || is_same(now, Piece::Empty)
+}
+
+fn is_centre(at: u8) -> bool
+    ensures { IsTrue result → IsCentre at }
+{
+    at == 27 || at == 28 || at == 35 || at == 36
 }

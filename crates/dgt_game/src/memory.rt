@@ -29,6 +29,7 @@ pub(crate) struct Memory {
 
 impl Memory {
     ghost use Rattle.dgt_game.specs.Memory.{Holds, IsSeen};
+    ghost use Rattle.dgt_game.specs.Waiting.{IsOfLine, coming};
     ghost use Rattle.dgt_game.specs.Recogniser.{new_memory};
 
     pub(crate) fn new() -> Self
@@ -71,6 +72,7 @@ impl Memory {
             → Holds shown line self.new }
         ensures back { self.new.back ≡ self.old.back }
         ensures unsaid { self.new.unsaid.items ≡ self.old.unsaid.items }
+        ensures line { steps self.new.line.items ≡ steps self.old.line.items }
     {
         match place {
             Place::Line(k) => set_left(&mut self.line, k, now),
@@ -85,6 +87,7 @@ impl Memory {
             → Holds shown line self.new }
         ensures back { self.new.back ≡ self.old.back }
         ensures unsaid { self.new.unsaid.items ≡ self.old.unsaid.items }
+        ensures line { self.new.line ≡ self.old.line }
     {
         set_sure(&mut self.seen, k);
     }
@@ -94,6 +97,7 @@ impl Memory {
             → Holds shown line self.new }
         ensures back { self.new.back ≡ self.old.back }
         ensures unsaid { self.new.unsaid.items ≡ self.old.unsaid.items }
+        ensures line { self.new.line ≡ self.old.line }
     {
         self.seen.clear();
     }
@@ -104,6 +108,7 @@ impl Memory {
             → Holds shown line self.new }
         ensures back { self.new.back ≡ self.old.back }
         ensures unsaid { self.new.unsaid.items ≡ self.old.unsaid.items }
+        ensures line { self.new.line ≡ self.old.line }
     {
         if self.seen.remaining_capacity() < room {
             self.forget_seen();
@@ -119,6 +124,7 @@ impl Memory {
             → IsSeen shown node.step → Holds shown line self.old → Holds shown line self.new }
         ensures back { self.new.back ≡ self.old.back }
         ensures unsaid { self.new.unsaid.items ≡ self.old.unsaid.items }
+        ensures line { self.new.line ≡ self.old.line }
         ensures seen { IfSome result (λ k. (place : Place)
             × (slice_get (steps self.new.seen.items) k ≡ Some (record {
               state = node.step.state;
@@ -149,6 +155,7 @@ impl Memory {
             → Links (step_at (steps self.new.line.items) (steps self.new.seen.items) new) step) }
         ensures back { self.new.back ≡ self.old.back }
         ensures unsaid { self.new.unsaid.items ≡ self.old.unsaid.items }
+        ensures line { self.new.line ≡ self.old.line }
     {
         if !self.seen.is_full() {
             return Some(place);
@@ -193,11 +200,16 @@ impl Memory {
     /// Has the path to a place reported, and then the answer. Before another line begins, a
     /// half-move that had rested is reported, if the line may go on.
     pub(crate) fn tell(&mut self, place: Place, answer: Option<Node>, is_open: bool)
-        ensures { (shown : List (List Piece)) (line : List Told)
+        ensures holds { (shown : List (List Piece)) (line : List Told)
             → self.old.back ≡ 0 → self.old.unsaid.items ≡ []
             → IfSome answer (λ node. Links (step_at (steps self.old.line.items)
             (steps self.old.seen.items) place) node.step × IsSeen shown node.step)
             → Holds shown line self.old → Holds shown line self.new }
+        ensures line { self.new.line ≡ self.old.line }
+        ensures told { (step : Step) → self.old.back ≡ 0 → self.old.unsaid.items ≡ []
+            → step_at (steps self.old.line.items) (steps self.old.seen.items) place ≡ Some step
+            → ((self.new.back ≡ 0) × (self.new.unsaid.items ≡ []))
+            ⊎ (coming self.new ≡ Some step) }
     {
         let way = self.way_to(place, is_open);
         self.seen.clear();
@@ -219,6 +231,10 @@ impl Memory {
         ensures tip { IfSome result (λ way. (step : Step) → Links (step_at
             (steps self.now.line.items) (steps self.now.seen.items) place) step
             → Links (tip (slice_get (steps self.now.line.items) way.0) (steps way.1.items)) step) }
+        ensures there { (step : Step)
+            → step_at (steps self.now.line.items) (steps self.now.seen.items) place ≡ Some step
+            → IfSome result (λ way.
+            tip (slice_get (steps self.now.line.items) way.0) (steps way.1.items) ≡ Some step) }
     {
         let (path, start) = match place {
             Place::Seen(k) => self.path(k),
@@ -249,6 +265,8 @@ impl Memory {
             → Chain shown (slice_get (steps self.now.line.items) 0) (steps result.items) }
         ensures tip { (step : Step) → Links (tip None (steps path.items)) step
             → Links (tip (slice_get (steps self.now.line.items) 0) (steps result.items)) step }
+        ensures there { (step : Step) → tip None (steps path.items) ≡ Some step
+            → tip (slice_get (steps self.now.line.items) 0) (steps result.items) ≡ Some step }
     {
         if path.is_full() || path.is_empty() {
             return path;
@@ -285,6 +303,9 @@ impl Memory {
             → MatchOption result (Holds shown line self.new)
             (λ event. (new : List Told) × Leads line event new × Holds shown new self.new) }
         ensures none { result ≡ None → (self.new.back ≡ 0) × (self.new.unsaid.items ≡ []) }
+        ensures coming { coming self.new ≡ coming self.old }
+        ensures of_line { IfSome result IsOfLine }
+        ensures same { result ≡ None → self.new.line ≡ self.old.line }
     {
         if self.back > 0 {
             Some(self.take_back())
@@ -294,9 +315,11 @@ impl Memory {
     }
 
     fn take_back(&mut self) -> Event
-        ensures { (shown : List (List Piece)) (line : List Told) → self.old.back ≢ 0
+        ensures holds { (shown : List (List Piece)) (line : List Told) → self.old.back ≢ 0
             → Holds shown line self.old
             → (new : List Told) × Leads line result new × Holds shown new self.new }
+        ensures coming { self.old.back ≢ 0 → coming self.new ≡ coming self.old }
+        ensures of_line { IsOfLine result }
     {
         self.back = self.back.saturating_sub(1);
         Event::Back(drop_first(&mut self.line))
@@ -310,6 +333,9 @@ impl Memory {
             (λ event. (new : List Told) × Leads line event new × Holds shown new self.new) }
         ensures none { result ≡ None → (self.new.back ≡ self.old.back)
             × (self.new.unsaid.items ≡ []) }
+        ensures coming { self.old.back ≡ 0 → coming self.new ≡ coming self.old }
+        ensures of_line { IfSome result IsOfLine }
+        ensures same { result ≡ None → self.new.line ≡ self.old.line }
     {
         let Some(node) = take_first(&mut self.unsaid) else {
             return None;
@@ -320,9 +346,12 @@ impl Memory {
 
     /// All was reported. The answer, if there is one, is the only node that was seen since.
     pub(crate) fn take_answer(&mut self) -> Option<Node>
-        ensures { (shown : List (List Piece)) (line : List Told) → self.old.back ≡ 0
+        ensures holds { (shown : List (List Piece)) (line : List Told) → self.old.back ≡ 0
             → self.old.unsaid.items ≡ [] → Holds shown line self.old
             → Holds shown line self.new }
+        ensures back { self.new.back ≡ self.old.back }
+        ensures unsaid { self.new.unsaid ≡ self.old.unsaid }
+        ensures line { self.new.line ≡ self.old.line }
     {
         let Some(node) = self.answer.take() else {
             return None;
@@ -434,6 +463,7 @@ fn push_first(nodes: &mut ArrayVec<Node, KEPT>, node: Node)
 fn drop_first(nodes: &mut ArrayVec<Node, KEPT>) -> u8
     ensures rest { (first : Node) (rest : List Node) → nodes.old.items ≡ first ∷ rest
         → nodes.new.items ≡ rest }
+    ensures none { nodes.old.items ≡ [] → nodes.new.items ≡ [] }
     ensures halves { (first : Node) (rest : List Node) → nodes.old.items ≡ first ∷ rest
         → result ≡ halves_of first.step.way }
 {

@@ -1,6 +1,6 @@
 //! The recogniser of games.
 
-ghost use Rattle.std.specs.Prelude.{IsErr, IsOk, ◌≡◌, ◌⊎◌, ℕ, List, [], ◌∷◌, Option, Some, None, IfSome, MatchOption, Contains, option_map, map, length, slice_get};
+ghost use Rattle.std.specs.Prelude.{IsErr, IsOk, false, ◌≡◌, ◌⊎◌, ℕ, List, [], ◌∷◌, Option, Some, None, IfSome, MatchOption, Contains, option_map, map, length, slice_get};
 ghost use Rattle.dgt_values.specs.declared.pieces.Piece.{Piece};
 ghost use Rattle.dgt_values.specs.Board.{pieces_of};
 ghost use Rattle.dgt_game.specs.declared.node.Place.{Place};
@@ -12,7 +12,6 @@ use crate::memory::Memory;
 use crate::node::{Node, Origin, Place, Way};
 use crate::observation::{Observation, Sight};
 use crate::reading::Reading;
-use crate::telling::found;
 use crate::times::{FINAL, GLANCE};
 use crate::view::{View, king};
 use dgt_chess::{Colour, State};
@@ -33,10 +32,14 @@ pub(crate) enum Over {
     Kings,
 }
 
-/// What is reported of a line that was lost.
+/// Whether the line is lost, and whether that is reported.
 #[derive(Clone, Copy, Debug, PartialEq, Eq)]
-pub(crate) enum Notice {
-    Lost(u64),
+pub(crate) enum Lost {
+    No,
+    /// To be reported, with the squares that differ.
+    Now(u64),
+    Reported,
+    /// That it is found again is to be reported.
     Found,
 }
 
@@ -54,9 +57,8 @@ pub(crate) enum Search {
 pub struct Recogniser {
     pub(crate) memory: Memory,
     pub(crate) over: Over,
-    pub(crate) is_lost: bool,
     // to be reported before what the memory has to report, and after it
-    pub(crate) notice: Option<Notice>,
+    pub(crate) lost: Lost,
     pub(crate) ended: Option<(GameResult, Over)>,
     // what is shown
     pub(crate) view: Option<View>,
@@ -70,7 +72,7 @@ pub struct Recogniser {
     pub(crate) here: Place,
     pub(crate) is_next: bool,
     pub(crate) search: Search,
-    pub(crate) kings: Option<(GameResult, Place)>,
+    pub(crate) has_kings: bool,
     // what has happened since the line's last state was shown
     pub(crate) returned: usize,
     pub(crate) is_behind: bool,
@@ -82,16 +84,17 @@ pub struct Recogniser {
 impl Recogniser {
     ghost use Rattle.dgt_game.specs.Memory.{Holds, Reads};
     ghost use Rattle.dgt_game.specs.Recogniser.{GoesOn, Knows, Sees, new_recogniser};
+    ghost use Rattle.dgt_game.specs.Waiting.{Follows, Keeps, LostWaits, Waits, has_notice, has_result, is_lost};
 
     /// A recogniser that has seen nothing.
     pub fn new() -> Self
-        ensures { result ≡ new_recogniser }
+        ensures is { result ≡ new_recogniser }
+        ensures right { Waits result }
     {
         Recogniser {
             memory: Memory::new(),
             over: Over::No,
-            is_lost: false,
-            notice: None,
+            lost: Lost::No,
             ended: None,
             view: None,
             since: 0,
@@ -103,7 +106,7 @@ impl Recogniser {
             here: Place::Nowhere,
             is_next: false,
             search: Search::Hopeless,
-            kings: None,
+            has_kings: false,
             returned: 0,
             is_behind: false,
             is_set_up: false,
@@ -117,6 +120,8 @@ impl Recogniser {
     pub fn see(&mut self, observation: &Observation) -> Result<(), StillDue>
         ensures refused { IsErr result → self.new ≡ self.old }
         ensures seen { IsOk result → Sees self.old observation.now.sight self.new }
+        ensures right { Waits self.old → Waits self.new }
+        ensures follows { Follows self.old None self.new }
     {
         if self.is_due(observation.at) {
             return Err(StillDue);
@@ -150,6 +155,8 @@ impl Recogniser {
     /// second is true, the board is turned.
     pub fn go_on(&mut self, state: State, is_turned: bool)
         ensures on { GoesOn state is_turned self.new }
+        ensures right { Waits self.new }
+        ensures anew { (has_result self.new.over ≡ false) × (is_lost self.new.lost ≡ false) }
     {
         *self = Recogniser::new();
         self.memory
@@ -176,6 +183,7 @@ impl Recogniser {
         ensures view { self.new.view ≡ self.old.view }
         ensures back { self.new.memory.back ≡ self.old.memory.back }
         ensures unsaid { self.new.memory.unsaid.items ≡ self.old.memory.unsaid.items }
+        ensures keeps { Keeps self.old self.new }
     {
         self.memory.leave(self.here, now);
         if self.here == Place::Nowhere
@@ -208,6 +216,9 @@ impl Recogniser {
             → self.old.memory.back ≡ 0 → self.old.memory.unsaid.items ≡ []
             → IfSome view (λ view. Contains shown (pieces_of view.shown))
             → Holds shown line self.old.memory → Knows shown line self.new }
+        ensures ended { self.new.ended ≡ self.old.ended }
+        ensures lost { has_notice self.old.lost ≡ false → LostWaits self.new }
+        ensures follows { Follows self.old None self.new }
     {
         self.changed = match (&self.view, &view) {
             (Some(old), Some(new)) => old.shown.differ(&new.shown),
@@ -218,7 +229,7 @@ impl Recogniser {
         }
         self.view = view;
         self.is_next = false;
-        self.kings = None;
+        self.has_kings = false;
         self.search = Search::Hopeless;
         // while the board is away, it stands where it stood
         if let Some(view) = view {
@@ -233,6 +244,7 @@ impl Recogniser {
             → Contains shown (pieces_of view.now.shown)
             → Holds shown line self.old.memory → Holds shown line self.new.memory }
         ensures view { self.new.view ≡ self.old.view }
+        ensures keeps { Keeps self.old self.new }
     {
         let has_white = self.has_king(view, Colour::White);
         let has_black = self.has_king(view, Colour::Black);
@@ -267,6 +279,7 @@ impl Recogniser {
         ensures holds { (shown : List (List Piece)) (line : List Told)
             → Holds shown line self.old.memory → Holds shown line self.new.memory }
         ensures view { self.new.view ≡ self.old.view }
+        ensures keeps { Keeps self.old self.new }
     {
         self.here = Place::Line(k);
         self.returned = k;
@@ -281,13 +294,14 @@ impl Recogniser {
         self.is_behind = false;
         self.is_white_king_lifted = false;
         self.is_black_king_lifted = false;
-        self.notice = found(&mut self.is_lost).or(self.notice);
+        self.find();
     }
 
     fn stand_on(&mut self, place: Place)
         ensures holds { (shown : List (List Piece)) (line : List Told)
             → Holds shown line self.old.memory → Holds shown line self.new.memory }
         ensures view { self.new.view ≡ self.old.view }
+        ensures keeps { Keeps self.old self.new }
     {
         self.here = place;
         if let Place::Seen(k) = place {
@@ -305,6 +319,7 @@ impl Recogniser {
             → Reads shown self.old.memory (Reading.Held node)
             → Holds shown line self.old.memory → Holds shown line self.new.memory }
         ensures view { self.new.view ≡ self.old.view }
+        ensures keeps { Keeps self.old self.new }
     {
         match self.same_node(&node) {
             Some(k) => self.here = Place::Seen(k),
@@ -329,6 +344,7 @@ impl Recogniser {
             → Reads shown self.old.memory (Reading.Two first second)
             → Holds shown line self.old.memory → Holds shown line self.new.memory }
         ensures view { self.new.view ≡ self.old.view }
+        ensures keeps { Keeps self.old self.new }
     {
         if let Some(k) = self.memory.push(first) {
             let mut node = second;
@@ -344,6 +360,7 @@ impl Recogniser {
             → Reads shown self.old.memory (Reading.New node)
             → Holds shown line self.old.memory → Holds shown line self.new.memory }
         ensures view { self.new.view ≡ self.old.view }
+        ensures keeps { Keeps self.old self.new }
     {
         let Some(k) = self.memory.push(node) else {
             return;

@@ -1,6 +1,6 @@
 //! What is due, and when.
 
-ghost use Rattle.std.specs.Prelude.{◌≡◌, false, List, []};
+ghost use Rattle.std.specs.Prelude.{◌≡◌, false, None, IfSome, List, []};
 ghost use Rattle.dgt_values.specs.declared.pieces.Piece.{Piece};
 ghost use Rattle.dgt_game.specs.Told.{Told};
 
@@ -23,6 +23,7 @@ pub(crate) enum Task {
 impl Recogniser {
     ghost use Rattle.dgt_game.specs.Memory.{Holds, IsTold};
     ghost use Rattle.dgt_game.specs.Recogniser.{Reports, Stays};
+    ghost use Rattle.dgt_game.specs.Waiting.{Follows, IsQuiet, IsRight, Keeps, Waits};
 
     /// When [`Recogniser::due`] has something to do next, if nothing else is seen until then.
     pub fn due_at(&self) -> Option<u64> {
@@ -37,6 +38,9 @@ impl Recogniser {
     /// none.
     pub fn due(&mut self, now: u64) -> Option<Event>
         ensures told { Reports self.old result self.new }
+        ensures right { Waits self.old
+            → Waits self.new × IfSome result (λ event. IsRight self.new event) }
+        ensures follows { Waits self.old → Follows self.old result self.new }
     {
         for _ in 0..3 {
             if let Some(event) = self.next_event() {
@@ -52,7 +56,7 @@ impl Recogniser {
     }
 
     pub(crate) fn is_due(&self, now: u64) -> bool
-        ensures { result ≡ false → IsTold self.now.memory }
+        ensures { result ≡ false → IsQuiet self.now }
     {
         self.has_news()
             || match self.next_task() {
@@ -66,7 +70,7 @@ impl Recogniser {
             return None;
         }
         let other = self.next_of_position();
-        if self.kings.is_some() && self.is_confirmed {
+        if self.has_kings && self.is_confirmed {
             let at = self.since.saturating_add(KINGS);
             match other {
                 Some((sooner, _)) if sooner < at => {}
@@ -99,6 +103,8 @@ impl Recogniser {
 
     fn act(&mut self, task: Task)
         ensures stays { Stays self.old self.new }
+        ensures right { IsQuiet self.old → Waits self.old → Waits self.new }
+        ensures follows { Follows self.old None self.new }
     {
         match task {
             Task::EndByKings => self.end_by_kings(),
@@ -118,6 +124,7 @@ impl Recogniser {
             → self.old.memory.back ≡ 0 → self.old.memory.unsaid.items ≡ []
             → Holds shown line self.old.memory → Holds shown line self.new.memory }
         ensures view { self.new.view ≡ self.old.view }
+        ensures keeps { Keeps self.old self.new }
     {
         if let (Some(root), Some(k)) = (self.memory.node(self.here), self.last_rested()) {
             if root.origin == Origin::Start && root.step.way == Way::Begun {

@@ -1,16 +1,15 @@
 //! Positions that no half-move leads to: several half-moves, or another line.
 
-ghost use Rattle.std.specs.Prelude.{◌≡◌, ◌⊎◌, ℕ, List, [], Option, Some, None, IfSome, Contains, slice_get};
+ghost use Rattle.std.specs.Prelude.{◌≡◌, ◌⊎◌, ℕ, List, [], Option, Some, None, IfSome, Contains};
 ghost use Rattle.dgt_values.specs.declared.pieces.Piece.{Piece};
-ghost use Rattle.dgt_values.specs.Board.{DifferingSquares, pieces_of};
+ghost use Rattle.dgt_values.specs.Board.{pieces_of};
 ghost use Rattle.dgt_chess.specs.Rules.{board};
 ghost use Rattle.dgt_game.specs.declared.reading.Reading.{Reading};
-ghost use Rattle.dgt_game.specs.declared.recogniser.Notice.{Notice};
-ghost use Rattle.dgt_game.specs.Told.{Told, as_shown};
+ghost use Rattle.dgt_game.specs.Told.{Told};
 
 use crate::event::GAP;
 use crate::node::{Node, Origin, Place, Way};
-use crate::recogniser::{Notice, Over, Recogniser, Search};
+use crate::recogniser::{Lost, Over, Recogniser, Search};
 use crate::times::ROOTS;
 use crate::view::View;
 use dgt_chess::{Colour, Rights, State};
@@ -18,6 +17,7 @@ use dgt_values::{Piece, Position, Square};
 
 impl Recogniser {
     ghost use Rattle.dgt_game.specs.Memory.{Fits, FitsBy, Holds, IsRoot, Reads};
+    ghost use Rattle.dgt_game.specs.Waiting.{Keeps};
 
     /// Looks for several half-moves, also from the start of another game. If there are none, the
     /// line is lost.
@@ -27,6 +27,7 @@ impl Recogniser {
             → IfSome self.old.view (λ view. Contains shown (pieces_of view.shown))
             → Holds shown line self.old.memory → Holds shown line self.new.memory }
         ensures view { self.new.view ≡ self.old.view }
+        ensures keeps { Keeps self.old self.new }
     {
         self.search = Search::Done;
         let Some(view) = self.view else {
@@ -42,11 +43,13 @@ impl Recogniser {
     }
 
     fn add_jump(&mut self, node: Node, view: &View)
+        requires { self.old.view ≡ Some view.now }
         ensures holds { (shown : List (List Piece)) (line : List Told)
             → self.old.memory.back ≡ 0 → self.old.memory.unsaid.items ≡ []
             → Reads shown self.old.memory (Reading.New node)
             → Holds shown line self.old.memory → Holds shown line self.new.memory }
         ensures view { self.new.view ≡ self.old.view }
+        ensures keeps { Keeps self.old self.new }
     {
         self.lose_by(&node, view);
         self.add(node);
@@ -54,8 +57,10 @@ impl Recogniser {
     }
 
     fn lose_by(&mut self, node: &Node, view: &View)
+        requires { self.old.view ≡ Some view.now }
         ensures same { self.new.memory ≡ self.old.memory }
         ensures view { self.new.view ≡ self.old.view }
+        ensures keeps { Keeps self.old self.new }
     {
         if node.jumps_far && !self.is_behind {
             self.lose(view);
@@ -186,6 +191,7 @@ impl Recogniser {
             → Contains shown (pieces_of view.now.shown)
             → Holds shown line self.old.memory → Holds shown line self.new.memory }
         ensures view { self.new.view ≡ self.old.view }
+        ensures keeps { Keeps self.old self.new }
     {
         if !self.may_start() {
             return false;
@@ -225,15 +231,12 @@ impl Recogniser {
     }
 
     fn lose(&mut self, view: &View)
+        requires { self.old.view ≡ Some view.now }
         ensures same { self.new.memory ≡ self.old.memory }
         ensures view { self.new.view ≡ self.old.view }
-        ensures lost { (self.new.notice ≡ self.old.notice) ⊎ ((squares : ℕ)
-            × (self.new.notice ≡ Some (Notice.Lost squares))
-            × IfSome (slice_get self.old.memory.line.items 0) (λ last. DifferingSquares
-            (board last.step.state)
-            (as_shown last.step.is_turned (pieces_of view.now.shown)) squares)) }
+        ensures keeps { Keeps self.old self.new }
     {
-        if self.over != Over::No || self.is_lost || self.is_lifted() {
+        if self.over != Over::No || self.lost != Lost::No || self.is_lifted() {
             return;
         }
         let Some(last) = self.memory.line.get(0) else {
@@ -244,8 +247,7 @@ impl Recogniser {
             .state
             .position()
             .differ(view.from(last.step.is_turned));
-        self.is_lost = true;
-        self.notice = Some(Notice::Lost(squares));
+        self.lost = Lost::Now(squares);
     }
 
     /// A line begins with the position that is shown.
@@ -255,6 +257,7 @@ impl Recogniser {
             → IfSome self.old.view (λ view. Contains shown (pieces_of view.shown))
             → Holds shown line self.old.memory → Holds shown line self.new.memory }
         ensures view { self.new.view ≡ self.old.view }
+        ensures keeps { Keeps self.old self.new }
     {
         self.search = Search::Hopeless;
         self.memory.forget_seen();
@@ -274,6 +277,7 @@ impl Recogniser {
         ensures view { self.new.view ≡ self.old.view }
         ensures back { self.new.memory.back ≡ self.old.memory.back }
         ensures unsaid { self.new.memory.unsaid.items ≡ self.old.memory.unsaid.items }
+        ensures keeps { Keeps self.old self.new }
     {
         let (white, black) = self.roots();
         self.memory.make_room(2);
@@ -289,6 +293,7 @@ impl Recogniser {
         ensures view { self.new.view ≡ self.old.view }
         ensures back { self.new.memory.back ≡ self.old.memory.back }
         ensures unsaid { self.new.memory.unsaid.items ≡ self.old.memory.unsaid.items }
+        ensures keeps { Keeps self.old self.new }
     {
         if let Some(node) = root {
             self.memory.push(node);

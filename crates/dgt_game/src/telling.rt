@@ -1,24 +1,29 @@
 //! What is reported, one event at a time.
 
-ghost use Rattle.std.specs.Prelude.{◌≡◌, List, [], None, IfSome, false};
+ghost use Rattle.std.specs.Prelude.{◌≡◌, ◌⊎◌, List, [], None, Some, IfSome, false};
+ghost use Rattle.dgt_chess.specs.Rules.{CanMove};
 ghost use Rattle.dgt_values.specs.declared.pieces.Piece.{Piece};
 ghost use Rattle.dgt_game.specs.Told.{Told};
+ghost use Rattle.dgt_game.specs.declared.node.Step.{Step};
 ghost use Rattle.dgt_game.specs.Memory.{steps};
+ghost use Rattle.dgt_game.specs.Results.{ByRules};
 
 use crate::event::{Event, GameResult};
 use crate::node::{Node, Origin, Place, Way};
-use crate::recogniser::{Notice, Over, Recogniser};
+use crate::recogniser::{Lost, Over, Recogniser};
 use dgt_chess::{Colour, State};
 
 impl Recogniser {
+    ghost use Rattle.dgt_game.specs.Results.{HasResult};
+    ghost use Rattle.dgt_game.specs.Waiting.{EndWaits, EndsBy, Follows, IsOfLine, IsQuiet, IsRight, Keeps, Waits, coming, has_notice, has_result, last_of};
     ghost use Rattle.dgt_game.specs.Memory.{Holds, IsSeen, IsTold, Links, step_at};
-    ghost use Rattle.dgt_game.specs.Recogniser.{Knows, Reports};
+    ghost use Rattle.dgt_game.specs.Recogniser.{Knows, Reports, Stays};
 
     /// Whether an event waits to be reported.
     pub(crate) fn has_news(&self) -> bool
-        ensures { result ≡ false → IsTold self.now.memory }
+        ensures { result ≡ false → IsQuiet self.now }
     {
-        self.notice.is_some() || !self.memory.is_quiet() || self.ended.is_some()
+        self.has_notice() || !self.memory.is_quiet() || self.ended.is_some()
     }
 
     /// Has the path to a place reported, and then the board stands there, or at the answer.
@@ -29,8 +34,14 @@ impl Recogniser {
             (steps self.old.memory.seen.items) place) node.step × IsSeen shown node.step)
             → Holds shown line self.old.memory → Holds shown line self.new.memory }
         ensures view { self.new.view ≡ self.old.view }
+        ensures keeps { Keeps self.old self.new }
+        ensures told { (step : Step)
+            → self.old.memory.back ≡ 0 → self.old.memory.unsaid.items ≡ []
+            → step_at (steps self.old.memory.line.items) (steps self.old.memory.seen.items) place
+            ≡ Some step → ((self.new.memory.back ≡ 0) × (self.new.memory.unsaid.items ≡ []))
+            ⊎ (coming self.new.memory ≡ Some step) }
     {
-        self.notice = found(&mut self.is_lost).or(self.notice);
+        self.find();
         self.memory.tell(place, answer, self.over == Over::No);
         self.here = Place::Line(0);
         self.is_next = false;
@@ -38,28 +49,71 @@ impl Recogniser {
         self.is_set_up = false;
         self.is_white_king_lifted = false;
         self.is_black_king_lifted = false;
-        self.kings = None;
+        self.has_kings = false;
         self.returned = 0;
     }
 
     /// The next event that waits to be reported.
     pub(crate) fn next_event(&mut self) -> Option<Event>
         ensures told { Reports self.old result self.new }
-        ensures none { result ≡ None → IsTold self.new.memory }
+        ensures right { Waits self.old
+            → Waits self.new × IfSome result (λ event. IsRight self.new event) }
+        ensures follows { Waits self.old → Follows self.old result self.new }
+        ensures none { result ≡ None → IsQuiet self.new }
     {
-        if let Some(notice) = self.notice.take() {
-            return Some(match notice {
-                Notice::Lost(squares) => Event::Lost(squares),
-                Notice::Found => Event::Found,
-            });
+        if let Some(event) = self.next_notice() {
+            return Some(event);
         }
         if let Some(event) = self.memory.next_event() {
             self.follow_up(&event);
             return Some(event);
         }
         let (result, over) = self.ended.take()?;
+        if self.over != Over::No {
+            return None;
+        }
         self.over = over;
         Some(Event::Ended(result))
+    }
+
+    fn has_notice(&self) -> bool
+        ensures { result ≡ has_notice self.now.lost }
+    {
+        matches!(self.lost, Lost::Now(_) | Lost::Found)
+    }
+
+    // That the line was lost, or found.
+    fn next_notice(&mut self) -> Option<Event>
+        ensures told { Reports self.old result self.new }
+        ensures right { Waits self.old
+            → Waits self.new × IfSome result (λ event. IsRight self.new event) }
+        ensures follows { Follows self.old result self.new }
+        ensures none { result ≡ None → self.new ≡ self.old }
+        ensures quiet { has_notice self.new.lost ≡ false }
+    {
+        match self.lost {
+            Lost::Now(squares) => {
+                self.lost = Lost::Reported;
+                Some(Event::Lost(squares))
+            }
+            Lost::Found => {
+                self.lost = Lost::No;
+                Some(Event::Found)
+            }
+            _ => None,
+        }
+    }
+
+    /// The board shows a position of the line, or another line begins.
+    pub(crate) fn find(&mut self)
+        ensures memory { self.new.memory ≡ self.old.memory }
+        ensures keeps { Keeps self.old self.new }
+    {
+        match self.lost {
+            Lost::Now(_) => self.lost = Lost::No,
+            Lost::Reported => self.lost = Lost::Found,
+            _ => {}
+        }
     }
 
     // What an event means for the rest: a result is taken back with its half-moves, and once all
@@ -67,17 +121,37 @@ impl Recogniser {
     fn follow_up(&mut self, event: &Event)
         ensures knows { (shown : List (List Piece)) (line : List Told) → Knows shown line self.old
             → Knows shown line self.new }
+        ensures right { EndWaits self.old → EndWaits self.new }
+        ensures result { IsOfLine event.now
+            → HasResult (has_result self.old.over) event.now (has_result self.new.over) }
+        ensures lost { self.new.lost ≡ self.old.lost }
     {
         match event {
             Event::Begun(_, _) | Event::Back(_) => self.over = Over::No,
             _ => {}
         }
-        if !self.memory.is_quiet() {
-            return;
+        if self.memory.is_quiet() {
+            self.ended = self.end_of_line().or(self.ended);
+            self.stand_on_last();
         }
-        if let Some(node) = self.memory.line.get(0) {
-            self.ended = end_by_rules(node, self.since).or(self.ended);
-        }
+    }
+
+    // The result of the line's last state, if it was just reported.
+    fn end_of_line(&self) -> Option<(GameResult, Over)>
+        ensures { IfSome result (λ end. (step : Step) × (last_of self.now.memory ≡ Some step)
+            × EndsBy end.1 self.now.view step end.0) }
+    {
+        let node = self.memory.line.get(0)?;
+        end_by_rules(node, self.since)
+    }
+
+    // The board stands at the line's last state, or at the answer to it.
+    fn stand_on_last(&mut self)
+        ensures stays { Stays self.old self.new }
+        ensures keeps { Keeps self.old self.new }
+        ensures lost { self.new.lost ≡ self.old.lost }
+        ensures coming { coming self.new.memory ≡ coming self.old.memory }
+    {
         if let Some(node) = self.memory.take_answer() {
             if node.step.way != Way::Begun || node.origin == Origin::Start {
                 self.here = Place::Seen(0);
@@ -87,17 +161,11 @@ impl Recogniser {
     }
 }
 
-/// What is reported if a line that was lost is found again.
-pub(crate) fn found(is_lost: &mut bool) -> Option<Notice> {
-    if !*is_lost {
-        return None;
-    }
-    *is_lost = false;
-    Some(Notice::Found)
-}
-
 // The result of a state that was just reported, if it has no legal move.
-fn end_by_rules(node: &Node, since: u64) -> Option<(GameResult, Over)> {
+fn end_by_rules(node: &Node, since: u64) -> Option<(GameResult, Over)>
+    ensures { IfSome result (λ end. (end.1 ≡ Over.Rules since)
+        × ByRules node.now.step.state end.0) }
+{
     if node.step.way == Way::Begun || node.step.state.can_move() {
         return None;
     }
@@ -105,7 +173,9 @@ fn end_by_rules(node: &Node, since: u64) -> Option<(GameResult, Over)> {
 }
 
 // The result in a state with no legal move.
-fn result_by_rules(state: &State) -> GameResult {
+fn result_by_rules(state: &State) -> GameResult
+    ensures { ¬ (CanMove state.now) → ByRules state.now result }
+{
     if !state.is_check() {
         GameResult::Draw
     } else if state.turn() == Colour::White {

@@ -2,11 +2,14 @@
 
 ghost use Rattle.std.specs.Prelude.{◌≡◌, ◌↔◌, List, Contains, IfSome, IsTrue, reverse};
 ghost use Rattle.dgt_values.specs.declared.pieces.Piece.{Piece};
+ghost use Rattle.std.specs.Prelude.{◌≡◌, ◌↔◌, IfSome, IsTrue, reverse};
 ghost use Rattle.dgt_values.specs.Board.{pieces_of};
 ghost use Rattle.dgt_chess.specs.Rules.{board};
+ghost use Rattle.dgt_game.specs.Results.{IsOnlyOn};
 ghost use Rattle.dgt_game.specs.Told.{as_shown};
 
 use crate::observation::Sight;
+use crate::ways::is_same;
 use dgt_chess::{Colour, Man, State};
 use dgt_values::{Piece, Position, Square};
 
@@ -71,10 +74,12 @@ fn turned(position: &Position) -> Position
 }
 
 /// The only square with this piece, if there is just one.
-pub(crate) fn only_square(position: &Position, piece: Piece) -> Option<u8> {
+pub(crate) fn only_square(position: &Position, piece: Piece) -> Option<u8>
+    ensures { IfSome result (λ at. IsOnlyOn (pieces_of position.now) piece at) }
+{
     let mut found = None;
     for at in 0..64 {
-        if position.get(Square::from_small(at)) == piece {
+        if is_same(position.get(Square::from_small(at)), piece) {
             if found.is_some() {
                 return None;
             }

@@ -28,4 +28,5 @@ returns c =
           (subst (λ (p : Place). Links (step_at kept seen p) step) c.in-Seen.is h)));
       back = refl;
       unsaid = refl;
+      line = refl;
     }

@@ -7,8 +7,8 @@ use Rattle.dgt_game.specs.Memory.{Grows, IsSeen, Links, steps, tip}
 use Rattle.dgt_game.proofs.Told.{grows_one, links_moved}
 use Rattle.dgt_game.proofs.memory.Memory.take_answer.Goals as goal
 
-pub returns : goal.returns
-returns c = λ shown line back nothing h.
+pub returns-clause-holds : goal.returns-clause-holds
+returns-clause-holds c = λ shown line back nothing h.
     let m = c.args.self.now in
     let kept = steps m.line.items in
     let node = c.in-Some.node in

@@ -1,12 +1,13 @@
-use Rattle.std.proofs.Common.{◌≡◌, [], sym, subst, inl, inr, List, Option}
+use Rattle.std.proofs.Common.{◌≡◌, [], ap, sym, subst, inl, inr, List, Option}
 use Rattle.std.specs.Prelude.{slice_get, IfSome}
 use Rattle.dgt_game.specs.declared.node.Step.{Step}
 use Rattle.dgt_game.specs.Memory.{Chain, Grows, IsSeen, Links, steps, tip}
 use Rattle.dgt_game.proofs.Told.{grows_none, taken_back}
+use Rattle.dgt_game.proofs.Waiting.{dropped}
 use Rattle.dgt_game.proofs.memory.Memory.take_back.Goals as goal
 
-pub returns : goal.returns
-returns c = λ shown line some h.
+pub returns-clause-holds : goal.returns-clause-holds
+returns-clause-holds c = λ shown line some h.
     let m = c.args.self.now in
     let new = c.drop_first.new.nodes.items in
     let t = taken_back shown line m.line.items new m.back c.drop_first.result
@@ -30,3 +31,11 @@ returns c = λ shown line some h.
         quiet = inl none;
       },
     )
+
+pub returns-clause-coming : goal.returns-clause-coming
+returns-clause-coming c = λ some.
+    let m = c.args.self.now in
+    let new = c.drop_first.new.nodes.items in
+    let same = dropped m.line.items new m.back c.drop_first.ensures.rest c.drop_first.ensures.none
+    some in
+    rw c.saturating_sub-self.ensures (ap (λ (o : Option Step). tip o (steps m.unsaid.items)) same)

@@ -3,6 +3,7 @@ use Rattle.std.specs.Prelude.{slice_get}
 use Rattle.dgt_game.specs.declared.node.Place.{Place}
 use Rattle.dgt_game.specs.Memory.{Links, step_at, steps}
 use Rattle.dgt_game.proofs.Chains.{chain_any, get_step, tip_any}
+use Rattle.dgt_game.proofs.Waiting.{tip_some}
 use Rattle.dgt_game.proofs.memory.Memory.with_last.Goals as goal
 
 pub returns-then-is_full-clause-chain : goal.returns-then-is_full-clause-chain
@@ -36,3 +37,10 @@ returns-in-None-clause-chain c = λ shown line h chain. chain_any shown _ _ chai
 
 pub returns-in-None-clause-tip : goal.returns-in-None-clause-tip
 returns-in-None-clause-tip c = λ step h. tip_any _ (steps c.args.path.items) step h
+
+pub returns-in-Some-clause-there : goal.returns-in-Some-clause-there
+returns-in-Some-clause-there c = λ step e.
+    rw c.inserted.ensures (tip_some (Some c.in-Some.node.step) (steps c.args.path.items) step e)
+
+pub returns-in-None-clause-there : goal.returns-in-None-clause-there
+returns-in-None-clause-there c = λ step e. tip_some _ (steps c.args.path.items) step e

@@ -1,4 +1,4 @@
-use Rattle.std.proofs.Common.{◌∙◌, sym, subst, Option}
+use Rattle.std.proofs.Common.{rules, ◌∙◌, sym, subst, Option}
 use Rattle.dgt_game.specs.declared.node.Place.{Place}
 use Rattle.dgt_game.specs.declared.node.Step.{Step}
 use Rattle.dgt_game.specs.Memory.{Links}
@@ -23,4 +23,5 @@ returns-in-Some c = record {
       )
       (c.push.ensures.holds shown line back unsaid reads.0 reads.1 holds);
   view = c.add.ensures.view;
+  keeps = search (rules, c.push.ensures.line);
 }

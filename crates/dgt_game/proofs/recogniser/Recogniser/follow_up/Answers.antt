@@ -1,108 +1,62 @@
-use Rattle.std.proofs.Common.{◌≡◌, ◌∙◌, sym, ap, subst, Option}
-use Rattle.std.specs.Prelude.{Contains, IfSome}
-use Rattle.dgt_values.specs.Board.{pieces_of}
-use Rattle.dgt_game.specs.declared.memory.Memory.{Memory}
-use Rattle.dgt_game.specs.declared.view.View.{View}
-use Rattle.dgt_game.specs.Memory.{Holds}
-use Rattle.dgt_game.proofs.Known.{memory_of, view_of}
+use Rattle.std.proofs.Common.{rules, ◌≡◌, ◌∙◌, [], Some, Option, ap, sym, subst}
+use Rattle.std.specs.Prelude.{IfSome}
+use Rattle.std.proofs.lemmas.Option.{IfSome_then}
+use Rattle.dgt_game.specs.declared.event.GameResult.{GameResult}
+use Rattle.dgt_game.specs.declared.node.Step.{Step}
+use Rattle.dgt_game.specs.declared.recogniser.Over.{Over}
+use Rattle.dgt_game.specs.Waiting.{EndWaits, EndsBy, coming}
+use Rattle.dgt_game.proofs.Known.{knows_same, memory_of, view_of}
+use Rattle.dgt_game.proofs.Waiting.{last_comes, or_some}
 use Rattle.dgt_game.proofs.recogniser.Recogniser.follow_up.Goals as goal
-use Rattle.dgt_game.proofs.recogniser.Recogniser.follow_up.Goals.{in_default, in-Begun, in-Some, in_default-get}
+use Rattle.dgt_game.proofs.recogniser.Recogniser.follow_up.Goals.{in_default, in-Begun}
 
-pub returns-after-self : goal.returns-after-self
-returns-after-self c = record {
-  knows = λ shown line h.
-      let memory = elim c.match-event.branch as (λ _. memory_of c.match-event.self
-      ≡ c.args.self.now.memory) [
-        | in_default w ↦ ap memory_of w.self-is
-        | in-Begun w ↦ ap memory_of w.self-is
-      ] in
-      let same = elim c.match-get.branch as (λ _. memory_of c.match-get.self
-      ≡ memory_of c.match-event.self) [
-        | in-Some w ↦ ap memory_of w.self-is
-        | in_default-get w ↦ ap memory_of w.self-is
-      ] in
-      let view = elim c.match-event.branch as (λ _. view_of c.match-event.self
-      ≡ c.args.self.now.view) [
-        | in_default w ↦ ap view_of w.self-is
-        | in-Begun w ↦ ap view_of w.self-is
-      ] in
-      let shows = elim c.match-get.branch as (λ _. view_of c.match-get.self
-      ≡ view_of c.match-event.self) [
-        | in-Some w ↦ ap view_of w.self-is
-        | in_default-get w ↦ ap view_of w.self-is
-      ] in
-      let told = c.is_quiet.ensures.0 c.if-not-is_quiet.false in
-      record {
-        held = c.take_answer.ensures shown line (ap (λ (m : Memory). m.back) same ∙ told.0)
-            (ap (λ (m : Memory). m.unsaid.items) same ∙ told.1)
-            (subst (Holds shown line) (sym (same ∙ memory)) h.held);
-        seen = subst (λ (v : Option View). IfSome v (λ view. Contains shown
-            (pieces_of view.shown))) (sym (shows ∙ view)) h.seen;
-      };
-}
+pub returns-else-is_quiet-clause-knows : goal.returns-else-is_quiet-clause-knows
+returns-else-is_quiet-clause-knows c = λ shown line h.
+    let memory = elim c.match-event.branch as (λ _. memory_of c.match-event.self
+    ≡ c.args.self.now.memory) [
+      | in_default w ↦ ap memory_of w.self-is
+      | in-Begun w ↦ ap memory_of w.self-is
+    ] in
+    let view = elim c.match-event.branch as (λ _. view_of c.match-event.self
+    ≡ c.args.self.now.view) [
+      | in_default w ↦ ap view_of w.self-is
+      | in-Begun w ↦ ap view_of w.self-is
+    ] in
+    knows_same shown line c.args.self.now c.match-event.self memory view h
 
-pub returns-else-eq : goal.returns-else-eq
-returns-else-eq c = record {
-  knows = λ shown line h.
-      let memory = elim c.match-event.branch as (λ _. memory_of c.match-event.self
-      ≡ c.args.self.now.memory) [
-        | in_default w ↦ ap memory_of w.self-is
-        | in-Begun w ↦ ap memory_of w.self-is
-      ] in
-      let same = elim c.match-get.branch as (λ _. memory_of c.match-get.self
-      ≡ memory_of c.match-event.self) [
-        | in-Some w ↦ ap memory_of w.self-is
-        | in_default-get w ↦ ap memory_of w.self-is
-      ] in
-      let view = elim c.match-event.branch as (λ _. view_of c.match-event.self
-      ≡ c.args.self.now.view) [
-        | in_default w ↦ ap view_of w.self-is
-        | in-Begun w ↦ ap view_of w.self-is
-      ] in
-      let shows = elim c.match-get.branch as (λ _. view_of c.match-get.self
-      ≡ view_of c.match-event.self) [
-        | in-Some w ↦ ap view_of w.self-is
-        | in_default-get w ↦ ap view_of w.self-is
-      ] in
-      let told = c.is_quiet.ensures.0 c.if-not-is_quiet.false in
-      record {
-        held = c.take_answer.ensures shown line (ap (λ (m : Memory). m.back) same ∙ told.0)
-            (ap (λ (m : Memory). m.unsaid.items) same ∙ told.1)
-            (subst (Holds shown line) (sym (same ∙ memory)) h.held);
-        seen = subst (λ (v : Option View). IfSome v (λ view. Contains shown
-            (pieces_of view.shown))) (sym (shows ∙ view)) h.seen;
-      };
-}
+pub returns-then-is_quiet-clause-knows : goal.returns-then-is_quiet-clause-knows
+returns-then-is_quiet-clause-knows c = λ shown line h.
+    let memory = elim c.match-event.branch as (λ _. memory_of c.match-event.self
+    ≡ c.args.self.now.memory) [
+      | in_default w ↦ ap memory_of w.self-is
+      | in-Begun w ↦ ap memory_of w.self-is
+    ] in
+    let view = elim c.match-event.branch as (λ _. view_of c.match-event.self
+    ≡ c.args.self.now.view) [
+      | in_default w ↦ ap view_of w.self-is
+      | in-Begun w ↦ ap view_of w.self-is
+    ] in
+    let told = c.is_quiet.ensures.0 c.if-is_quiet.true in
+    c.stand_on_last.ensures.stays shown line told
+    (knows_same shown line c.args.self.now _ memory view h)
 
-pub returns-in_default-take_answer : goal.returns-in_default-take_answer
-returns-in_default-take_answer c = record {
-  knows = λ shown line h.
-      let memory = elim c.match-event.branch as (λ _. memory_of c.match-event.self
-      ≡ c.args.self.now.memory) [
-        | in_default w ↦ ap memory_of w.self-is
-        | in-Begun w ↦ ap memory_of w.self-is
-      ] in
-      let same = elim c.match-get.branch as (λ _. memory_of c.match-get.self
-      ≡ memory_of c.match-event.self) [
-        | in-Some w ↦ ap memory_of w.self-is
-        | in_default-get w ↦ ap memory_of w.self-is
-      ] in
-      let view = elim c.match-event.branch as (λ _. view_of c.match-event.self
-      ≡ c.args.self.now.view) [
-        | in_default w ↦ ap view_of w.self-is
-        | in-Begun w ↦ ap view_of w.self-is
-      ] in
-      let shows = elim c.match-get.branch as (λ _. view_of c.match-get.self
-      ≡ view_of c.match-event.self) [
-        | in-Some w ↦ ap view_of w.self-is
-        | in_default-get w ↦ ap view_of w.self-is
-      ] in
-      let told = c.is_quiet.ensures.0 c.if-not-is_quiet.false in
-      record {
-        held = c.take_answer.ensures shown line (ap (λ (m : Memory). m.back) same ∙ told.0)
-            (ap (λ (m : Memory). m.unsaid.items) same ∙ told.1)
-            (subst (Holds shown line) (sym (same ∙ memory)) h.held);
-        seen = subst (λ (v : Option View). IfSome v (λ view. Contains shown
-            (pieces_of view.shown))) (sym (shows ∙ view)) h.seen;
-      };
-}
+pub returns-else-is_quiet-clause-right : goal.returns-else-is_quiet-clause-right
+returns-else-is_quiet-clause-right c = λ h.
+    elim c.match-event.branch [ in_default w ↦ rw w.self-is h | in-Begun w ↦ rw w.self-is h ]
+
+pub returns-then-is_quiet-clause-right : goal.returns-then-is_quiet-clause-right
+returns-then-is_quiet-clause-right c = λ h.
+    let self = c.match-event.self in
+    let new = c.stand_on_last.new.self in
+    let waits : EndWaits self =
+    elim c.match-event.branch [ in_default w ↦ rw w.self-is h | in-Begun w ↦ rw w.self-is h ] in
+    let back : self.memory.back ≡ 0 = search rules in
+    let unsaid : self.memory.unsaid.items ≡ [] = search rules in
+    let last = last_comes self.memory back unsaid in
+    let keeps = c.stand_on_last.ensures.keeps in
+    let P : GameResult × Over → Type 0 = λ end. (step : Step) × (coming self.memory ≡ Some step)
+    × EndsBy end.1 self.view step end.0 in
+    let ends = IfSome_then c.end_of_line.result {Q = P} c.end_of_line.ensures
+    (λ end h. (h.0, last ∙ h.1, h.2)) in
+    let both = or_some c.end_of_line.result self.ended P ends waits in
+    rw (keeps.2, c.or-self.ensures, keeps.0, c.stand_on_last.ensures.coming) both

@@ -8,7 +8,7 @@ use Rattle.dgt_game.proofs.recogniser.Recogniser.see.Goals.{then-ne, then-not-se
 
 pub returns-clause-seen : goal.returns-clause-seen
 returns-clause-seen c = λ done shown line knows.
-    let (back, unsaid) = c.is_due.ensures c.if-is_due.false in
+    let (back, unsaid) = (c.is_due.ensures c.if-is_due.false).0 in
     let sight = c.args.observation.now.sight in
     let more = within_after sight shown in
     let new : Knows (shown_after sight shown) line c.if-ne.self = elim c.if-ne.branch [

@@ -1,0 +1,162 @@
+-- What waits to be reported.
+use Rattle.std.proofs.Common.{◌≡◌, ◌≢◌, ◌∙◌, ◌+◌, ◌-◌, ◌<◌, ◌⊎◌, inl, inr, refl, sym, ap, subst, arith, below_more, ℕ, zero, suc, Bool, true, false, List, [], ◌∷◌, Option, Some, None}
+use Rattle.std.specs.Prelude.{slice_get, IfSome}
+use Rattle.std.specs.Option.{option_or}
+use Rattle.std.proofs.lemmas.Option.{none-some}
+use Rattle.dgt_values.specs.declared.pieces.Piece.{Piece}
+use Rattle.dgt_chess.specs.Attacks.{piece_at}
+use Rattle.dgt_game.specs.declared.event.GameResult.{GameResult}
+use Rattle.dgt_game.specs.declared.memory.Memory.{Memory}
+use Rattle.dgt_game.specs.declared.recogniser.Over.{Over}
+use Rattle.dgt_game.specs.declared.event.Event.{Event}
+use Rattle.dgt_game.specs.declared.node.Node.{Node}
+use Rattle.dgt_game.specs.declared.node.Step.{Step}
+use Rattle.dgt_game.specs.declared.node.Way.{Way}
+use Rattle.dgt_game.specs.declared.recogniser.Lost.{Lost}
+use Rattle.dgt_game.specs.declared.recogniser.Recogniser.{Recogniser}
+use Rattle.dgt_game.specs.declared.view.View.{View}
+use Rattle.dgt_chess.specs.declared.state.State.{State}
+use Rattle.dgt_game.specs.Memory.{event_by, steps, tip}
+use Rattle.dgt_game.specs.Results.{ByRules, FitsAt, HasResult, IsLost}
+use Rattle.dgt_game.specs.Waiting.{EndsBy, Follows, IsOfLine, IsRight, Keeps, LostBy, Show, coming, has_notice, has_result, is_lost, last_of}
+
+pub keeps_self : (self : Recogniser) → Keeps self self
+keeps_self self = (refl, refl, refl, refl, λ h. h)
+
+pub keeps_then : (a b c : Recogniser) → Keeps a b → Keeps b c → Keeps a c
+keeps_then a b c h k =
+    (k.0 ∙ h.0, k.1 ∙ h.1, k.2 ∙ h.2, k.3 ∙ h.3, λ w. k.4 (h.4 w))
+
+pub follows_then : (a b c : Recogniser) (event : Option Event) → Follows a None b
+    → Follows b event c → Follows a event c
+follows_then a b c None f g = (g.0 ∙ f.0, g.1 ∙ f.1)
+follows_then a b c (Some event) f g = (
+  subst (λ (had : Bool). HasResult had event (has_result c.over)) f.0 g.0,
+  subst (λ (was : Bool). IsLost was event (is_lost c.lost)) f.1 g.1,
+)
+
+pub of_line : (way : Way) (state : State) (is_turned : Bool)
+    → IsOfLine (event_by way state is_turned)
+of_line Way.Begun state is_turned = tt
+of_line (Way.Made one) state is_turned = tt
+of_line (Way.Unseen moves) state is_turned = tt
+of_line (Way.Gap count) state is_turned = tt
+
+pub right_of_line : (self : Recogniser) (event : Event) → IsOfLine event → IsRight self event
+right_of_line self (Event.Ended result) h = absurd h
+right_of_line self (Event.Lost squares) h = absurd h
+right_of_line self Event.Found h = absurd h
+right_of_line self (Event.Begun state is_turned) h = tt
+right_of_line self (Event.Made one) h = tt
+right_of_line self (Event.Unseen moves) h = tt
+right_of_line self (Event.Gap state count) h = tt
+right_of_line self (Event.Back count) h = tt
+
+pub lost_of_line : (was now : Bool) (event : Event) → IsOfLine event → now ≡ was
+    → IsLost was event now
+lost_of_line was now (Event.Ended result) h e = absurd h
+lost_of_line was now (Event.Lost squares) h e = absurd h
+lost_of_line was now Event.Found h e = absurd h
+lost_of_line was now (Event.Begun state is_turned) h e = e
+lost_of_line was now (Event.Made one) h e = e
+lost_of_line was now (Event.Unseen moves) h e = e
+lost_of_line was now (Event.Gap state count) h e = e
+lost_of_line was now (Event.Back count) h e = e
+
+-- no notice waits
+pub silent : (lost : Lost) (view : Option View) (last : Option Step) → has_notice lost ≡ false
+    → LostBy lost view last
+silent Lost.No view last e = tt
+silent (Lost.Now squares) view last e = absurd (let wrong : ⊥ = cc in wrong)
+silent Lost.Reported view last e = tt
+silent Lost.Found view last e = tt
+
+-- the line without its last state
+pub dropped : (nodes new : List Node) (back : ℕ) → ((first : Node) (rest : List Node)
+    → nodes ≡ first ∷ rest → new ≡ rest) → (nodes ≡ [] → new ≡ []) → back ≢ 0
+    → slice_get (steps new) (back - 1) ≡ slice_get (steps nodes) back
+dropped nodes new zero drops none some = absurd (some refl)
+dropped [] new (suc back) drops none some = rw (none refl) refl
+dropped (first ∷ rest) new (suc back) drops none some =
+    let less : suc back - 1 ≡ back = omega arith in
+    rw (drops first rest refl) (rw less refl)
+
+pub tip_some : (before : Option Step) (path : List Step) (step : Step)
+    → tip None path ≡ Some step → tip before path ≡ Some step
+tip_some before [] step e = absurd (none-some step e)
+tip_some before (first ∷ path) step e = e
+
+pub or_some : {X : Type 0} (a b : Option X) (P : X → Type 0) → IfSome a P → IfSome b P
+    → IfSome (option_or a b) P
+or_some None b P h k = k
+or_some (Some x) b P h k = h
+
+-- once nothing waits, the last state is the one that was to come
+pub last_comes : (memory : Memory) → memory.back ≡ 0 → memory.unsaid.items ≡ []
+    → coming memory ≡ last_of memory
+last_comes memory back unsaid =
+    let moved : coming memory ≡ tip (slice_get (steps memory.line.items) 0) (steps
+    memory.unsaid.items) = ap (λ (n : ℕ). tip (slice_get (steps memory.line.items) n) (steps
+    memory.unsaid.items)) back in
+    moved ∙ ap (λ (nodes : List Node). tip (slice_get (steps memory.line.items) 0) (steps nodes))
+    unsaid
+
+pub ended_right : (over : Over) (view : Option View) (step : Step) (result : GameResult)
+    → EndsBy over view step result → (has_result over ≡ true)
+    × (ByRules step.state result ⊎ Show view step result)
+ended_right Over.No view step result h = absurd h
+ended_right (Over.Rules since) view step result h = (refl, inl h)
+ended_right Over.Kings view step result h = (refl, inr h)
+
+-- a square more, of the squares that fit but for one
+abbrev pub Fitting : List Piece → List Piece → ℕ → Bool → Type 0
+Fitting picture pieces at has_other =
+    (has_other ≡ false → (square : ℕ) → square < at → FitsAt picture pieces square)
+    × ((other : ℕ) × ((square : ℕ) → square < at → square ≢ other
+    → FitsAt picture pieces square))
+
+pub fitting_more : (picture pieces : List Piece) (at : ℕ) (has_other : Bool)
+    → FitsAt picture pieces at → Fitting picture pieces at has_other
+    → Fitting picture pieces (at + 1) has_other
+fitting_more picture pieces at has_other fits h = (
+  λ none. below_more (λ k. FitsAt picture pieces k) at (h.0 none) fits,
+  (
+    h.1.0,
+    below_more (λ k. k ≢ h.1.0 → FitsAt picture pieces k) at h.1.1 (λ differs. fits),
+  ),
+)
+
+pub fitting_but : (picture pieces : List Piece) (at : ℕ) (has_other : Bool)
+    → has_other ≡ false → Fitting picture pieces at has_other
+    → Fitting picture pieces (at + 1) true
+fitting_but picture pieces at has_other none h = (
+  λ wrong. absurd (let impossible : ⊥ = cc in impossible),
+  (
+    at,
+    below_more (λ k. k ≢ at → FitsAt picture pieces k) at (λ k less differs. h.0 none k less)
+        (λ differs. absurd (differs refl)),
+  ),
+)
+
+-- what was found of a piece on the squares so far
+abbrev pub FoundOn : List Piece → Piece → ℕ → Option ℕ → Type 0
+FoundOn picture piece at None = (k : ℕ) → k < at → piece_at picture k ≢ piece
+FoundOn picture piece at (Some found) =
+    (piece_at picture found ≡ piece)
+    × ((k : ℕ) → k < at → piece_at picture k ≡ piece → k ≡ found)
+
+pub found_none : (picture : List Piece) (piece : Piece) (at : ℕ) (found : Option ℕ)
+    → piece_at picture at ≢ piece → FoundOn picture piece at found
+    → FoundOn picture piece (at + 1) found
+found_none picture piece at None differs h = below_more (λ k. piece_at picture k ≢ piece) at h
+    differs
+found_none picture piece at (Some found) differs h =
+    (h.0, below_more (λ k. piece_at picture k ≡ piece → k ≡ found) at h.1 (λ e. absurd (differs e)))
+
+pub found_one : (picture : List Piece) (piece : Piece) (at : ℕ) (found : Option ℕ)
+    → found ≡ None → piece_at picture at ≡ piece → FoundOn picture piece at found
+    → FoundOn picture piece (at + 1) (Some at)
+found_one picture piece at None none same h =
+    (same, below_more (λ k. piece_at picture k ≡ piece → k ≡ at) at (λ k less e. absurd (h k less
+        e)) (λ e. refl))
+found_one picture piece at (Some found) none same h = absurd (none-some found (sym none))

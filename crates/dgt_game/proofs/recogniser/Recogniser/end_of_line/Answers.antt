@@ -1,0 +1,23 @@
+use Rattle.std.proofs.Common.{◌≡◌, Some, List, length, refl, sym, subst}
+use Rattle.std.specs.Prelude.{slice_get}
+use Rattle.std.proofs.lemmas.Option.{IfSome_then, slice_get_read}
+use Rattle.dgt_game.specs.declared.node.Node.{Node}
+use Rattle.dgt_game.specs.declared.recogniser.Over.{Over}
+use Rattle.dgt_game.specs.Waiting.{EndsBy, last_of}
+use Rattle.dgt_game.proofs.Chains.{get_step}
+use Rattle.dgt_game.proofs.recogniser.Recogniser.end_of_line.Goals as goal
+
+pub returns : goal.returns
+returns c =
+    let self = c.args.self.now in
+    let node = c.in_ok-node.node.now in
+    let look = c.in_ok-node.ensures.lookup in
+    let line = c.deref.result.now in
+    let at : slice_get self.memory.line.items 0 ≡ Some node =
+    subst (λ (nodes : List Node). slice_get nodes 0 ≡ Some node) c.deref.ensures.0
+    (slice_get_read line (length line) 0 node refl look.3.0 look.1) in
+    IfSome_then c.end_by_rules.result c.end_by_rules.ensures (λ end h. (
+      node.step,
+      get_step self.memory.line.items 0 node at,
+      subst (λ (over : Over). EndsBy over self.view node.step end.0) (sym h.0) h.1,
+    ))

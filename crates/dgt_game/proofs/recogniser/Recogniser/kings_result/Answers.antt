@@ -1,0 +1,53 @@
+use Rattle.std.proofs.Common.{rules, arith, ◌≡◌, ◌∙◌, ◌-◌, ◌<◌, List, Bool, Some, length, slice_index_or, refl, sym, ap, subst}
+use Rattle.std.specs.Prelude.{slice_get}
+use Rattle.std.proofs.lemmas.Option.{slice_get_read}
+use Rattle.dgt_values.specs.declared.pieces.Piece.{Piece}
+use Rattle.dgt_values.specs.Board.{pieces_of}
+use Rattle.dgt_game.specs.declared.node.Node.{Node}
+use Rattle.dgt_game.specs.Results.{KingsMean}
+use Rattle.dgt_game.specs.Told.{as_shown}
+use Rattle.dgt_game.proofs.Chains.{get_step}
+use Rattle.dgt_game.proofs.recogniser.Recogniser.kings_result.Goals as goal
+
+pub returns-then-stands : goal.returns-then-stands
+returns-then-stands c =
+    let seen = c.args.self.now.memory.seen.items in
+    let node = c.index-deref-len.result in
+    let result = c.in_ok-result.result in
+    let k = c.len-len.result - 1 - c.loop-at.at in
+    let pieces = pieces_of c.args.view.now.shown in
+    let size : c.len-len.result ≡ length seen = search rules in
+    let less : k < length seen = omega (arith, size, c.loop-at-test.true) in
+    let read : node ≡ slice_index_or seen k node = search rules in
+    let at : slice_get seen k ≡ Some node =
+    slice_get_read seen (length seen) k node refl less read in
+    let turned : c.in_ok-last.last.now.step.is_turned ≡ node.step.is_turned = search rules in
+    let means = c.in_ok-result.ensures (pieces_of c.from-shown.result.now) c.in_ok-white.ensures
+    c.in_ok-black.ensures in (
+      node.step,
+      get_step seen k node at,
+      (
+        subst (λ (t : Bool). KingsMean (as_shown t pieces) result) turned
+            (subst (λ (picture : List Piece). KingsMean picture result) c.from-shown.ensures means),
+        c.stands.ensures c.if-stands.true,
+      ),
+    )
+
+pub returns-then-stands-2 : goal.returns-then-stands-2
+returns-then-stands-2 c =
+    let look = c.in_ok-last.ensures.lookup in
+    let line = c.deref.result.now in
+    let last = c.in_ok-last.last.now in
+    let result = c.in_ok-result.result in
+    let at : slice_get c.args.self.now.memory.line.items 0 ≡ Some last =
+    subst (λ (nodes : List Node). slice_get nodes 0 ≡ Some last) c.deref.ensures.0
+    (slice_get_read line (length line) 0 last refl look.3.0 look.1) in
+    let means = c.in_ok-result.ensures (pieces_of c.from-shown.result.now) c.in_ok-white.ensures
+    c.in_ok-black.ensures in (
+      last.step,
+      get_step c.args.self.now.memory.line.items 0 last at,
+      (
+        subst (λ (picture : List Piece). KingsMean picture result) c.from-shown.ensures means,
+        c.stands-2.ensures c.if-stands-2.true,
+      ),
+    )

@@ -1,0 +1,64 @@
+use Rattle.std.proofs.Common.{rules, ◌≡◌, ◌∙◌, [], Some, None, Option, false, refl, ap, sym, subst}
+use Rattle.std.specs.Prelude.{⊤, IfSome}
+use Rattle.std.proofs.lemmas.Option.{MatchOption-at_some}
+use Rattle.dgt_game.specs.declared.event.GameResult.{GameResult}
+use Rattle.dgt_game.specs.declared.node.Step.{Step}
+use Rattle.dgt_game.specs.declared.recogniser.Lost.{Lost}
+use Rattle.dgt_game.specs.declared.recogniser.Over.{Over}
+use Rattle.dgt_game.specs.Waiting.{EndsBy, coming, has_notice, has_result}
+use Rattle.dgt_game.proofs.Waiting.{ended_right, last_comes, right_of_line, silent}
+use Rattle.dgt_game.proofs.recogniser.Recogniser.next_event.Goals as goal
+
+pub returns-in-Some-next_event-clause-right : goal.returns-in-Some-next_event-clause-right
+returns-in-Some-next_event-clause-right c = λ h.
+    let self = c.next_notice.new.self in
+    let new = c.follow_up.new.self in
+    let next = c.in-Some-next_event in
+    let waits = (c.in_default.ensures.right h).0 in
+    let quiet : has_notice new.lost ≡ false =
+    ap (λ (l : Lost). has_notice l) c.follow_up.ensures.lost ∙ c.in_default.ensures.quiet in (
+      (
+        c.follow_up.ensures.right (subst (λ (o : Option Step). IfSome self.ended (λ end. (step :
+            Step) × (o ≡ Some step) × EndsBy end.1 self.view step end.0)) (sym
+            next.ensures.coming) waits.0),
+        silent new.lost _ _ quiet,
+      ),
+      right_of_line new next.event next.ensures.of_line,
+    )
+
+pub returns-clause-right : goal.returns-clause-right
+returns-clause-right c = λ h.
+    let self = c.next_notice.new.self in
+    let new = c.next_event.new.self in
+    let waits = (c.in_default.ensures.right h).0 in
+    let value = c.in_ok-result.ensures.value in
+    let was : self.ended ≡ Some (c.in_ok-result.result, c.in_ok-result.over) = search rules in
+    let end = MatchOption-at_some ⊤ (λ (end : GameResult × Over). (step : Step) × (coming
+    self.memory ≡ Some step) × EndsBy end.1 self.view step end.0) (c.in_ok-result.result,
+    c.in_ok-result.over) was waits.0 in
+    let none = c.in_default-next_event.ensures.none refl in
+    let last = sym (last_comes new none.0 none.1) ∙ c.in_default-next_event.ensures.coming ∙ end.1 in (
+      (rw c.in_ok-result.ensures.after tt, silent self.lost _ _ c.in_default.ensures.quiet),
+      (
+        end.0,
+        last,
+        (ended_right c.in_ok-result.over self.view end.0 c.in_ok-result.result end.2).1,
+      ),
+    )
+
+pub returns-clause-follows : goal.returns-clause-follows
+returns-clause-follows c = λ h.
+    let self = c.next_notice.new.self in
+    let waits = (c.in_default.ensures.right h).0 in
+    let follows = c.in_default.ensures.follows in
+    let was : self.ended ≡ Some (c.in_ok-result.result, c.in_ok-result.over) = search rules in
+    let end = MatchOption-at_some ⊤ (λ (end : GameResult × Over). (step : Step) × (coming
+    self.memory ≡ Some step) × EndsBy end.1 self.view step end.0) (c.in_ok-result.result,
+    c.in_ok-result.over) was waits.0 in
+    let none : self.over ≡ Over.No = search rules in (
+      (
+        sym follows.0 ∙ ap (λ (o : Over). has_result o) none,
+        (ended_right c.in_ok-result.over self.view end.0 c.in_ok-result.result end.2).0,
+      ),
+      follows.1,
+    )

@@ -1,0 +1,75 @@
+-- The result of a game, by the rules or as the players show it.
+use Rattle.std.specs.Prelude.{◌≡◌, ◌≢◌, ◌<◌, ◌⊎◌, ℕ, ⊤, Bool, true, false, List}
+use Rattle.dgt_values.specs.declared.pieces.Piece.{Piece}
+use Rattle.dgt_chess.specs.declared.pieces.Colour.{Colour}
+use Rattle.dgt_chess.specs.declared.state.State.{State}
+use Rattle.dgt_chess.specs.Attacks.{IsInCheck, piece_at}
+use Rattle.dgt_chess.specs.Rules.{CanMove, board}
+use Rattle.dgt_game.specs.declared.event.Event.{Event}
+use Rattle.dgt_game.specs.declared.event.GameResult.{GameResult}
+
+-- the side to move is mated
+abbrev pub IsMated : State → Colour → Type 0
+IsMated state side =
+    (state.turn ≡ side) × IsInCheck (board state) state.turn × ¬ (CanMove state)
+
+-- the result of a state with no legal move
+abbrev pub ByRules : State → GameResult → Type 0
+ByRules state GameResult.WhiteWins = IsMated state Colour.Black
+ByRules state GameResult.BlackWins = IsMated state Colour.White
+ByRules state GameResult.Draw = ¬ (IsInCheck (board state) state.turn) × ¬ (CanMove state)
+
+-- d5, e5, d4 and e4
+abbrev pub IsCentre : ℕ → Type 0
+IsCentre square = (square ≡ 27) ⊎ (square ≡ 28) ⊎ (square ≡ 35) ⊎ (square ≡ 36)
+
+abbrev pub IsKing : Piece → Type 0
+IsKing piece = (piece ≡ Piece.WhiteKing) ⊎ (piece ≡ Piece.BlackKing)
+
+-- the piece stands on this square, and on no other
+abbrev pub IsOnlyOn : List Piece → Piece → ℕ → Type 0
+IsOnlyOn picture piece at =
+    (piece_at picture at ≡ piece)
+    × ((square : ℕ) → square < 64 → piece_at picture square ≡ piece → square ≡ at)
+
+-- the two kings stand on these two squares
+abbrev pub KingsOn : List Piece → ℕ → ℕ → Type 0
+KingsOn picture a b =
+    (IsOnlyOn picture Piece.WhiteKing a × IsOnlyOn picture Piece.BlackKing b)
+    ⊎ (IsOnlyOn picture Piece.WhiteKing b × IsOnlyOn picture Piece.BlackKing a)
+
+-- what the kings mean: on d5 and e4 White has won, on e5 and d4 Black; on one file it is a draw
+abbrev pub KingsMean : List Piece → GameResult → Type 0
+KingsMean picture GameResult.WhiteWins = KingsOn picture 27 36
+KingsMean picture GameResult.BlackWins = KingsOn picture 28 35
+KingsMean picture GameResult.Draw = KingsOn picture 28 36 ⊎ KingsOn picture 27 35
+
+-- the picture shows these pieces on a square. Kings, the centre and pieces that are gone don't
+-- count.
+abbrev pub FitsAt : List Piece → List Piece → ℕ → Type 0
+FitsAt picture pieces square =
+    IsKing (piece_at pieces square) ⊎ IsCentre square
+    ⊎ (piece_at picture square ≡ piece_at pieces square)
+    ⊎ (piece_at picture square ≡ Piece.Empty)
+
+-- the same of the whole board, but for one square
+abbrev pub IsLike : List Piece → List Piece → Type 0
+IsLike picture pieces =
+    (other : ℕ) × ((square : ℕ) → square < 64 → square ≢ other → FitsAt picture pieces square)
+
+-- the players show the result of the state
+abbrev pub ByKings : List Piece → State → GameResult → Type 0
+ByKings picture state result = KingsMean picture result × IsLike picture (board state)
+
+-- Whether a line has a result after an event, if it had one before or not. It has at most one.
+abbrev pub HasResult : Bool → Event → Bool → Type 0
+HasResult had (Event.Ended result) has = (had ≡ false) × (has ≡ true)
+HasResult had (Event.Begun state is_turned) has = has ≡ false
+HasResult had (Event.Back count) has = has ≡ false
+HasResult had event has = has ≡ had
+
+-- Whether a line is lost after an event, if it was before or not. It is lost and found in turn.
+abbrev pub IsLost : Bool → Event → Bool → Type 0
+IsLost was (Event.Lost squares) now = (was ≡ false) × (now ≡ true)
+IsLost was Event.Found now = (was ≡ true) × (now ≡ false)
+IsLost was event now = now ≡ was

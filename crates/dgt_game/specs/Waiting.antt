@@ -1,0 +1,112 @@
+-- What waits to be reported of results and of lost lines.
+use Rattle.std.specs.Prelude.{◌≡◌, ◌⊎◌, ⊤, ℕ, Bool, true, false, Option, Some, None, IfSome, slice_get}
+use Rattle.dgt_values.specs.Board.{DifferingSquares, pieces_of}
+use Rattle.dgt_chess.specs.Rules.{board}
+use Rattle.dgt_game.specs.declared.event.Event.{Event}
+use Rattle.dgt_game.specs.declared.event.GameResult.{GameResult}
+use Rattle.dgt_game.specs.declared.memory.Memory.{Memory}
+use Rattle.dgt_game.specs.declared.node.Step.{Step}
+use Rattle.dgt_game.specs.declared.recogniser.Lost.{Lost}
+use Rattle.dgt_game.specs.declared.recogniser.Over.{Over}
+use Rattle.dgt_game.specs.declared.recogniser.Recogniser.{Recogniser}
+use Rattle.dgt_game.specs.declared.view.View.{View}
+use Rattle.dgt_game.specs.Memory.{IsTold, steps, tip}
+use Rattle.dgt_game.specs.Results.{ByKings, ByRules, HasResult, IsLost}
+use Rattle.dgt_game.specs.Told.{as_shown}
+
+-- the line's last state, and the last one once all that waits is reported
+abbrev pub last_of : Memory → Option Step
+last_of memory = slice_get (steps memory.line.items) 0
+
+abbrev pub coming : Memory → Option Step
+coming memory = tip (slice_get (steps memory.line.items) memory.back) (steps memory.unsaid.items)
+
+-- the players show the result of a state on the board
+unfoldable pub Show : Option View → Step → GameResult → Type 0
+Show view step result =
+    (shown : View) × (view ≡ Some shown)
+    × ByKings (as_shown step.is_turned (pieces_of shown.shown)) step.state result
+
+-- what is shown differs from the line's last state on these squares
+unfoldable pub Differs : Option View → Option Step → ℕ → Type 0
+Differs view last squares =
+    (step : Step) × (last ≡ Some step) × ((shown : View) × (view ≡ Some shown)
+    × DifferingSquares (board step.state) (as_shown step.is_turned (pieces_of shown.shown))
+    squares)
+
+-- how a line ends with a state
+abbrev pub EndsBy : Over → Option View → Step → GameResult → Type 0
+EndsBy Over.No view step result = ⊥
+EndsBy (Over.Rules since) view step result = ByRules step.state result
+EndsBy Over.Kings view step result = Show view step result
+
+abbrev pub EndWaits : Recogniser → Type 0
+EndWaits self =
+    IfSome self.ended (λ end. (step : Step) × (coming self.memory ≡ Some step)
+    × EndsBy end.1 self.view step end.0)
+
+abbrev pub LostBy : Lost → Option View → Option Step → Type 0
+LostBy (Lost.Now squares) view last = Differs view last squares
+LostBy lost view last = ⊤
+
+abbrev pub LostWaits : Recogniser → Type 0
+LostWaits self = LostBy self.lost self.view (last_of self.memory)
+
+-- what waits is right
+abbrev pub Waits : Recogniser → Type 0
+Waits self = EndWaits self × LostWaits self
+
+-- what an event reports is right, with the line and the board as they are after it
+abbrev pub IsRight : Recogniser → Event → Type 0
+IsRight self (Event.Ended result) =
+    (step : Step) × (last_of self.memory ≡ Some step)
+    × (ByRules step.state result ⊎ Show self.view step result)
+IsRight self (Event.Lost squares) = Differs self.view (last_of self.memory) squares
+IsRight self event = ⊤
+
+-- a result was reported, and that the line was lost
+abbrev pub has_result : Over → Bool
+has_result Over.No = false
+has_result (Over.Rules since) = true
+has_result Over.Kings = true
+
+abbrev pub is_lost : Lost → Bool
+is_lost Lost.No = false
+is_lost (Lost.Now squares) = false
+is_lost Lost.Reported = true
+is_lost Lost.Found = true
+
+-- an event follows what was reported before
+abbrev pub Follows : Recogniser → Option Event → Recogniser → Type 0
+Follows self None new =
+    (has_result new.over ≡ has_result self.over) × (is_lost new.lost ≡ is_lost self.lost)
+Follows self (Some event) new =
+    HasResult (has_result self.over) event (has_result new.over)
+    × IsLost (is_lost self.lost) event (is_lost new.lost)
+
+-- only for bodies
+
+-- that the line was lost or found is to be reported
+abbrev pub has_notice : Lost → Bool
+has_notice Lost.No = false
+has_notice (Lost.Now squares) = true
+has_notice Lost.Reported = false
+has_notice Lost.Found = true
+
+-- nothing waits
+abbrev pub IsQuiet : Recogniser → Type 0
+IsQuiet self =
+    IsTold self.memory × (has_notice self.lost ≡ false) × (self.ended ≡ None)
+
+-- results are as they were, and what waits of a lost line is right
+abbrev pub Keeps : Recogniser → Recogniser → Type 0
+Keeps self new =
+    (new.view ≡ self.view) × (new.over ≡ self.over) × (new.ended ≡ self.ended)
+    × (is_lost new.lost ≡ is_lost self.lost) × (LostWaits self → LostWaits new)
+
+-- an event of the line
+abbrev pub IsOfLine : Event → Type 0
+IsOfLine (Event.Ended result) = ⊥
+IsOfLine (Event.Lost squares) = ⊥
+IsOfLine Event.Found = ⊥
+IsOfLine event = ⊤
