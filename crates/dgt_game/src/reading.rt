@@ -501,7 +501,7 @@ impl Recogniser {
             let node = &self.memory.seen[k];
             if node.is_sure
                 && node.left > self.sure_since
-                && (self.is_shadow(node) || node.step.way.is_jump())
+                && (self.is_shadow(node) || node.step.way.is_jump() && node.rested() >= SETTLE)
                 && !self.is_before(k, place)
                 && !is_between(node, from, moves)
                 && !moves_again(node.step.state.position(), &from.step.state)
