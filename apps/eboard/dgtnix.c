@@ -93,17 +93,22 @@ static void show(const uint8_t pieces[64]) {
     pthread_mutex_unlock(&lock);
 }
 
-static void see(void) {
-    uint8_t pieces[64] = {0}, sight = line_sight(&board, pieces);
-    if (sight == DGT_SIGHT_SURE) show(pieces);
-    game_see(&followed, line_now(), pieces, sight, line_is_confirmed(&board));
+/* If a dump raises a doubt, it differs from the squares before, and these were wrong. */
+static void see(bool is_dump) {
+    static bool was_sure;
+    uint8_t pieces[64];
+    bool is_sure = line_is_sure(&board, pieces);
+    if (is_sure) show(pieces);
+    if (is_dump && was_sure && !is_sure) game_forget(&followed);
+    was_sure = is_sure;
+    game_see(&followed, line_now(), is_sure ? pieces : NULL, line_is_confirmed(&board));
 }
 
 /* Reports moves. While one may wait, all squares are requested: eboard can't take a move back, and
  * a picture may be wrong until the board has sent all its squares again. */
 static void look(void) {
     move made;
-    see();
+    see(false);
     while (game_next(&followed, line_now(), &made)) tell(&made);
     if (!line_is_confirmed(&board) && game_waits(&followed)) line_hurry(&board);
 }
@@ -168,7 +173,7 @@ static bool hear_for(int milliseconds, int texts) {
         struct pollfd waits = {board.port, POLLIN, 0};
         errno = board.port < 0 ? ENODEV : ETIMEDOUT;
         if (board.port < 0) return false;
-        if (line_now() >= end) return texts == 0 && line_sight(&board, pieces) == DGT_SIGHT_SURE;
+        if (line_now() >= end) return texts == 0 && line_is_sure(&board, pieces);
         if (poll(&waits, 1, left_until(due < end ? due : end)) > 0) line_read(&board, see);
         look();
         if (board.port >= 0) line_keep(&board);

@@ -153,10 +153,9 @@ void line_close(line *line) {
 
 /* ---- Reports */
 
-uint8_t line_sight(line *line, uint8_t pieces[64]) {
+bool line_is_sure(line *line, uint8_t pieces[64]) {
     dgt_follower *follower = &line->follower;
-    if (line->port < 0 || !dgt_follower_picture(follower, pieces)) return DGT_SIGHT_AWAY;
-    return dgt_follower_in_doubt(follower) ? DGT_SIGHT_DOUBTED : DGT_SIGHT_SURE;
+    return dgt_follower_picture(follower, pieces) && !dgt_follower_in_doubt(follower);
 }
 
 bool line_is_confirmed(line *line) {
@@ -173,11 +172,8 @@ static void keep_text(char *text, size_t room, const uint8_t *body, size_t lengt
 static void hear(line *line, const dgt_event *event, const uint8_t *body, size_t room, seen *seen) {
     size_t length = event->body_len < room ? event->body_len : room;
     switch (event->kind) {
-    case DGT_EVENT_DUMP:
-    case DGT_EVENT_FIELD:
-        if (event->kind == DGT_EVENT_DUMP) line->hurries = false;
-        seen();
-        break;
+    case DGT_EVENT_DUMP: line->hurries = false; seen(true); break;
+    case DGT_EVENT_FIELD: seen(false); break;
     case DGT_EVENT_SERIAL:
         keep_text(line->serial, sizeof line->serial, event->serial, sizeof event->serial);
         line->texts++;

@@ -15,7 +15,7 @@ typedef struct line {
 } line;
 
 /* Called each time that one square or all were reported. */
-typedef void seen(void);
+typedef void seen(bool is_dump);
 
 long long line_now(void);
 
@@ -32,9 +32,8 @@ void line_keep(line *line);
 /* The next time to call line_keep, if nothing is read before. */
 long long line_due(line *line);
 
-/* Writes the squares, and returns the sight of them that dgt_recogniser_see takes. If it is
- * DGT_SIGHT_AWAY, they aren't known, and none is written. */
-uint8_t line_sight(line *line, uint8_t pieces[64]);
+/* Whether all squares are known, and aren't in doubt. Writes them, if they are known. */
+bool line_is_sure(line *line, uint8_t pieces[64]);
 
 /* Whether a report of all squares has repeated the known ones (see dgt.h). */
 bool line_is_confirmed(line *line);

@@ -95,18 +95,26 @@ static void take_events(game *game, long long now) {
     if (is_back && memcmp(game->state.pieces, start.pieces, 64) == 0) game->told = game->made;
 }
 
-void game_see(game *game, long long now, const uint8_t pieces[64], uint8_t sight, bool confirmed) {
+void game_see(game *game, long long now, const uint8_t *pieces, bool confirmed) {
     take_events(game, now);
-    for (int square = 0; square < 64; square++) {
+    for (int square = 0; pieces && square < 64; square++) {
         uint8_t piece = pieces[square];
         bool is_last = square < 8 || square >= 56; /* a pawn that is left there is a queen */
         if (is_last && piece == WHITE_PAWN) piece = WHITE_QUEEN;
         if (is_last && piece == BLACK_PAWN) piece = BLACK_QUEEN;
         game->shown[square] = piece;
     }
+    uint8_t sight = pieces ? DGT_SIGHT_SURE : DGT_SIGHT_AWAY;
     uint8_t seen = dgt_recogniser_see(&game->recogniser, (uint64_t)now, game->shown, sight,
                                       confirmed, DGT_NO_SUCH);
     game->is_confirmed = seen == DGT_SEEN && confirmed;
+}
+
+void game_forget(game *game) {
+    game->state = game->sure;
+    game->made = game->sure_made;
+    if (dgt_recogniser_go_on(&game->recogniser, &game->state, game->turned) != DGT_CHESS_DONE)
+        dgt_recogniser_make(&game->recogniser);
 }
 
 static bool has_next(const game *game) {
@@ -116,8 +124,10 @@ static bool has_next(const game *game) {
 bool game_next(game *game, long long now, move *made) {
     uint64_t due;
     take_events(game, now);
-    if (!has_next(game) || dgt_recogniser_due_at(&game->recogniser, &due)) return false;
-    if (game->told + 1 == game->made && now < game->ready) return false;
+    if (!game->is_confirmed || dgt_recogniser_due_at(&game->recogniser, &due)) return false;
+    game->sure = game->state;
+    game->sure_made = game->made;
+    if (!has_next(game) || (game->told + 1 == game->made && now < game->ready)) return false;
     *made = game->moves[game->told++ % REMEMBERED];
     return true;
 }

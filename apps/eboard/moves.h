@@ -35,6 +35,8 @@ typedef struct game {
     int pause; /* after a move was found, before it is reported */
     dgt_recogniser recogniser;
     dgt_chess_state state; /* the present one; without pieces before a game begins */
+    dgt_chess_state sure;  /* the state when the board last confirmed what it shows */
+    int sure_made;         /* the number of moves that led to it */
     bool turned;
     uint8_t shown[64];
     bool is_confirmed;
@@ -55,8 +57,11 @@ enum side game_player(const game *game);
 /* Whether the program wants this side's moves. */
 bool game_wants(const game *game, enum side side);
 
-/* Takes what the board shows, as dgt_recogniser_see does. */
-void game_see(game *game, long long now, const uint8_t pieces[64], uint8_t sight, bool confirmed);
+/* Takes what the board shows, or NULL while it is in doubt. */
+void game_see(game *game, long long now, const uint8_t *pieces, bool confirmed);
+
+/* What the board showed since it last confirmed that was wrong. */
+void game_forget(game *game);
 
 /* The next move to report, of either side, once the board has confirmed what it shows. A move that
  * was taken back and is made again is reported once, unless the starting position was reached. */

@@ -133,6 +133,7 @@ static const struct test_case {
      SEVENTH "h7g8Q b7b6"},
     {"promotion, the pawn left there", SEVENTH "g8. h7. g8P 900 g8. 900 g8Q b7b6",
      SEVENTH "h7g8Q b7b6"},
+    {"promotion, the pawn never replaced", SEVENTH "g8. h7. g8P b7b6", SEVENTH "h7g8Q b7b6"},
     {"no promotion before the last rank", "e2. e4Q 900 e4. e2P d2d4", "d2d4"},
     {"no piece but a pawn is promoted", "g1. f3B 900 f3. f3N", "g1f3"},
 
@@ -169,6 +170,9 @@ static const struct test_case {
     {"put elsewhere after all, and answered", "e2e3 e3. e4P 900 e7e5 900 e4. e3P d2d4",
      "e2e3 e7e5 d2d4"},
     {"put elsewhere after all", "e2e3 e3. e4P 900 e4. e3P e7e5", "e2e3 e7e5"},
+    {"put elsewhere after all, and never put right", "e2e3 e3. e4P 900 e7e5 d2d4", "e2e3"},
+    {"the own castling, the rook long before", ITALIAN "h1. f1R 2500 e1. g1K 900 g1. e1K d7d6",
+     ITALIAN "h1f1 d7d6"},
 
     {"the other side's, slid on late", "e2e4 e7e6 e6e5 g1f3", "e2e4 e7e6 e7e5 g1f3"},
     {"the other side's, put right by a leap", "e2e4 b8a6 a6c6 g1f3", "e2e4 b8a6 b8c6 g1f3"},
@@ -209,6 +213,8 @@ static const struct test_case {
 
     {"a turned board", "turned d7d5 d2d4 turned", "e2e4 e7e5"},
     {"turned between two games", "e2e4 turned d7d5", "e2e4 e2e4"},
+    {"turned after a move was taken back", "e2e4 e7e5 g1f3 f3g1 turned b8c6",
+     "e2e4 e7e5 g1f3 g1f3"},
     {"a castling on a turned board",
      "turned d7d5 d2d4 b8c6 g1f3 c8f5 c1f4 d8. b8K 900 a8. c8R e2e3", ITALIAN "e1g1 d7d6"},
     {"what is nobody's", "e2. e4X 900 e4. e2P d2d4", "d2d4"},
@@ -241,7 +247,7 @@ static void pass(int milliseconds) {
 
 /* Shows the position again. */
 static void show(void) {
-    game_see(&followed, now, squares, DGT_SIGHT_SURE, true);
+    game_see(&followed, now, squares, true);
     pass(60);
 }
 
