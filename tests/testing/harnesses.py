@@ -14,6 +14,7 @@ FUZZ = ROOT / "bindings/c/fuzz"
 NAMES = sorted(path.stem.removeprefix("fuzz_") for path in FUZZ.glob("fuzz_*.c"))
 SHARED = ["input", *sorted(path.stem for path in FUZZ.glob("model_*.c"))]
 LATE = 120  # seconds that a machine that is busy with other things may add to a run
+SLOWER = 30  # how many times a busy machine needs the seconds of the processor
 
 
 def number(name: str, default: int) -> int:
@@ -30,10 +31,11 @@ def sources(name: str) -> list[pathlib.Path]:
 
 
 def run(name: str, *command: object, seconds: int) -> int:
-    """Runs a harness by chance, by this command. Returns how many inputs it has tried."""
+    """Runs a harness by chance, by this command, for these seconds of the processor. Returns how
+    many inputs it has tried."""
     words = [*command, seconds, number("DGT_FUZZ_SEED", 1), name, FUZZ / "corpus.txt"]
     ran = subprocess.run([str(word) for word in words], capture_output=True, text=True,
-                         timeout=seconds + LATE, check=False)
+                         timeout=SLOWER * seconds + LATE, check=False)
     if ran.returncode:
         raise Wrong(f"{name} ended with {ran.returncode}: {ran.stderr}")
     return int(ran.stdout)

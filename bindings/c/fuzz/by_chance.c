@@ -1,7 +1,7 @@
 /* Runs a harness without libFuzzer, which clang lacks for some processors: on the first inputs, and
  * then on parts of two of them, joined and randomly altered. Its arguments are seconds, a seed, the
  * harness and the file of the first inputs. It prints how many inputs it tried, and after a fault
- * the input. */
+ * the input. The seconds are of the processor: a busy machine tries as many inputs. */
 #define _DEFAULT_SOURCE
 #include <signal.h>
 #include <stdbool.h>
@@ -69,7 +69,7 @@ static bool read_known(const char *harness, const char *name) {
 
 int main(int count, char **words) {
     if (count != 5 || !read_known(words[3], words[4])) return 2;
-    time_t end = time(NULL) + atoi(words[1]);
+    clock_t end = clock() + atoi(words[1]) * CLOCKS_PER_SEC;
     state = strtoull(words[2], NULL, 10) * 0x9e3779b97f4a7c15u | 1;
     signal(SIGABRT, show_input);
     signal(SIGSEGV, show_input);
@@ -78,7 +78,7 @@ int main(int count, char **words) {
         memcpy(data, known[tried], n = length[tried]);
         LLVMFuzzerTestOneInput(data, n);
     }
-    for (; tried % 64 != 0 || time(NULL) < end; tried++) {
+    for (; tried % 64 != 0 || clock() < end; tried++) {
         make_input();
         LLVMFuzzerTestOneInput(data, n);
     }
