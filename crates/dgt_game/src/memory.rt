@@ -288,6 +288,7 @@ impl Memory {
             let node = &self.seen[len - 1 - at];
             if node.step.parent == Place::Line(0)
                 && node.is_sure
+                && !node.is_held
                 && !node.is_quick
                 && node.rested() >= SETTLE
             {

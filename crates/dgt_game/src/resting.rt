@@ -142,6 +142,7 @@ impl Recogniser {
             let node = &self.memory.seen[len - 1 - at];
             if self.over == Over::No
                 && node.origin == Origin::Line(0)
+                && !node.is_held
                 && !node.is_quick
                 && node.rested() >= JUMP
             {
