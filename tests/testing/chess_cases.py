@@ -181,7 +181,7 @@ class Chess(cases.Case):
             self.assertRaises(TypeError, call, None)
 
 
-# ---- States as the recogniser reports them
+# ---- States of games
 
 # A text, and the FEN of its state.
 LOOSE = [

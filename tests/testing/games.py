@@ -1,6 +1,7 @@
 """Random games on a board. The hands that play them slide pieces, take moves back, answer before
 the move was put down, and put pieces on wrong squares."""
 
+import importlib
 import random
 
 from wrong import wanted
@@ -18,6 +19,8 @@ PERFT = [
 ]
 
 
+PACE = 0.1  # seconds after each square, as fast as hands are: a bump of the table is faster
+
 # ---- Hands
 
 
@@ -25,36 +28,57 @@ class Hand:
     """A hand on a board, and what the recogniser reports of it: moves, those taken back with a
     hyphen, and `game` for each beginning. Times are in seconds."""
 
+    pace = 0.06  # after each square
+
     def __init__(self, dgt, letters, fen=None, turned=False):
-        self.dgt, self.turned = dgt, turned
-        self.recogniser = dgt.MoveRecogniser(fen)
-        self.time, self.told = 1000.0, []
+        self.dgt, self.turned, self.events = dgt, turned, importlib.import_module("dgt.recogniser")
+        self.recogniser = self.events.Recogniser()
+        self.time, self.told, self.moves = 1000.0, [], []
+        if fen:
+            self.recogniser.go_on(dgt.GameState.parse(fen).chess, turned)
         self.squares = list(letters)
         self.show()
         self.rest(1.5)
 
+    @property
+    def state(self):
+        return self.recogniser.state
+
+    @property
+    def is_quiet(self):
+        """Whether everything that was shown is reported."""
+        return self.recogniser.due_at() is None
+
     def note(self, events):
         for event in events:
             match event:
-                case self.dgt.MoveMade(move, _):
-                    self.told.append(move)
-                case self.dgt.MoveTakenBack(move, _):
-                    self.told.append(f"-{move}")
-                case self.dgt.GameBegun():
+                case self.events.Made(move):
+                    self.add(move)
+                case self.events.Unseen(moves):
+                    self.add(*moves)
+                case self.events.Back(count):
+                    self.told += [f"-{self.moves.pop()}" for _ in range(count)]
+                case self.events.Begun():
                     self.told.append("game")
+                    self.moves = []
+
+    def add(self, *moves):
+        self.told += moves
+        self.moves += moves
 
     def show(self):
         letters = "".join(reversed(self.squares) if self.turned else self.squares)
-        self.note(self.recogniser.see(self.dgt.Position.of_letters(letters), self.time))
+        self.note(self.recogniser.see(round(1000 * self.time),
+                                      self.dgt.Position.of_letters(letters)))
 
     def rest(self, seconds):
         self.time += seconds
-        self.note(self.recogniser.tick(self.time))
+        self.note(self.recogniser.due(round(1000 * self.time)))
 
     def put(self, square, letter):
         self.squares[square] = letter
         self.show()
-        self.rest(0.06)
+        self.rest(self.pace)
 
 
 # ---- Random games
@@ -107,6 +131,7 @@ class Game:
         self.dgt, self.fen, self.made = dgt, fen, 0
         self.states, self.moves = [dgt.GameState.parse(fen or START)], []
         self.hand = self.sit_down(self.chance.random() < 0.3)
+        self.hand.pace = PACE
 
     def sit_down(self, turned):
         """Returns the hand that plays it."""
@@ -247,6 +272,6 @@ class Game:
 
     def look(self):
         """Looks at a position that has rested."""
-        if self.hand.recogniser.due is None:
-            wanted("moves", self.hand.recogniser.moves, self.moves)
-            wanted("the state", self.hand.recogniser.state, self.state)
+        if self.hand.is_quiet:
+            wanted("moves", self.hand.moves, self.moves)
+            wanted("the state", self.hand.state, self.state.chess)

@@ -1,11 +1,13 @@
 """The recognition of moves of the package for Python: each case of the table in
-apps/eboard/test_moves.c, which the adapter for eboard passes too, and random games."""
+apps/eboard/test_moves.c, which the adapter for eboard passes too, games of `dgt-livechess`, and
+random games."""
 
 import pathlib
 import re
 
 import cases
 import dgt
+from dgt._live_boards import Game as LiveGame
 from games import PERFT, Game, Hand
 from wrong import wanted
 
@@ -104,31 +106,56 @@ def do(hand, step):
 
 # ---- Games that go on from a position
 
-# Moves on the board, the moves after which the game goes on, and whether it goes on with its moves.
-# Then steps of the table, what is reported of them, and the moves at the end.
+# Moves on the board, and the moves after which a client of `dgt-livechess` continues its game. Then
+# steps of the table, and the moves of the client's game, which begins anew.
 GIVEN = [
-    ("e2e4 e7e5", "e2e4 e7e5", True, "g1f3", "g1f3", "e2e4 e7e5 g1f3"),
-    ("", "", True, "e2e4", "e2e4", "e2e4"),
+    ("e2e4 e7e5", "e2e4 e7e5", "g1f3", "Nf3"),
+    ("", "", "e2e4", "e4"),
     # Earlier moves are taken back, also to the position from which it went on.
-    ("e2e4 e7e5", "e2e4 e7e5", True, "e5e7 c7c5", "-e7e5 c7c5", "e2e4 c7c5"),
-    ("e2e4", "e2e4", True, "g8f6 g1f3 f6g8 500 f3g1", "g8f6 g1f3 f6g8 f3g1",
-     "e2e4 g8f6 g1f3 f6g8 f3g1"),
-    ("e2e4", "e2e4", True, "d7d5 b1c3 g8f6 f6g8 c3b1 d5d7", "d7d5 b1c3 g8f6 -g8f6 -b1c3 -d7d5",
-     "e2e4"),
+    ("e2e4 e7e5", "e2e4 e7e5", "e5e7 c7c5", None),
+    ("e2e4 e7e5", "e2e4 e7e5", "e5e7 c7c5 9000 c5c7 e7e5 g1f3", "Nf3"),
+    ("e2e4", "e2e4", "g8f6 g1f3 f6g8 500 f3g1", "Nf6 Nf3 Ng8 Ng1"),
+    ("e2e4", "e2e4", "d7d5 b1c3 g8f6 f6g8 c3b1 d5d7", ""),
     # The other side's move isn't on the board yet.
-    ("e2e4", "e2e4 e7e5", True, "a2. a2P 2500", "", "e2e4 e7e5"),
-    ("e2e4", "e2e4 e7e5", True, "e7e5 g1f3", "g1f3", "e2e4 e7e5 g1f3"),
-    ("e2e4", "e2e4 e7e5", True, "g1f3 2500 e7e5", "g1f3", "e2e4 e7e5 g1f3"),
-    ("e2e4", "e2e4 e7e5", True, "c7c5 2500 c5c7 e7e5", "", "e2e4 e7e5"),
-    ("e2e4", "e2e4 e7e5", True, "e7e5 e5e7 c7c5", "-e7e5 c7c5", "e2e4 c7c5"),
+    ("e2e4", "e2e4 e7e5", "a2. a2P 70000", ""),
+    ("g1f3", "g1f3 g8f6", "70000 g8f6 f3e5", "Ne5"),
+    ("e2e4", "e2e4 e7e5", "e7e5 g1f3", "Nf3"),
+    ("e2e4", "e2e4 e7e5", "g1f3 2500 e7e5", "Nf3"),
+    ("e2e4", "e2e4 e7e5", "c7c5 2500 c5c7 e7e5", ""),
+    ("e2e4", "e2e4 e7e5", "e7e5 e5e7 c7c5", None),
     # Another position begins a game, and nothing else does, not even the first squares.
-    ("e2e4", "d2d4", False, "e4e2 9000 d2d4 d7d5", "game d7d5", "d7d5"),
-    ("e2e4", "d2d4 d7d5", False, "e4e2 d2d4 9000 g8f6 9000 f6g8 d7d5", "game", ""),
-    ("e2e4 e7e5 g1f3", "e2e4", False, "f3g1 9000 e5e7 e7e6", "game e7e5 -e7e5 e7e6", "e7e6"),
-    ("e2e4", "e2e4", True, "e8. e1. e7k e3K 9000", "", "e2e4"),
-    ("e2e4 e7e5 g1f3 b8c6", "e2e4 e7e5 g1f3 b8c6", True, "c6b8 f3g1 e5e7 e4e2 9000",
-     "-b8c6 -g1f3 -e7e5 -e2e4", ""),
+    ("e2e4", "d2d4", "e4e2 9000 d2d4 d7d5", "d5"),
+    ("e2e4", "d2d4 d7d5", "e4e2 d2d4 9000 g8f6 9000 f6g8 d7d5", ""),
+    ("e2e4 e7e5 g1f3", "e2e4", "f3g1 9000 e5e7 e7e6", "e6"),
+    ("e2e4", "e2e4", "e8. e1. e7k e3K 70000", ""),
+    ("e2e4 e7e5 g1f3 b8c6", "e2e4 e7e5 g1f3 b8c6", "c6b8 f3g1 e5e7 e4e2 9000", None),
+    # It was left by two moves meanwhile. A knight that may not have been moved yet is none.
+    ("e2e4 e7e5 g1f3 b8c6", "e2e4 e7e5", "2000", "Nf3 Nc6"),
+    ("e2e4 e7e5 g1f3 b8c6", "d2d4 d7d5 g1f3", "", None),
+    ("d2d4 d7d5", "d2d4 d7d5 g1f3 g8f6", "9000", None),
+    ("d2d4 d7d5", "d2d4 d7d5 g1f3 g8f6", "9000 g1f3 g8f6 c2c4", "c4"),
 ]
+
+
+class LiveHand(Hand):
+    """A hand on a board of `dgt-livechess`, with its own game and that of a client."""
+
+    def __init__(self, letters):
+        self.own = LiveGame()
+        self.client = self.own
+        super().__init__(dgt, letters)
+
+    def show(self):
+        view = dgt.BoardView(dgt.Position.of_letters("".join(self.squares)), confirmed=True)
+        for game in {self.own, self.client}:
+            game.see(view, self.time)
+
+    def rest(self, seconds):
+        end = self.time + seconds
+        for game in {self.own, self.client}:
+            while game.watched.due is not None and game.watched.due <= end:
+                game.wait(game.watched.due)
+        self.time = end
 
 
 # ---- The cases
@@ -142,37 +169,35 @@ class Recognition(cases.Case):
             hand = Hand(dgt, dgt.Position.start().letters)
             for step in steps:
                 do(hand, step)
-            hand.rest(2.5)
+            hand.rest(12)  # moves faster than hands wait for 10 s
             wanted(name, hand.told, ["game", *right.split()])
 
     def test_given(self):
         """A game goes on from a position, whichever the board shows."""
-        for before, given, goes_on, steps, told, moves in GIVEN:
-            state, hand = dgt.GameState.start(), Hand(dgt, dgt.Position.start().letters)
+        for before, given, steps, moves in GIVEN:
+            state, hand = dgt.GameState.start(), LiveHand(dgt.Position.start().letters)
             for step in before.split():
                 do(hand, step)
             for move in given.split():
                 state = state.after(move)
-            for what in (before, f"{before}, once more"):
-                wanted(f"{what}, from {given}", hand.recogniser.go_on(state), goes_on)
-            hand.told.clear()
+            hand.client = LiveGame(hand.own, hand.time)
+            for _ in range(2):
+                hand.client.set_up(state, hand.time)
+            is_next = given.split()[:-1] == before.split() != given.split()
+            wanted(f"pending: {before}, from {given}", hand.client.pending,
+                   given.split()[-1] if is_next else None)
             hand.show()
             for step in steps.split():
                 do(hand, step)
-            what = f"{before}, from {given}, {steps}"
-            wanted(what, (hand.told, hand.recogniser.moves), (told.split(), moves.split()))
-            is_pending = hand.squares != list(hand.recogniser.state.letters) and goes_on
-            wanted(f"what is pending, {what}", hand.recogniser.pending is not None,
-                   is_pending and given != before)
-        for wrong in ("", dgt.START_FEN, None):
-            self.assertRaises(TypeError, dgt.MoveRecogniser().go_on, wrong)
+            wanted(f"{before}, from {given}, {steps}", hand.client.moves,
+                   None if moves is None else moves.split())
 
     def a_game(self, seed):
         game = Game(dgt, seed, PERFT[seed % 16][0] if seed % 16 < len(PERFT) else None)
         while game.made < 100 and game.step():
             pass
         game.hand.rest(2.5)
-        wanted(f"moves of {' '.join(game.hand.told)}", game.hand.recogniser.moves, game.moves)
+        wanted(f"moves of {' '.join(game.hand.told)}", game.hand.moves, game.moves)
 
 
 for number in range(24):

@@ -62,8 +62,12 @@ class Table(games.Hand):
         self.rest(1.5)
 
     @property
-    def recogniser(self):
-        return self.keeper.recogniser
+    def state(self):
+        return self.keeper.game.state
+
+    @property
+    def kept(self):
+        return [each.move for each in self.keeper.game.moves]
 
     def position(self):
         letters = "".join(reversed(self.squares) if self.turned else self.squares)
@@ -147,7 +151,7 @@ class Table(games.Hand):
         """Makes moves by their long names, a second after each other, from the state of the game or
         another one. Returns that after them."""
         for move in text.split():
-            made = (state or self.recogniser.state).after(move)
+            made = (state or self.state).after(move)
             state, after = state and made, made.letters
             changed = [square for square in range(64) if self.squares[square] != after[square]]
             for square in sorted(changed, key=lambda each: after[each] != "."):
@@ -187,7 +191,7 @@ class Played(games.Game):
     def step(self):
         if not super().step():
             return False
-        is_fast = self.hand.recogniser.moves != self.moves
+        is_fast = self.hand.kept != self.moves
         self.fast = self.fast + 1 if is_fast else 0
         if self.fast == self.most_fast:
             self.hand.rest(1.2)
@@ -279,7 +283,7 @@ class AtGame(Table):
         if self.game and self.game.shows_next():
             self.game.complete()
         self.show()
-        self.rest(0.06)
+        self.rest(self.pace)
 
     def due(self):
         pending = self.game.pending[0] if self.game and self.game.pending else float("inf")

@@ -107,12 +107,11 @@ class Values(cases.Case):
              "period must be a number of seconds, 1.0 or more: None"),
             (lambda: dgt.Follower(10.0, 6), TypeError,
              "Follower.__init__() takes from 1 to 2 positional arguments but 3 were given"),
-            (lambda: dgt.MoveRecogniser(5), dgt.BadFen, "not a text: 5"),
+            (lambda: dgt.Games(len, len, fen=5), dgt.BadFen, "not a text: 5"),
             (lambda: dgt.GameState.parse(f"{KINGS} w - - 0 {LONG}"), dgt.BadFen,
              f"not two numbers at the end: '{KINGS} w - - 0 {LONG}'"),
-            (lambda: dgt.MoveRecogniser(settle=-1), dgt.BadValue,
-             "settle must be a number of seconds, 0.0 or more: -1"),
-            (lambda: dgt.MoveRecogniser().see(None, 0.0), TypeError, "not a Position: None"),
+            (lambda: dgt.Games(len, len).tick(-1), dgt.BadValue,
+             "a time must be a number of seconds, 0.0 or more: -1"),
             (lambda: dgt.Games(len, len, white_clock="top"), dgt.BadValue,
              "white_clock must be left, right or learn: 'top'"),
             (lambda: dgt.PgnGame(result=1).text(), dgt.BadValue,
@@ -131,13 +130,6 @@ class Values(cases.Case):
             for how in (copy.copy, copy.deepcopy, pickle.dumps):
                 said = f"a {kind.__name__} can't be copied"
                 wanted(f"{how}", refusal(said, TypeError, lambda: how(kind.__new__(kind))), said)
-        first = dgt.MoveRecogniser()
-        first.see(dgt.Position.start(), now=0.0)
-        for how in (copy.copy, copy.deepcopy, lambda it: pickle.loads(pickle.dumps(it))):
-            other = how(first)
-            after = dgt.Position.of_letters(dgt.GameState.start().after("e2e4").letters)
-            wanted("a copy's events", (other.see(after, 1.0), len(other.tick(now=2.0))), ([], 1))
-            wanted("the moves", (other.moves, first.moves, first.due), (["e2e4"], [], None))
 
     def test_names(self):
         time, mark, button = dgt.Time, dgt.Mark, dgt.Button
@@ -214,7 +206,7 @@ def calls():
     """Calls, each with right arguments."""
     position, state, times = dgt.Position.start(), dgt.GameState.start(), dgt.Times()
     world, board, host, follower = dgt.World(), dgt.Board(), dgt.Host(), dgt.Follower()
-    games, recogniser, seer = dgt.Games(len, len), dgt.MoveRecogniser(), Recogniser()
+    games, seer = dgt.Games(len, len), Recogniser()
     encoded = [(dgt.encode_message, dgt.Dump, position), (dgt.encode_message, dgt.Field, "e2", "."),
                (dgt.encode_message, dgt.Ack, bytes(4), 0), (dgt.encode_message, dgt.Version, 1, 3),
                (dgt.encode_message, dgt.Serial, bytes(5)), (dgt.encode_message, dgt.Battery, b""),
@@ -248,8 +240,7 @@ def calls():
         (state.chess.repetitions, [state.chess]), (dgt.GameState.parse, dgt.START_FEN),
         (dgt.GameState.place, LETTERS, True), (state.after, "e2e4"), (dgt.san, state, "e2e4"),
         (dgt.PgnGame().add, "e2e4", None),
-        (dgt.MoveRecogniser, dgt.START_FEN, 0.3, 1.0), (recogniser.see, position, 0.0),
-        (recogniser.tick, 0.0), (dgt.Games, len, len, None, {}, "left", dgt.START_FEN, ""),
+        (dgt.Games, len, len, None, {}, "left", dgt.START_FEN, ""),
         (seer.see, 0, position), (seer.due, 0), (seer.go_on, state.chess, False),
         (games.see, dgt.BoardView(position), 0.0), (games.set_tags, {}, True), (games.tick, 0.0),
         (dgt.follow, "/", 10.0),

@@ -35,10 +35,9 @@ TURNS = {"white": 0x10, "black": 0x08}  # bits of a clock's status
 # A game's time follows its board's by as many seconds, so that what comes late is heard in time,
 # and goes on for as many without a word of the board.
 LATE, TRUST = 0.3, 15.0
+MOST_RECENT = 100  # positions of a board among which a new game's first one is looked for
 MOST_ROWS = 20000  # the rows of a board that the state keeps at least: more belong to no game
-MOST_PENDING = 200  # entries that wait until one of them is confirmed
 AWAY = ("silent", "gone", "ended")
-MOST_WRONG = 2  # the squares that one altered message may change
 TABLES = """
 PRAGMA journal_mode = WAL;
 PRAGMA synchronous = NORMAL;
@@ -52,7 +51,7 @@ CREATE TRIGGER IF NOT EXISTS mark AFTER INSERT ON heard BEGIN
 END;
 CREATE TABLE IF NOT EXISTS games (board TEXT, game INTEGER, final TEXT, text BLOB, before BLOB,
                                   row INTEGER DEFAULT 0, PRIMARY KEY (board, game)) WITHOUT ROWID;
-CREATE TABLE IF NOT EXISTS done (board TEXT PRIMARY KEY, games INTEGER, since INTEGER);
+CREATE TABLE IF NOT EXISTS done (board TEXT PRIMARY KEY, games INTEGER, since INTEGER, fen TEXT);
 """
 Tell = Callable[[str, Summary | None, bool], None]
 
@@ -72,10 +71,9 @@ class Observation:
     row: int = 0  # of the state
 
     def view(self) -> dgt.BoardView:
-        """The same as a view of `dgt.follow`. A board in doubt counts as away, too: moves may be
-        missed meanwhile."""
+        """The same as a view of `dgt.follow`."""
         return dgt.BoardView(dgt.Position.of_letters(self.letters), clock_of(self.clock),
-                             not self.is_sure, None if self.is_sure else self.state,
+                             not self.is_sure, self.state if self.state in AWAY else None,
                              self.is_sure and self.is_confirmed)
 
 
@@ -177,10 +175,11 @@ class State:
         return {(board, game): row for board, game, row in
                 self.kept.execute("SELECT board, game, row FROM games WHERE final IS NOT NULL")}
 
-    def cut(self, board: str, games: int, since: int) -> None:
+    def cut(self, board: str, games: int, since: int, fen: str | None = None) -> None:
         """Notes the number of a board's finished games. The next one is made from the rows since
-        this one."""
-        self.kept.execute("INSERT OR REPLACE INTO done VALUES (?, ?, ?)", [board, games, since])
+        this one. It begins with this FEN, if the rows don't give it."""
+        self.kept.execute("INSERT OR REPLACE INTO done VALUES (?, ?, ?, ?)",
+                          [board, games, since, fen])
         self.kept.execute("DELETE FROM heard WHERE board = ? AND id < ? AND journal != ?",
                           [board, since, DESK])
 
@@ -193,6 +192,10 @@ class State:
     def counts(self) -> dict[str, int]:
         """The number of finished games of each board."""
         return dict(self.kept.execute("SELECT board, games FROM done"))
+
+    def beginnings(self) -> dict[str, str]:
+        """The FEN with which the next game of a board begins, if the rows don't give it."""
+        return dict(self.kept.execute("SELECT board, fen FROM done WHERE fen IS NOT NULL"))
 
     def done(self) -> list[tuple[str, int, str]]:
         """The finished games: a board, the game's number on it, and its text."""
@@ -217,42 +220,6 @@ class State:
 def observation_of(board: topics.Board, at: float, row: int) -> Observation:
     return Observation(board.name, at, board.position.letters, board.clock, board.state,
                        board.is_sure, board.players, board.is_confirmed, row)
-
-
-def contradiction(seen: list[Observation], doubt: int) -> tuple[int, list[int]]:
-    """Which report since a doubt contradicts the one before it, and on which squares, if one does.
-    A report of all squares changes several at once, and hands change one after the other."""
-    end = next(at for at in range(doubt, len(seen)) if seen[at].is_sure)
-    changed = [(at, [square for square in range(64)
-                     if seen[at - 1].letters[square] != seen[at].letters[square]])
-               for at in range(doubt, end + 1)]
-    some = [each for each in changed if each[1]]
-    several = [each for each in some if len(each[1]) > 1]
-    return (several or some)[0] if several or len(some) == 1 else (doubt, [])
-
-
-def is_capture(wrong: str, right: str, start: int, end: int) -> bool:
-    """Whether a piece of one side has taken one of the other between two positions."""
-    return (right[start] == "." and wrong[start] == right[end]
-            and wrong[end] != "." and wrong[end].isupper() != right[end].isupper())
-
-
-def correct(seen: list[Observation], before: str) -> None:
-    """Corrects a board's reports from one confirmed position to the next. If a report of all
-    squares, after a doubt, contradicts the change of a square, the square didn't change."""
-    doubt = next((at for at, each in enumerate(seen) if each.state == "doubt"), 0)
-    if not doubt or any(each.state in AWAY for each in seen):
-        return
-    end, squares = contradiction(seen, doubt)
-    wrong, right = seen[end - 1].letters, seen[end].letters
-    if any(is_capture(wrong, right, *pair) for pair in (squares, squares[::-1]) if len(pair) == 2):
-        return  # it was made during the doubt
-    for square in squares if len(squares) <= MOST_WRONG else ():
-        since = next((at for at in range(end - 1, -1, -1)
-                      if seen[at].letters[square] != wrong[square]), -1) + 1
-        if since or before[square:square + 1] != wrong[square]:
-            for each in seen[since:end]:
-                each.letters = each.letters[:square] + right[square] + each.letters[square + 1:]
 
 
 def clock_of(clock: topics.Clock | None) -> dgt.Clock | None:
@@ -455,13 +422,14 @@ class Table:
     place: Place
     players: tuple[str, str] | None = None
     told: Any = None
-    pending: list[tuple[str, Observation]] = field(default_factory=list)  # with the journal of each
-    confirmed: str = ""  # the letters that were confirmed last
     letters: str = ""  # on the board now
     row: int = 0  # the first one with these letters
     rows: int = 0
-    begun: int = 0  # the game that began last, and the first row with its beginning
+    recent: collections.deque[tuple[str, int]] = field(  # those with other letters before
+        default_factory=lambda: collections.deque(maxlen=MOST_RECENT))
+    begun: int = 0  # the game that began last, the first row with its beginning, and its FEN
     since: int = 0
+    fen: str | None = None  # if the rows since then don't give it
     record: tuple[Any, bytes, str] = None, b"", ""  # the game as JSON, and of when
     advice: str = ""  # the reported one
     journal: str = ""
@@ -475,14 +443,22 @@ class Table:
         return self.base[0] + min(here - self.base[1], TRUST) - LATE if self.base else self.at
 
     def set_due(self) -> None:
-        due, self.due = None if self.pending else self.games.due, NEVER
+        due, self.due = self.games.due, NEVER
         if due is not None and self.base and due <= self.base[0] + TRUST - LATE:
             self.due = self.base[1] + due - self.base[0] + LATE
 
     def note_beginning(self) -> None:
-        """Notes a new game, which began with the present position."""
-        if self.begun != self.place.count:
-            self.begun, self.since = self.place.count, self.row
+        """Notes a new game. If its first position isn't found, it began with the present one."""
+        game = self.games.game
+        if game is None or self.begun == self.place.count:
+            return
+        first, since = game.start.letters, self.since
+        self.begun, self.since = self.place.count, self.row
+        for letters, row in self.recent:
+            if row > since and first in (letters, letters[::-1]):
+                self.since = row
+        # If moves came before, its first one doesn't decide whose turn it is.
+        self.fen = game.start.fen if game.start.number > 1 else None
 
     def name_players(self, players: tuple[str, str] | None) -> None:
         """Sets the players of the next game, and of this one if it has none or has just begun."""
@@ -498,7 +474,7 @@ class Table:
         """A value that changes with the summary."""
         game = self.games.game
         return game and (self.place.count, len(game.moves), game.state,
-                         self.games.recogniser.turned, summary(self.games))
+                         self.games.turned, summary(self.games))
 
 
 class Collector:
@@ -512,6 +488,7 @@ class Collector:
         self.shelf, self.tags, self.white_clock, self.tell = shelf, {**tags}, white_clock, tell
         self.is_last, self.finished, self.row = is_last, state.finished(), 0
         self.state, self.counts, self.is_between = state, state.counts(), False
+        self.beginnings = state.beginnings()
         self.waiting: queue.SimpleQueue[Heard | None] = queue.SimpleQueue()
         self.tables: dict[str, Table] = {}
         self.shown: dict[str, topics.Board] = {}  # what the games have of each board
@@ -621,7 +598,7 @@ class Collector:
             self.counts[name] = table.place.played
             if table.place.kept and table.place.kept.text:
                 table.place.done.append(table.place.kept)
-            table.since = table.row
+            table.since, table.fen = table.row, None
             self.finish(name, table, table.place.played)
             self.tell(name, None, False)
 
@@ -634,25 +611,16 @@ class Collector:
             for kept in table.place.done:
                 self.state.finish(name, kept.number, kept.text, self.row)
                 self.finished[name, kept.number] = self.row
-            self.state.cut(name, games, table.since)
+            self.state.cut(name, games, table.since, table.fen)
         except sqlite3.Error as fault:
             report(f"the state can't be shortened: {fault} (the next game tries again)")
         else:
             table.place.done.clear()
 
     def observe(self, journal: str, seen: Observation, table: Table) -> None:
-        """Queues a board's entries until they are confirmed: they may be corrected before."""
-        table.pending.append((journal, seen))
+        """Handles a board's entry. A game that is too long is begun anew after a restart."""
+        self.see(journal, seen, table)
         table.rows += 1
-        is_sure = seen.is_sure and seen.is_confirmed
-        if not is_sure and len(table.pending) < MOST_PENDING:
-            return
-        if is_sure:
-            correct([each for _, each in table.pending], table.confirmed)
-            table.confirmed = seen.letters
-        for of_journal, each in table.pending:
-            self.see(of_journal, each, table)
-        table.pending.clear()
         if table.rows > 2 * MOST_ROWS and self.is_last:
             table.rows = MOST_ROWS
             self.state.cut(table.place.board, table.place.count - 1,
@@ -684,6 +652,7 @@ class Collector:
         table.name_players(seen.players)
         if seen.is_sure and seen.letters != table.letters:
             table.letters, table.row = seen.letters, seen.row
+            table.recent.append((seen.letters, seen.row))
         table.games.see(seen.view(), table.at)
         table.note_beginning()
 
@@ -705,7 +674,7 @@ class Collector:
             self.report_lost(name, advice)
         if (state := table.state()) != table.told:
             table.told = state
-            self.tell(name, summary(table.games), table.games.recogniser.turned)
+            self.tell(name, summary(table.games), table.games.turned)
 
     def report_lost(self, name: str, advice: str) -> None:
         """Reports what to put right on a board, or that its game isn't lost any more."""
@@ -713,7 +682,8 @@ class Collector:
 
     def add(self, name: str) -> Table:
         place = Place(self.shelf, name, self.counts.get(name, 0))
-        games = dgt.Games(nothing, nothing, place, {**self.tags, "Board": name}, self.white_clock)
+        games = dgt.Games(nothing, nothing, place, {**self.tags, "Board": name}, self.white_clock,
+                          self.beginnings.pop(name, None))
         table = self.tables[name] = Table(games, place)
         return table
 

@@ -112,7 +112,7 @@ class CorrectedGames(collector.Collector):
         if table is None or game is None:
             raise Refused(f"board {one} has no game")
         shown, right = observation_of(board, 0.0, 0).letters, game.state.letters
-        right = right[::-1] if table.games.recogniser.turned else right
+        right = right[::-1] if table.games.turned else right
         wrong = [dgt.SQUARES[at] for at in range(64) if shown[at] != right[at]]
         if wrong:
             raise Refused(f"set up the position of the game on board {other} first: see "
@@ -138,9 +138,9 @@ class CorrectedGames(collector.Collector):
         return None
 
     def reach(self, at: float, table: Table) -> None:
-        """Does everything due up to a time of the board. Unconfirmed entries wait."""
+        """Does everything due up to a time of the board."""
         table.at = max(table.at, at + table.shift)
-        while not table.pending and (due := table.games.due) is not None and due <= table.at:
+        while (due := table.games.due) is not None and due <= table.at:
             table.games.tick(due)
         table.note_beginning()
 
@@ -172,7 +172,7 @@ class CorrectedGames(collector.Collector):
         """Corrects the present game, and looks at the board again."""
         corrections.correct_live(table.games, entry, table.at)
         board = self.shown.get(table.place.board)
-        if not table.pending and board is not None and board.is_shown:
+        if board is not None and board.is_shown:
             table.games.see(observation_of(board, 0.0, 0).view(), table.at)
             table.note_beginning()
 

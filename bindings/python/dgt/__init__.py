@@ -42,7 +42,6 @@ The package contains::
     Board, World    simulate a board, and a board and a host on lines that may fail
     encode_message  and view_message, encode_command, view_command convert to bytes and back
     ClockCommands   are the calls of `follow`, Host and Follower for the board's clock
-    MoveRecogniser  finds the moves of a game in the host's pictures, as states (GameState)
     chess.State     applies the rules of chess: legal moves, draws, FEN, SAN
     recogniser      has a Recogniser, which reports the games that are played on a board
     Games, PgnFile  make games from the pictures, and keep them in a file; PgnGame, san write PGN
@@ -74,7 +73,6 @@ from .following_async import AsyncFollowing, follow_async
 from .games import Games, GameStore
 from .host import Host
 from .logging_board import LoggingBoard
-from .moves import GameBegun, MoveEvent, MoveMade, MoveRecogniser, MoveTakenBack
 from .names import BatteryState, Button, ClockVersion, Done, Off, Pressed, Ready, Signal
 from .pgn import PgnGame, PgnMove, san
 from .rules import START_FEN, GameState
@@ -92,14 +90,13 @@ __all__ = [
     "BadSan", "BadSize", "BadStart", "BadValue", "Battery", "BatteryState", "Board", "BoardView",
     "Busy", "Button", "Clock", "ClockCommands", "ClockId", "ClockMessage", "ClockVersion", "Closed",
     "Command", "CommandDecoder", "Cut", "Decoder", "DgtError", "Done", "Dump", "Event", "Fault",
-    "Field", "Follower", "Following", "GameBegun", "GameState", "GameStore", "Games", "Host",
-    "Identity", "IllegalMove", "Impossible", "KeptGame", "LETTERS", "Leds", "LoggingBoard",
-    "LongSerial", "Mark", "Message", "Mode", "MoveEvent", "MoveMade", "MoveRecogniser",
-    "MoveTakenBack", "Nested", "NoClock", "NoSuchCommand", "Off", "Other", "Outcome", "PgnFile",
-    "PgnGame", "PgnMove", "Position", "Pressed", "Ready", "Refused", "SQUARES", "START_FEN",
-    "STORED_REQUEST", "Serial", "SerialLine", "SerialPort", "Signal", "Stored", "StoredPiece",
-    "StoredTime", "Stray", "StrayByte", "Time", "Times", "TooManyAwaited", "Trademark",
-    "UnknownByte", "Version", "WhiteClock", "Word", "World", "encode_command", "encode_message",
-    "follow", "follow_async", "piece_code", "ports", "read_stored", "san", "segment",
-    "square_number", "view_command", "view_message",
+    "Field", "Follower", "Following", "GameState", "GameStore", "Games", "Host", "Identity",
+    "IllegalMove", "Impossible", "KeptGame", "LETTERS", "Leds", "LoggingBoard", "LongSerial",
+    "Mark", "Message", "Mode", "Nested", "NoClock", "NoSuchCommand", "Off", "Other", "Outcome",
+    "PgnFile", "PgnGame", "PgnMove", "Position", "Pressed", "Ready", "Refused", "SQUARES",
+    "START_FEN", "STORED_REQUEST", "Serial", "SerialLine", "SerialPort", "Signal", "Stored",
+    "StoredPiece", "StoredTime", "Stray", "StrayByte", "Time", "Times", "TooManyAwaited",
+    "Trademark", "UnknownByte", "Version", "WhiteClock", "Word", "World", "encode_command",
+    "encode_message", "follow", "follow_async", "piece_code", "ports", "read_stored", "san",
+    "segment", "square_number", "view_command", "view_message",
 ]

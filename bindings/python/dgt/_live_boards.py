@@ -4,92 +4,160 @@ from __future__ import annotations
 
 import asyncio
 import contextlib
-import copy
 import sys
 import time
-from collections.abc import Iterable
+from collections.abc import Iterable, Sequence
 from typing import Any, Protocol
 
+from ._turn import to_put
+from ._watched import Watched
 from .following import BoardView
-from .games import _LOST_WAIT, _LONG_DOUBT, _misplaced, _root
-from .moves import GameBegun, MoveEvent, MoveMade, MoveRecogniser
 from .pgn import san
+from .recogniser import Back, Begun, Ended, Found, GameEvent, Gap, Lost, Made, Unseen
 from .rules import GameState
 from .values import Position, Time, Times
 
 Json = dict[str, Any]
+_LOST_WAIT = 3.0
+"""The rest of a position before a hint, in seconds."""
 _MOST_WRONG = 8
 """A hint names at most this number of wrong squares."""
 
 
 class Game:
-    """A game on a board: a recogniser, and the moves from now on."""
+    """A game on a board, and the moves from now on. That of a client goes on from another one, or
+    from a state that the client sets up."""
 
-    def __init__(self, recogniser: MoveRecogniser) -> None:
-        self.recogniser = recogniser
-        self._set_up: GameState | None = None
-        self._note()
+    def __init__(self, own: Game | None = None, now: float = 0.0) -> None:
+        self.watched, self.turned = Watched(), False
+        # The states so far, each with the text of the move before it, and how many come before.
+        self._line, self._count = list[tuple[GameState, str]](), 0
+        self._given: GameState | None = None
+        self._is_shown = self._is_lost = self._was_shown = False
+        self._missing: tuple[str, str] | None = None
+        if own is not None and own.state is not None:
+            self._line, self._count, self._is_shown = own._line.copy(), len(own._line), True
+            self.turned = own.turned
+            self._again(now)
 
-    def _note(self) -> None:
-        self._given, self._state = self.recogniser.moves, self.recogniser.state
-        self._texts = [""] * len(self._given)
-
-    def set_up(self, state: GameState) -> None:
-        """Continues the game from this state, once the board has shown it."""
-        self._set_up = state
-        self.recogniser.go_on(state)
-        self._note()
+    @property
+    def state(self) -> GameState | None:
+        """The state after the moves, or `None` before a game."""
+        return self._line[-1][0] if self._line else None
 
     @property
     def moves(self) -> list[str] | None:
-        """The moves since then, in short notation. `None` before the board has shown the position
-        that was set up, before a game, or if earlier moves were taken back."""
-        count = len(self._given)
-        is_on = self.recogniser.moves[:count] == self._given
-        return self._texts[count:] if self.recogniser.state is not None and is_on else None
+        """The moves from now on, in short notation. `None` before a game, before the board has
+        shown the position that was set up, and if earlier moves were taken back."""
+        line, count = self._line, self._count
+        is_on = self._is_shown and len(line) >= count and (
+            self._given is None or _are_same(line[count - 1][0], self._given))
+        return [text for _, text in line[count:]] if is_on else None
+
+    @property
+    def pending(self) -> str | None:
+        """The move to the position that was set up, until the board has shown it."""
+        return self._missing[0] if self._missing else None
+
+    def set_up(self, state: GameState, now: float) -> None:
+        """Continues the game from this state, which the board shows now or later."""
+        last, is_on = self.state, self.moves is not None
+        is_last = last is not None and _are_same(last, state)
+        if self._is_shown or not is_last:
+            self._was_shown = self._is_shown and any(
+                _are_same(each, state) for each, _ in self._line)
+        if last is not None and not is_last:
+            move = last.chess.move_to(state.chess.position) if is_on else None
+            self._missing = (move, last.letters) if move else None
+            self._line = [*(self._line if move else []), (state, move or "")]
+        self._line = self._line or [(state, "")]
+        self._is_shown = self._missing is not None
+        self._given, self._count = state, len(self._line)
+        self._again(now)
+
+    def _again(self, now: float, is_lost: bool = False) -> None:
+        """Goes on from the last state. What the board shows counts again once it changes."""
+        self._is_lost = is_lost
+        self.watched.go_on([state for state, _ in self._line], self.turned, now)
+
+    def from_white(self, letters: str) -> str:
+        """Returns letters of the board from White's point of view."""
+        return letters[::-1] if self.turned else letters
 
     def hint(self, letters: str) -> str:
         """Returns which pieces to put where so that the game goes on. An empty text if it does, or
         if too many squares differ."""
-        recogniser = self.recogniser
-        state = self._set_up if self.moves is None else recogniser.state
-        if state is None or recogniser.pending or recogniser.unconfirmed or recogniser.due:
+        is_on, shown = self.moves is not None, self.from_white(letters)
+        right = self.state if is_on else self._given
+        if right is None or is_on and not self._is_lost or not {"K", "k"} <= {*shown}:
             return ""
-        ways = (letters[::-1], letters) if recogniser.turned else (letters, letters[::-1])
-        told = [_misplaced(each, state, _MOST_WRONG) for each in ways
-                if each == ways[0] or recogniser.state is None]
-        return "" if state.letters in ways else next(filter(None, told), "")
+        wrong = sum(map(str.__ne__, shown, right.letters))
+        told = f"no move leads to this: {to_put(shown, right.letters)}"
+        return told if 1 <= wrong <= _MOST_WRONG else ""
 
     def see(self, view: BoardView, now: float) -> None:
         """Notes a view of the board."""
-        if view.in_doubt or view.picture is None:
-            self.recogniser.hold(view.picture)
-        else:
-            self._take(self.recogniser.see(view.picture, now, view.confirmed))
+        if view.picture is not None and not view.in_doubt and not view.away and self._given:
+            self._look(view.picture.letters, self._given.letters, now)
+            if self._missing and self.from_white(view.picture.letters) == self._missing[1]:
+                return self._again(now)
+        self._take(self.watched.see(view, now), now)
+
+    def _look(self, letters: str, right: str, now: float) -> None:
+        """Looks whether the board shows the position that was set up, also turned."""
+        alike = sum(map(str.__eq__, letters, right)), sum(map(str.__eq__, letters[::-1], right))
+        if not self._is_shown and self.turned != (alike[1] > alike[0]):
+            self.turned = not self.turned
+            self._again(now)
+        if self.from_white(letters) == right:
+            self._is_shown, self._is_lost, self._missing = True, False, None
 
     def wait(self, now: float) -> None:
         """Notes that the board hasn't changed until this time."""
-        self._take(self.recogniser.tick(now))
+        self._take(self.watched.tick(now), now)
 
-    def _take(self, events: list[MoveEvent]) -> None:
+    def _take(self, events: list[GameEvent], now: float) -> None:
         for event in events:
-            if isinstance(event, GameBegun):
-                self._given, self._texts = [], []
-            elif isinstance(event, MoveMade):
-                assert self._state is not None
-                before = self._state if self._texts else _root(self._state, event)
-                self._texts.append(san(before, event.move))
-            else:
-                self._texts.pop()
-            self._state = event.state
-        if self.moves is None and self._is_set_up():  # by other moves than before
-            self._given = self.recogniser.moves
+            match event:
+                case Begun(state) | Gap(state=state) if self._given is None:
+                    self._begin(GameState._of(state))
+                case Made(move):
+                    self._add([move])
+                case Unseen(moves) if self._is_shown or self._was_shown or self._is_final(moves):
+                    self._add(moves)
+                case Back(count) if count < len(self._line):
+                    del self._line[-count:]
+                case Back() if self._given is None and self.watched.state is not None:
+                    return self._begin(self.watched.state)
+                case Lost() | Found():
+                    self._is_lost = isinstance(event, Lost)
+                case Ended():
+                    pass
+                case _:  # the client knows of no other game
+                    return self._again(now, True)
 
-    def _is_set_up(self) -> bool:
-        """Whether the game has reached the state that was set up, if one was."""
-        state, given = self._state, self._set_up
-        return state is not None and (given is None or (state.letters, state.white) == (
-            given.letters, given.white))
+    def _begin(self, state: GameState) -> None:
+        self._line, self._count, self._is_shown = [(state, "")], 1, True
+        self.turned = self.watched.turned
+
+    def _add(self, moves: Sequence[str]) -> None:
+        for move in moves:
+            state = self._line[-1][0]
+            self._line.append((state.after(move), san(state, move)))
+        self._is_shown, self._is_lost, self._missing = True, False, None
+
+    def _is_final(self, moves: Sequence[str]) -> bool:
+        """Whether the last move can't be undone. Otherwise a piece may not have been moved yet,
+        instead of back."""
+        before = state = self._line[-1][0]
+        for move in moves:
+            before, state = state, state.after(move)
+        return state.halfmoves == 0 or state.castlings != before.castlings
+
+
+def _are_same(one: GameState, other: GameState) -> bool:
+    """Whether two states have the same position and side to move."""
+    return (one.letters, one.white) == (other.letters, other.white)
 
 
 class Watcher(Protocol):
@@ -112,10 +180,10 @@ class Board:
         self.rank: tuple[int, str] = (0, "")
         """Sorts the list of boards."""
         self.view = BoardView()
-        self.own = Game(MoveRecogniser())
+        self.own = Game()
         """The game that is recognised for no client."""
         self.watchers: list[Watcher] = []
-        self._clock_at, self._doubted_at, self._said = 0.0, float("-inf"), ""
+        self._clock_at, self._said = 0.0, ""
         self._hint_at: float | None = None
         self._hinted = ""
         self._timer: asyncio.TimerHandle | None = None
@@ -133,18 +201,17 @@ class Board:
     def pending(self) -> tuple[str, bool] | None:
         """A move that a client has set up and the board hasn't shown yet, and whether the board is
         turned."""
-        return next(((move, game.recogniser.turned) for game in self.games
-                     if (move := game.recogniser.pending)), None)
+        return next(((move, game.turned) for game in self.games if (move := game.pending)), None)
 
     def new_game(self) -> Game:
         """Returns a game for a client, which continues the game on the board."""
-        return Game(copy.copy(self.own.recogniser))
+        return Game(self.own, time.monotonic())
 
     def set_up(self, game: Game, state: GameState) -> None:
         """Continues a game from this state."""
         now = time.monotonic()
         self._hint_at = now + _LOST_WAIT
-        game.set_up(state)
+        game.set_up(state, now)
         if game in self.games:  # else another board is on the port now
             game.see(self.view, now)
 
@@ -158,12 +225,6 @@ class Board:
         if view.picture != self.view.picture or view.away:
             self._hint_at = now + _LOST_WAIT
         self.view = view
-        if view.in_doubt or view.picture is None:
-            self._doubted_at = float("-inf") if view.away else min(self._doubted_at, now)
-        else:
-            if now >= self._doubted_at + _LONG_DOUBT:
-                self.own.recogniser.lose_track()
-            self._doubted_at = float("inf")
         for game in self.games:
             game.see(view, now)
         if view.away or view.picture and not view.in_doubt:
@@ -197,7 +258,7 @@ class Board:
         self._turn_at(self._dues())
 
     def _dues(self) -> Iterable[float | None]:
-        return [self._hint_at, *(game.recogniser.due for game in self.games)]
+        return [self._hint_at, *(game.watched.due for game in self.games)]
 
     def _turn_at(self, dues: Iterable[float | None]) -> None:
         if self._timer is not None:
@@ -214,8 +275,7 @@ class Board:
         """Returns the placement of the pieces, from White's point of view."""
         if self.view.picture is None:
             return None
-        letters = self.view.picture.letters
-        return str(Position.of_letters(letters[::-1] if game.recogniser.turned else letters))
+        return str(Position.of_letters(game.from_white(self.view.picture.letters)))
 
     @property
     def clock(self) -> Json | None:
@@ -233,15 +293,15 @@ class Board:
         state = ("NOTRESPONDING" if view.silent else "INACTIVE" if view.away or not view.picture
                  else "DELAYED" if view.in_doubt else "ACTIVE")
         return {"source": self.source, "state": state, "battery": None, "comment": None,
-                "board": self.shown(self.own), "flipped": self.own.recogniser.turned,
+                "board": self.shown(self.own), "flipped": self.own.turned,
                 "clock": self.clock}
 
     def event(self, game: Game) -> Json:
         """The message of a feed about it, with a game on it."""
-        shown, state, moves = self.shown(game), game.recogniser.state, game.moves
+        shown, state, moves = self.shown(game), game.state, game.moves
         match = (state is not None and moves is not None
                  and str(Position.of_letters(state.letters)) == shown)
-        event = {"flipped": game.recogniser.turned, "board": shown, "clock": self.clock,
+        event = {"flipped": game.turned, "board": shown, "clock": self.clock,
                  "match": match}
         return {**event, **({} if moves is None else {"san": moves})}
 

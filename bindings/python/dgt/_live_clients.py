@@ -24,10 +24,10 @@ Each feed has its own game, which begins without moves. `setup` begins a new lis
 - If the game has reached this position, or one a move before it, its moves so far stay known. If
   they are taken back, there is no `san` until the board shows the position again.
 - Otherwise the game waits for the position, also on a turned board. Until then there is no `san`.
-- If the board shows for a second a position that one or two legal moves lead to, the list contains
-  these moves: they were made while the page or the program was away. After a restart of the program
-  the second one has to be a capture, a pawn's move or castling: otherwise the site's last two moves
-  may be missing on the board.
+- If the board rests in a position that up to four legal moves lead to, in one order, the list
+  contains them: they were made while the page or the program was away. After a restart of the
+  program the last one has to be a capture, a pawn's move or castling: otherwise the site's last
+  moves may be missing on the board.
 
 The maker's description of the interface was not available: this is from knowledge of it, and of the
 code of lichess.org. These are certain:
@@ -106,7 +106,7 @@ class Feed:
         if self._is_by_number and (self.board.view.away or not self.is_of(self.board)):
             self._find()
         known = self.board.event(self.game) if self.is_of(self.board) else {
-            "flipped": self.game.recogniser.turned, "board": None, "clock": None, "match": False}
+            "flipped": self.game.turned, "board": None, "clock": None, "match": False}
         event = {"serialnr": self.serial, **known}
         if event != self._last:
             self._last = event

@@ -48,7 +48,7 @@ class PortBoard(Board):
                 break
             self.see(self._identified(view, now))
         self._watch(self._line.descriptor)
-        is_unconfirmed = any(game.recogniser.unconfirmed for game in self.games)
+        is_unconfirmed = any(game.watched.unconfirmed for game in self.games)
         if is_unconfirmed and self.view.picture != self._asked:
             self._asked = self.view.picture
             self._line.follower.ask_now()

@@ -33,18 +33,17 @@ _LOOK = 0.1
 _TRIES = 3
 _SLID, _STEP, _LONG_STEP, _REST = 0.1, 0.4, 1.0, 4.0
 """The assumed rest of a position, in seconds: before the piece that was put down last is lifted
-again; before any other change or a time; the same if moves lead to the position and none is taken
-back; before the position becomes unknown."""
+again; before any other change or a time; the same if something is due until then; before the
+position becomes unknown."""
 _WHY = {Mark.POWER_UP: "broken off: the board was switched on after this",
         Mark.WATCHDOG: "broken off: the board restarted after this", Mark.END: ""}
 _GAP = "broken off: the log lacks moves after this"
 _UNTOLD = "no moves lead to the positions in the log after this"
 _MOST_UNKNOWN = 20
+_CENTRE = (27, 28, 35, 36)
+"""The squares on which both kings give a result."""
 _STARTS = {Mark.BEGIN: Position.start().letters, Mark.TURNED_BEGIN: Position.start().letters[::-1],
            Mark.EMPTY_BOARD: "." * 64}
-_HOMES = frozenset((at, letter) for letters in _STARTS.values()
-                   for at, letter in enumerate(letters))
-"""The pieces of the first positions, by square: put there, they may be set up for another game."""
 
 
 # ---- Requesting it
@@ -124,7 +123,7 @@ class LoggedGames:
         self._game: PgnGame | None = None
         self._letters = ""  # the pieces on the squares, or "" if unknown
         self._put = -1  # the square where a piece was put down last
-        self._is_put = self._is_untold = False
+        self._is_put = self._is_elsewhere = False
         self._now = self._shown_at = 0.0
         self._left = list[Time | None]([None, None])  # the time of each side of the clock
         self._begun_with: Sequence[Time | None] = self._left[:]
@@ -174,8 +173,13 @@ class LoggedGames:
         self._show()
 
     def _tell_made(self, line: str) -> None:
-        """Prints a line of the keeper. No position is `lost` for its rest, which is assumed."""
-        if line.split()[0] not in ("lost", "found"):
+        """Prints a line of the keeper, but for those of games that begin elsewhere. No position is
+        `lost` for its rest, which is assumed."""
+        what, _, rest = line.partition(" ")
+        if what == "game":
+            self._finish("")
+            self._is_elsewhere = rest != START_FEN
+        if not self._is_elsewhere and what not in ("lost", "found", "gap", "broken"):
             self._tell(line)
 
     def _show(self) -> None:
@@ -200,11 +204,7 @@ class LoggedGames:
         self._put = square if self._is_put else self._put
         self._shown_at = self._now
         self._show()
-        if self._keeper._is_as_told or self._keeper.recogniser._reading:
-            self._is_untold = False
-        elif (square, piece) not in _HOMES:
-            self._is_untold = True
-        if self._keeper._result:
+        if sum(self._letters[at] in "Kk" for at in _CENTRE) == 2:
             self._rest()
 
     def _wait(self, until: float) -> None:
@@ -216,12 +216,11 @@ class LoggedGames:
         self._now = max(self._now, until)
 
     def _step(self) -> None:
-        """Lets the position rest: for longer if moves lead to it, none is taken back, and a piece
-        was put down last. Lifted pieces may look as if one had taken another."""
-        rest, recogniser = _STEP, self._keeper.recogniser if self._keeper else None
-        if recogniser and self._is_put and (reading := recogniser._reading):
-            rest = _LONG_STEP if reading.kept == len(recogniser.moves) else _STEP
-        self._wait(self._shown_at + rest)
+        """Lets the position rest: for longer if something is due, and a piece was put down last.
+        Lifted pieces may look as if one had taken another."""
+        due = self._keeper.due if self._keeper and self._is_put else None
+        is_long = due is not None and due <= self._shown_at + _LONG_STEP
+        self._wait(self._shown_at + (_LONG_STEP if is_long else _STEP))
 
     def _rest(self) -> None:
         """Lets the position rest for a long time, unless a piece is in the hand."""
@@ -230,9 +229,9 @@ class LoggedGames:
     def _look(self) -> None:
         """Notes the game in progress."""
         assert self._keeper is not None
-        if self._keeper.game is not self._game:
-            self._finish("")
-            self._game, self._begun_with = self._keeper.game, self._left[:]
+        game = None if self._is_elsewhere else self._keeper.game
+        if game is not self._game:
+            self._game, self._begun_with = game, self._left[:]
             self._learner = WhiteClock()
 
     def _note_time(self, left: Time) -> None:
@@ -264,12 +263,12 @@ class LoggedGames:
 
     def _finish(self, why: str) -> None:
         """Ends the game. Without a result, a comment says why."""
-        game, is_untold, self._is_untold = self._game, self._is_untold, False
+        game, self._game = self._game, None
         if game is None:
             return
         self._set_clocks(game)
         if game.result == "*":
-            game.comment = _UNTOLD if is_untold else why if game.moves else ""
+            game.comment = _UNTOLD if game.comment else why if game.moves else ""
             if game.comment:
                 self._tell("broken off")
         if game.moves or game.result != "*":

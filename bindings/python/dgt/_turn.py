@@ -4,10 +4,11 @@ from __future__ import annotations
 
 from dataclasses import dataclass
 
-from .moves import _CASTLING_WAIT, _HALVES
 from .rules import GameState
 from .values import SQUARES
 
+_CASTLING_WAIT = 2.0
+"""The rest of a rook's move that may be the first half of castling, in seconds."""
 _PAWN_WAIT = 2.0
 """The seconds after which a pawn on its last rank counts as a queen."""
 _SET_UP_WAIT = 0.7
@@ -20,6 +21,8 @@ _LIFTED_WAIT = 5.0
 """The seconds before a hint names lifted pieces."""
 _MOST = 6
 """The most things to do that a hint names."""
+_HALVES = {"h1f1": "e1g1", "a1d1": "e1c1", "h8f8": "e8g8", "a8d8": "e8c8"}
+"""Each castling by the rook's move that may begin it."""
 _NAMES = {"P": "pawn", "R": "rook", "N": "knight", "B": "bishop", "K": "king", "Q": "queen"}
 
 

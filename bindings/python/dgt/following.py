@@ -324,7 +324,7 @@ class Following(Uncopied, ClockCommands[None]):
              wakes: int | None = None) -> BoardView | None:
         """Returns the view after the next change, or `None` if there was none for `timeout`
         seconds. With 0 it doesn't wait. `until` is a time of `time.monotonic` instead, such as
-        `MoveRecogniser.due`. It also returns `None` once the descriptor `wakes` has something to
+        `Games.due`. It also returns `None` once the descriptor `wakes` has something to
         read. `Closed` after `close`. When a line that you have opened ends, it returns a view in
         doubt with the reason in `away`, and the next call raises `Closed`. `BadValue` for `wakes`
         with such a line, for `timeout` together with `until`, and if either isn't a number."""

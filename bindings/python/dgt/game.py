@@ -12,16 +12,21 @@ Standard output gets a line for each event:
     lost g3. g1N                the board rests in a position that no move leads
                                 to, until these squares are put right: g3 empty,
                                 a white knight on g1
-    found                       a move leads on, or the squares are put right
+    gap 3                       three moves were made in an order that the board
+                                didn't show: the next one begins another game
+    found                       a move leads on, or the pieces are put right
     broken off                  another game begins, and moves of this one are
                                 missing: the PGN has a comment
 
 A game begins when all pieces are on their starting squares, on either side of
 the board. Any other position begins one if it rests for a second at the start,
-or later for five seconds after both kings were taken off and put on last. A
-move is printed once it has rested for 0.3 seconds and the board has confirmed
-it with a report of all squares, or once it was answered. Pieces may be lifted
-in any order, slid, and put right. Moves may be taken back.
+or later for five seconds after both kings were taken off and put on last. If no
+moves lead to a position, it begins one after a minute or three further moves.
+
+A move is printed once it has rested for 0.3 seconds and the board has confirmed
+it with a report of all squares, or once it was answered. While the clock of its
+player runs, it waits for three seconds. Pieces may be lifted in any order,
+slid, and put right. Moves may be taken back.
 
 The players give the result with their kings. They lift both, and put them for a
 second on
@@ -40,9 +45,10 @@ each move tries again.
 
 While the line loses bytes, no move is recorded. The pictures in doubt show in
 which order moves were made. If the port disappears, dgt-game looks for it every
-two seconds. The game then goes on with up to two moves that were made
-meanwhile. If the board shows another position for five seconds, the game is
-broken off, and another begins with that position.
+two seconds. The game then goes on with up to four moves that were made
+meanwhile, if only one order of them is possible. If the board shows another
+position for five seconds, the game is broken off, and another begins with that
+position.
 
 When a flag of the clock falls, standard error says so once. The flag alone is
 not a result.

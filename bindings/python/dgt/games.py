@@ -10,35 +10,23 @@ from typing import Protocol
 
 from ._handle import Uncopied
 from ._turn import to_put
+from ._watched import Watched
 from .clock_side import SIDES, WhiteClock
 from .errors import BadValue
 from .following import BoardView
-from .moves import GameBegun, MoveEvent, MoveMade, MoveRecogniser, MoveTakenBack
 from .pgn import RESULTS, PgnGame, PgnMove, _GameText, numbered
-from .rules import GameState
-from .values import SQUARES, Clock, Time, Times, checked
+from .recogniser import Back, Begun, Ended, Found, GameEvent, Gap, Lost, Made, Unseen
+from .rules import START_FEN, GameState
+from .values import Clock, Time, Times, checked, square_number
 
-_SET_UP_WAIT = 5.0
-"""The seconds after which a position that was set up after a game begins another one."""
-_KINGS_WAIT = 1.0
-"""The seconds after which kings in the centre give the result."""
 _FINAL_WAIT = 10.0
-"""The seconds in which a mate or stalemate may be taken back."""
-_LONG_DOUBT = 5.0
-"""After this many seconds in doubt, more moves may have been made than can be recognised."""
+"""The seconds in which the clock of a mate or stalemate may be pressed or stopped."""
 _CLOCK_WAIT = 2.0
 """The seconds after which the last move's time is written to the file."""
-_LOST_WAIT = 3.0
-"""The seconds after which a game is lost in a position that no move leads to."""
-_SETTING_UP_WAIT = 10.0
-"""The same if more than `_MOST_WRONG` squares are wrong: somebody may be setting up pieces."""
-_MOST_WRONG = 4
 _MOST_SEEN = 256
-_CENTRE = {frozenset(("e4", "d5")): "1-0", frozenset(("e5", "d4")): "0-1",
-           frozenset(("e4", "e5")): "1/2-1/2", frozenset(("d4", "d5")): "1/2-1/2"}
-"""The result by the squares of both kings, which are adjacent: no legal position."""
 _BROKEN_OFF = "broken off: the board was away, and came back with another position"
 _LOST = "broken off: no move leads to the position after this"
+_GAP = "broken off: the board did not show the order of the next {} half-moves"
 
 
 class GameStore(Protocol):
@@ -85,51 +73,55 @@ class Games(Uncopied):
                  white_clock: str = "left", fen: str | None = None, port: str = "") -> None:
         """`file` gets each game as PGN, with these tags. `white_clock` is the side of the clock
         that has White's time, `left` or `right`; with `learn` it is found for each game, and is
-        left until then. `fen` is that of `MoveRecogniser`, and `port` names the board in warnings.
-        `BadFen` if the FEN is invalid, `BadValue` if the side is."""
+        left until then. With a FEN, the first game begins when the board shows its position, also
+        turned. `port` names the board in warnings. `BadFen` if the FEN is invalid, `BadValue` if
+        the side is."""
         self._is_white_left, self._learns = _is_left(white_clock), white_clock == "learn"
         self._learner, self._fallen = WhiteClock(), set[str]()
-        self.recogniser = MoveRecogniser(fen, set_up=_SET_UP_WAIT)
+        self._watched = Watched()
+        self._first = None if fen is None else GameState.parse(fen)
         self.game: PgnGame | None = None
         self._text = _GameText(PgnGame())
         self._port = port
         self._tell, self._warn, self._file, self._tags = tell, warn, file, tags or {}
-        self._letters, self._lifted, self._away = "", set[str](), ""
+        self._letters, self._away = "", ""
         self._clock: Times | None = None
         # The positions since the last move, with the clock of that time.
         self._seen: deque[tuple[str, Times | None]] = deque(maxlen=_MOST_SEEN)
         self._settled = 0  # the number of moves with a clock
         self._fixed = 0  # the number of moves with a final clock, whatever is taken back
-        self._doubted_at: float | None = None
-        self._is_new = True
-        self._is_over, self._is_end_told, self._final_at = False, False, 0.0
-        self._result, self._result_at = "", 0.0
-        self._is_confirmed = False
+        self._is_new, self._was_away = True, False
+        self._deleted = ""  # the board shows a move that was deleted
+        self._over, self._final_at = "", 0.0  # why the game is over
         self._lost, self._advice = dict[str, str](), ""
-        self._lost_at: float | None = None
+        # After the game's last move: half-moves in an unknown order, and the state after them.
+        self._gaps: list[tuple[int, GameState]] = []
         self._save_at: float | None = None
         self._is_in_file, self._fault = False, ""
 
     @property
     def due(self) -> float | None:
         """The time at which to call `tick`."""
-        times = [self.recogniser.due, self._save_at]
-        if self._is_confirmed:
-            times += [self._lost_at, self._result_at if self._result else None]
+        times = [self._watched.due, self._save_at]
         return min((each for each in times if each is not None), default=None)
 
     @property
     def unconfirmed(self) -> bool:
         """Whether something waits for a confirmation of the picture. `Follower.ask_now` requests
         one at once. A source without confirmations has to mark each sure view as confirmed."""
-        return self.recogniser.unconfirmed or bool(self._result) and not self._is_confirmed
+        return self._watched.unconfirmed
+
+    @property
+    def turned(self) -> bool:
+        """Whether White's pieces began on the ranks 8 and 7 of the board."""
+        return self._watched.turned
 
     @property
     def lost(self) -> dict[str, str]:
         """The squares to put right, each with the letter of the piece that belongs there, or `.`,
         since the board has rested in a position that no move leads to. Empty if the game is over,
         or has gone on, or the board has shown its position again."""
-        return {} if self._is_over else dict(self._lost)
+        return {} if self._over else dict(self._lost)
 
     @property
     def advice(self) -> str:
@@ -141,37 +133,28 @@ class Games(Uncopied):
         """Notes the view from this time on. `TypeError` if it isn't a `BoardView`."""
         self._note_away(checked(view, BoardView))
         self._note_clock(view.clock, now)
-        self._is_confirmed = view.confirmed
-        if view.in_doubt or view.picture is None:
-            self._doubt(view, now)
-            return
-        self._trust(now)
-        letters = view.picture.letters
-        if is_other := letters != self._letters:
+        letters = view.picture.letters if view.picture else ""
+        if letters and letters != self._letters:
             self._letters = letters
             self._seen.append((letters, self._clock))
-        if self._is_new:
+        is_sure = bool(letters) and not view.in_doubt and not view.away
+        if is_sure and self._is_new:
             self._warn(f"the board shows {view.picture}")
             self._is_new = False
-        is_lost = self.recogniser.lost_track
-        self._take(self.recogniser.see(view.picture, now, view.confirmed), is_lost, now)
-        if is_other:
-            is_set_up = len(self._wrong) > _MOST_WRONG
-            self._lost_at = now + (_SETTING_UP_WAIT if is_set_up else _LOST_WAIT)
-        self._look_at_kings(now)
-        self._learner.see(self._shown, self._clock)
+        self._was_away |= not is_sure
+        self._look_for_first(is_sure, now)
+        if self._first is None and (not self._deleted or letters != self._deleted):
+            self._deleted = ""
+            self._take(self._watched.see(view, now), now)
+        if is_sure:
+            self._was_away &= not self._is_as_told
+            self._learner.see(self._shown, self._clock)
         self._learn()
 
     def tick(self, now: float) -> None:
         """Notes that the board hasn't changed until this time."""
-        is_lost = self.recogniser.lost_track
-        self._take(self.recogniser.tick(now), is_lost, now)
+        self._take(self._watched.tick(now), now)
         self._learn()
-        if self._result and now >= self._result_at and self._is_confirmed:
-            self._end_by_kings(now)
-        if self._lost_at is not None and now >= self._lost_at and self._is_confirmed:
-            self._lost_at = None
-            self._look_whether_lost()
         if self._save_at is not None and now >= self._save_at:
             self._save()
 
@@ -211,11 +194,12 @@ class Games(Uncopied):
         game = self._under_way()
         was_final = not game.state.chess.can_move
         game.replace(ply, count, moves)
-        self._go_on(ply, bool(moves))
+        self._go_on(ply, bool(moves), now)
         if not game.state.chess.can_move:
-            self._end_by_rules(now)
+            winner = "0-1" if game.state.white else "1-0"
+            self._end(winner if game.state.check else "1/2-1/2", self._why, now)
         elif was_final:
-            game.result, self._is_over = "*", False
+            game.result, self._over = "*", ""
         self._save()
 
     def end(self, result: str, now: float) -> None:
@@ -227,8 +211,8 @@ class Games(Uncopied):
         if result != "*":
             self._end(result, "arbiter", now)
             return
-        game.result, self._is_over, self._is_end_told = result, False, False
-        self._go_on(len(game.moves), True)
+        game.result, self._over = result, ""
+        self._go_on(len(game.moves), True, now)
         self._save()
 
     def close(self) -> bool:
@@ -245,20 +229,12 @@ class Games(Uncopied):
     @property
     def _shown(self) -> str:
         """The letters on the board, from White's point of view."""
-        return self._letters[::-1] if self.recogniser.turned else self._letters
+        return self._watched.from_white(self._letters)
 
     @property
     def _is_as_told(self) -> bool:
-        state = self.recogniser.state
+        state = self._watched.state
         return state is not None and self._shown == state.letters
-
-    @property
-    def _wrong(self) -> dict[str, str]:
-        """The squares that differ from the game's position, each with the letter there."""
-        state = self.recogniser.state
-        return {} if state is None else {
-            square: right for square, shown, right in zip(SQUARES, self._shown, state.letters)
-            if shown != right}
 
     def _note_away(self, view: BoardView) -> None:
         away = view.away or ""
@@ -266,21 +242,13 @@ class Games(Uncopied):
             self._warn(f"{self._port}: {away}")
         self._away, self._is_new = away, self._is_new or bool(away)
 
-    def _doubt(self, view: BoardView, now: float) -> None:
-        """Notes that the picture isn't sure."""
-        self.recogniser.hold(view.picture)
-        if self._doubted_at is None:
-            self._doubted_at = now
-        if view.away:
-            self._doubted_at = float("-inf")
-        self._letters = self._result = ""
-        self._lost_at = None
-
-    def _trust(self, now: float) -> None:
-        """Notes that the picture is sure."""
-        if self._doubted_at is not None and now >= self._doubted_at + _LONG_DOUBT:
-            self.recogniser.lose_track()
-        self._doubted_at = None
+    def _look_for_first(self, is_sure: bool, now: float) -> None:
+        """Begins the game once the board shows the position of the FEN."""
+        for turned in (False, True) if self._first and is_sure else ():
+            if self._first and self._first.letters == self._letters[::-1 if turned else 1]:
+                self._watched.go_on([self._first], turned, now)
+                self._begin(self._first)
+                self._first = None
 
     # ---- The clock
 
@@ -290,7 +258,7 @@ class Games(Uncopied):
         if self.game is None or len(self.game.moves) == self._settled:
             return
         last = self.game.moves[-1]
-        if self._is_over and (now >= self._final_at or self._runs_for(last)):
+        if self._over and (now >= self._final_at or self._runs_for(last)):
             return
         left = self._left(self._clock, last)
         if left is not None and left != last.clock and self._is_as_told:
@@ -303,7 +271,7 @@ class Games(Uncopied):
             return
         times = zip(SIDES, (self._clock.first, self._clock.second))
         fallen = {side for side, time in times if time.blocked or time.fallen}
-        for side in sorted(fallen - self._fallen) if self.game and not self._is_over else ():
+        for side in sorted(fallen - self._fallen) if self.game and not self._over else ():
             colour = "White" if side == self.white_clock else "Black"
             self._warn(f"{colour}'s flag has fallen (that alone is not a result)")
         self._fallen = fallen
@@ -338,9 +306,9 @@ class Games(Uncopied):
         assert self.game is not None
         before, clock = self.game.state.letters, None
         changed = [square for square in range(64) if before[square] != after[square]]
-        step = -1 if self.recogniser.turned else 1
         for number, (letters, shown) in enumerate(self._seen):
-            if all(letters[::step][square] == after[square] for square in changed):
+            shown_so = self._watched.from_white(letters)
+            if all(shown_so[square] == after[square] for square in changed):
                 clock = shown
                 for _ in range(number + 1):
                     self._seen.popleft()
@@ -354,93 +322,126 @@ class Games(Uncopied):
 
     # ---- What has happened
 
-    def _take(self, events: list[MoveEvent], is_lost: bool, now: float) -> None:
-        is_replaced = [type(event) for event in events] == [MoveTakenBack, MoveMade]
-        is_next = any(isinstance(event, GameBegun) for event in events)
-        if self.lost and (events or self._is_as_told) and not is_next:
-            self._find()
+    def _take(self, events: list[GameEvent], now: float) -> None:
+        is_replaced = [type(event) for event in events] == [Back, Made]
+        is_found = not any(isinstance(event, Begun | Gap) for event in events)
         for event in events:
-            self._lifted.clear()
-            if isinstance(event, GameBegun):
-                self._begin(event, is_lost)
-            elif self.game is not None and self._is_kept(event, now):
-                if isinstance(event, MoveMade):
-                    self._make(event, now)
-                else:
-                    self._take_back(is_replaced)
-            elif isinstance(event, MoveMade) and not self._is_end_told:
-                self._warn("the game is over, and no moves are kept until another begins")
-                self._is_end_told = True
-        if events and isinstance(events[-1], MoveTakenBack):
-            self._seen.clear()  # these positions led to the moves that were taken back
-        if self._is_over and not self.recogniser._moves and self._is_as_told:
-            state = self.recogniser.state
-            assert state is not None
-            self._begin(GameBegun(state, self.recogniser.turned), False)
+            if self._over and not isinstance(
+                    event, Begun if self._over == "arbiter" else Begun | Back):
+                continue
+            match event:
+                case Begun(state):
+                    self._begin(GameState._of(state))
+                case Made(move):
+                    self._make([move])
+                case Unseen(moves):
+                    self._make(moves)
+                case Gap(count, state):
+                    self._gaps.append((count, GameState._of(state)))
+                    self._note(f"gap {count}")
+                case Back(count) if self._gaps:
+                    self._gaps.pop()
+                    self._find()
+                case Back(count) if self.game and count <= len(self.game.moves):
+                    self._take_back(count, is_replaced)
+                case Back():  # to a position before this game
+                    assert self._watched.state is not None
+                    return self._begin(self._watched.state)
+                case Ended(result):
+                    self._end(result, self._why, now)
+                case Lost(squares):
+                    self._lose(squares)
+                case Found() if is_found:
+                    self._find()
+        if self._over and self.game and not self.game.moves and self._is_as_told:
+            self._begin(self.game.start)  # nobody came to the game before
 
-    def _is_kept(self, event: MoveMade | MoveTakenBack, now: float) -> bool:
-        """Returns whether a move belongs to the game, or was made after its end."""
-        if self._is_over and isinstance(event, MoveTakenBack) and now < self._final_at:
-            self._is_over = False  # it wasn't mate: its piece has moved on
-        return not self._is_over
-
-    def _begin(self, event: GameBegun, is_lost: bool) -> None:
-        if self.game is not None and (is_lost or self._lost) and not self._is_over:
-            self.game.comment = _BROKEN_OFF if is_lost else _LOST
+    def _begin(self, state: GameState) -> None:
+        game = self.game
+        if game and not game.moves and not self._over and game.start.letters == state.letters:
+            game.start = state  # the first move decides whose turn it was
+            return
+        if game and not self._over and (game.comment or self._was_away or state.fen != START_FEN):
+            game.comment = game.comment or (_BROKEN_OFF if self._was_away else _LOST)
             self._report("broken off")
         self._save()
         tags = {"Date": time.strftime("%Y.%m.%d"), **self._tags}
-        self.game = PgnGame(tags, event.state)
+        self.game = PgnGame(tags, state)
         self._text = _GameText(self.game)
-        self._is_over = self._is_end_told = self._is_in_file = False
+        self._is_in_file = False
         self._settled = self._fixed = 0
-        self._result = self._advice = ""
+        self._over = self._advice = ""
         self._lost = {}
+        self._gaps.clear()
         self._seen.clear()
         self._learner.new_game()
         self._is_white_left |= self._learns
         if self._file is not None:
             self._file.begin()
-        self._tell(f"game {event.state.fen}")
+        self._tell(f"game {state.fen}")
 
-    def _make(self, event: MoveMade, now: float) -> None:
+    def _make(self, moves: Sequence[str]) -> None:
+        if self._gaps:
+            self._begin(self._gaps[-1][1])
         assert self.game is not None
-        self._settle(event.state.letters)
-        if not self.game.moves:
-            self.game.start = _root(self.game.start, event)
-        made = self.game.add(event.move)
-        made.clock, made.times = self._left(self._clock, made), self._clock
-        times = [self._clock.first, self._clock.second] if self._clock else []
-        times = times if self._is_white_left else times[::-1]
-        self._report(" ".join([numbered(made.before, made.san), made.move, *map(str, times)]))
-        if not event.state.chess.can_move:
-            self._end_by_rules(now)
+        for move in moves:
+            self._settle(self.game.state.after(move).letters)
+            made = self.game.add(move)
+            made.clock, made.times = self._left(self._clock, made), self._clock
+            times = [self._clock.first, self._clock.second] if self._clock else []
+            times = times if self._is_white_left else times[::-1]
+            self._report(" ".join([numbered(made.before, made.san), made.move, *map(str, times)]))
 
-    def _take_back(self, is_replaced: bool) -> None:
-        """Takes back the last move. If another replaces it, the piece was still moving, and the
+    def _take_back(self, count: int, is_replaced: bool) -> None:
+        """Takes back the last moves. If another replaces one, the piece was still moving, and the
         clock of the move before may have been pressed meanwhile. Otherwise that clock stays: both
         clocks may have run since then."""
         assert self.game is not None
-        made = self.game.moves.pop()
-        count = len(self.game.moves)
-        self._text.change(count)
-        self._fixed = min(self._fixed, count) if is_replaced else count
-        self._settled = max(self._fixed, min(self._settled, count - is_replaced))
-        self.game.result = "*"
-        self._report(f"undo {numbered(made.before, made.san)} {made.move}")
+        self.game.result, self._over = "*", ""
+        for _ in range(count):
+            made = self.game.moves.pop()
+            count = len(self.game.moves)
+            self._text.change(count)
+            self._fixed = min(self._fixed, count) if is_replaced else count
+            self._settled = max(self._fixed, min(self._settled, count - is_replaced))
+            self._report(f"undo {numbered(made.before, made.san)} {made.move}")
+        self._seen.clear()  # these positions led to the moves that were taken back
 
-    def _end_by_rules(self, now: float) -> None:
-        """Ends the game by mate or stalemate."""
-        assert self.game is not None
-        state = self.game.state
-        winner = "0-1" if state.white else "1-0"
-        self._end(winner if state.check else "1/2-1/2", "mate" if state.check else "stalemate", now)
+    @property
+    def _why(self) -> str:
+        """How the game has ended."""
+        state = self._watched.state
+        if state is None or state.chess.can_move:
+            return "kings"
+        return "mate" if state.check else "stalemate"
 
     def _end(self, result: str, why: str, now: float) -> None:
         assert self.game is not None
-        self.game.result, self._result, self._is_over = result, "", True
+        self.game.result, self._over = result, why
         self._final_at = now + _FINAL_WAIT if why in ("mate", "stalemate") else now
         self._report(f"result {result} {why}")
+
+    def _lose(self, squares: Sequence[str]) -> None:
+        """Reports what to put where so that the game goes on."""
+        state = self._watched.state
+        assert state is not None
+        self._lost = {square: state.letters[square_number(square)] for square in squares}
+        self._advice = to_put(self._shown, state.letters)
+        self._warn(f"no move leads to this: {self._advice}")
+        self._note(f"lost {' '.join(map(''.join, self._lost.items()))}")
+
+    def _find(self) -> None:
+        """Reports that the board shows the game again."""
+        self._lost, self._advice = {}, ""
+        self._note("found")
+
+    def _note(self, line: str) -> None:
+        """Reports a line, once the comment says what is missing after the game's moves."""
+        assert self.game is not None
+        gap = _GAP.format(sum(count for count, _ in self._gaps)) if self._gaps else ""
+        lost = (_BROKEN_OFF if self._was_away else _LOST) if self._lost else ""
+        self.game.comment = gap or lost
+        self._report(line)
 
     # ---- Corrections
 
@@ -449,68 +450,17 @@ class Games(Uncopied):
             raise BadValue("no game has begun")
         return self.game
 
-    def _go_on(self, ply: int, is_new: bool) -> None:
+    def _go_on(self, ply: int, is_new: bool, now: float) -> None:
         """Continues the game after its moves, which may have changed after `ply`."""
         assert self.game is not None
         self._text.change(ply)
         self._settled = self._fixed = len(self.game.moves)
         self._seen.clear()
-        if is_new:
-            self.recogniser.hold()
-        self.recogniser.replace(self.game.start, [each.move for each in self.game.moves])
-
-    # ---- The kings, and other positions
-
-    def _look_at_kings(self, now: float) -> None:
-        """Looks for a result by the kings. Both have to be lifted after the last move."""
-        state, shown = self.recogniser.state, self._shown
-        if self.game is None or self._is_over or state is None:
-            self._result = ""
-            return
-        if self._is_as_told:
-            self._lifted.clear()
-        self._lifted |= {king for king in "Kk" if shown[state.letters.index(king)] != king}
-        result = self._in_centre()
-        if len(self._lifted) < 2 or not result or self.recogniser._final is None:
-            self._result = ""
-        elif result != self._result:
-            self._result, self._result_at = result, now + _KINGS_WAIT
-
-    def _in_centre(self) -> str:
-        """Returns the result for the squares of the kings, if there is one."""
-        shown = self._shown
-        if (shown.count("K"), shown.count("k")) != (1, 1):
-            return ""
-        return _CENTRE.get(frozenset(SQUARES[shown.index(king)] for king in "Kk"), "")
-
-    def _end_by_kings(self, now: float) -> None:
-        """Ends the game with the result of the kings, after moves that hadn't rested."""
-        result = self._result
-        self._take(self.recogniser.end_game(), False, now)
-        if not self._is_over:
-            self._end(result, "kings", now)
-
-    # ---- Positions that no move leads to
-
-    def _look_whether_lost(self) -> None:
-        """Reports that the game is lost, unless pieces are only lifted."""
-        state, shown, wrong = self.recogniser.state, self._shown, self._wrong
-        if state is None or self._is_over or self.recogniser.due is not None:
-            return
-        if self._in_centre() and len(self._lifted) < 2:
-            self._warn("lift both kings to give the result")
-        elif wrong != self._lost and (misplaced := _misplaced(shown, state, len(SQUARES))):
-            assert self.game is not None
-            self._lost, self._advice = wrong, to_put(shown, state.letters)
-            self.game.comment = _LOST
-            self._warn(misplaced)
-            self._report(f"lost {' '.join(map(''.join, wrong.items()))}")
-
-    def _find(self) -> None:
-        """Reports that the game is found again."""
-        assert self.game is not None
+        self._gaps.clear()
         self._lost, self._advice, self.game.comment = {}, "", ""
-        self._report("found")
+        states = [self.game.start, *(made.after for made in self.game.moves)]
+        self._watched.go_on(states, self.turned, now)
+        self._deleted = "" if is_new else self._letters
 
     # ---- The file
 
@@ -546,20 +496,3 @@ def _is_left(side: str) -> bool:
     if side not in (*SIDES, "learn"):
         raise BadValue(f"white_clock must be left, right or learn: {side!r}")
     return side != "right"
-
-
-def _misplaced(shown: str, state: GameState, most: int) -> str:
-    """Returns what to put on which squares so that the board shows a state. An empty text if it
-    does, if more than `most` squares differ, or if pieces are only lifted."""
-    wrong = [square for square in range(64) if shown[square] != state.letters[square]]
-    if (1 <= len(wrong) <= most and any(shown[square] != "." for square in wrong)
-            and "K" in shown and "k" in shown):
-        return f"no move leads to this: {to_put(shown, state.letters)}"
-    return ""
-
-
-def _root(begun: GameState, first: MoveMade) -> GameState:
-    """Returns the state in which a game began, once the first move has decided the side to move."""
-    if begun.chess.is_legal(first.move) and begun.after(first.move) == first.state:
-        return begun
-    return GameState.place(begun.letters, not begun.white)

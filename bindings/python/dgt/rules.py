@@ -1,4 +1,4 @@
-"""States of a game as `MoveRecogniser` reports them, with the rules of `dgt.chess`."""
+"""States of a game as `Games` and `PgnGame` have them, with the rules of `dgt.chess`."""
 
 from __future__ import annotations
 
