@@ -156,7 +156,16 @@ found_none picture piece at (Some found) differs h =
 pub found_one : (picture : List Piece) (piece : Piece) (at : ℕ) (found : Option ℕ)
     → found ≡ None → piece_at picture at ≡ piece → FoundOn picture piece at found
     → FoundOn picture piece (at + 1) (Some at)
-found_one picture piece at None none same h =
-    (same, below_more (λ k. piece_at picture k ≡ piece → k ≡ at) at (λ k less e. absurd (h k less
-        e)) (λ e. refl))
+found_one picture piece at None none same h = (
+  same,
+  below_more (λ k. piece_at picture k ≡ piece → k ≡ at) at (λ k less e. absurd (h k less
+      e)) (λ e. refl),
+)
 found_one picture piece at (Some found) none same h = absurd (none-some found (sym none))
+
+-- only these wait
+abbrev pub lost_of : Recogniser → Lost
+lost_of self = self.lost
+
+abbrev pub ended_of : Recogniser → Option (GameResult × Over)
+ended_of self = self.ended

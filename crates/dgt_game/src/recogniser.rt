@@ -184,18 +184,20 @@ impl Recogniser {
         ensures back { self.new.memory.back ≡ self.old.memory.back }
         ensures unsaid { self.new.memory.unsaid.items ≡ self.old.memory.unsaid.items }
         ensures keeps { Keeps self.old self.new }
+        ensures lost { self.new.lost ≡ self.old.lost }
     {
         self.memory.leave(self.here, now);
-        if self.here == Place::Nowhere
+        if self.is_unexplained(now) || self.may_either_move() {
+            self.add_roots();
+        }
+    }
+
+    // Whether nothing led to what is shown, though it rested.
+    fn is_unexplained(&self, now: u64) -> bool {
+        self.here == Place::Nowhere
             && now.saturating_sub(self.since) >= GLANCE
             && (self.is_behind || self.over == Over::No)
             && !self.is_lifted()
-        {
-            self.add_roots();
-        }
-        if self.may_either_move() {
-            self.add_roots();
-        }
     }
 
     // Whether either side may make the next half-move, as it is the first since pieces were set up.

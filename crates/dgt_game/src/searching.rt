@@ -278,6 +278,7 @@ impl Recogniser {
         ensures back { self.new.memory.back ≡ self.old.memory.back }
         ensures unsaid { self.new.memory.unsaid.items ≡ self.old.memory.unsaid.items }
         ensures keeps { Keeps self.old self.new }
+        ensures lost { self.new.lost ≡ self.old.lost }
     {
         let (white, black) = self.roots();
         self.memory.make_room(2);
@@ -294,6 +295,7 @@ impl Recogniser {
         ensures back { self.new.memory.back ≡ self.old.memory.back }
         ensures unsaid { self.new.memory.unsaid.items ≡ self.old.memory.unsaid.items }
         ensures keeps { Keeps self.old self.new }
+        ensures lost { self.new.lost ≡ self.old.lost }
     {
         if let Some(node) = root {
             self.memory.push(node);

@@ -1,6 +1,6 @@
 use Rattle.std.proofs.Common.{rules, arith, ◌≡◌, ◌∙◌, ℕ, Some, None, slice_get, sym, subst}
 use Rattle.std.proofs.lemmas.Option.{get_or_from_slice_get}
-use Rattle.dgt_values.specs.Board.{pieces_of, square_number}
+use Rattle.dgt_values.specs.Board.{pieces_of}
 use Rattle.dgt_values.specs.declared.pieces.Piece.{Piece}
 use Rattle.dgt_chess.specs.Attacks.{piece_at}
 use Rattle.dgt_game.proofs.Waiting.{found_none, found_one}
@@ -20,7 +20,7 @@ loop-at-preserved c =
       | then-is_same+else-is_some w ↦
           let none : at.found ≡ None = search rules in
           rw w.found-is (found_one picture piece at.at at.found none
-              (is ∙ c.is_same.ensures.0 w.if-is_same.true) at.invariant)
+          (is ∙ c.is_same.ensures.0 w.if-is_same.true) at.invariant)
       | else-is_same w ↦ rw w.found-is (found_none picture piece at.at at.found (λ same.
           let wrong = c.is_same.ensures.1 (sym is ∙ same) in absurd (let no : ⊥ = cc in no))
           at.invariant)

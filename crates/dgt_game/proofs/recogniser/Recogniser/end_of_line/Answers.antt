@@ -3,7 +3,7 @@ use Rattle.std.specs.Prelude.{slice_get}
 use Rattle.std.proofs.lemmas.Option.{IfSome_then, slice_get_read}
 use Rattle.dgt_game.specs.declared.node.Node.{Node}
 use Rattle.dgt_game.specs.declared.recogniser.Over.{Over}
-use Rattle.dgt_game.specs.Waiting.{EndsBy, last_of}
+use Rattle.dgt_game.specs.Waiting.{EndsBy}
 use Rattle.dgt_game.proofs.Chains.{get_step}
 use Rattle.dgt_game.proofs.recogniser.Recogniser.end_of_line.Goals as goal
 

@@ -1,5 +1,4 @@
-use Rattle.std.proofs.Common.{rules, ◌≡◌, ◌∙◌, [], Some, Option, ap, sym, subst}
-use Rattle.std.specs.Prelude.{IfSome}
+use Rattle.std.proofs.Common.{rules, ◌≡◌, ◌∙◌, [], Some, ap}
 use Rattle.std.proofs.lemmas.Option.{IfSome_then}
 use Rattle.dgt_game.specs.declared.event.GameResult.{GameResult}
 use Rattle.dgt_game.specs.declared.node.Step.{Step}

@@ -1,4 +1,4 @@
-use Rattle.std.proofs.Common.{rules, ◌≡◌, ◌∙◌, [], Some, None, Option, false, refl, ap, sym, subst}
+use Rattle.std.proofs.Common.{rules, ◌≡◌, ◌∙◌, Some, Option, false, refl, ap, sym, subst}
 use Rattle.std.specs.Prelude.{⊤, IfSome}
 use Rattle.std.proofs.lemmas.Option.{MatchOption-at_some}
 use Rattle.dgt_game.specs.declared.event.GameResult.{GameResult}
@@ -34,8 +34,10 @@ returns-clause-right c = λ h.
     let value = c.in_ok-result.ensures.value in
     let was : self.ended ≡ Some (c.in_ok-result.result, c.in_ok-result.over) = search rules in
     let end = MatchOption-at_some ⊤ (λ (end : GameResult × Over). (step : Step) × (coming
-    self.memory ≡ Some step) × EndsBy end.1 self.view step end.0) (c.in_ok-result.result,
-    c.in_ok-result.over) was waits.0 in
+    self.memory ≡ Some step) × EndsBy end.1 self.view step end.0) (
+      c.in_ok-result.result,
+      c.in_ok-result.over,
+    ) was waits.0 in
     let none = c.in_default-next_event.ensures.none refl in
     let last = sym (last_comes new none.0 none.1) ∙ c.in_default-next_event.ensures.coming ∙ end.1 in (
       (rw c.in_ok-result.ensures.after tt, silent self.lost _ _ c.in_default.ensures.quiet),
@@ -53,8 +55,10 @@ returns-clause-follows c = λ h.
     let follows = c.in_default.ensures.follows in
     let was : self.ended ≡ Some (c.in_ok-result.result, c.in_ok-result.over) = search rules in
     let end = MatchOption-at_some ⊤ (λ (end : GameResult × Over). (step : Step) × (coming
-    self.memory ≡ Some step) × EndsBy end.1 self.view step end.0) (c.in_ok-result.result,
-    c.in_ok-result.over) was waits.0 in
+    self.memory ≡ Some step) × EndsBy end.1 self.view step end.0) (
+      c.in_ok-result.result,
+      c.in_ok-result.over,
+    ) was waits.0 in
     let none : self.over ≡ Over.No = search rules in (
       (
         sym follows.0 ∙ ap (λ (o : Over). has_result o) none,
