@@ -13,4 +13,5 @@ pub mod Nodes
 pub mod Hands
 pub mod Known
 pub mod Meaning
+pub mod Results
 pub mod Waiting

@@ -1,5 +1,5 @@
 -- The result of a game, by the rules or as the players show it.
-use Rattle.std.specs.Prelude.{◌≡◌, ◌≢◌, ◌<◌, ◌⊎◌, ℕ, Bool, true, false, List}
+use Rattle.std.specs.Prelude.{◌≡◌, ◌≢◌, ◌<◌, ◌⊎◌, ◌++◌, ℕ, ⊤, Bool, true, false, List, [], ◌∷◌}
 use Rattle.dgt_values.specs.declared.pieces.Piece.{Piece}
 use Rattle.dgt_chess.specs.declared.pieces.Colour.{Colour}
 use Rattle.dgt_chess.specs.declared.state.State.{State}
@@ -73,3 +73,69 @@ abbrev pub IsLost : Bool → Event → Bool → Type 0
 IsLost was (Event.Lost squares) now = (was ≡ false) × (now ≡ true)
 IsLost was Event.Found now = (was ≡ true) × (now ≡ false)
 IsLost was event now = now ≡ was
+
+-- ---- Laws
+
+-- A state has one result by the rules, and only if its side to move has no legal move.
+abbrev pub OneByRules : Type 0
+OneByRules =
+    (state : State) (result other : GameResult) → ByRules state result → ByRules state other
+    → (result ≡ other) × ¬ (CanMove state)
+
+-- the kings mean one result
+abbrev pub OneByKings : Type 0
+OneByKings =
+    (picture : List Piece) (result other : GameResult) → KingsMean picture result
+    → KingsMean picture other → result ≡ other
+
+-- no two squares of a picture that is like the pieces show another piece
+abbrev pub OneOther : Type 0
+OneOther =
+    (picture pieces : List Piece) (first second : ℕ) → first < 64 → second < 64
+    → IsLike picture pieces → ¬ (FitsAt picture pieces first) → ¬ (FitsAt picture pieces second)
+    → first ≡ second
+
+-- whether a line has a result after events in turn
+abbrev pub HasResults : Bool → List Event → Bool → Type 0
+HasResults had [] has = has ≡ had
+HasResults had (event ∷ events) has =
+    (next : Bool) × HasResult had event next × HasResults next events has
+
+-- no line begins, and no half-moves are taken back
+abbrev pub Stay : List Event → Type 0
+Stay [] = ⊤
+Stay (Event.Begun state is_turned ∷ events) = ⊥
+Stay (Event.Back count ∷ events) = ⊥
+Stay (event ∷ events) = Stay events
+
+-- between two results a line begins, or half-moves are taken back
+abbrev pub OneResult : Type 0
+OneResult =
+    (first second : GameResult) (between : List Event) (had has : Bool) → Stay between
+    → ¬ (HasResults had (Event.Ended first ∷ between ++ Event.Ended second ∷ []) has)
+
+-- whether a line is lost after events in turn
+abbrev pub AreLost : Bool → List Event → Bool → Type 0
+AreLost was [] now = now ≡ was
+AreLost was (event ∷ events) now =
+    (next : Bool) × IsLost was event next × AreLost next events now
+
+-- the line isn't found, and it isn't lost
+abbrev pub NotFound : List Event → Type 0
+NotFound [] = ⊤
+NotFound (Event.Found ∷ events) = ⊥
+NotFound (event ∷ events) = NotFound events
+
+abbrev pub NotLost : List Event → Type 0
+NotLost [] = ⊤
+NotLost (Event.Lost squares ∷ events) = ⊥
+NotLost (event ∷ events) = NotLost events
+
+-- A line that is lost is found before it is lost again, and only then.
+abbrev pub LostInTurn : Type 0
+LostInTurn =
+    (between : List Event) (was now : Bool)
+    → ((first second : ℕ) → NotFound between
+    → ¬ (AreLost was (Event.Lost first ∷ between ++ Event.Lost second ∷ []) now))
+    × (NotLost between
+    → ¬ (AreLost was (Event.Found ∷ between ++ Event.Found ∷ []) now))

@@ -1,6 +1,7 @@
 //! Laws of a recogniser. Each function does nothing at run time: its contract states the facts.
 
 ghost use Rattle.dgt_game.specs.Laws.{BackIsCounted, LegalIsJoined, NoneAndOne, OneIsShown, OneLine, OthersAreHeld, SeveralAreShown, ShownIsHeld, StartIsShown, UnseenIsOnly};
+ghost use Rattle.dgt_game.specs.Results.{LostInTurn, OneByKings, OneByRules, OneOther, OneResult};
 ghost use Rattle.dgt_game.specs.Runs.{IsLegalAndShown};
 
 /// What is reported is legal and was shown, over whole runs.
@@ -24,4 +25,13 @@ pub fn what_was_shown()
     ensures others { OthersAreHeld }
     ensures pieces { ShownIsHeld }
     ensures start { StartIsShown }
+{}
+
+/// Results, and lines that are lost.
+pub fn what_results_say()
+    ensures rules { OneByRules }
+    ensures kings { OneByKings }
+    ensures other { OneOther }
+    ensures once { OneResult }
+    ensures lost { LostInTurn }
 {}

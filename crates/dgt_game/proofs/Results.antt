@@ -1,0 +1,163 @@
+-- What results and lost lines mean.
+use Rattle.std.proofs.Common.{◌≡◌, ◌≢◌, ◌∙◌, ◌⊎◌, ◌<◌, ◌++◌, inl, inr, refl, sym, ap, subst, arith, ℕ, Bool, true, false, List, [], ◌∷◌, nat_eq}
+use Rattle.dgt_values.specs.declared.pieces.Piece.{Piece}
+use Rattle.dgt_chess.specs.declared.state.State.{State}
+use Rattle.dgt_game.specs.declared.event.Event.{Event}
+use Rattle.dgt_game.specs.declared.event.GameResult.{GameResult}
+use Rattle.dgt_game.specs.Results.{AreLost, ByRules, FitsAt, HasResults, IsLike, IsOnlyOn, KingsMean, KingsOn, LostInTurn, NotFound, NotLost, OneByKings, OneByRules, OneOther, OneResult, Stay}
+
+pub one_by_rules : OneByRules
+one_by_rules state GameResult.WhiteWins GameResult.WhiteWins h k = (refl, h.2)
+one_by_rules state GameResult.WhiteWins GameResult.BlackWins h k =
+    absurd (let wrong : ⊥ = cc in wrong)
+one_by_rules state GameResult.WhiteWins GameResult.Draw h k = absurd (k.0 h.1)
+one_by_rules state GameResult.BlackWins GameResult.WhiteWins h k =
+    absurd (let wrong : ⊥ = cc in wrong)
+one_by_rules state GameResult.BlackWins GameResult.BlackWins h k = (refl, h.2)
+one_by_rules state GameResult.BlackWins GameResult.Draw h k = absurd (k.0 h.1)
+one_by_rules state GameResult.Draw GameResult.WhiteWins h k = absurd (h.0 k.1)
+one_by_rules state GameResult.Draw GameResult.BlackWins h k = absurd (h.0 k.1)
+one_by_rules state GameResult.Draw GameResult.Draw h k = (refl, h.1)
+
+one_square : (picture : List Piece) (piece : Piece) (a b : ℕ) → b < 64
+    → IsOnlyOn picture piece a → IsOnlyOn picture piece b → b ≡ a
+one_square picture piece a b less h k = h.1 b less k.0
+
+-- kings on two squares stand on no other two
+other_kings : (picture : List Piece) (a b c d : ℕ) → a < 64 → b < 64 → c < 64 → d < 64
+    → KingsOn picture a b → KingsOn picture c d
+    → ((c ≡ a) × (d ≡ b)) ⊎ ((d ≡ a) × (c ≡ b))
+other_kings picture a b c d la lb lc ld h k = elim h [
+  | inl h ↦ elim k [
+    | inl k ↦ inl (one_square picture _ a c lc h.0 k.0, one_square picture _ b d ld h.1 k.1)
+    | inr k ↦ inr (one_square picture _ a d ld h.0 k.0, one_square picture _ b c lc h.1 k.1)
+  ]
+  | inr h ↦ elim k [
+    | inl k ↦ inr (one_square picture _ a d ld h.1 k.1, one_square picture _ b c lc h.0 k.0)
+    | inr k ↦ inl (one_square picture _ a c lc h.1 k.1, one_square picture _ b d ld h.0 k.0)
+  ]
+]
+
+apart : (picture : List Piece) (a b c d : ℕ) → a < 64 → b < 64 → c < 64 → d < 64
+    → (c ≢ a) ⊎ (d ≢ b) → (d ≢ a) ⊎ (c ≢ b) → KingsOn picture a b → KingsOn picture c d → ⊥
+apart picture a b c d la lb lc ld e f h k = elim (other_kings picture a b c d la lb lc ld h k) [
+  | inl same ↦ elim e [ inl n ↦ n same.0 | inr n ↦ n same.1 ]
+  | inr same ↦ elim f [ inl n ↦ n same.0 | inr n ↦ n same.1 ]
+]
+
+white_black : (picture : List Piece) → KingsOn picture 27 36 → KingsOn picture 28 35 → ⊥
+white_black picture h k =
+    apart picture 27 36 28 35 (omega arith) (omega arith) (omega arith) (omega arith)
+    (inl (omega arith)) (inl (omega arith)) h k
+
+white_draw : (picture : List Piece) → KingsOn picture 27 36
+    → KingsOn picture 28 36 ⊎ KingsOn picture 27 35 → ⊥
+white_draw picture h k = elim k [
+  | inl k ↦ apart picture 27 36 28 36 (omega arith) (omega arith) (omega arith) (omega arith)
+      (inl (omega arith)) (inl (omega arith)) h k
+  | inr k ↦ apart picture 27 36 27 35 (omega arith) (omega arith) (omega arith) (omega arith)
+      (inr (omega arith)) (inl (omega arith)) h k
+]
+
+black_draw : (picture : List Piece) → KingsOn picture 28 35
+    → KingsOn picture 28 36 ⊎ KingsOn picture 27 35 → ⊥
+black_draw picture h k = elim k [
+  | inl k ↦ apart picture 28 35 28 36 (omega arith) (omega arith) (omega arith) (omega arith)
+      (inr (omega arith)) (inl (omega arith)) h k
+  | inr k ↦ apart picture 28 35 27 35 (omega arith) (omega arith) (omega arith) (omega arith)
+      (inl (omega arith)) (inl (omega arith)) h k
+]
+
+pub one_by_kings : OneByKings
+one_by_kings picture GameResult.WhiteWins GameResult.WhiteWins h k = refl
+one_by_kings picture GameResult.WhiteWins GameResult.BlackWins h k =
+    absurd (white_black picture h k)
+one_by_kings picture GameResult.WhiteWins GameResult.Draw h k = absurd (white_draw picture h k)
+one_by_kings picture GameResult.BlackWins GameResult.WhiteWins h k =
+    absurd (white_black picture k h)
+one_by_kings picture GameResult.BlackWins GameResult.BlackWins h k = refl
+one_by_kings picture GameResult.BlackWins GameResult.Draw h k = absurd (black_draw picture h k)
+one_by_kings picture GameResult.Draw GameResult.WhiteWins h k = absurd (white_draw picture k h)
+one_by_kings picture GameResult.Draw GameResult.BlackWins h k = absurd (black_draw picture k h)
+one_by_kings picture GameResult.Draw GameResult.Draw h k = refl
+
+-- what doesn't fit is the other square
+is_other : (picture pieces : List Piece) (other square : ℕ) → square < 64
+    → ((k : ℕ) → k < 64 → k ≢ other → FitsAt picture pieces k)
+    → ¬ (FitsAt picture pieces square) → (differs : square ≢ other) → ⊥
+is_other picture pieces other square less fits wrong differs = wrong (fits square less differs)
+
+same_numbers : (a b : ℕ) → ¬ (a ≢ b) → a ≡ b
+same_numbers a b h = grind (arith, h)
+
+pub one_other : OneOther
+one_other picture pieces first second less more like wrong bad =
+    same_numbers first like.0 (is_other picture pieces like.0 first less like.1 wrong)
+    ∙ sym (same_numbers second like.0 (is_other picture pieces like.0 second more like.1 bad))
+
+second_result : (between : List Event) (second : GameResult) (had has : Bool) → had ≡ true
+    → Stay between → HasResults had (between ++ Event.Ended second ∷ []) has → ⊥
+second_result [] second had has e stay h =
+    let none = h.1.0 in let wrong : ⊥ = cc in wrong
+second_result (Event.Begun state is_turned ∷ events) second had has e stay h = stay
+second_result (Event.Back count ∷ events) second had has e stay h = stay
+second_result (Event.Ended result ∷ events) second had has e stay h =
+    let none = h.1.0 in let wrong : ⊥ = cc in wrong
+second_result (Event.Made one ∷ events) second had has e stay h =
+    second_result events second h.0 has (h.1 ∙ e) stay h.2
+second_result (Event.Unseen moves ∷ events) second had has e stay h =
+    second_result events second h.0 has (h.1 ∙ e) stay h.2
+second_result (Event.Gap state count ∷ events) second had has e stay h =
+    second_result events second h.0 has (h.1 ∙ e) stay h.2
+second_result (Event.Lost squares ∷ events) second had has e stay h =
+    second_result events second h.0 has (h.1 ∙ e) stay h.2
+second_result (Event.Found ∷ events) second had has e stay h =
+    second_result events second h.0 has (h.1 ∙ e) stay h.2
+
+pub one_result : OneResult
+one_result first second between had has stay =
+    λ h. second_result between second h.0 has h.1.1 stay h.2
+
+lost_twice : (between : List Event) (second : ℕ) (was now : Bool) → was ≡ true
+    → NotFound between → AreLost was (between ++ Event.Lost second ∷ []) now → ⊥
+lost_twice [] second was now e none h = let free = h.1.0 in let wrong : ⊥ = cc in wrong
+lost_twice (Event.Found ∷ events) second was now e none h = none
+lost_twice (Event.Lost squares ∷ events) second was now e none h =
+    let free = h.1.0 in let wrong : ⊥ = cc in wrong
+lost_twice (Event.Begun state is_turned ∷ events) second was now e none h =
+    lost_twice events second h.0 now (h.1 ∙ e) none h.2
+lost_twice (Event.Back count ∷ events) second was now e none h =
+    lost_twice events second h.0 now (h.1 ∙ e) none h.2
+lost_twice (Event.Ended result ∷ events) second was now e none h =
+    lost_twice events second h.0 now (h.1 ∙ e) none h.2
+lost_twice (Event.Made one ∷ events) second was now e none h =
+    lost_twice events second h.0 now (h.1 ∙ e) none h.2
+lost_twice (Event.Unseen moves ∷ events) second was now e none h =
+    lost_twice events second h.0 now (h.1 ∙ e) none h.2
+lost_twice (Event.Gap state count ∷ events) second was now e none h =
+    lost_twice events second h.0 now (h.1 ∙ e) none h.2
+
+found_twice : (between : List Event) (was now : Bool) → was ≡ false → NotLost between
+    → AreLost was (between ++ Event.Found ∷ []) now → ⊥
+found_twice [] was now e none h = let lost = h.1.0 in let wrong : ⊥ = cc in wrong
+found_twice (Event.Lost squares ∷ events) was now e none h = none
+found_twice (Event.Found ∷ events) was now e none h =
+    let lost = h.1.0 in let wrong : ⊥ = cc in wrong
+found_twice (Event.Begun state is_turned ∷ events) was now e none h =
+    found_twice events h.0 now (h.1 ∙ e) none h.2
+found_twice (Event.Back count ∷ events) was now e none h =
+    found_twice events h.0 now (h.1 ∙ e) none h.2
+found_twice (Event.Ended result ∷ events) was now e none h =
+    found_twice events h.0 now (h.1 ∙ e) none h.2
+found_twice (Event.Made one ∷ events) was now e none h =
+    found_twice events h.0 now (h.1 ∙ e) none h.2
+found_twice (Event.Unseen moves ∷ events) was now e none h =
+    found_twice events h.0 now (h.1 ∙ e) none h.2
+found_twice (Event.Gap state count ∷ events) was now e none h =
+    found_twice events h.0 now (h.1 ∙ e) none h.2
+
+pub lost_in_turn : LostInTurn
+lost_in_turn between was now = (
+  λ first second none h. lost_twice between second h.0 now h.1.1 none h.2,
+  λ none h. found_twice between h.0 now h.1.1 none h.2,
+)

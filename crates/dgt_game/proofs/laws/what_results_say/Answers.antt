@@ -1,0 +1,17 @@
+use Rattle.dgt_game.proofs.Results.{lost_in_turn, one_by_kings, one_by_rules, one_other, one_result}
+use Rattle.dgt_game.proofs.laws.what_results_say.Goals as goal
+
+pub returns-clause-rules : goal.returns-clause-rules
+returns-clause-rules c = one_by_rules
+
+pub returns-clause-kings : goal.returns-clause-kings
+returns-clause-kings c = one_by_kings
+
+pub returns-clause-other : goal.returns-clause-other
+returns-clause-other c = one_other
+
+pub returns-clause-once : goal.returns-clause-once
+returns-clause-once c = one_result
+
+pub returns-clause-lost : goal.returns-clause-lost
+returns-clause-lost c = lost_in_turn
