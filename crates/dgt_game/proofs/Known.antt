@@ -16,7 +16,7 @@ use Rattle.dgt_game.specs.declared.view.View.{View}
 use Rattle.dgt_game.specs.Told.{IsLegalTold, IsShown, Leads, Told, WasShown, as_shown, told_pieces}
 use Rattle.dgt_game.specs.Memory.{Chain, Holds, Links, steps, tip}
 use Rattle.dgt_game.specs.Recogniser.{GoesOn, Knows, Reports, Sees, new_recogniser, shown_after}
-use Rattle.dgt_game.specs.Runs.{Call, Does, IsLegalAndShown, Runs, events_of, shown_in}
+use Rattle.dgt_game.specs.Runs.{Call, CallsAreRuns, Does, IsLegalAndShown, Runs, events_of, shown_in}
 use Rattle.dgt_game.proofs.Links.{was_shown}
 use Rattle.dgt_game.proofs.Told.{grows_none}
 
@@ -170,6 +170,22 @@ goes_on state is_turned old self node new step line back unsaid answer seen view
       seen = rw no_view tt;
     }
 
+runs_append : (old mid new : Recogniser) (calls more : List Call) → Runs old calls mid
+    → Runs mid more new → Runs old (calls ++ more) new
+runs_append old mid new [] more first next =
+    subst (λ (self : Recogniser). Runs self more new) first next
+runs_append old mid new (call ∷ calls) more first next =
+    (first.0, first.1, runs_append first.0 mid new calls more first.2 next)
+
+pub calls_are_runs : CallsAreRuns
+calls_are_runs old new = (
+  (λ sight h. h),
+  (λ report h. h),
+  (λ state is_turned h. h),
+  (λ call h. (new, h, refl)),
+  (λ mid calls more first next. runs_append old mid new calls more first next),
+)
+
 -- where a run leads to
 abbrev Leads_on : List (List Piece) → List Told → List Call → Recogniser → Type 0
 Leads_on shown line calls ended =
@@ -190,7 +206,8 @@ over_calls (Call.Due (Some event) ∷ calls) shown line old ended h runs =
     (after, (next, leads, legal), last)
 over_calls (Call.GoOn state is_turned ∷ calls) shown line old ended h runs =
     let told : Told = record { state = state; halves = 0; is_turned = is_turned } in
-    let known : Knows (told_pieces told ∷ shown) (told ∷ []) runs.0 = knows_more (told_pieces told ∷ []) (told_pieces told ∷ shown) (told ∷ []) runs.0
+    let known : Knows (told_pieces told ∷ shown) (told ∷ []) runs.0 =
+    knows_more (told_pieces told ∷ []) (told_pieces told ∷ shown) (told ∷ []) runs.0
     (within_first shown (told_pieces told)) runs.1 in
     let (after, legal, last) = over_calls calls (told_pieces told ∷ shown) (told ∷ []) runs.0 ended
     known runs.2 in

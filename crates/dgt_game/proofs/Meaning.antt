@@ -1,5 +1,5 @@
 -- What lines, events and pictures mean, in other words.
-use Rattle.std.proofs.Common.{◌≡◌, ◌∙◌, ◌<◌, ◌≤◌, ◌⊎◌, refl, sym, ap, subst, inl, inr, arith, ℕ, zero, suc, length, List, [], ◌∷◌, Option, Some, None, unwrap_or}
+use Rattle.std.proofs.Common.{◌≡◌, ◌∙◌, ◌<◌, ◌≤◌, ◌⊎◌, refl, sym, ap, subst, inl, inr, arith, ℕ, zero, suc, length, length-append, List, [], ◌∷◌, ◌++◌, Option, Some, None, unwrap_or}
 use Rattle.std.specs.Prelude.{⊤, Contains, MatchOption, slice_get}
 use Rattle.dgt_values.specs.declared.pieces.Piece.{Piece}
 use Rattle.dgt_chess.specs.declared.state.Move.{Move}
@@ -9,7 +9,8 @@ use Rattle.dgt_chess.specs.Rules.{board}
 use Rattle.dgt_game.specs.declared.event.Event.{Event}
 use Rattle.dgt_game.specs.Lines.{IsLine, IsMove, IsOnly, LeadsTo, moves_of}
 use Rattle.dgt_game.specs.Told.{IsHeld, IsLegalTold, IsShown, Joins, Leads, Told, WasShown, as_shown, told_pieces}
-use Rattle.dgt_game.specs.Laws.{AreJoined, BackIsCounted, LegalIsJoined, NoneAndOne, OneIsShown, OneLine, OthersAreHeld, SeveralAreShown, ShownIsHeld, StartIsShown, UnseenIsOnly}
+use Rattle.dgt_game.specs.Laws.{AreJoined, BackIsCounted, JoinedIsOne, LegalIsJoined, NoneAndOne, OneIsShown, OneLine, OthersAreHeld, SeveralAreShown, ShownIsHeld, StartIsShown, UnseenIsOnly}
+use Rattle.dgt_game.specs.Laws.{first_of}
 use Rattle.dgt_game.proofs.Links.{turned_back}
 use Rattle.dgt_game.proofs.Same.{one_next}
 
@@ -45,6 +46,26 @@ joined_after (event ∷ events) line new h legal =
 
 pub legal_is_joined : LegalIsJoined
 legal_is_joined events line legal = joined_after events [] line tt legal
+
+line_append : (a b c : State) (moves more : List Move) → IsLine a moves b → IsLine b more c
+    → IsLine a (moves ++ more) c
+line_append a b c [] more first next = subst (λ (s : State). IsLine s more c) (sym first) next
+line_append a b c (one ∷ moves) more first next =
+    (first.0, first.1, line_append first.0 b c moves more first.2 next)
+
+pub joined_is_one : JoinedIsOne
+unfolding Joins
+joined_is_one last [] h = (([], omega (arith, h), refl), refl)
+joined_is_one last (before ∷ line) h =
+    let ((first, count, legal), turned) = joined_is_one before line h.2 in
+    let (moves, halves, made) = h.0 in (
+      (
+        first ++ moves,
+        omega (arith, length-append first moves, count, halves),
+        line_append (first_of before line).state before.state last.state first moves legal made,
+      ),
+      turned ∙ sym h.1,
+    )
 
 no_line : (state new : State) (moves : List Move) → length moves ≡ 0 → IsLine state moves new
     → state ≡ new

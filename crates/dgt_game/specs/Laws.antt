@@ -25,6 +25,22 @@ abbrev pub LegalIsJoined : Type 0
 LegalIsJoined =
     (events : List Event) (line : List Told) → IsLegalTold [] events line → AreJoined line
 
+abbrev pub halves_in : List Told → ℕ
+halves_in [] = 0
+halves_in (told ∷ line) = told.halves + halves_in line
+
+-- what a line begins with, by its last state and those before
+abbrev pub first_of : Told → List Told → Told
+first_of told [] = told
+first_of told (before ∷ line) = first_of before line
+
+-- such a line is one legal line of all its half-moves, on one side of the board
+abbrev pub JoinedIsOne : Type 0
+JoinedIsOne =
+    (last : Told) (line : List Told) → AreJoined (last ∷ line)
+    → Joins (halves_in (last ∷ line)) (first_of last line).state last.state
+    × ((first_of last line).is_turned ≡ last.is_turned)
+
 -- no half-moves lead to no other state, and a single one is a legal move
 abbrev pub NoneAndOne : Type 0
 NoneAndOne =
@@ -45,10 +61,6 @@ UnseenIsOnly =
     → Leads (last ∷ line) (Event.Unseen moves) (told ∷ new) → IsLine last.state others end
     → length others ≡ length (moves_of moves) → board end ≡ board told.state
     → others ≡ moves_of moves
-
-abbrev pub halves_in : List Told → ℕ
-halves_in [] = 0
-halves_in (told ∷ line) = told.halves + halves_in line
 
 -- As many half-moves are taken back as are reported, and never the state that a line begins with.
 abbrev pub BackIsCounted : Type 0

@@ -1,5 +1,5 @@
 -- What a recogniser reports over whole runs.
-use Rattle.std.specs.Prelude.{◌≡◌, Bool, List, [], ◌∷◌, Option, None, Some}
+use Rattle.std.specs.Prelude.{◌≡◌, Bool, List, [], ◌∷◌, ◌++◌, Option, None, Some}
 use Rattle.dgt_values.specs.declared.pieces.Piece.{Piece}
 use Rattle.dgt_chess.specs.declared.state.State.{State}
 use Rattle.dgt_chess.specs.Rules.{board}
@@ -24,6 +24,18 @@ Does old (Call.GoOn state is_turned) new = GoesOn state is_turned new
 abbrev pub Runs : Recogniser → List Call → Recogniser → Type 0
 Runs old [] new = new ≡ old
 Runs old (call ∷ calls) new = (next : Recogniser) × Does old call next × Runs next calls new
+
+-- Each call is done, and consecutive runs are one.
+abbrev pub CallsAreRuns : Type 0
+CallsAreRuns =
+    (old new : Recogniser)
+    → ((sight : Sight) → Sees old sight new → Does old (Call.See sight) new)
+    × ((report : Option Event) → Reports old report new → Does old (Call.Due report) new)
+    × ((state : State) (is_turned : Bool) → GoesOn state is_turned new
+    → Does old (Call.GoOn state is_turned) new)
+    × ((call : Call) → Does old call new → Runs old (call ∷ []) new)
+    × ((mid : Recogniser) (calls more : List Call) → Runs old calls mid → Runs mid more new
+    → Runs old (calls ++ more) new)
 
 -- The pictures shown, after these. A state that a line goes on from counts as shown.
 abbrev pub shown_in : List (List Piece) → List Call → List (List Piece)

@@ -84,8 +84,6 @@ Follows self (Some event) new =
     HasResult (has_result self.over) event (has_result new.over)
     × IsLost (is_lost self.lost) event (is_lost new.lost)
 
--- only for bodies
-
 -- that the line was lost or found is to be reported
 abbrev pub has_notice : Lost → Bool
 has_notice Lost.No = false
@@ -97,6 +95,8 @@ has_notice Lost.Found = true
 abbrev pub IsQuiet : Recogniser → Type 0
 IsQuiet self =
     IsTold self.memory × (has_notice self.lost ≡ false) × (self.ended ≡ None)
+
+-- only for bodies
 
 -- results are as they were, and what waits of a lost line is right
 abbrev pub Keeps : Recogniser → Recogniser → Type 0

@@ -1,17 +1,26 @@
 //! Laws of a recogniser. Each function does nothing at run time: its contract states the facts.
 
-ghost use Rattle.dgt_game.specs.Laws.{BackIsCounted, LegalIsJoined, NoneAndOne, OneIsShown, OneLine, OthersAreHeld, SeveralAreShown, ShownIsHeld, StartIsShown, UnseenIsOnly};
+ghost use Rattle.dgt_game.specs.Laws.{BackIsCounted, JoinedIsOne, LegalIsJoined, NoneAndOne, OneIsShown, OneLine, OthersAreHeld, SeveralAreShown, ShownIsHeld, StartIsShown, UnseenIsOnly};
+ghost use Rattle.dgt_game.specs.Recogniser.{new_recogniser};
 ghost use Rattle.dgt_game.specs.Results.{LostInTurn, OneByKings, OneByRules, OneOther, OneResult};
-ghost use Rattle.dgt_game.specs.Runs.{IsLegalAndShown};
+ghost use Rattle.dgt_game.specs.Runs.{CallsAreRuns, IsLegalAndShown};
+ghost use Rattle.dgt_game.specs.Waiting.{Waits};
 
 /// What is reported is legal and was shown, over whole runs.
 pub fn reports_are_legal()
-    ensures { IsLegalAndShown }
+    ensures are { IsLegalAndShown }
+    ensures runs { CallsAreRuns }
+{}
+
+/// Nothing waits to be reported at first.
+pub fn nothing_waits_at_first()
+    ensures { Waits new_recogniser }
 {}
 
 /// What events say of the line.
 pub fn what_events_say()
     ensures joined { LegalIsJoined }
+    ensures line { JoinedIsOne }
     ensures moves { NoneAndOne }
     ensures one { OneLine }
     ensures only { UnseenIsOnly }

@@ -10,6 +10,8 @@
 //! | get the next event | [`Recogniser::due`] |
 //! | go on with a game | [`Recogniser::go_on`] |
 //!
+//! What is reported is legal and was shown ([`laws::reports_are_legal`]).
+//!
 //! ```rust
 //! use dgt_game::{Event, Observation, Recogniser, Sight};
 //! use dgt_values::Position;

@@ -88,8 +88,7 @@ impl Recogniser {
 
     /// A recogniser that has seen nothing.
     pub fn new() -> Self
-        ensures is { result ≡ new_recogniser }
-        ensures right { Waits result }
+        ensures { result ≡ new_recogniser }
     {
         Recogniser {
             memory: Memory::new(),

@@ -26,7 +26,9 @@ impl Recogniser {
     ghost use Rattle.dgt_game.specs.Waiting.{Follows, IsQuiet, IsRight, Keeps, Waits};
 
     /// When [`Recogniser::due`] has something to do next, if nothing else is seen until then.
-    pub fn due_at(&self) -> Option<u64> {
+    pub fn due_at(&self) -> Option<u64>
+        ensures none { result ≡ None → IsQuiet self.now }
+    {
         if self.has_news() {
             return Some(self.since);
         }
@@ -41,6 +43,7 @@ impl Recogniser {
         ensures right { Waits self.old
             → Waits self.new × IfSome result (λ event. IsRight self.new event) }
         ensures follows { Waits self.old → Follows self.old result self.new }
+        ensures none { result ≡ None → IsQuiet self.new }
     {
         for _ in 0..3 {
             if let Some(event) = self.next_event() {

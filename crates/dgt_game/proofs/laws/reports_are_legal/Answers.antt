@@ -1,5 +1,8 @@
-use Rattle.dgt_game.proofs.Known.{legal_and_shown}
+use Rattle.dgt_game.proofs.Known.{calls_are_runs, legal_and_shown}
 use Rattle.dgt_game.proofs.laws.reports_are_legal.Goals as goal
 
-pub returns : goal.returns
-returns c = legal_and_shown
+pub returns-clause-are : goal.returns-clause-are
+returns-clause-are c = legal_and_shown
+
+pub returns-clause-runs : goal.returns-clause-runs
+returns-clause-runs c = calls_are_runs

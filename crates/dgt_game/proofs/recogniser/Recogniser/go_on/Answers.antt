@@ -1,7 +1,16 @@
-use Rattle.std.proofs.Common.{refl}
+use Rattle.std.proofs.Common.{◌≡◌, refl, ap, None}
+use Rattle.dgt_game.specs.declared.recogniser.Lost.{Lost}
+use Rattle.dgt_game.specs.declared.recogniser.Recogniser.{Recogniser}
 use Rattle.dgt_game.proofs.Known.{goes_on}
 use Rattle.dgt_game.proofs.recogniser.Recogniser.go_on.Goals as goal
 
 pub returns-clause-on : goal.returns-clause-on
-returns-clause-on c = goes_on c.args.state c.args.is_turned c.new.result _ c.root.result
-    c.new.ensures.is c.root.ensures c.push.ensures.items refl refl refl refl refl
+returns-clause-on c =
+    goes_on c.args.state c.args.is_turned c.new.result _ c.root.result c.new.ensures c.root.ensures
+    c.push.ensures.items refl refl refl refl refl
+
+pub returns-clause-right : goal.returns-clause-right
+returns-clause-right c =
+    let none : c.new.result.ended ≡ None = ap (λ (r : Recogniser). r.ended) c.new.ensures in
+    let never : c.new.result.lost ≡ Lost.No = ap (λ (r : Recogniser). r.lost) c.new.ensures in
+    (rw none tt, rw never tt)

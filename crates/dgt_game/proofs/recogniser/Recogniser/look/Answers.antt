@@ -21,7 +21,8 @@ returns-in-New-clause-holds c = λ shown line back unsaid seen holds.
           subst (Reads shown old) (sym w.reading-is) (w.read_king_in_hand.ensures shown seen)
       | else-has_white+else-has_black-2 w ↦ subst (Reads shown old) (sym w.reading-is) tt
     ] in
-    subst (λ (m : Memory). m.back ≡ 0 → m.unsaid.items ≡ [] → Reads shown m (Reading.New c.in-New.node)
+    subst (λ (m : Memory). m.back ≡ 0 → m.unsaid.items ≡ []
+    → Reads shown m (Reading.New c.in-New.node)
     → Holds shown line m → Holds shown line c.add.new.self.memory)
     (c.look_at_kings.ensures.same ∙ same) (c.add.ensures.holds shown line) back unsaid
     (subst (Reads shown old) c.in-New.is reads) holds
@@ -41,7 +42,8 @@ returns-in-Held-clause-holds c = λ shown line back unsaid seen holds.
           subst (Reads shown old) (sym w.reading-is) (w.read_king_in_hand.ensures shown seen)
       | else-has_white+else-has_black-2 w ↦ subst (Reads shown old) (sym w.reading-is) tt
     ] in
-    subst (λ (m : Memory). m.back ≡ 0 → m.unsaid.items ≡ [] → Reads shown m (Reading.Held c.in-Held.node)
+    subst (λ (m : Memory). m.back ≡ 0 → m.unsaid.items ≡ []
+    → Reads shown m (Reading.Held c.in-Held.node)
     → Holds shown line m → Holds shown line c.hold.new.self.memory)
     (c.look_at_kings.ensures.same ∙ same) (c.hold.ensures.holds shown line) back unsaid
     (subst (Reads shown old) c.in-Held.is reads) holds
@@ -61,7 +63,8 @@ returns-in-Two-clause-holds c = λ shown line back unsaid seen holds.
           subst (Reads shown old) (sym w.reading-is) (w.read_king_in_hand.ensures shown seen)
       | else-has_white+else-has_black-2 w ↦ subst (Reads shown old) (sym w.reading-is) tt
     ] in
-    subst (λ (m : Memory). m.back ≡ 0 → m.unsaid.items ≡ [] → Reads shown m (Reading.Two c.in-Two.first c.in-Two.second)
+    subst (λ (m : Memory). m.back ≡ 0 → m.unsaid.items ≡ []
+    → Reads shown m (Reading.Two c.in-Two.first c.in-Two.second)
     → Holds shown line m → Holds shown line c.add_two.new.self.memory)
     (c.look_at_kings.ensures.same ∙ same) (c.add_two.ensures.holds shown line) back unsaid
     (subst (Reads shown old) c.in-Two.is reads) holds
