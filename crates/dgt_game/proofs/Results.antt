@@ -1,10 +1,9 @@
 -- What results and lost lines mean.
-use Rattle.std.proofs.Common.{◌≡◌, ◌≢◌, ◌∙◌, ◌⊎◌, ◌<◌, ◌++◌, inl, inr, refl, sym, ap, subst, arith, ℕ, Bool, true, false, List, [], ◌∷◌, nat_eq}
+use Rattle.std.proofs.Common.{◌≡◌, ◌≢◌, ◌∙◌, ◌⊎◌, ◌<◌, ◌++◌, inl, inr, refl, sym, arith, ℕ, Bool, true, false, List, [], ◌∷◌}
 use Rattle.dgt_values.specs.declared.pieces.Piece.{Piece}
-use Rattle.dgt_chess.specs.declared.state.State.{State}
 use Rattle.dgt_game.specs.declared.event.Event.{Event}
 use Rattle.dgt_game.specs.declared.event.GameResult.{GameResult}
-use Rattle.dgt_game.specs.Results.{AreLost, ByRules, FitsAt, HasResults, IsLike, IsOnlyOn, KingsMean, KingsOn, LostInTurn, NotFound, NotLost, OneByKings, OneByRules, OneOther, OneResult, Stay}
+use Rattle.dgt_game.specs.Results.{AreLost, FitsAt, HasResults, IsOnlyOn, KingsOn, LostInTurn, NotFound, NotLost, OneByKings, OneByRules, OneOther, OneResult, Stay}
 
 pub one_by_rules : OneByRules
 one_by_rules state GameResult.WhiteWins GameResult.WhiteWins h k = (refl, h.2)

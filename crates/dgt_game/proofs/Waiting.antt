@@ -1,5 +1,5 @@
 -- What waits to be reported.
-use Rattle.std.proofs.Common.{◌≡◌, ◌≢◌, ◌∙◌, ◌+◌, ◌-◌, ◌<◌, ◌⊎◌, inl, inr, refl, sym, ap, subst, arith, below_more, ℕ, zero, suc, Bool, true, false, List, [], ◌∷◌, Option, Some, None}
+use Rattle.std.proofs.Common.{◌≡◌, ◌≢◌, ◌∙◌, ◌+◌, ◌-◌, ◌<◌, ◌⊎◌, inl, inr, refl, sym, ap, arith, below_more, ℕ, zero, suc, Bool, true, false, List, [], ◌∷◌, Option, Some, None}
 use Rattle.std.specs.Prelude.{slice_get, IfSome}
 use Rattle.std.specs.Option.{option_or}
 use Rattle.std.proofs.lemmas.Option.{none-some}
@@ -11,36 +11,12 @@ use Rattle.dgt_game.specs.declared.recogniser.Over.{Over}
 use Rattle.dgt_game.specs.declared.event.Event.{Event}
 use Rattle.dgt_game.specs.declared.node.Node.{Node}
 use Rattle.dgt_game.specs.declared.node.Step.{Step}
-use Rattle.dgt_game.specs.declared.node.Way.{Way}
 use Rattle.dgt_game.specs.declared.recogniser.Lost.{Lost}
 use Rattle.dgt_game.specs.declared.recogniser.Recogniser.{Recogniser}
 use Rattle.dgt_game.specs.declared.view.View.{View}
-use Rattle.dgt_chess.specs.declared.state.State.{State}
-use Rattle.dgt_game.specs.Memory.{event_by, steps, tip}
-use Rattle.dgt_game.specs.Results.{ByRules, FitsAt, HasResult, IsLost}
-use Rattle.dgt_game.specs.Waiting.{EndsBy, Follows, IsOfLine, IsRight, Keeps, LostBy, Show, coming, has_notice, has_result, is_lost, last_of}
-
-pub keeps_self : (self : Recogniser) → Keeps self self
-keeps_self self = (refl, refl, refl, refl, λ h. h)
-
-pub keeps_then : (a b c : Recogniser) → Keeps a b → Keeps b c → Keeps a c
-keeps_then a b c h k =
-    (k.0 ∙ h.0, k.1 ∙ h.1, k.2 ∙ h.2, k.3 ∙ h.3, λ w. k.4 (h.4 w))
-
-pub follows_then : (a b c : Recogniser) (event : Option Event) → Follows a None b
-    → Follows b event c → Follows a event c
-follows_then a b c None f g = (g.0 ∙ f.0, g.1 ∙ f.1)
-follows_then a b c (Some event) f g = (
-  subst (λ (had : Bool). HasResult had event (has_result c.over)) f.0 g.0,
-  subst (λ (was : Bool). IsLost was event (is_lost c.lost)) f.1 g.1,
-)
-
-pub of_line : (way : Way) (state : State) (is_turned : Bool)
-    → IsOfLine (event_by way state is_turned)
-of_line Way.Begun state is_turned = tt
-of_line (Way.Made one) state is_turned = tt
-of_line (Way.Unseen moves) state is_turned = tt
-of_line (Way.Gap count) state is_turned = tt
+use Rattle.dgt_game.specs.Memory.{steps, tip}
+use Rattle.dgt_game.specs.Results.{ByRules, FitsAt}
+use Rattle.dgt_game.specs.Waiting.{EndsBy, IsOfLine, IsRight, LostBy, Show, coming, has_notice, has_result, last_of}
 
 pub right_of_line : (self : Recogniser) (event : Event) → IsOfLine event → IsRight self event
 right_of_line self (Event.Ended result) h = absurd h
@@ -51,17 +27,6 @@ right_of_line self (Event.Made one) h = tt
 right_of_line self (Event.Unseen moves) h = tt
 right_of_line self (Event.Gap state count) h = tt
 right_of_line self (Event.Back count) h = tt
-
-pub lost_of_line : (was now : Bool) (event : Event) → IsOfLine event → now ≡ was
-    → IsLost was event now
-lost_of_line was now (Event.Ended result) h e = absurd h
-lost_of_line was now (Event.Lost squares) h e = absurd h
-lost_of_line was now Event.Found h e = absurd h
-lost_of_line was now (Event.Begun state is_turned) h e = e
-lost_of_line was now (Event.Made one) h e = e
-lost_of_line was now (Event.Unseen moves) h e = e
-lost_of_line was now (Event.Gap state count) h e = e
-lost_of_line was now (Event.Back count) h e = e
 
 -- no notice waits
 pub silent : (lost : Lost) (view : Option View) (last : Option Step) → has_notice lost ≡ false

@@ -98,11 +98,12 @@ IsQuiet self =
 
 -- only for bodies
 
--- results are as they were, and what waits of a lost line is right
+-- results and the time are as they were, and what waits of a lost line is right
 abbrev pub Keeps : Recogniser → Recogniser → Type 0
 Keeps self new =
     (new.view ≡ self.view) × (new.over ≡ self.over) × (new.ended ≡ self.ended)
     × (is_lost new.lost ≡ is_lost self.lost) × (LostWaits self → LostWaits new)
+    × (new.since ≡ self.since)
 
 -- an event of the line
 abbrev pub IsOfLine : Event → Type 0

@@ -121,6 +121,8 @@ impl Recogniser {
         ensures seen { IsOk result → Sees self.old observation.now.sight self.new }
         ensures right { Waits self.old → Waits self.new }
         ensures follows { Follows self.old None self.new }
+        ensures since { (self.new.since ≡ self.old.since)
+            ⊎ (self.new.since ≡ observation.now.at) }
     {
         if self.is_due(observation.at) {
             return Err(StillDue);
@@ -220,6 +222,7 @@ impl Recogniser {
         ensures ended { self.new.ended ≡ self.old.ended }
         ensures lost { has_notice self.old.lost ≡ false → LostWaits self.new }
         ensures follows { Follows self.old None self.new }
+        ensures since { (self.new.since ≡ self.old.since) ⊎ (self.new.since ≡ now) }
     {
         self.changed = match (&self.view, &view) {
             (Some(old), Some(new)) => old.shown.differ(&new.shown),

@@ -1,6 +1,6 @@
 //! What is due, and when.
 
-ghost use Rattle.std.specs.Prelude.{◌≡◌, false, None, IfSome, List, []};
+ghost use Rattle.std.specs.Prelude.{◌≡◌, ◌≤◌, ◌+◌, false, None, IfSome, List, []};
 ghost use Rattle.dgt_values.specs.declared.pieces.Piece.{Piece};
 ghost use Rattle.dgt_game.specs.Told.{Told};
 
@@ -28,6 +28,7 @@ impl Recogniser {
     /// When [`Recogniser::due`] has something to do next, if nothing else is seen until then.
     pub fn due_at(&self) -> Option<u64>
         ensures none { result ≡ None → IsQuiet self.now }
+        ensures soon { IfSome result (λ at. at ≤ self.now.since + 60000) }
     {
         if self.has_news() {
             return Some(self.since);
@@ -68,7 +69,9 @@ impl Recogniser {
             }
     }
 
-    fn next_task(&self) -> Option<(u64, Task)> {
+    fn next_task(&self) -> Option<(u64, Task)>
+        ensures soon { IfSome result (λ next. next.0 ≤ self.now.since + NEW_STILL) }
+    {
         if !self.is_sure {
             return None;
         }
@@ -84,7 +87,9 @@ impl Recogniser {
     }
 
     // What is done next with the position that is shown.
-    fn next_of_position(&self) -> Option<(u64, Task)> {
+    fn next_of_position(&self) -> Option<(u64, Task)>
+        ensures soon { IfSome result (λ next. next.0 ≤ self.now.since + NEW_STILL) }
+    {
         let (wait, task) = if self.is_next {
             (self.rest(), Task::Tell)
         } else if self.here != Place::Nowhere {
@@ -156,7 +161,9 @@ impl Recogniser {
     }
 
     // How long a position that no half-moves lead to rests before a line begins with it.
-    fn new_wait(&self) -> Option<u64> {
+    fn new_wait(&self) -> Option<u64>
+        ensures { IfSome result (λ wait. wait ≤ NEW_STILL) }
+    {
         if self.memory.line.is_empty() {
             Some(FIRST)
         } else if self.is_set_up || self.is_behind {
@@ -169,7 +176,9 @@ impl Recogniser {
     }
 
     // How long the position that is shown rests before it is reported.
-    fn rest(&self) -> u64 {
+    fn rest(&self) -> u64
+        ensures { result ≤ NEW_STILL }
+    {
         let Place::Seen(k) = self.here else {
             return SETTLE;
         };
@@ -191,7 +200,9 @@ impl Recogniser {
     }
 
     // The same, of half-moves that follow a state of the line.
-    fn rest_after(&self, node: &Node, base: usize) -> u64 {
+    fn rest_after(&self, node: &Node, base: usize) -> u64
+        ensures { result ≤ AT_ONCE }
+    {
         let mut wait = SETTLE;
         if self.is_quick_path(node) || node.jumps_far && !self.is_behind {
             wait = AT_ONCE;

@@ -35,4 +35,5 @@ returns-clause-keeps c =
         get_step self.memory.line.items 0 last at,
         (c.args.view.now, c.requires, differs),
       ),
+      refl,
     )
