@@ -40,31 +40,20 @@ class Hand:
         self.show()
         self.rest(1.5)
 
-    @property
-    def state(self):
-        return self.recogniser.state
-
-    @property
-    def is_quiet(self):
-        """Whether everything that was shown is reported."""
-        return self.recogniser.due_at() is None
-
     def note(self, events):
         for event in events:
             match event:
                 case self.events.Made(move):
-                    self.add(move)
+                    self.moves.append(move)
+                    self.told.append(move)
                 case self.events.Unseen(moves):
-                    self.add(*moves)
+                    self.moves += moves
+                    self.told += moves
                 case self.events.Back(count):
                     self.told += [f"-{self.moves.pop()}" for _ in range(count)]
                 case self.events.Begun():
-                    self.told.append("game")
                     self.moves = []
-
-    def add(self, *moves):
-        self.told += moves
-        self.moves += moves
+                    self.told.append("game")
 
     def show(self):
         letters = "".join(reversed(self.squares) if self.turned else self.squares)
@@ -272,6 +261,6 @@ class Game:
 
     def look(self):
         """Looks at a position that has rested."""
-        if self.hand.is_quiet:
+        if self.hand.recogniser.due_at() is None:
             wanted("moves", self.hand.moves, self.moves)
-            wanted("the state", self.hand.state, self.state.chess)
+            wanted("the state", self.hand.recogniser.state, self.state.chess)

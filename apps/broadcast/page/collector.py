@@ -35,7 +35,6 @@ TURNS = {"white": 0x10, "black": 0x08}  # bits of a clock's status
 # A game's time follows its board's by as many seconds, so that what comes late is heard in time,
 # and goes on for as many without a word of the board.
 LATE, TRUST = 0.3, 15.0
-MOST_RECENT = 100  # positions of a board among which a new game's first one is looked for
 MOST_ROWS = 20000  # the rows of a board that the state keeps at least: more belong to no game
 AWAY = ("silent", "gone", "ended")
 TABLES = """
@@ -51,7 +50,8 @@ CREATE TRIGGER IF NOT EXISTS mark AFTER INSERT ON heard BEGIN
 END;
 CREATE TABLE IF NOT EXISTS games (board TEXT, game INTEGER, final TEXT, text BLOB, before BLOB,
                                   row INTEGER DEFAULT 0, PRIMARY KEY (board, game)) WITHOUT ROWID;
-CREATE TABLE IF NOT EXISTS done (board TEXT PRIMARY KEY, games INTEGER, since INTEGER, fen TEXT);
+CREATE TABLE IF NOT EXISTS done (board TEXT PRIMARY KEY, games INTEGER, since INTEGER,
+                                 first INTEGER);
 """
 Tell = Callable[[str, Summary | None, bool], None]
 
@@ -105,8 +105,8 @@ Heard = Now | Removed | Call
 
 class State:
     """Everything that games are made from, in order, in an SQLite file: reading it again makes the
-    same games. Rows without a board contain the tags of rounds. For finished games it keeps only
-    their text."""
+    same games. Rows without a board contain the tags of rounds. For finished games it keeps their
+    text, and only the rows of a board's last one: they say how the next one began."""
 
     def __init__(self, path: str | None) -> None:
         """sqlite3.Error if the file can't be opened."""
@@ -175,11 +175,11 @@ class State:
         return {(board, game): row for board, game, row in
                 self.kept.execute("SELECT board, game, row FROM games WHERE final IS NOT NULL")}
 
-    def cut(self, board: str, games: int, since: int, fen: str | None = None) -> None:
-        """Notes the number of a board's finished games. The next one is made from the rows since
-        this one. It begins with this FEN, if the rows don't give it."""
+    def cut(self, board: str, games: int, since: int, first: int) -> None:
+        """Notes the number of a board's finished games, and which of its rows are kept: those since
+        the last one began. The next game begins with the row `first`, or a later one."""
         self.kept.execute("INSERT OR REPLACE INTO done VALUES (?, ?, ?, ?)",
-                          [board, games, since, fen])
+                          [board, games, since, first])
         self.kept.execute("DELETE FROM heard WHERE board = ? AND id < ? AND journal != ?",
                           [board, since, DESK])
 
@@ -193,9 +193,9 @@ class State:
         """The number of finished games of each board."""
         return dict(self.kept.execute("SELECT board, games FROM done"))
 
-    def beginnings(self) -> dict[str, str]:
-        """The FEN with which the next game of a board begins, if the rows don't give it."""
-        return dict(self.kept.execute("SELECT board, fen FROM done WHERE fen IS NOT NULL"))
+    def firsts(self) -> dict[str, int]:
+        """The first row of each board's next game."""
+        return dict(self.kept.execute("SELECT board, first FROM done"))
 
     def done(self) -> list[tuple[str, int, str]]:
         """The finished games: a board, the game's number on it, and its text."""
@@ -390,8 +390,10 @@ class Place:
 
     name = unsaved = ""
 
-    def __init__(self, shelf: Shelf, board: str, count: int) -> None:
+    def __init__(self, shelf: Shelf, board: str, count: int, first: int) -> None:
+        """Games that begin before the row `first` are on the shelf already."""
         self.shelf, self.board, self.count = shelf, board, count
+        self.row, self.first = 0, first
         self.kept: Kept | None = None
         self.done: list[Kept] = []  # those before it, until the state has them
 
@@ -403,8 +405,9 @@ class Place:
     def begin(self) -> None:
         if self.kept is not None and self.kept.text:
             self.done.append(self.kept)
-        self.count = self.played + 1
-        self.kept = self.shelf.begin(self.board, self.count)
+        if self.row >= self.first:
+            self.count = self.played + 1
+            self.kept = self.shelf.begin(self.board, self.count)
 
     def put(self, text: str) -> None:
         if self.kept is not None:
@@ -425,11 +428,9 @@ class Table:
     letters: str = ""  # on the board now
     row: int = 0  # the first one with these letters
     rows: int = 0
-    recent: collections.deque[tuple[str, int]] = field(  # those with other letters before
-        default_factory=lambda: collections.deque(maxlen=MOST_RECENT))
-    begun: int = 0  # the game that began last, the first row with its beginning, and its FEN
+    begun: int = 0  # the game that began last, and the first rows of the one before, and of it
     since: int = 0
-    fen: str | None = None  # if the rows since then don't give it
+    first: int = 0
     record: tuple[Any, bytes, str] = None, b"", ""  # the game as JSON, and of when
     advice: str = ""  # the reported one
     journal: str = ""
@@ -448,17 +449,9 @@ class Table:
             self.due = self.base[1] + due - self.base[0] + LATE
 
     def note_beginning(self) -> None:
-        """Notes a new game. If its first position isn't found, it began with the present one."""
-        game = self.games.game
-        if game is None or self.begun == self.place.count:
-            return
-        first, since = game.start.letters, self.since
-        self.begun, self.since = self.place.count, self.row
-        for letters, row in self.recent:
-            if row > since and first in (letters, letters[::-1]):
-                self.since = row
-        # If moves came before, its first one doesn't decide whose turn it is.
-        self.fen = game.start.fen if game.start.number > 1 else None
+        """Notes a new game, which began with the present position."""
+        if self.begun != self.place.count:
+            self.begun, self.since, self.first = self.place.count, self.first, self.row
 
     def name_players(self, players: tuple[str, str] | None) -> None:
         """Sets the players of the next game, and of this one if it has none or has just begun."""
@@ -488,7 +481,7 @@ class Collector:
         self.shelf, self.tags, self.white_clock, self.tell = shelf, {**tags}, white_clock, tell
         self.is_last, self.finished, self.row = is_last, state.finished(), 0
         self.state, self.counts, self.is_between = state, state.counts(), False
-        self.beginnings = state.beginnings()
+        self.firsts = state.firsts()
         self.waiting: queue.SimpleQueue[Heard | None] = queue.SimpleQueue()
         self.tables: dict[str, Table] = {}
         self.shown: dict[str, topics.Board] = {}  # what the games have of each board
@@ -598,7 +591,7 @@ class Collector:
             self.counts[name] = table.place.played
             if table.place.kept and table.place.kept.text:
                 table.place.done.append(table.place.kept)
-            table.since, table.fen = table.row, None
+            table.since = table.first = self.firsts[name] = table.row
             self.finish(name, table, table.place.played)
             self.tell(name, None, False)
 
@@ -611,7 +604,7 @@ class Collector:
             for kept in table.place.done:
                 self.state.finish(name, kept.number, kept.text, self.row)
                 self.finished[name, kept.number] = self.row
-            self.state.cut(name, games, table.since, table.fen)
+            self.state.cut(name, games, table.since, table.first)
         except sqlite3.Error as fault:
             report(f"the state can't be shortened: {fault} (the next game tries again)")
         else:
@@ -622,9 +615,8 @@ class Collector:
         self.see(journal, seen, table)
         table.rows += 1
         if table.rows > 2 * MOST_ROWS and self.is_last:
-            table.rows = MOST_ROWS
-            self.state.cut(table.place.board, table.place.count - 1,
-                           self.state.row_of_last(table.place.board, MOST_ROWS))
+            table.rows, row = MOST_ROWS, self.state.row_of_last(table.place.board, MOST_ROWS)
+            self.state.cut(table.place.board, table.place.count - 1, row, row)
 
     def lose(self, table: Table, at: float) -> None:
         """Notes that nobody watched the board up to this time."""
@@ -644,7 +636,7 @@ class Collector:
             if table.at:
                 self.lose(table, table.at - table.shift)
             table.journal, table.shift = journal, max(0.0, table.at + 1 - seen.at)
-        table.at = max(table.at, seen.at + table.shift)
+        table.at, table.place.row = max(table.at, seen.at + table.shift), seen.row
         while (due := table.games.due) is not None and due <= table.at:
             table.games.tick(due)
         table.games.set_tags({"Date": time.strftime("%Y.%m.%d", time.localtime(seen.at)),
@@ -652,7 +644,6 @@ class Collector:
         table.name_players(seen.players)
         if seen.is_sure and seen.letters != table.letters:
             table.letters, table.row = seen.letters, seen.row
-            table.recent.append((seen.letters, seen.row))
         table.games.see(seen.view(), table.at)
         table.note_beginning()
 
@@ -681,10 +672,9 @@ class Collector:
         report(f"{name!r}: no move leads to this: {advice}" if advice else f"{name!r}: found again")
 
     def add(self, name: str) -> Table:
-        place = Place(self.shelf, name, self.counts.get(name, 0))
-        games = dgt.Games(nothing, nothing, place, {**self.tags, "Board": name}, self.white_clock,
-                          self.beginnings.pop(name, None))
-        table = self.tables[name] = Table(games, place)
+        place = Place(self.shelf, name, self.counts.get(name, 0), self.firsts.get(name, 0))
+        games = dgt.Games(nothing, nothing, place, {**self.tags, "Board": name}, self.white_clock)
+        table = self.tables[name] = Table(games, place, begun=place.count)
         return table
 
 

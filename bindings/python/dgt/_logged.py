@@ -268,7 +268,8 @@ class LoggedGames:
             return
         self._set_clocks(game)
         if game.result == "*":
-            game.comment = _UNTOLD if game.comment else why if game.moves else ""
+            is_untold = game.comment or self._keeper and self._keeper._is_lost
+            game.comment = _UNTOLD if is_untold else why if game.moves else ""
             if game.comment:
                 self._tell("broken off")
         if game.moves or game.result != "*":

@@ -11,18 +11,23 @@ from typing import Protocol
 from ._handle import Uncopied
 from ._turn import to_put
 from ._watched import Watched
+from .chess import State
 from .clock_side import SIDES, WhiteClock
 from .errors import BadValue
 from .following import BoardView
 from .pgn import RESULTS, PgnGame, PgnMove, _GameText, numbered
 from .recogniser import Back, Begun, Ended, Found, GameEvent, Gap, Lost, Made, Unseen
 from .rules import START_FEN, GameState
-from .values import Clock, Time, Times, checked, square_number
+from .values import SQUARES, Clock, Time, Times, checked
 
 _FINAL_WAIT = 10.0
 """The seconds in which the clock of a mate or stalemate may be pressed or stopped."""
 _CLOCK_WAIT = 2.0
 """The seconds after which the last move's time is written to the file."""
+_LOST_WAIT, _SETTING_UP_WAIT = 3.0, 10.0
+"""The seconds after which a lost game is reported: later if more than `_MOST_WRONG` squares are
+wrong, since somebody may be setting up pieces."""
+_MOST_WRONG = 4
 _MOST_SEEN = 256
 _BROKEN_OFF = "broken off: the board was away, and came back with another position"
 _LOST = "broken off: no move leads to the position after this"
@@ -84,16 +89,17 @@ class Games(Uncopied):
         self._text = _GameText(PgnGame())
         self._port = port
         self._tell, self._warn, self._file, self._tags = tell, warn, file, tags or {}
-        self._letters, self._away = "", ""
+        self._letters, self._changed_at, self._away = "", 0.0, ""
         self._clock: Times | None = None
         # The positions since the last move, with the clock of that time.
         self._seen: deque[tuple[str, Times | None]] = deque(maxlen=_MOST_SEEN)
         self._settled = 0  # the number of moves with a clock
         self._fixed = 0  # the number of moves with a final clock, whatever is taken back
-        self._is_new, self._was_away = True, False
-        self._deleted = ""  # the board shows a move that was deleted
+        self._is_new, self._was_away, self._was_empty = True, False, False
+        self._hidden = ""  # what the board shows, if a correction says something else
         self._over, self._final_at = "", 0.0  # why the game is over
-        self._lost, self._advice = dict[str, str](), ""
+        self._lost, self._advice, self._is_lost = dict[str, str](), "", False
+        self._lost_at: float | None = None
         # After the game's last move: half-moves in an unknown order, and the state after them.
         self._gaps: list[tuple[int, GameState]] = []
         self._save_at: float | None = None
@@ -102,7 +108,7 @@ class Games(Uncopied):
     @property
     def due(self) -> float | None:
         """The time at which to call `tick`."""
-        times = [self._watched.due, self._save_at]
+        times = [self._watched.due, self._save_at, self._lost_at]
         return min((each for each in times if each is not None), default=None)
 
     @property
@@ -135,26 +141,31 @@ class Games(Uncopied):
         self._note_clock(view.clock, now)
         letters = view.picture.letters if view.picture else ""
         if letters and letters != self._letters:
-            self._letters = letters
+            self._letters, self._changed_at = letters, now
             self._seen.append((letters, self._clock))
         is_sure = bool(letters) and not view.in_doubt and not view.away
         if is_sure and self._is_new:
             self._warn(f"the board shows {view.picture}")
             self._is_new = False
-        self._was_away |= not is_sure
+        self._was_away |= bool(view.away)
         self._look_for_first(is_sure, now)
-        if self._first is None and (not self._deleted or letters != self._deleted):
-            self._deleted = ""
+        if self._first is None and (not self._hidden or letters != self._hidden):
+            self._hidden = ""
             self._take(self._watched.see(view, now), now)
         if is_sure:
             self._was_away &= not self._is_as_told
+            self._was_empty |= not {"K", "k"} & {*letters}
             self._learner.see(self._shown, self._clock)
+        self._await_loss(is_sure)
         self._learn()
 
     def tick(self, now: float) -> None:
         """Notes that the board hasn't changed until this time."""
         self._take(self._watched.tick(now), now)
         self._learn()
+        if self._lost_at is not None and now >= self._lost_at:
+            self._lost_at = None
+            self._lose()
         if self._save_at is not None and now >= self._save_at:
             self._save()
 
@@ -189,8 +200,8 @@ class Games(Uncopied):
 
     def replace(self, ply: int, count: int, moves: Sequence[str], now: float) -> None:
         """Replaces moves like `PgnGame.replace`, with its errors, and `BadValue` if there is no
-        game. The board's position counts again from the next `see`; if moves are only deleted, once
-        it changes."""
+        game. The board's position counts again from the next `see`. If moves are only deleted, or
+        the board shows an earlier position, it counts once it changes."""
         game = self._under_way()
         was_final = not game.state.chess.can_move
         game.replace(ply, count, moves)
@@ -235,6 +246,14 @@ class Games(Uncopied):
     def _is_as_told(self) -> bool:
         state = self._watched.state
         return state is not None and self._shown == state.letters
+
+    @property
+    def _wrong(self) -> dict[str, str]:
+        """The squares that differ from the game's position, each with the letter there."""
+        state = self._watched.state
+        return {} if state is None else {
+            square: right for square, shown, right in zip(SQUARES, self._shown, state.letters)
+            if shown != right}
 
     def _note_away(self, view: BoardView) -> None:
         away = view.away or ""
@@ -323,12 +342,12 @@ class Games(Uncopied):
     # ---- What has happened
 
     def _take(self, events: list[GameEvent], now: float) -> None:
+        if self._over == "arbiter":  # the board may go on, until another position was set up
+            events = [event for event in events if isinstance(event, Begun) and (
+                event.state == State.start() or self._was_empty)]
         is_replaced = [type(event) for event in events] == [Back, Made]
         is_found = not any(isinstance(event, Begun | Gap) for event in events)
         for event in events:
-            if self._over and not isinstance(
-                    event, Begun if self._over == "arbiter" else Begun | Back):
-                continue
             match event:
                 case Begun(state):
                     self._begin(GameState._of(state))
@@ -349,10 +368,13 @@ class Games(Uncopied):
                     return self._begin(self._watched.state)
                 case Ended(result):
                     self._end(result, self._why, now)
-                case Lost(squares):
-                    self._lose(squares)
-                case Found() if is_found:
-                    self._find()
+                case Lost():
+                    self._is_lost = True
+                    self._await_loss(True)
+                case Found():
+                    self._is_lost = False
+                    if self._lost and is_found:
+                        self._find()
         if self._over and self.game and not self.game.moves and self._is_as_told:
             self._begin(self.game.start)  # nobody came to the game before
 
@@ -371,7 +393,7 @@ class Games(Uncopied):
         self._is_in_file = False
         self._settled = self._fixed = 0
         self._over = self._advice = ""
-        self._lost = {}
+        self._lost, self._is_lost, self._was_empty = {}, False, False
         self._gaps.clear()
         self._seen.clear()
         self._learner.new_game()
@@ -398,12 +420,11 @@ class Games(Uncopied):
         clocks may have run since then."""
         assert self.game is not None
         self.game.result, self._over = "*", ""
-        for _ in range(count):
+        for left in range(len(self.game.moves) - 1, len(self.game.moves) - 1 - count, -1):
             made = self.game.moves.pop()
-            count = len(self.game.moves)
-            self._text.change(count)
-            self._fixed = min(self._fixed, count) if is_replaced else count
-            self._settled = max(self._fixed, min(self._settled, count - is_replaced))
+            self._text.change(left)
+            self._fixed = min(self._fixed, left) if is_replaced else left
+            self._settled = max(self._fixed, min(self._settled, left - is_replaced))
             self._report(f"undo {numbered(made.before, made.san)} {made.move}")
         self._seen.clear()  # these positions led to the moves that were taken back
 
@@ -417,18 +438,24 @@ class Games(Uncopied):
 
     def _end(self, result: str, why: str, now: float) -> None:
         assert self.game is not None
-        self.game.result, self._over = result, why
+        self.game.result, self._over, self._was_empty = result, why, False
         self._final_at = now + _FINAL_WAIT if why in ("mate", "stalemate") else now
         self._report(f"result {result} {why}")
 
-    def _lose(self, squares: Sequence[str]) -> None:
-        """Reports what to put where so that the game goes on."""
-        state = self._watched.state
-        assert state is not None
-        self._lost = {square: state.letters[square_number(square)] for square in squares}
-        self._advice = to_put(self._shown, state.letters)
-        self._warn(f"no move leads to this: {self._advice}")
-        self._note(f"lost {' '.join(map(''.join, self._lost.items()))}")
+    def _await_loss(self, is_sure: bool) -> None:
+        """Notes when to report that the game is lost."""
+        wrong = self._wrong if self._is_lost and is_sure else self._lost
+        wait = _SETTING_UP_WAIT if len(wrong) > _MOST_WRONG else _LOST_WAIT
+        self._lost_at = None if wrong == self._lost else self._changed_at + wait
+
+    def _lose(self) -> None:
+        """Reports what to put where so that the game goes on, unless pieces are only lifted."""
+        state, shown = self._watched.state, self._shown
+        if state is not None and any(
+                each not in (".", right) for each, right in zip(shown, state.letters)):
+            self._lost, self._advice = self._wrong, to_put(shown, state.letters)
+            self._warn(f"no move leads to this: {self._advice}")
+            self._note(f"lost {' '.join(map(''.join, self._lost.items()))}")
 
     def _find(self) -> None:
         """Reports that the board shows the game again."""
@@ -457,10 +484,10 @@ class Games(Uncopied):
         self._settled = self._fixed = len(self.game.moves)
         self._seen.clear()
         self._gaps.clear()
-        self._lost, self._advice, self.game.comment = {}, "", ""
-        states = [self.game.start, *(made.after for made in self.game.moves)]
-        self._watched.go_on(states, self.turned, now)
-        self._deleted = "" if is_new else self._letters
+        self._lost, self._advice, self._is_lost, self.game.comment = {}, "", False, ""
+        self._watched.go_on([self.game.state], self.turned, now)  # no earlier move is taken back
+        is_earlier = any(made.before.letters == self._shown for made in self.game.moves)
+        self._hidden = self._letters if is_earlier or not is_new else ""
 
     # ---- The file
 
