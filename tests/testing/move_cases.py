@@ -57,6 +57,11 @@ OTHERS = {
     "set up again, the kings last": "e2e4 game e3e4 g6g5",
     "the same, and Black moves first": "e2e4 game g6g5 e3e4",
     "set up, at first as no game reaches it": "e2e4 game e4e5",
+    # The adapter for eboard never changes what it has reported, and makes a pawn a queen.
+    "promotion, the pawn never replaced": "SEVENTH",
+    "put elsewhere after all, and never put right": "e2e3 -e2e3 e2e4 e7e5 d2d4",
+    "the own castling, the rook long before": "ITALIAN h1f1 -h1f1 e1g1 -e1g1 h1f1 d7d6",
+    "turned after a move was taken back": "e2e4 e7e5 g1f3 -g1f3 game g1f3",
     "a turned board": "game e2e4 e7e5 -e7e5 -e2e4",
     "turned between two games": "e2e4 game e2e4",
     "a castling on a turned board": "game ITALIAN e1g1 d7d6",

@@ -16,7 +16,7 @@ import threading
 import time
 import traceback
 from collections.abc import Callable
-from dataclasses import dataclass, field
+from dataclasses import dataclass
 from typing import Any
 
 import dgt
@@ -610,14 +610,6 @@ class Collector:
         else:
             table.place.done.clear()
 
-    def observe(self, journal: str, seen: Observation, table: Table) -> None:
-        """Handles a board's entry. A game that is too long is begun anew after a restart."""
-        self.see(journal, seen, table)
-        table.rows += 1
-        if table.rows > 2 * MOST_ROWS and self.is_last:
-            table.rows, row = MOST_ROWS, self.state.row_of_last(table.place.board, MOST_ROWS)
-            self.state.cut(table.place.board, table.place.count - 1, row, row)
-
     def lose(self, table: Table, at: float) -> None:
         """Notes that nobody watched the board up to this time."""
         table.at = max(table.at, at + table.shift)
@@ -629,7 +621,7 @@ class Collector:
         table.games.tick(table.at)
         table.note_beginning()
 
-    def see(self, journal: str, seen: Observation, table: Table) -> None:
+    def observe(self, journal: str, seen: Observation, table: Table) -> None:
         """Handles a board's entry, after everything that was due before. The clock of another
         machine may be slow, and nobody watched before it did."""
         if journal != table.journal:
@@ -646,6 +638,10 @@ class Collector:
             table.letters, table.row = seen.letters, seen.row
         table.games.see(seen.view(), table.at)
         table.note_beginning()
+        table.rows += 1
+        if table.rows > 2 * MOST_ROWS and self.is_last:
+            table.rows, row = MOST_ROWS, self.state.row_of_last(table.place.board, MOST_ROWS)
+            self.state.cut(table.place.board, table.place.count - 1, row, row)
 
     def do(self, name: str, what: Callable[[Table], None]) -> None:
         """Does something with a board's games, and reports the changes."""
