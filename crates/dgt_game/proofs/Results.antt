@@ -1,8 +1,10 @@
 -- What results and lost lines mean.
-use Rattle.std.proofs.Common.{◌≡◌, ◌≢◌, ◌∙◌, ◌⊎◌, ◌<◌, ◌++◌, inl, inr, refl, sym, arith, ℕ, Bool, true, false, List, [], ◌∷◌}
+use Rattle.std.proofs.Common.{◌≡◌, ◌≢◌, ◌∙◌, ◌⊎◌, ◌<◌, ◌++◌, inl, inr, refl, sym, arith, ℕ, Bool, true, false, List, [], ◌∷◌, Option, Some, None, ap, subst}
 use Rattle.dgt_values.specs.declared.pieces.Piece.{Piece}
 use Rattle.dgt_game.specs.declared.event.Event.{Event}
 use Rattle.dgt_game.specs.declared.event.GameResult.{GameResult}
+use Rattle.dgt_game.specs.declared.recogniser.Recogniser.{Recogniser}
+use Rattle.dgt_game.specs.Waiting.{CallsFollowOn, FollowOn, IsRight, RightIfAway, RunsInTurn, events_in, has_result, is_lost}
 use Rattle.dgt_game.specs.Results.{AreLost, FitsAt, HasResults, IsOnlyOn, KingsOn, LostInTurn, NotFound, NotLost, OneByKings, OneByRules, OneOther, OneResult, Stay}
 
 pub one_by_rules : OneByRules
@@ -159,4 +161,42 @@ pub lost_in_turn : LostInTurn
 lost_in_turn between was now = (
   λ first second none h. lost_twice between second h.0 now h.1.1 none h.2,
   λ none h. found_twice between h.0 now h.1.1 none h.2,
+)
+
+pub calls_follow_on : CallsFollowOn
+calls_follow_on old mid new report reports first later = (mid, first, later)
+
+runs_in_turn-from : (reports : List (Option Event)) (old new : Recogniser)
+    → FollowOn old reports new
+    → HasResults (has_result old.over) (events_in reports) (has_result new.over)
+    × AreLost (is_lost old.lost) (events_in reports) (is_lost new.lost)
+runs_in_turn-from [] old new h = (
+  ap (λ (self : Recogniser). has_result self.over) h,
+  ap (λ (self : Recogniser). is_lost self.lost) h,
+)
+runs_in_turn-from (None ∷ reports) old new h =
+    let later = runs_in_turn-from reports h.0 new h.2 in (
+      subst (λ (had : Bool). HasResults had (events_in reports) (has_result new.over)) h.1.0
+          later.0,
+      subst (λ (was : Bool). AreLost was (events_in reports) (is_lost new.lost)) h.1.1 later.1,
+    )
+runs_in_turn-from (Some event ∷ reports) old new h =
+    let later = runs_in_turn-from reports h.0 new h.2 in
+    ((has_result h.0.over, h.1.0, later.0), (is_lost h.0.lost, h.1.1, later.1))
+
+pub runs_in_turn : RunsInTurn
+runs_in_turn old new reports h = runs_in_turn-from reports old new h
+
+pub right_if_away : RightIfAway
+unfolding Rattle.dgt_game.specs.Waiting.Show Rattle.dgt_game.specs.Waiting.Differs
+right_if_away self away = (
+  λ result h. (
+    h.0,
+    h.1,
+    elim h.2 [
+      | inl rules ↦ (one_by_rules h.0.state result result rules rules).1
+      | inr shown ↦ absurd (let e = sym away ∙ shown.1 in let wrong : ⊥ = cc in wrong)
+    ],
+  ),
+  λ squares h. let e = sym away ∙ h.2.1 in let wrong : ⊥ = cc in wrong,
 )

@@ -1,7 +1,7 @@
 -- What waits to be reported of results and of lost lines.
-use Rattle.std.specs.Prelude.{◌≡◌, ◌⊎◌, ⊤, ℕ, Bool, true, false, Option, Some, None, IfSome, slice_get}
+use Rattle.std.specs.Prelude.{◌≡◌, ◌⊎◌, ⊤, ℕ, Bool, true, false, List, [], ◌∷◌, Option, Some, None, IfSome, slice_get}
 use Rattle.dgt_values.specs.Board.{DifferingSquares, pieces_of}
-use Rattle.dgt_chess.specs.Rules.{board}
+use Rattle.dgt_chess.specs.Rules.{CanMove, board}
 use Rattle.dgt_game.specs.declared.event.Event.{Event}
 use Rattle.dgt_game.specs.declared.event.GameResult.{GameResult}
 use Rattle.dgt_game.specs.declared.memory.Memory.{Memory}
@@ -11,7 +11,7 @@ use Rattle.dgt_game.specs.declared.recogniser.Over.{Over}
 use Rattle.dgt_game.specs.declared.recogniser.Recogniser.{Recogniser}
 use Rattle.dgt_game.specs.declared.view.View.{View}
 use Rattle.dgt_game.specs.Memory.{IsTold, steps, tip}
-use Rattle.dgt_game.specs.Results.{ByKings, ByRules, HasResult, IsLost}
+use Rattle.dgt_game.specs.Results.{AreLost, ByKings, ByRules, HasResult, HasResults, IsLost}
 use Rattle.dgt_game.specs.Told.{as_shown}
 
 -- the line's last state, and the last one once all that waits is reported
@@ -95,6 +95,39 @@ has_notice Lost.Found = true
 abbrev pub IsQuiet : Recogniser → Type 0
 IsQuiet self =
     IsTold self.memory × (has_notice self.lost ≡ false) × (self.ended ≡ None)
+
+-- ---- Laws
+
+-- consecutive calls, each with what it reports
+abbrev pub FollowOn : Recogniser → List (Option Event) → Recogniser → Type 0
+FollowOn self [] new = new ≡ self
+FollowOn self (report ∷ reports) new =
+    (next : Recogniser) × Follows self report next × FollowOn next reports new
+
+abbrev pub CallsFollowOn : Type 0
+CallsFollowOn =
+    (old mid new : Recogniser) (report : Option Event) (reports : List (Option Event))
+    → Follows old report mid → FollowOn mid reports new → FollowOn old (report ∷ reports) new
+
+abbrev pub events_in : List (Option Event) → List Event
+events_in [] = []
+events_in (None ∷ reports) = events_in reports
+events_in (Some event ∷ reports) = event ∷ events_in reports
+
+-- Over a whole run, a line has at most one result, and is lost and found in turn.
+abbrev pub RunsInTurn : Type 0
+RunsInTurn =
+    (old new : Recogniser) (reports : List (Option Event)) → FollowOn old reports new
+    → HasResults (has_result old.over) (events_in reports) (has_result new.over)
+    × AreLost (is_lost old.lost) (events_in reports) (is_lost new.lost)
+
+-- While the board is away, only a result by the rules is right, and no line is lost.
+abbrev pub RightIfAway : Type 0
+RightIfAway =
+    (self : Recogniser) → self.view ≡ None
+    → ((result : GameResult) → IsRight self (Event.Ended result)
+    → (step : Step) × (last_of self.memory ≡ Some step) × ¬ (CanMove step.state))
+    × ((squares : ℕ) → ¬ (IsRight self (Event.Lost squares)))
 
 -- only for bodies
 

@@ -4,7 +4,7 @@ ghost use Rattle.dgt_game.specs.Laws.{BackIsCounted, JoinedIsOne, LegalIsJoined,
 ghost use Rattle.dgt_game.specs.Recogniser.{new_recogniser};
 ghost use Rattle.dgt_game.specs.Results.{LostInTurn, OneByKings, OneByRules, OneOther, OneResult};
 ghost use Rattle.dgt_game.specs.Runs.{CallsAreRuns, IsLegalAndShown};
-ghost use Rattle.dgt_game.specs.Waiting.{Waits};
+ghost use Rattle.dgt_game.specs.Waiting.{CallsFollowOn, RightIfAway, RunsInTurn, Waits};
 
 /// What is reported is legal and was shown, over whole runs.
 pub fn reports_are_legal()
@@ -43,4 +43,11 @@ pub fn what_results_say()
     ensures other { OneOther }
     ensures once { OneResult }
     ensures lost { LostInTurn }
+    ensures away { RightIfAway }
+{}
+
+/// Results, and lines that are lost, over whole runs.
+pub fn what_runs_say()
+    ensures calls { CallsFollowOn }
+    ensures turn { RunsInTurn }
 {}

@@ -1,4 +1,4 @@
-use Rattle.dgt_game.proofs.Results.{lost_in_turn, one_by_kings, one_by_rules, one_other, one_result}
+use Rattle.dgt_game.proofs.Results.{lost_in_turn, one_by_kings, one_by_rules, one_other, one_result, right_if_away}
 use Rattle.dgt_game.proofs.laws.what_results_say.Goals as goal
 
 pub returns-clause-rules : goal.returns-clause-rules
@@ -15,3 +15,6 @@ returns-clause-once c = one_result
 
 pub returns-clause-lost : goal.returns-clause-lost
 returns-clause-lost c = lost_in_turn
+
+pub returns-clause-away : goal.returns-clause-away
+returns-clause-away c = right_if_away
