@@ -40,7 +40,7 @@ returns-clause-right c = λ h.
     ) was waits.0 in
     let none = c.in_default-next_event.ensures.none refl in
     let last = sym (last_comes new none.0 none.1) ∙ c.in_default-next_event.ensures.coming
-        ∙ end.1 in (
+    ∙ end.1 in (
       (rw c.in_ok-result.ensures.after tt, silent self.lost _ _ c.in_default.ensures.quiet),
       (
         end.0,
