@@ -104,9 +104,11 @@ class Game:
         self._take(self.watched.see(view, now), now)
 
     def _look(self, letters: str, right: str, now: float) -> None:
-        """Looks whether the board shows the position that was set up, also turned."""
-        alike = sum(map(str.__eq__, letters, right)), sum(map(str.__eq__, letters[::-1], right))
-        if not self._is_shown and self.turned != (alike[1] > alike[0]):
+        """Looks whether the board shows the position that was set up. Until a move is made from
+        there, it may be turned."""
+        shown = self.from_white(letters)
+        if len(self._line) <= self._count and (
+                sum(map(str.__eq__, shown[::-1], right)) > sum(map(str.__eq__, shown, right))):
             self.turned = not self.turned
             self._again(now)
         if self.from_white(letters) == right:

@@ -100,6 +100,7 @@ class Games(Uncopied):
         self._over, self._final_at = "", 0.0  # why the game is over
         self._lost, self._advice, self._is_lost = dict[str, str](), "", False
         self._lost_at: float | None = None
+        self._taken = dict[int, PgnMove]()  # back just now, by the number of moves with them
         # After the game's last move: half-moves in an unknown order, and the state after them.
         self._gaps: list[tuple[int, GameState]] = []
         self._save_at: float | None = None
@@ -345,6 +346,7 @@ class Games(Uncopied):
         if self._over == "arbiter":  # the board may go on, until another position was set up
             events = [event for event in events if isinstance(event, Begun) and (
                 event.state == State.start() or self._was_empty)]
+        self._taken = {}
         is_replaced = [type(event) for event in events] == [Back, Made]
         is_found = not any(isinstance(event, Begun | Gap) for event in events)
         for event in events:
@@ -408,8 +410,11 @@ class Games(Uncopied):
         assert self.game is not None
         for move in moves:
             self._settle(self.game.state.after(move).letters)
-            made = self.game.add(move)
+            made, before = self.game.add(move), self._taken.pop(len(self.game.moves), None)
             made.clock, made.times = self._left(self._clock, made), self._clock
+            if before is not None and before.move == move:  # only those after it are taken back
+                made.clock, made.times = before.clock, before.times
+                self._settled = self._fixed = len(self.game.moves)
             times = [self._clock.first, self._clock.second] if self._clock else []
             times = times if self._is_white_left else times[::-1]
             self._report(" ".join([numbered(made.before, made.san), made.move, *map(str, times)]))
@@ -421,7 +426,7 @@ class Games(Uncopied):
         assert self.game is not None
         self.game.result, self._over = "*", ""
         for left in range(len(self.game.moves) - 1, len(self.game.moves) - 1 - count, -1):
-            made = self.game.moves.pop()
+            made = self._taken[left + 1] = self.game.moves.pop()
             self._text.change(left)
             self._fixed = min(self._fixed, left) if is_replaced else left
             self._settled = max(self._fixed, min(self._settled, left - is_replaced))
