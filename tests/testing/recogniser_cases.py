@@ -1,5 +1,5 @@
-"""The recogniser of games of the package for Python, `dgt.recogniser`: its games, how it reads the
-library's events, and what it refuses."""
+"""The recogniser of games of the package for Python, `dgt.recogniser`: how it reads the library's
+events, and what it refuses. move_cases.py has its games."""
 
 import contextlib
 import copy
@@ -12,10 +12,6 @@ from dgt.recogniser import Back, Begun, Ended, Found, Gap, Lost, Made, Recognise
 from wrong import wanted
 
 START = State.start()
-# Moves from the initial position, the rest of each in milliseconds, and the events.
-GAMES = [
-    ("e2e4 e7e5", 2000, [Begun(START, False), Made("e2e4"), Made("e7e5")]),
-]
 STATE = {"state": _c.ChessStateStruct.from_buffer_copy(START._held)}
 MOVES = {"moves": (_c.ChessMoveStruct * _c.MAX_UNSEEN)((52, 36), (8, 1, 6), (57, 42))}
 # Members of the library's struct, and the event that they report.
@@ -34,17 +30,6 @@ EVENTS = [
 
 
 class Recognised(cases.Case):
-    def test_games(self):
-        for moves, rest, events in GAMES:
-            games, state, now = Recogniser(), START, 0
-            told = games.see(now, state.position)
-            for move in moves.split():
-                state, now = state.play(move), now + rest
-                told += games.see(now, state.position)
-            wanted(moves, (told + games.due(now + rest), games.state), (events, state))
-            games.go_on(state, is_turned=True)
-            wanted(f"after {moves}", (games.due(now + rest), games.state), ([], state))
-
     def test_events(self):
         for members, event in EVENTS:
             told = _c.GameEventStruct(**members)
