@@ -5,6 +5,7 @@ use Rattle.dgt_chess.specs.Rules.{CanMove, board}
 use Rattle.dgt_game.specs.declared.event.Event.{Event}
 use Rattle.dgt_game.specs.declared.event.GameResult.{GameResult}
 use Rattle.dgt_game.specs.declared.memory.Memory.{Memory}
+use Rattle.dgt_game.specs.declared.observation.Sight.{Sight}
 use Rattle.dgt_game.specs.declared.node.Step.{Step}
 use Rattle.dgt_game.specs.declared.recogniser.Lost.{Lost}
 use Rattle.dgt_game.specs.declared.recogniser.Over.{Over}
@@ -129,6 +130,12 @@ RightIfAway =
     → (step : Step) × (last_of self.memory ≡ Some step) × ¬ (CanMove step.state))
     × ((squares : ℕ) → ¬ (IsRight self (Event.Lost squares)))
 
+-- what is seen shows pieces for sure
+abbrev pub is_sure_sight : Sight → Bool
+is_sure_sight (Sight.Sure position) = true
+is_sure_sight (Sight.Doubted position) = false
+is_sure_sight Sight.Away = false
+
 -- only for bodies
 
 -- results and the time are as they were, and what waits of a lost line is right
@@ -136,7 +143,7 @@ abbrev pub Keeps : Recogniser → Recogniser → Type 0
 Keeps self new =
     (new.view ≡ self.view) × (new.over ≡ self.over) × (new.ended ≡ self.ended)
     × (is_lost new.lost ≡ is_lost self.lost) × (LostWaits self → LostWaits new)
-    × (new.since ≡ self.since)
+    × (new.since ≡ self.since) × (new.is_sure ≡ self.is_sure)
 
 -- an event of the line
 abbrev pub IsOfLine : Event → Type 0

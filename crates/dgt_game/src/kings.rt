@@ -26,6 +26,7 @@ impl Recogniser {
         ensures same { self.new.memory ≡ self.old.memory }
         ensures view { self.new.view ≡ self.old.view }
         ensures keeps { Keeps self.old self.new }
+        ensures lost { self.new.lost ≡ self.old.lost }
     {
         let Some(last) = self.memory.line.get(0) else {
             return;

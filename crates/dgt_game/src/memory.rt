@@ -28,7 +28,7 @@ pub(crate) struct Memory {
 }
 
 impl Memory {
-    ghost use Rattle.dgt_game.specs.Memory.{Holds, IsSeen};
+    ghost use Rattle.dgt_game.specs.Memory.{Holds, IsSeen, IsTold};
     ghost use Rattle.dgt_game.specs.Waiting.{IsOfLine, coming};
     ghost use Rattle.dgt_game.specs.Recogniser.{new_memory};
 
@@ -306,6 +306,7 @@ impl Memory {
         ensures none { result ≡ None → (self.new.back ≡ 0) × (self.new.unsaid.items ≡ []) }
         ensures coming { coming self.new ≡ coming self.old }
         ensures of_line { IfSome result IsOfLine }
+        ensures still { IsTold self.old → result ≡ None }
         ensures same { result ≡ None → self.new.line ≡ self.old.line }
     {
         if self.back > 0 {
@@ -336,6 +337,7 @@ impl Memory {
             × (self.new.unsaid.items ≡ []) }
         ensures coming { self.old.back ≡ 0 → coming self.new ≡ coming self.old }
         ensures of_line { IfSome result IsOfLine }
+        ensures still { self.old.unsaid.items ≡ [] → result ≡ None }
         ensures same { result ≡ None → self.new.line ≡ self.old.line }
     {
         let Some(node) = take_first(&mut self.unsaid) else {
@@ -422,6 +424,7 @@ fn take_first(nodes: &mut ArrayVec<Node, SEEN>) -> Option<Node>
     ensures rest { MatchOption result (nodes.new.items ≡ nodes.old.items)
         (λ node. nodes.old.items ≡ node ∷ nodes.new.items) }
     ensures none { result ≡ None → nodes.new.items ≡ [] }
+    ensures empty { nodes.old.items ≡ [] → result ≡ None }
 {
     if nodes.is_empty() {
         return None;

@@ -84,7 +84,7 @@ pub struct Recogniser {
 impl Recogniser {
     ghost use Rattle.dgt_game.specs.Memory.{Holds, Reads};
     ghost use Rattle.dgt_game.specs.Recogniser.{GoesOn, Knows, Sees, new_recogniser};
-    ghost use Rattle.dgt_game.specs.Waiting.{Follows, Keeps, LostWaits, Waits, has_notice, has_result, is_lost};
+    ghost use Rattle.dgt_game.specs.Waiting.{Follows, IsQuiet, Keeps, LostWaits, Waits, has_notice, has_result, is_lost, is_sure_sight};
 
     /// A recogniser that has seen nothing.
     pub fn new() -> Self
@@ -121,6 +121,8 @@ impl Recogniser {
         ensures seen { IsOk result → Sees self.old observation.now.sight self.new }
         ensures right { Waits self.old → Waits self.new }
         ensures follows { Follows self.old None self.new }
+        ensures sure { IsOk result → self.new.is_sure ≡ is_sure_sight observation.now.sight }
+        ensures doubt { IsOk result → is_sure_sight observation.now.sight ≡ false → IsQuiet self.new }
         ensures since { (self.new.since ≡ self.old.since)
             ⊎ (self.new.since ≡ observation.now.at) }
     {
@@ -222,6 +224,8 @@ impl Recogniser {
         ensures ended { self.new.ended ≡ self.old.ended }
         ensures lost { has_notice self.old.lost ≡ false → LostWaits self.new }
         ensures follows { Follows self.old None self.new }
+        ensures doubt { self.old.is_sure ≡ false → IsQuiet self.old → IsQuiet self.new }
+        ensures sure { self.new.is_sure ≡ self.old.is_sure }
         ensures since { (self.new.since ≡ self.old.since) ⊎ (self.new.since ≡ now) }
     {
         self.changed = match (&self.view, &view) {
@@ -249,19 +253,41 @@ impl Recogniser {
             → Holds shown line self.old.memory → Holds shown line self.new.memory }
         ensures view { self.new.view ≡ self.old.view }
         ensures keeps { Keeps self.old self.new }
+        ensures doubt { self.old.is_sure ≡ false → IsQuiet self.old → IsQuiet self.new }
     {
         let has_white = self.has_king(view, Colour::White);
         let has_black = self.has_king(view, Colour::Black);
         self.is_set_up = self.is_set_up || !has_white && !has_black;
-        let reading = if has_white && has_black {
+        if has_white && has_black {
             self.search = Search::Waiting;
+        }
+        let reading = self.read_by_kings(view, has_white, has_black);
+        self.look_at_kings(view);
+        self.take(reading);
+    }
+
+    fn read_by_kings(&self, view: &View, has_white: bool, has_black: bool) -> Reading
+        ensures { (shown : List (List Piece)) (line : List Told) → Holds shown line self.now.memory
+            → Contains shown (pieces_of view.now.shown) → Reads shown self.now.memory result }
+    {
+        if has_white && has_black {
             self.read(view)
         } else if has_white || has_black {
             self.read_king_in_hand(view)
         } else {
             Reading::At(Place::Nowhere)
-        };
-        self.look_at_kings(view);
+        }
+    }
+
+    fn take(&mut self, reading: Reading)
+        ensures holds { (shown : List (List Piece)) (line : List Told)
+            → self.old.memory.back ≡ 0 → self.old.memory.unsaid.items ≡ []
+            → Reads shown self.old.memory reading
+            → Holds shown line self.old.memory → Holds shown line self.new.memory }
+        ensures view { self.new.view ≡ self.old.view }
+        ensures keeps { Keeps self.old self.new }
+        ensures doubt { self.old.is_sure ≡ false → IsQuiet self.old → IsQuiet self.new }
+    {
         match reading {
             Reading::At(Place::Line(k)) => self.stand_on_line(k),
             Reading::At(place) => self.stand_on(place),
@@ -284,6 +310,7 @@ impl Recogniser {
             → Holds shown line self.old.memory → Holds shown line self.new.memory }
         ensures view { self.new.view ≡ self.old.view }
         ensures keeps { Keeps self.old self.new }
+        ensures doubt { self.old.is_sure ≡ false → IsQuiet self.old → IsQuiet self.new }
     {
         self.here = Place::Line(k);
         self.returned = k;
@@ -306,6 +333,7 @@ impl Recogniser {
             → Holds shown line self.old.memory → Holds shown line self.new.memory }
         ensures view { self.new.view ≡ self.old.view }
         ensures keeps { Keeps self.old self.new }
+        ensures doubt { self.old.is_sure ≡ false → IsQuiet self.old → IsQuiet self.new }
     {
         self.here = place;
         if let Place::Seen(k) = place {
@@ -324,6 +352,7 @@ impl Recogniser {
             → Holds shown line self.old.memory → Holds shown line self.new.memory }
         ensures view { self.new.view ≡ self.old.view }
         ensures keeps { Keeps self.old self.new }
+        ensures doubt { self.old.is_sure ≡ false → IsQuiet self.old → IsQuiet self.new }
     {
         match self.same_node(&node) {
             Some(k) => self.here = Place::Seen(k),
@@ -349,6 +378,7 @@ impl Recogniser {
             → Holds shown line self.old.memory → Holds shown line self.new.memory }
         ensures view { self.new.view ≡ self.old.view }
         ensures keeps { Keeps self.old self.new }
+        ensures doubt { self.old.is_sure ≡ false → IsQuiet self.old → IsQuiet self.new }
     {
         if let Some(k) = self.memory.push(first) {
             let mut node = second;
@@ -365,6 +395,7 @@ impl Recogniser {
             → Holds shown line self.old.memory → Holds shown line self.new.memory }
         ensures view { self.new.view ≡ self.old.view }
         ensures keeps { Keeps self.old self.new }
+        ensures doubt { self.old.is_sure ≡ false → IsQuiet self.old → IsQuiet self.new }
     {
         let Some(k) = self.memory.push(node) else {
             return;

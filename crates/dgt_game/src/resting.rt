@@ -45,6 +45,7 @@ impl Recogniser {
             → Waits self.new × IfSome result (λ event. IsRight self.new event) }
         ensures follows { Waits self.old → Follows self.old result self.new }
         ensures none { result ≡ None → IsQuiet self.new }
+        ensures doubt { self.old.is_sure ≡ false → IsQuiet self.old → result ≡ None }
     {
         for _ in 0..3 {
             if let Some(event) = self.next_event() {
@@ -71,6 +72,7 @@ impl Recogniser {
 
     fn next_task(&self) -> Option<(u64, Task)>
         ensures soon { IfSome result (λ next. next.0 ≤ self.now.since + NEW_STILL) }
+        ensures doubt { self.now.is_sure ≡ false → result ≡ None }
     {
         if !self.is_sure {
             return None;

@@ -60,6 +60,8 @@ impl Recogniser {
             → Waits self.new × IfSome result (λ event. IsRight self.new event) }
         ensures follows { Waits self.old → Follows self.old result self.new }
         ensures none { result ≡ None → IsQuiet self.new }
+        ensures still { IsQuiet self.old
+            → (result ≡ None) × (self.new.is_sure ≡ self.old.is_sure) }
     {
         if let Some(event) = self.next_notice() {
             return Some(event);
@@ -90,6 +92,7 @@ impl Recogniser {
         ensures follows { Follows self.old result self.new }
         ensures none { result ≡ None → self.new ≡ self.old }
         ensures quiet { has_notice self.new.lost ≡ false }
+        ensures still { has_notice self.old.lost ≡ false → result ≡ None }
     {
         match self.lost {
             Lost::Now(squares) => {

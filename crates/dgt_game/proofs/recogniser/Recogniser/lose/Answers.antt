@@ -36,4 +36,5 @@ returns-clause-keeps c =
         (c.args.view.now, c.requires, differs),
       ),
       refl,
+      refl,
     )
