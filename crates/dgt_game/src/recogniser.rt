@@ -122,7 +122,8 @@ impl Recogniser {
         ensures right { Waits self.old → Waits self.new }
         ensures follows { Follows self.old None self.new }
         ensures sure { IsOk result → self.new.is_sure ≡ is_sure_sight observation.now.sight }
-        ensures doubt { IsOk result → is_sure_sight observation.now.sight ≡ false → IsQuiet self.new }
+        ensures doubt { IsOk result → is_sure_sight observation.now.sight ≡ false
+            → IsQuiet self.new }
         ensures since { (self.new.since ≡ self.old.since)
             ⊎ (self.new.since ≡ observation.now.at) }
     {
