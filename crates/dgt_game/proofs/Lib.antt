@@ -15,3 +15,4 @@ pub mod Known
 pub mod Meaning
 pub mod Results
 pub mod Waiting
+pub mod Timing

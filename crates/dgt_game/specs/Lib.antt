@@ -7,6 +7,7 @@ pub mod Runs
 pub mod Laws
 pub mod Results
 pub mod Waiting
+pub mod Timing
 -- Only for bodies.
 pub mod Ways
 pub mod Arrivals

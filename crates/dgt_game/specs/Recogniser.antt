@@ -40,6 +40,7 @@ new_recogniser = record {
   here = Place.Nowhere;
   is_next = false;
   search = Search.Hopeless;
+  next = None;
   has_kings = false;
   returned = 0;
   is_behind = false;

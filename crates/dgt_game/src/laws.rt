@@ -4,6 +4,7 @@ ghost use Rattle.dgt_game.specs.Laws.{BackIsCounted, JoinedIsOne, LegalIsJoined,
 ghost use Rattle.dgt_game.specs.Recogniser.{new_recogniser};
 ghost use Rattle.dgt_game.specs.Results.{LostInTurn, OneByKings, OneByRules, OneOther, OneResult};
 ghost use Rattle.dgt_game.specs.Runs.{CallsAreRuns, IsLegalAndShown};
+ghost use Rattle.dgt_game.specs.Timing.{NoCallMatters};
 ghost use Rattle.dgt_game.specs.Waiting.{CallsFollowOn, RightIfAway, RunsInTurn, Waits};
 
 /// What is reported is legal and was shown, over whole runs.
@@ -50,4 +51,9 @@ pub fn what_results_say()
 pub fn what_runs_say()
     ensures calls { CallsFollowOn }
     ensures turn { RunsInTurn }
+{}
+
+/// It doesn't matter how often `due` is called before.
+pub fn no_call_matters()
+    ensures { NoCallMatters }
 {}

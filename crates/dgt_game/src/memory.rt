@@ -308,6 +308,8 @@ impl Memory {
         ensures of_line { IfSome result IsOfLine }
         ensures still { IsTold self.old → result ≡ None }
         ensures same { result ≡ None → self.new.line ≡ self.old.line }
+        ensures idle { self.old.back ≡ 0 → self.old.unsaid.items ≡ []
+            → (result ≡ None) × (self.new ≡ self.old) }
     {
         if self.back > 0 {
             Some(self.take_back())
@@ -339,6 +341,7 @@ impl Memory {
         ensures of_line { IfSome result IsOfLine }
         ensures still { self.old.unsaid.items ≡ [] → result ≡ None }
         ensures same { result ≡ None → self.new.line ≡ self.old.line }
+        ensures idle { self.old.unsaid.items ≡ [] → (result ≡ None) × (self.new ≡ self.old) }
     {
         let Some(node) = take_first(&mut self.unsaid) else {
             return None;
@@ -425,6 +428,7 @@ fn take_first(nodes: &mut ArrayVec<Node, SEEN>) -> Option<Node>
         (λ node. nodes.old.items ≡ node ∷ nodes.new.items) }
     ensures none { result ≡ None → nodes.new.items ≡ [] }
     ensures empty { nodes.old.items ≡ [] → result ≡ None }
+    ensures idle { nodes.old.items ≡ [] → (result ≡ None) × (nodes.new ≡ nodes.old) }
 {
     if nodes.is_empty() {
         return None;

@@ -1,6 +1,6 @@
 //! The recogniser of games.
 
-ghost use Rattle.std.specs.Prelude.{IsErr, IsOk, false, ◌≡◌, ◌⊎◌, ℕ, List, [], ◌∷◌, Option, Some, None, IfSome, MatchOption, Contains, option_map, map, length, slice_get};
+ghost use Rattle.std.specs.Prelude.{IsErr, IsOk, false, ◌≡◌, ◌↔◌, ◌⊎◌, ℕ, List, [], ◌∷◌, Option, Some, None, IfSome, MatchOption, Contains, option_map, map, length, slice_get};
 ghost use Rattle.dgt_values.specs.declared.pieces.Piece.{Piece};
 ghost use Rattle.dgt_values.specs.Board.{pieces_of};
 ghost use Rattle.dgt_game.specs.declared.node.Place.{Place};
@@ -12,6 +12,7 @@ use crate::memory::Memory;
 use crate::node::{Node, Origin, Place, Way};
 use crate::observation::{Observation, Sight};
 use crate::reading::Reading;
+use crate::resting::Next;
 use crate::times::{FINAL, GLANCE};
 use crate::view::{View, king};
 use dgt_chess::{Colour, State};
@@ -72,6 +73,8 @@ pub struct Recogniser {
     pub(crate) here: Place,
     pub(crate) is_next: bool,
     pub(crate) search: Search,
+    // what is done next
+    pub(crate) next: Option<Next>,
     pub(crate) has_kings: bool,
     // what has happened since the line's last state was shown
     pub(crate) returned: usize,
@@ -84,6 +87,7 @@ pub struct Recogniser {
 impl Recogniser {
     ghost use Rattle.dgt_game.specs.Memory.{Holds, Reads};
     ghost use Rattle.dgt_game.specs.Recogniser.{GoesOn, Knows, Sees, new_recogniser};
+    ghost use Rattle.dgt_game.specs.Timing.{IsIdle};
     ghost use Rattle.dgt_game.specs.Waiting.{Follows, IsQuiet, Keeps, LostWaits, Waits, has_notice, has_result, is_lost, is_sure_sight};
 
     /// A recogniser that has seen nothing.
@@ -105,6 +109,7 @@ impl Recogniser {
             here: Place::Nowhere,
             is_next: false,
             search: Search::Hopeless,
+            next: None,
             has_kings: false,
             returned: 0,
             is_behind: false,
@@ -117,6 +122,7 @@ impl Recogniser {
     /// Takes what is seen now. `Err` if something is due until then: nothing has changed, so call
     /// [`Recogniser::due`] with the same time until it returns nothing, and then this again.
     pub fn see(&mut self, observation: &Observation) -> Result<(), StillDue>
+        ensures idle { IsOk result ↔ IsIdle observation.now.at self.old }
         ensures refused { IsErr result → self.new ≡ self.old }
         ensures seen { IsOk result → Sees self.old observation.now.sight self.new }
         ensures right { Waits self.old → Waits self.new }
@@ -144,6 +150,7 @@ impl Recogniser {
             self.show(view, observation.at);
         }
         self.is_confirmed = observation.is_confirmed;
+        self.next = self.plan();
         Ok(())
     }
 

@@ -1,6 +1,6 @@
 //! What is due, and when.
 
-ghost use Rattle.std.specs.Prelude.{◌≡◌, ◌≤◌, ◌+◌, false, None, IfSome, List, []};
+ghost use Rattle.std.specs.Prelude.{◌≡◌, ◌↔◌, ◌<◌, ◌≤◌, ◌+◌, ℕ, false, None, Some, IfSome, MatchOption, List, [], option_map};
 ghost use Rattle.dgt_values.specs.declared.pieces.Piece.{Piece};
 ghost use Rattle.dgt_game.specs.Told.{Told};
 
@@ -20,15 +20,27 @@ pub(crate) enum Task {
     Begin,
 }
 
+/// The same, and how long what is shown rests before.
+#[derive(Clone, Copy, Debug, PartialEq, Eq)]
+pub(crate) struct Next {
+    pub(crate) wait: u64,
+    pub(crate) task: Task,
+    ghost soon: { wait ≤ 60000 },
+}
+
 impl Recogniser {
     ghost use Rattle.dgt_game.specs.Memory.{Holds, IsTold};
     ghost use Rattle.dgt_game.specs.Recogniser.{Reports, Stays};
+    ghost use Rattle.dgt_game.specs.Timing.{Acts, Due, IsIdle, Tells, next_time};
     ghost use Rattle.dgt_game.specs.Waiting.{Follows, IsQuiet, IsRight, Keeps, Waits};
 
     /// When [`Recogniser::due`] has something to do next, if nothing else is seen until then.
     pub fn due_at(&self) -> Option<u64>
         ensures none { result ≡ None → IsQuiet self.now }
         ensures soon { IfSome result (λ at. at ≤ self.now.since + 60000) }
+        ensures at { MatchOption result ((now : ℕ) → IsIdle now self.now)
+            (λ at. (now : ℕ) → IsIdle now self.now ↔ (IsQuiet self.now × (now < at))) }
+        ensures news { ¬ (IsQuiet self.now) → result ≡ Some self.now.since }
     {
         if self.has_news() {
             return Some(self.since);
@@ -46,9 +58,12 @@ impl Recogniser {
         ensures follows { Waits self.old → Follows self.old result self.new }
         ensures none { result ≡ None → IsQuiet self.new }
         ensures doubt { self.old.is_sure ≡ false → IsQuiet self.old → result ≡ None }
+        ensures due { Due now self.old result self.new }
+        ensures after { result ≡ None → IsIdle now self.new }
+        ensures idle { IsIdle now self.old → (result ≡ None) × (self.new ≡ self.old) }
     {
-        for _ in 0..3 {
-            if let Some(event) = self.next_event() {
+        for done in 0..3u8 {
+            if let Some(event) = self.report() {
                 return Some(event);
             }
             let (at, task) = self.next_task()?;
@@ -56,12 +71,23 @@ impl Recogniser {
                 return None;
             }
             self.act(task);
+            // the most is a result by kings, a search, and what it found
+            self.next = if done < 2 { self.plan() } else { None };
         }
-        self.next_event()
+        self.report()
+    }
+
+    // The next event that waits. What is done next may be another task then.
+    fn report(&mut self) -> Option<Event>
+        ensures { Tells self.old result self.new }
+    {
+        let event = self.next_event()?;
+        self.next = self.plan();
+        Some(event)
     }
 
     pub(crate) fn is_due(&self, now: u64) -> bool
-        ensures { result ≡ false → IsQuiet self.now }
+        ensures { (result ≡ false) ↔ IsIdle now self.now }
     {
         self.has_news()
             || match self.next_task() {
@@ -70,28 +96,38 @@ impl Recogniser {
             }
     }
 
+    // What is done next, and when.
     fn next_task(&self) -> Option<(u64, Task)>
         ensures soon { IfSome result (λ next. next.0 ≤ self.now.since + NEW_STILL) }
         ensures doubt { self.now.is_sure ≡ false → result ≡ None }
+        ensures time { option_map (λ next. next.0) result ≡ next_time self.now }
     {
         if !self.is_sure {
             return None;
         }
+        let next = self.next?;
+        Some((self.since.saturating_add(next.wait), next.task))
+    }
+
+    // What is to be done next.
+    pub(crate) fn plan(&self) -> Option<Next> {
         let other = self.next_of_position();
         if self.has_kings && self.is_confirmed {
-            let at = self.since.saturating_add(KINGS);
             match other {
-                Some((sooner, _)) if sooner < at => {}
-                _ => return Some((at, Task::EndByKings)),
+                Some(sooner) if sooner.wait < KINGS => {}
+                _ => {
+                    return Some(Next {
+                        wait: KINGS,
+                        task: Task::EndByKings,
+                    });
+                }
             }
         }
         other
     }
 
     // What is done next with the position that is shown.
-    fn next_of_position(&self) -> Option<(u64, Task)>
-        ensures soon { IfSome result (λ next. next.0 ≤ self.now.since + NEW_STILL) }
-    {
+    fn next_of_position(&self) -> Option<Next> {
         let (wait, task) = if self.is_next {
             (self.rest(), Task::Tell)
         } else if self.here != Place::Nowhere {
@@ -108,7 +144,7 @@ impl Recogniser {
         if !self.is_confirmed && !(task == Task::Search && self.is_behind) {
             return None;
         }
-        Some((self.since.saturating_add(wait), task))
+        Some(Next { wait, task })
     }
 
     fn act(&mut self, task: Task)

@@ -1,6 +1,6 @@
 //! What is reported, one event at a time.
 
-ghost use Rattle.std.specs.Prelude.{◌≡◌, ◌⊎◌, List, [], None, Some, IfSome, false};
+ghost use Rattle.std.specs.Prelude.{◌≡◌, ◌↔◌, ◌⊎◌, List, [], None, Some, IfSome, false};
 ghost use Rattle.dgt_chess.specs.Rules.{CanMove};
 ghost use Rattle.dgt_values.specs.declared.pieces.Piece.{Piece};
 ghost use Rattle.dgt_game.specs.Told.{Told};
@@ -15,13 +15,14 @@ use dgt_chess::{Colour, State};
 
 impl Recogniser {
     ghost use Rattle.dgt_game.specs.Results.{HasResult};
+    ghost use Rattle.dgt_game.specs.Timing.{next_time};
     ghost use Rattle.dgt_game.specs.Waiting.{EndWaits, EndsBy, Follows, IsOfLine, IsQuiet, IsRight, Keeps, Waits, coming, has_notice, has_result, last_of};
     ghost use Rattle.dgt_game.specs.Memory.{Holds, IsSeen, IsTold, Links, step_at};
     ghost use Rattle.dgt_game.specs.Recogniser.{Knows, Reports, Stays};
 
     /// Whether an event waits to be reported.
     pub(crate) fn has_news(&self) -> bool
-        ensures { result ≡ false → IsQuiet self.now }
+        ensures { (result ≡ false) ↔ IsQuiet self.now }
     {
         self.has_notice() || !self.memory.is_quiet() || self.ended.is_some()
     }
@@ -59,9 +60,10 @@ impl Recogniser {
         ensures right { Waits self.old
             → Waits self.new × IfSome result (λ event. IsRight self.new event) }
         ensures follows { Waits self.old → Follows self.old result self.new }
-        ensures none { result ≡ None → IsQuiet self.new }
         ensures still { IsQuiet self.old
             → (result ≡ None) × (self.new.is_sure ≡ self.old.is_sure) }
+        ensures none { result ≡ None → IsQuiet self.new × (next_time self.new ≡ next_time self.old) }
+        ensures idle { IsQuiet self.old → (result ≡ None) × (self.new ≡ self.old) }
     {
         if let Some(event) = self.next_notice() {
             return Some(event);
@@ -93,6 +95,7 @@ impl Recogniser {
         ensures none { result ≡ None → self.new ≡ self.old }
         ensures quiet { has_notice self.new.lost ≡ false }
         ensures still { has_notice self.old.lost ≡ false → result ≡ None }
+        ensures idle { has_notice self.old.lost ≡ false → result ≡ None }
     {
         match self.lost {
             Lost::Now(squares) => {

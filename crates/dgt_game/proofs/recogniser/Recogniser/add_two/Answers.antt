@@ -24,7 +24,9 @@ returns-in-Some c = record {
       (c.push.ensures.holds shown line back unsaid reads.0 reads.1 holds);
   view = c.add.ensures.view;
   keeps = search (rules, c.push.ensures.line);
-  doubt = λ sure quiet.
-      let told = (c.push.ensures.back ∙ quiet.0.0, c.push.ensures.unsaid ∙ quiet.0.1) in
-      c.add.ensures.doubt sure (told, quiet.1, quiet.2);
+  doubt = λ sure quiet. c.add.ensures.doubt sure (
+    (c.push.ensures.back ∙ quiet.0.0, c.push.ensures.unsaid ∙ quiet.0.1),
+    quiet.1,
+    quiet.2,
+  );
 }

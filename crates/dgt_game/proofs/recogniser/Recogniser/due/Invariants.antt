@@ -1,15 +1,19 @@
-use Rattle.std.proofs.Common.{◌≡◌, false, List, None}
+use Rattle.std.proofs.Common.{◌≡◌, List, Option, None}
 use Rattle.dgt_values.specs.declared.pieces.Piece.{Piece}
 use Rattle.dgt_game.specs.Told.{Told}
+use Rattle.dgt_game.specs.declared.event.Event.{Event}
+use Rattle.dgt_game.specs.declared.recogniser.Recogniser.{Recogniser}
 use Rattle.dgt_game.specs.Recogniser.{Knows}
-use Rattle.dgt_game.specs.Waiting.{Follows, IsQuiet, Waits}
+use Rattle.dgt_game.specs.Timing.{Due, next_time}
+use Rattle.dgt_game.specs.Waiting.{Follows, Waits}
 use Rattle.dgt_game.proofs.recogniser.Recogniser.due.Given as goal
 
-abbrev pub invariant-loop : goal.invariant-loop
-invariant-loop l = record {
+abbrev pub invariant-loop-done : goal.invariant-loop-done
+invariant-loop-done l = record {
   knows : (shown : List (List Piece)) (line : List Told) → Knows shown line l.fn.self
       → Knows shown line l.self;
-  doubt : l.fn.self.is_sure ≡ false → IsQuiet l.fn.self
-      → (l.self.is_sure ≡ false) × IsQuiet l.self;
   waits : Waits l.fn.self → Waits l.self × Follows l.fn.self None l.self;
+  due : (report : Option Event) (new : Recogniser) → Due l.fn.now l.self report new
+      → Due l.fn.now l.fn.self report new;
+  last : l.done ≡ 3 → next_time l.self ≡ None;
 }

@@ -11,7 +11,7 @@ use Rattle.dgt_game.proofs.recogniser.Recogniser.see.Goals.{then-ne, then-not-se
 
 pub returns-clause-seen : goal.returns-clause-seen
 returns-clause-seen c = λ done shown line knows.
-    let (back, unsaid) = (c.is_due.ensures c.if-is_due.false).0 in
+    let (back, unsaid) = (c.is_due.ensures.0 c.if-is_due.false).0.0 in
     let sight = c.args.observation.now.sight in
     let more = within_after sight shown in
     let new : Knows (shown_after sight shown) line c.if-ne.self = elim c.if-ne.branch [
@@ -38,7 +38,7 @@ returns-clause-seen c = λ done shown line knows.
 
 pub returns-clause-right : goal.returns-clause-right
 returns-clause-right c = λ waits.
-    let quiet = c.is_due.ensures c.if-is_due.false in
+    let quiet = (c.is_due.ensures.0 c.if-is_due.false).0 in
     let new : Waits c.if-ne.self = elim c.if-ne.branch [
       | then-ne w ↦
           let same_lost : lost_of w.if-not-self.self ≡ w.leave.new.self.lost =

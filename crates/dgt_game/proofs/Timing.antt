@@ -1,0 +1,155 @@
+-- What is done whenever `due` is called.
+use Rattle.std.proofs.Common.{◌≡◌, ◌∙◌, ◌++◌, ◌≤◌, ◌<◌, ◌+◌, ◌-◌, ◌^◌, refl, ap, sym, subst, arith, ℕ, Bool, true, false, List, [], ◌∷◌, Option, Some, None}
+use Rattle.std.specs.Prelude.{IfSome, MatchOption, min, option_map, if◌then◌else◌}
+use Rattle.std.specs.List.{AllByRecursion}
+use Rattle.std.proofs.lemmas.Option.{none-some}
+use Rattle.dgt_game.specs.declared.event.Event.{Event}
+use Rattle.dgt_game.specs.declared.recogniser.Recogniser.{Recogniser}
+use Rattle.dgt_game.specs.declared.resting.Next.{Next}
+use Rattle.dgt_game.specs.Timing.{Acts, AllDue, Calls, DoneBy, Due, HasTask, IsIdle, NoCallMatters, Tells, next_time, with_report}
+use Rattle.dgt_game.specs.Results.{HasResult, IsLost}
+use Rattle.dgt_game.specs.Waiting.{Follows, IsQuiet, IsRight, has_result, is_lost}
+
+-- what is done next doesn't count
+pub right_with : (self : Recogniser) (next : Option Next) (event : Event)
+    → IsRight self event → IsRight (record self { next = next }) event
+right_with self next (Event.Ended result) h = h
+right_with self next (Event.Lost squares) h = h
+right_with self next Event.Found h = tt
+right_with self next (Event.Begun state is_turned) h = tt
+right_with self next (Event.Made one) h = tt
+right_with self next (Event.Unseen moves) h = tt
+right_with self next (Event.Gap state count) h = tt
+right_with self next (Event.Back count) h = tt
+
+pub acts_with : (old new : Recogniser) (next : Option Next) → Acts old new
+    → Acts old (record new { next = next })
+acts_with old new next h = (
+  λ shown line told knows. let known = h.0 shown line told knows in
+      record { held = known.held; seen = known.seen },
+  λ quiet waits. h.1 quiet waits,
+  h.2,
+)
+
+pub follows_then : (a b c : Recogniser) (event : Option Event) → Follows a None b
+    → Follows b event c → Follows a event c
+follows_then a b c None f g = (g.0 ∙ f.0, g.1 ∙ f.1)
+follows_then a b c (Some event) f g = (
+  subst (λ (had : Bool). HasResult had event (has_result c.over)) f.0 g.0,
+  subst (λ (was : Bool). IsLost was event (is_lost c.lost)) f.1 g.1,
+)
+
+pub tells_then : (a b c : Recogniser) (report : Option Event) → Tells a None b → Tells b report c
+    → Tells a report c
+tells_then a b c report h k = (
+  λ shown line knows. k.0 shown line (h.0 shown line knows),
+  λ waits. k.1 (h.1 waits).0,
+  λ waits. follows_then a b c report (h.2 waits) (k.2 (h.1 waits).0),
+  λ none. ((k.3 none).0, (k.3 none).1 ∙ (h.3 refl).1),
+  λ quiet. let same = (h.4 quiet).1 in
+      let after = k.4 (subst IsQuiet (sym same) quiet) in (after.0, after.1 ∙ same),
+)
+
+has_later : (now later : ℕ) (next : Option ℕ) → now ≤ later
+    → MatchOption next ⊥ (λ at. at ≤ now) → MatchOption next ⊥ (λ at. at ≤ later)
+has_later now later None less h = h
+has_later now later (Some at) less h = omega (arith, less, h)
+
+if_none : (b : Bool) (x : Option ℕ) → x ≡ None → (if b then x else None) ≡ None
+if_none true x e = e
+if_none false x e = refl
+
+pub no_time : (self : Recogniser) → self.next ≡ None → next_time self ≡ None
+no_time self e = if_none self.is_sure _ (ap (λ (next : Option Next). option_map (λ next. min
+    (self.since + next.wait) (2 ^ 64 - 1)) next) e)
+
+pub told_now : (now : ℕ) (old new : Recogniser) (event : Event) → Tells old (Some event) new
+    → Due now old (Some event) new
+told_now now old new event tells = ([], (tells, λ e. absurd (none-some event (sym e))))
+
+pub quiet_now : (now : ℕ) (old new : Recogniser) → Tells old None new
+    → IfSome (next_time new) (λ at. now < at) → Due now old None new
+quiet_now now old new tells idle = ([], (tells, λ e. ((tells.3 refl).0, idle)))
+
+-- one task before others
+pub one_more : (now : ℕ) (old quiet done new : Recogniser) (report : Option Event)
+    → Tells old None quiet → HasTask now quiet → Acts quiet done → Due now done report new
+    → Due now old report new
+one_more now old quiet done new report tells has acts due =
+    (done ∷ due.0, (quiet, tells, has, acts, due.1))
+
+-- an event is the same later
+done_later : (now later : ℕ) (done : List Recogniser) (old new : Recogniser) (event : Event)
+    → now ≤ later → DoneBy now done old (Some event) new → DoneBy later done old (Some event) new
+done_later now later [] old new event less h = (h.0, λ e. absurd (none-some event (sym e)))
+done_later now later (next ∷ done) old new event less h = (
+  h.0,
+  h.1,
+  has_later now later (next_time h.0) less h.2,
+  h.3,
+  done_later now later done next new event less h.4,
+)
+
+-- after a call that reported nothing, another one is the first
+then_later : (now later : ℕ) (done : List Recogniser) (old between new : Recogniser)
+    (report : Option Event) → now ≤ later → DoneBy now done old None between
+    → Due later between report new → Due later old report new
+then_later now later [] old between new report less h ([], k) =
+    ([], (tells_then old between new report h.0 k.0, k.1))
+then_later now later [] old between new report less h (next ∷ more, k) =
+    (next ∷ more, (k.0, tells_then old between k.0 None h.0 k.1, k.2, k.3, k.4))
+then_later now later (next ∷ done) old between new report less h due =
+    one_more later old h.0 next new report h.1 (has_later now later (next_time h.0) less h.2) h.3
+    (then_later now later done next between new report less h.4 due)
+
+all_later : (now later : ℕ) (old between new : Recogniser) (events : List Event) → now ≤ later
+    → Due now old None between → AllDue later between events new → AllDue later old events new
+all_later now later old between new [] less due h =
+    then_later now later due.0 old between new None less due.1 h
+all_later now later old between new (event ∷ events) less due h =
+    (h.0, then_later now later due.0 old between h.0 (Some event) less due.1 h.1, h.2)
+
+reported : (now later : ℕ) (old between new : Recogniser) (report : Option Event)
+    (early after late : List Event) → now ≤ later → Due now old report between
+    → early ≡ with_report report after → AllDue later between (after ++ late) new
+    → AllDue later old (early ++ late) new
+reported now later old between new None early after late less due e h =
+    rw e (all_later now later old between new (after ++ late) less due h)
+reported now later old between new (Some event) early after late less due e h =
+    rw e (between, (due.0, done_later now later due.0 old between event less due.1), h)
+
+pub no_call_matters : NoCallMatters
+no_call_matters [] now old next new early late all calls h =
+    rw calls.0 (subst (λ (self : Recogniser). AllDue now self late new) calls.1 h)
+no_call_matters (time ∷ times) now old next new early late all calls h =
+    let (report, between, due, (after, more, e)) = calls in
+    reported time now old between new report early after late all.0 due e
+    (no_call_matters times now between next new after late all.1 more h)
+
+-- if nothing is due, nothing is done
+no_task : (now : ℕ) (next : Option ℕ) → IfSome next (λ at. now < at)
+    → MatchOption next ⊥ (λ at. at ≤ now) → ⊥
+no_task now None idle has = has
+no_task now (Some at) idle has = omega (arith, idle, has)
+
+pub idle_stays : (now : ℕ) (old new : Recogniser) (report : Option Event) → IsIdle now old
+    → Due now old report new → (report ≡ None) × (new ≡ old)
+idle_stays now old new report idle ([], h) = h.0.4 idle.0
+idle_stays now old new report idle (next ∷ done, h) = absurd (no_task now (next_time old) idle.1
+    (subst (HasTask now) (h.1.4 idle.0).1 h.2))
+
+done_last : (now : ℕ) (done : List Recogniser) (old new : Recogniser) (report : Option Event)
+    → report ≡ None → DoneBy now done old report new → IsIdle now new
+done_last now [] old new report none h = h.1 none
+done_last now (next ∷ done) old new report none h = done_last now done next new report none h.4
+
+-- once nothing is reported, nothing is due
+pub idle_after : (now : ℕ) (old new : Recogniser) (report : Option Event) → report ≡ None
+    → Due now old report new → IsIdle now new
+idle_after now old new report none due = done_last now due.0 old new report none due.1
+
+-- in doubt nothing is due
+pub idle_in_doubt : (now : ℕ) (self : Recogniser) → self.is_sure ≡ false → IsQuiet self
+    → IsIdle now self
+idle_in_doubt now self sure quiet =
+    let none : IfSome (next_time self) (λ at. now < at) = rw sure tt in (quiet, none)

@@ -1,0 +1,17 @@
+use Rattle.std.proofs.Common.{sym}
+use Rattle.std.proofs.lemmas.Option.{none-some}
+use Rattle.dgt_game.proofs.Timing.{right_with}
+use Rattle.dgt_game.proofs.recogniser.Recogniser.report.Goals as goal
+
+pub returns : goal.returns
+returns c =
+    let event = c.in_ok-event.event in
+    let ensures = c.in_ok-event.ensures in (
+      λ shown line knows. let (after, leads, known) = ensures.told shown line knows in
+          (after, leads, record { held = known.held; seen = known.seen }),
+      λ waits. let right = ensures.right waits in
+          (right.0, right_with c.next_event.new.self c.plan-self.result event right.1),
+      λ waits. ensures.follows waits,
+      λ none. absurd (none-some event (sym none)),
+      λ quiet. absurd (none-some event (sym (ensures.idle quiet).0)),
+    )
