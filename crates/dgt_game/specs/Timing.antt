@@ -68,5 +68,6 @@ AllDue now old (event ∷ events) new =
 abbrev pub NoCallMatters : Type 0
 NoCallMatters =
     (times : List ℕ) (now : ℕ) (old next new : Recogniser) (early late : List Event)
-    → AllByRecursion (λ time. time ≤ now) times → Calls times old early next → AllDue now next late new
+    → AllByRecursion (λ time. time ≤ now) times → Calls times old early next
+    → AllDue now next late new
     → AllDue now old (early ++ late) new

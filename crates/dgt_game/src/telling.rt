@@ -62,7 +62,8 @@ impl Recogniser {
         ensures follows { Waits self.old → Follows self.old result self.new }
         ensures still { IsQuiet self.old
             → (result ≡ None) × (self.new.is_sure ≡ self.old.is_sure) }
-        ensures none { result ≡ None → IsQuiet self.new × (next_time self.new ≡ next_time self.old) }
+        ensures none { result ≡ None
+            → IsQuiet self.new × (next_time self.new ≡ next_time self.old) }
         ensures idle { IsQuiet self.old → (result ≡ None) × (self.new ≡ self.old) }
     {
         if let Some(event) = self.next_notice() {
