@@ -1,10 +1,9 @@
 -- Placements are ASCII, so a text is wrong from its first other byte on.
 use Prim.Native.Char.{code as ascii}
-use Rattle.std.proofs.{Common.{◌≡◌, ℕ, ◌+◌, ◌<◌, ◌≤◌, List, [], ◌∷◌, length, take, lit<, arith, rules}, lemmas.{Bool.{cases_lt}, List.{append-nil, get_or-take, get_or_append_left, get_or_past}}}
-use Rattle.std.proofs.Common.{subst, sym}
-use Rattle.std.{proofs.lemmas.{List.{length-take, length-take-le, take-take, take_all}, Str.{IsAscii-append, Ascii.{IsAscii-cons, IsAscii-nil}}}, specs.{List.{join_with_byte}, Prelude.{slice_index}}}
-use Rattle.{std.specs.Str.{IsAscii}, dgt_values.specs.{Board.{piece_letter}, Placement.{AreRanks, BeginsPlacement, IsFirstBadOffset, IsPlacement, IsRank, MeansSquares}, declared.pieces.Piece.{Piece}}}
-use Rattle.dgt_values.specs.declared.pieces.Piece.TheVariants.{Empty}
+use Rattle.std.proofs.{Common.{◌≡◌, ℕ, ◌+◌, ◌<◌, ◌≤◌, List, [], ◌∷◌, length, take, lit<, arith, rules, subst, sym}, lemmas.Bool.{cases_lt}}
+use Rattle.std.proofs.lemmas.{List.{append-nil, get_or-take, get_or_append_left, get_or_past, length-take, length-take-le, take-take, take_all}, Str.{IsAscii-append}}
+use Rattle.{std.{proofs.lemmas.Str.Ascii.{IsAscii-cons, IsAscii-nil}, specs.{List.{join_with_byte}, Prelude.{slice_index}, Str.{IsAscii}}}, dgt_values.specs.Board.{piece_letter}}
+use Rattle.dgt_values.specs.{Placement.{AreRanks, BeginsPlacement, IsFirstBadOffset, IsPlacement, IsRank, MeansSquares}, declared.pieces.Piece.{Piece, TheVariants.{Empty}}}
 
 letter-ascii : (piece : Piece) → piece_letter piece < 128
 letter-ascii Empty = lit< tt

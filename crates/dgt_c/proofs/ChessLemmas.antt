@@ -1,28 +1,11 @@
 -- A struct of C describes one state or one move of chess.
-use Rattle.std.proofs.Common.{◌≡◌, ◌↔◌, ◌⊎◌, ◌∙◌, ℕ, ◌<◌, List, ap, arith, inl, inr, length, map, refl, rules, subst, sym}
-use Rattle.std.proofs.Math.Logic.{∥∥₁_elim, ∥∥₁_prop}
-use Rattle.std.proofs.Props.{props}
-use Rattle.std.specs.Prelude.{All, Bool, true, false, IsTrue, Option, Some, None, option_map}
-use Rattle.dgt_values.specs.declared.pieces.Piece.{Piece}
-use Rattle.dgt_values.specs.declared.positions.Position.{Position}
-use Rattle.dgt_values.specs.declared.squares.Square.{Square}
-use Rattle.dgt_values.specs.Board.{piece_code, pieces_of, square_number}
-use Rattle.dgt_chess.specs.declared.pieces.Colour.{Colour}
-use Rattle.dgt_chess.specs.declared.pieces.Man.{Man}
-use Rattle.dgt_chess.specs.declared.possible.Impossible.{Impossible}
-use Rattle.dgt_chess.specs.declared.possible.Rights.{Rights}
-use Rattle.dgt_chess.specs.declared.state.Move.{Move}
-use Rattle.dgt_chess.specs.declared.state.State.{State}
-use Rattle.dgt_chess.specs.Possible.{IsPossible, RefusedAreImpossible}
-use Rattle.dgt_chess.specs.Rules.{Legal, Reaches, StatesArePossible, board, passed}
-use Rattle.dgt_c.specs.Chess.{IsOnlyMove, IsOnlyState, IsState, IsStateThat, LeadsTo, RefusesState, SaysLegal, SaysMove, SaysParts, SaysState}
-use Rattle.dgt_c.specs.Chess.{colour_number, passed_number, promotion_code, rights_flags}
-use Rattle.dgt_c.specs.ChessOnce.{MembersAreListed, OneMove, OneState}
-use Rattle.dgt_c.specs.Hearing.{flag}
-use Rattle.dgt_c.specs.declared.header.DgtChessMove.{DgtChessMove}
-use Rattle.dgt_c.specs.declared.header.DgtChessState.{DgtChessState}
-use Rattle.dgt_c.proofs.EncodingLemmas.{are_pieces}
-use Rattle.dgt_c.proofs.OnceLemmas.{pieces_once}
+use Rattle.std.proofs.{Common.{◌≡◌, ◌↔◌, ◌⊎◌, ◌∙◌, ℕ, ◌<◌, List, ap, arith, inl, inr, length, map, refl, rules, subst, sym}, Math.Logic.{∥∥₁_elim, ∥∥₁_prop}, Props.{props}}
+use Rattle.{std.specs.Prelude.{All, Bool, true, false, IsTrue, Option, Some, None, option_map}, dgt_values.specs.declared.{pieces.Piece.{Piece}, positions.Position.{Position}}}
+use Rattle.{dgt_values.specs.{declared.squares.Square.{Square}, Board.{piece_code, pieces_of, square_number}}, dgt_chess.specs.declared.pieces.{Colour.{Colour}, Man.{Man}}}
+use Rattle.dgt_chess.specs.{declared.{possible.{Impossible.{Impossible}, Rights.{Rights}}, state.{Move.{Move}, State.{State}}}, Possible.{IsPossible, RefusedAreImpossible}}
+use Rattle.{dgt_chess.specs.Rules.{Legal, Reaches, StatesArePossible, board, passed}, dgt_c.specs.Chess.{IsOnlyMove, IsOnlyState, IsState, IsStateThat, LeadsTo, RefusesState, SaysLegal, SaysMove}}
+use Rattle.dgt_c.specs.{Chess.{SaysParts, SaysState, colour_number, passed_number, promotion_code, rights_flags}, ChessOnce.{MembersAreListed, OneMove, OneState}, Hearing.{flag}}
+use Rattle.dgt_c.{specs.declared.header.{DgtChessMove.{DgtChessMove}, DgtChessState.{DgtChessState}}, proofs.{EncodingLemmas.{are_pieces}, OnceLemmas.{pieces_once}}}
 
 -- ---- values are the same if clauses see the same of them
 
@@ -155,8 +138,7 @@ only_state one said state says = (says, λ other is. one_state one said other st
 
 -- a struct describes a state of a kind exactly if the state that was read is of this kind
 pub of_state : (Is : State → Type 0) (said : DgtChessState) (state : State)
-    → IsOnlyState said state → (b : Bool) → (IsTrue b ↔ Is state)
-    → IsTrue b ↔ IsStateThat said Is
+    → IsOnlyState said state → (b : Bool) → (IsTrue b ↔ Is state) → IsTrue b ↔ IsStateThat said Is
 of_state Is said state only b law = (
   λ yes. (state, only.0, law.0 yes),
   λ other. law.1 (subst Is (only.1 other.0 other.1) other.2),

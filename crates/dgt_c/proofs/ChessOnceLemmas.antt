@@ -1,31 +1,13 @@
 -- Structs and texts of chess have one meaning, and calls leave one result.
-use Rattle.std.proofs.Common.{◌≡◌, ◌∙◌, ℕ, ◌<◌, List, ap, arith, inl, inr, refl, rules, subst, sym}
-use Rattle.std.proofs.Math.Logic.{∥∥₁_elim}
-use Rattle.std.specs.Prelude.{Option, Some, None, Result, Ok, Err, IsTrue, option_map}
-use Rattle.dgt_values.specs.declared.pieces.Piece.{Piece}
-use Rattle.dgt_values.specs.declared.squares.Square.{Square}
-use Rattle.dgt_values.specs.Board.{square_number}
-use Rattle.dgt_chess.specs.declared.fen.BadFen.{BadFen}
-use Rattle.dgt_chess.specs.declared.pieces.Colour.{Colour}
-use Rattle.dgt_chess.specs.declared.pieces.Man.{Man}
-use Rattle.dgt_chess.specs.declared.possible.Impossible.{Impossible}
-use Rattle.dgt_chess.specs.declared.possible.Rights.{Rights}
-use Rattle.dgt_chess.specs.declared.san_reader.BadSan.{BadSan}
-use Rattle.dgt_chess.specs.declared.state.Move.{Move}
-use Rattle.dgt_chess.specs.declared.state.State.{State}
-use Rattle.dgt_chess.specs.Fen.{IsAnyFen, IsFirstWrong, IsShown, ParsesFen, WritesFen, fen_text}
-use Rattle.dgt_chess.specs.Possible.{RefusedAreImpossible, Refuses}
-use Rattle.dgt_chess.specs.Rules.{IsAfter, LegalBy, OneAfter, OneMoveAPicture, StatesArePossible, board, passed}
-use Rattle.dgt_chess.specs.San.{IsSan, OneMoveAText, OneTextAMove, ParsesSan}
-use Rattle.dgt_chess.proofs.{FenLaws.{OnePlacement, one_fen}, Unique.{same_man}}
-use Rattle.dgt_c.specs.Chess.{HasParts, HasStatus, IsState, RefusesState, SaysState, reason_status}
+use Rattle.std.{proofs.{Common.{◌≡◌, ◌∙◌, ℕ, ◌<◌, List, ap, arith, inl, inr, refl, rules, subst, sym}, Math.Logic.{∥∥₁_elim}}, specs.Prelude.{Option, Some, None, Result, Ok, Err, IsTrue, option_map}}
+use Rattle.{dgt_values.specs.{declared.{pieces.Piece.{Piece}, squares.Square.{Square}}, Board.{square_number}}, dgt_chess.specs.declared.{fen.BadFen.{BadFen}, pieces.{Colour.{Colour}, Man.{Man}}}}
+use Rattle.dgt_chess.specs.declared.{possible.{Impossible.{Impossible}, Rights.{Rights}}, san_reader.BadSan.{BadSan}, state.{Move.{Move}, State.{State}}}
+use Rattle.dgt_chess.specs.{Fen.{IsAnyFen, IsFirstWrong, IsShown, ParsesFen, WritesFen, fen_text}, Possible.{RefusedAreImpossible, Refuses}}
+use Rattle.dgt_chess.specs.{Rules.{IsAfter, LegalBy, OneAfter, OneMoveAPicture, StatesArePossible, board, passed}, San.{IsSan, OneMoveAText, OneTextAMove, ParsesSan}}
+use Rattle.{dgt_chess.proofs.{FenLaws.{OnePlacement, one_fen}, Unique.{same_man}}, dgt_c.specs.Chess.{HasParts, HasStatus, IsState, RefusesState, SaysState, reason_status}}
 use Rattle.dgt_c.specs.ChessOnce.{OneFenPut, OneFenRead, OneKind, OneLead, OneMoveStruct, OnePlay, OneSanPut, OneStateStruct, OneStatus, RefusedAreNone, StatusesAre}
-use Rattle.dgt_c.specs.ChessTexts.{LeavesMove, LeavesState, ReadsSan, fen_reported, san_status}
-use Rattle.dgt_c.specs.Slices.{with_text}
-use Rattle.dgt_c.specs.declared.header.DgtChessMove.{DgtChessMove}
-use Rattle.dgt_c.specs.declared.header.DgtChessState.{DgtChessState}
-use Rattle.dgt_c.proofs.ChessLemmas.{OnePiece, of_state, one_move, only_state, one_state, refused_state, same_move, same_parts, same_position, same_square, same_state}
-use Rattle.dgt_c.proofs.OnceLemmas.{pieces_once}
+use Rattle.dgt_c.specs.{ChessTexts.{LeavesMove, LeavesState, ReadsSan, fen_reported, san_status}, Slices.{with_text}, declared.header.{DgtChessMove.{DgtChessMove}, DgtChessState.{DgtChessState}}}
+use Rattle.dgt_c.proofs.{ChessLemmas.{OnePiece, of_state, one_move, only_state, one_state, refused_state, same_move, same_parts, same_position, same_square, same_state}, OnceLemmas.{pieces_once}}
 
 -- ---- structs
 
@@ -244,8 +226,7 @@ module _ (one : OnePiece) (law : OnePlacement) (refused : RefusedAreImpossible)
   parsed_once text (Err (BadFen.Text field at)) (Err (BadFen.Text field' at')) x y =
       let same = once text at at' x.0 y.0 in search rules
   parsed_once text (Err (BadFen.Text field at)) (Err (BadFen.Impossible why)) x
-      (p, t, r, s, h, n, y, refuses) =
-      absurd (never text at (p, t, r, s, h, n, y) x.0)
+      (p, t, r, s, h, n, y, refuses) = absurd (never text at (p, t, r, s, h, n, y) x.0)
   parsed_once text (Err (BadFen.Impossible why)) (Ok b) (p, t, r, s, h, n, x, refuses) y =
       let same = one_fen law text (board b) p b.turn t b.rights r b.passed s b.half_moves h b.number
       n y x in
@@ -253,8 +234,7 @@ module _ (one : OnePiece) (law : OnePlacement) (refused : RefusedAreImpossible)
       (option_map square_number s) n refuses
       (rw (same.pieces, same.turn, same.rights, same.square, same.number) at is)))
   parsed_once text (Err (BadFen.Impossible why)) (Err (BadFen.Text field at))
-      (p, t, r, s, h, n, x, refuses) y =
-      absurd (never text at (p, t, r, s, h, n, x) y.0)
+      (p, t, r, s, h, n, x, refuses) y = absurd (never text at (p, t, r, s, h, n, x) y.0)
   parsed_once text (Err (BadFen.Impossible why)) (Err (BadFen.Impossible other))
       (p, t, r, s, h, n, x, refuses) (p', t', r', s', h', n', y, refuses') =
       let same = one_fen law text p' p t' t r' r s' s h' h n' n y x in
@@ -339,11 +319,9 @@ one_san_read Parses one status law said text old a b x y
       e ∙ ap san_status (sym same) ∙ sym e',
     )
 one_san_read Parses one status law said text old a b x y
-    (inl (s, r, says, p, l, e)) (inr (none, has, same)) =
-    absurd (none (s, says))
+    (inl (s, r, says, p, l, e)) (inr (none, has, same)) = absurd (none (s, says))
 one_san_read Parses one status law said text old a b x y
-    (inr (none, has, same)) (inl (s, r, says, p, l, e)) =
-    absurd (none (s, says))
+    (inr (none, has, same)) (inl (s, r, says, p, l, e)) = absurd (none (s, says))
 one_san_read Parses one status law said text old a b x y
     (inr (none, has, same)) (inr (none', has', same')) =
     (same ∙ sym same', status said x y has has')

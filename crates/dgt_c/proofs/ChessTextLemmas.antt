@@ -1,26 +1,13 @@
 -- Texts of states and of moves are ASCII, so a text is wrong from its first other byte on.
 use Prim.Native.Char.{code as ascii}
-use Rattle.std.proofs.Common.{◌≡◌, ◌≢◌, ◌∙◌, ℕ, suc, ◌+◌, ◌-◌, ◌/◌, ◌%◌, ◌<◌, ◌≤◌, List, [], ◌∷◌, ap, arith, inl, inr, length, refl, subst, sym, take}
-use Rattle.std.proofs.Common.{get_or, rules}
-use Rattle.std.proofs.lemmas.{Bool.{cases_lt}, Fmt.{IsAscii-decimal}, Grind.{common_steps}, List.{get_or-take, length-take-le, take-take, take_all}}
-use Rattle.std.proofs.lemmas.{Str.{IsAscii-append, Ascii.{IsAscii-cons, IsAscii-nil}}}
-use Rattle.std.specs.{Prelude.{Bool, true, false, Option, Some, None, Err, if◌then◌else◌, nat_eq, slice_index}, Str.{IsAscii}}
-use Rattle.dgt_values.specs.declared.pieces.Piece.{Piece}
-use Rattle.dgt_values.specs.declared.squares.Square.{Square}
-use Rattle.dgt_values.specs.Board.{square_name, square_number}
-use Rattle.dgt_chess.specs.declared.fen.BadFen.{BadFen}
-use Rattle.dgt_chess.specs.declared.fen.FenField.{FenField}
-use Rattle.dgt_chess.specs.declared.pieces.Colour.{Colour}
-use Rattle.dgt_chess.specs.declared.pieces.Man.{Man}
-use Rattle.dgt_chess.specs.declared.possible.Rights.{Rights}
-use Rattle.dgt_chess.specs.declared.san_reader.BadSan.{BadSan}
-use Rattle.dgt_chess.specs.declared.state.State.{State}
-use Rattle.dgt_chess.specs.Attacks.{file}
-use Rattle.dgt_chess.specs.Rules.{board}
-use Rattle.dgt_chess.specs.Fen.{HasNoSpace, IsAnyFen, IsDecimal, IsFirstWrong, RefusesFen, Then, field_of, or_hyphen, passed_text, right_text, rights_text, space_count, turn_text}
-use Rattle.dgt_chess.specs.San.{Fits, FitsOnly, IsSan, IsSanText, ParsesSan}
-use Rattle.dgt_chess.specs.San.{castling_letter, castling_text, captures, file_letter, is_castling, man_letter, move_text, ordinary_text, promotion_text, rank_digit, shown, sign_text}
-use Rattle.dgt_chess.proofs.{Decimals.{decimal_plain}, FieldBytes.{passed_plain, pieces_plain, rights_plain, turn_plain}}
+use Rattle.std.proofs.{Common.{◌≡◌, ◌≢◌, ◌∙◌, ℕ, suc, ◌+◌, ◌-◌, ◌/◌, ◌%◌, ◌<◌, ◌≤◌, List, [], ◌∷◌, ap, arith, inl, inr, length, refl, subst, sym, take, get_or, rules}, lemmas.Bool.{cases_lt}}
+use Rattle.std.proofs.lemmas.{Fmt.{IsAscii-decimal}, Grind.{common_steps}, List.{get_or-take, length-take-le, take-take, take_all}, Str.{IsAscii-append, Ascii.{IsAscii-cons, IsAscii-nil}}}
+use Rattle.{std.specs.{Prelude.{Bool, true, false, Option, Some, None, Err, if◌then◌else◌, nat_eq, slice_index}, Str.{IsAscii}}, dgt_values.specs.declared.pieces.Piece.{Piece}}
+use Rattle.{dgt_values.specs.{declared.squares.Square.{Square}, Board.{square_name, square_number}}, dgt_chess.specs.declared.{fen.{BadFen.{BadFen}, FenField.{FenField}}, pieces.Colour.{Colour}}}
+use Rattle.dgt_chess.specs.{declared.{pieces.Man.{Man}, possible.Rights.{Rights}, san_reader.BadSan.{BadSan}, state.State.{State}}, Attacks.{file}, Rules.{board}}
+use Rattle.dgt_chess.specs.{Fen.{HasNoSpace, IsAnyFen, IsDecimal, IsFirstWrong, RefusesFen, Then, field_of, or_hyphen, passed_text, right_text, rights_text, space_count, turn_text}, San.{Fits}}
+use Rattle.dgt_chess.specs.San.{FitsOnly, IsSan, IsSanText, ParsesSan, castling_letter, castling_text, captures, file_letter, is_castling, man_letter, move_text, ordinary_text, promotion_text}
+use Rattle.dgt_chess.{specs.San.{rank_digit, shown, sign_text}, proofs.{Decimals.{decimal_plain}, FieldBytes.{passed_plain, pieces_plain, rights_plain, turn_plain}}}
 use Rattle.dgt_c.proofs.AsciiLemmas.{placement_ascii}
 
 -- ---- the fields of a FEN

@@ -11,8 +11,7 @@ use Rattle.dgt_decode.specs.declared.event.Event as code
 -- ---- More bytes
 
 -- the events of more bytes follow the earlier events
-events_more : EventsAppend → (held chunk : List ℕ) (i n : ℕ)
-    → let s = held ++ take i chunk in
+events_more : EventsAppend → (held chunk : List ℕ) (i n : ℕ) → let s = held ++ take i chunk in
     events_up_to held chunk (i + n)
     ≡ events_up_to held chunk i ++ shifted (length s - length (unfinished_message s))
     (events (unfinished_message s ++ take n (drop i chunk)))
@@ -64,14 +63,13 @@ next_place held chunk i n =
 -- in the chunk it is the number of bytes used then
 place_in_chunk : UnfinishedIsPart → (held chunk : List ℕ) (i n : ℕ) → i ≤ length chunk
     → next_place held chunk i n - length held ≡ i + n
-place_in_chunk part held chunk i n h =
-    omega (
-      arith,
-      h,
-      part (held ++ take i chunk),
-      length-append held (take i chunk),
-      length-take i chunk,
-    )
+place_in_chunk part held chunk i n h = omega (
+  arith,
+  h,
+  part (held ++ take i chunk),
+  length-append held (take i chunk),
+  length-take i chunk,
+)
 
 one_used : EventsAppend → (held chunk : List ℕ) (i n : ℕ) (event : Event)
     → FirstEvent (unfinished_message (held ++ take i chunk)) (drop i chunk) n (Some event)
@@ -185,8 +183,7 @@ pub record Hearer : Type 1 where
       → held (after x bytes) ≡ unfinished_message (held x ++ bytes)
   pub none_reported : (x : S) → ReportsAll x [] []
   pub one_reported : (x : S) (bytes : List ℕ) (reported : List DgtEvent) (y : Placed)
-      (one : DgtEvent)
-      → ReportsAll x (events (held x ++ bytes)) reported
+      (one : DgtEvent) → ReportsAll x (events (held x ++ bytes)) reported
       → Reports (after x bytes) (y.place - length (held x)) (Some y.event) one
       → ReportsAll x (events (held x ++ bytes) ++ y ∷ []) (reported ++ one ∷ [])
 
@@ -308,8 +305,7 @@ module _ (K : Hearer) (later : EventsAppend) (x : K.S) (chunk : List ℕ) (old :
       → after ≡ K.after before (take n (drop used chunk)) → is_some event ≡ false
       → HasHeard K x after chunk (used + n) count old now body_len old_body body
   none_heard in_chunks before after used n count body_len now body (Some e) has on first hears
-      none =
-      absurd cc
+      none = absurd cc
   none_heard in_chunks before after used n count body_len now body None has on first hears none =
       let held : K.held before ≡ unfinished_message (K.held x ++ take used chunk) =
       ap K.held has.heard ∙ K.held_after x (take used chunk) in

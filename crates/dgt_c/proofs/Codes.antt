@@ -4,8 +4,7 @@ use Rattle.std.proofs.lemmas.List.{length-map, length-take}
 
 -- one more number has replaced the one at its place
 pub one_more_in_prefix : {A : Type 0} (f : A → ℕ) (xs : List A) (old : List ℕ) (i : ℕ) (d : A)
-    → i < length xs → i < length old
-    → set (map f (take i xs) ++ drop i old) i (f (get_or xs i d))
+    → i < length xs → i < length old → set (map f (take i xs) ++ drop i old) i (f (get_or xs i d))
     ≡ map f (take (i + 1) xs) ++ drop (i + 1) old
 one_more_in_prefix f xs old i d h k =
     let prefix : length (map f (take i xs)) ≡ i =

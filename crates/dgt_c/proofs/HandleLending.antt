@@ -83,8 +83,7 @@ module _ (K : Handle) where
         done !
 
   pub lends : {M : Type 1} (𝓤 : Ura M) (𝓛 : Logic 𝓤) (𝓜 : Model 𝓤 𝓛.H) (𝓡 : Running 𝓤 𝓛.H 𝓜)
-      (k : Callee)
-      → let 𝓣 = tables 𝓤 𝓛.H 𝓜 𝓡 𝓡.env in Closed 𝓤 𝓛.H 𝓣.C 𝓣.Λ k lending
+      (k : Callee) → let 𝓣 = tables 𝓤 𝓛.H 𝓜 𝓡 𝓡.env in Closed 𝓤 𝓛.H 𝓣.C 𝓣.Λ k lending
       → Meets 𝓛 ended.signature (𝓣.C k) (closing 𝓛 ended (clauses 𝓛))
   lends 𝓤 𝓛 𝓜 𝓡 k closed =
       let c = clauses 𝓛 in let W = walk_of 𝓛 ended stayed c in

@@ -1,9 +1,6 @@
 -- The kinds of what is after each field, and the whole text.
-use Rattle.std.proofs.Common.{ℕ, refl, List, ◌∷◌, ◌++◌}
-use Rattle.std.specs.Prelude.{None, decimal}
-use Rattle.dgt_chess.specs.declared.pieces.Colour.{Colour}
-use Rattle.dgt_chess.specs.Fen.{AreCounters, IsAnyFen, IsFirstWrong, IsFromPassed, IsFromRights, IsFromTurn, IsNumber, IsPassed}
-use Rattle.dgt_chess.specs.Fen.{IsPieces, IsRights, IsTurn, Then, passed_text, rights_of, rights_text, turn_text}
+use Rattle.{std.{proofs.Common.{ℕ, refl, List, ◌∷◌, ◌++◌, rules}, specs.Prelude.{None, decimal}}, dgt_chess.specs.{declared.pieces.Colour.{Colour}, Fen.{AreCounters, IsAnyFen, IsFirstWrong}}}
+use Rattle.dgt_chess.specs.Fen.{IsFromPassed, IsFromRights, IsFromTurn, IsNumber, IsPassed, IsPieces, IsRights, IsTurn, Then, passed_text, rights_of, rights_text, turn_text}
 use Rattle.dgt_chess.proofs.Decimals.{zero_number}
 
 -- some text of a kind
@@ -36,13 +33,7 @@ some_from_turn = both IsTurn IsFromRights
 -- two kinds that are one
 pub same_kind : (A B : List ℕ → Type 0) → ((t : List ℕ) → A t → B t) → ((t : List ℕ) → B t → A t)
     → (text : List ℕ) (at : ℕ) → IsFirstWrong A text at → IsFirstWrong B text at
-same_kind A B to from text at w = record {
-  within = w.within;
-  right = w.right;
-  is = to w.right w.is;
-  before = w.before;
-  after = λ other o same. w.after other (from other o) same;
-}
+same_kind A B to from text at w = search rules
 
 to_any : (text : List ℕ) → Then IsPieces IsFromTurn text → IsAnyFen text
 to_any text o =
@@ -56,71 +47,11 @@ to_any text o =
       passed.is_first.0,
       counters.is_first.0,
       counters.is_rest.0,
-      record {
-        first = o.first;
-        rest = o.rest;
-        is_first = o.is_first.1;
-        is_rest = record {
-          first = turn.first;
-          rest = turn.rest;
-          is_first = turn.is_first.1;
-          is_rest = record {
-            first = rights.first;
-            rest = rights.rest;
-            is_first = rights.is_first.1;
-            is_rest = record {
-              first = passed.first;
-              rest = passed.rest;
-              is_first = passed.is_first.1;
-              is_rest = record {
-                first = counters.first;
-                rest = counters.rest;
-                is_first = counters.is_first.1;
-                is_rest = counters.is_rest.1;
-                joined = counters.joined;
-              };
-              joined = passed.joined;
-            };
-            joined = rights.joined;
-          };
-          joined = turn.joined;
-        };
-        joined = o.joined;
-      },
+      search rules,
     )
 
 pub from_any : (text : List ℕ) → IsAnyFen text → Then IsPieces IsFromTurn text
-from_any text (pieces, turn, rights, passed, half_moves, number, o) = record {
-  first = o.first;
-  rest = o.rest;
-  is_first = (pieces, o.is_first);
-  is_rest = record {
-    first = o.is_rest.first;
-    rest = o.is_rest.rest;
-    is_first = (turn, o.is_rest.is_first);
-    is_rest = record {
-      first = o.is_rest.is_rest.first;
-      rest = o.is_rest.is_rest.rest;
-      is_first = (rights, o.is_rest.is_rest.is_first);
-      is_rest = record {
-        first = o.is_rest.is_rest.is_rest.first;
-        rest = o.is_rest.is_rest.is_rest.rest;
-        is_first = (passed, o.is_rest.is_rest.is_rest.is_first);
-        is_rest = record {
-          first = o.is_rest.is_rest.is_rest.is_rest.first;
-          rest = o.is_rest.is_rest.is_rest.is_rest.rest;
-          is_first = (half_moves, o.is_rest.is_rest.is_rest.is_rest.is_first);
-          is_rest = (number, o.is_rest.is_rest.is_rest.is_rest.is_rest);
-          joined = o.is_rest.is_rest.is_rest.is_rest.joined;
-        };
-        joined = o.is_rest.is_rest.is_rest.joined;
-      };
-      joined = o.is_rest.is_rest.joined;
-    };
-    joined = o.is_rest.joined;
-  };
-  joined = o.joined;
-}
+from_any text (pieces, turn, rights, passed, half_moves, number, o) = search rules
 
 -- the first wrong byte by kinds is the first wrong one
 pub wrong_fen : (text : List ℕ) (at : ℕ) → IsFirstWrong (Then IsPieces IsFromTurn) text at

@@ -1,11 +1,9 @@
 -- The first wrong byte of a decimal number.
 use Rattle.std.proofs.Common.{◌≡◌, ℕ, ◌+◌, ◌-◌, ◌*◌, ◌/◌, ◌%◌, ◌<◌, ◌≤◌, ◌^◌, ◌⊎◌, inl, inr, refl, sym, ap, ◌∙◌, subst, arith, List, [], ◌∷◌, ◌++◌, length, take, get_or, length-append, length-take}
-use Rattle.std.proofs.lemmas.Bool.{cases_lt, cases_eq}
+use Rattle.std.proofs.{Common.{rules}, lemmas.Bool.{cases_lt, cases_eq}}
 use Rattle.std.proofs.lemmas.{Fmt.{decimal_by_steps, decimal_digit, decimal_injective, decimal_is_IsNumeral, decimal_nonempty, decimal_step, first_decimal, length-decimal-le}, Str.Parse.{digit_at}}
-use Rattle.std.proofs.lemmas.List.{append_cancel_right, take_all, take_more, take-append-le, take-take}
-use Rattle.std.specs.Prelude.{decimal}
-use Rattle.dgt_chess.specs.Fen.{HasNoSpace, IsDecimal, IsFirstWrong, IsNumber}
-use Rattle.dgt_chess.proofs.FirstWrong.{byte_of}
+use Rattle.std.{proofs.lemmas.List.{append_cancel_right, take_all, take_more, take-append-le, take-take}, specs.Prelude.{decimal}}
+use Rattle.{dgt_chess.{specs.Fen.{HasNoSpace, IsDecimal, IsFirstWrong, IsNumber}, proofs.FirstWrong.{byte_of}}, std.proofs.lemmas.Grind.{common_steps}}
 
 -- each byte is a digit
 digit_of : (n k : ℕ) → n < 2 ^ 64 → k < length (decimal n)
@@ -13,9 +11,7 @@ digit_of : (n k : ℕ) → n < 2 ^ 64 → k < length (decimal n)
 digit_of n k small lt = digit_at (decimal n) k ((decimal_is_IsNumeral n small).0.1) lt
 
 pub decimal_plain : (n : ℕ) → n < 2 ^ 16 → HasNoSpace (decimal n)
-decimal_plain n small k lt is =
-    let digit = digit_of n k (omega arith) lt in
-    absurd (omega (arith, digit.0))
+decimal_plain n small k lt is = search (rules, digit_of)
 
 pub number_plain : (text : List ℕ) → IsNumber text → HasNoSpace text
 number_plain text (number, is) =
@@ -27,12 +23,7 @@ zero_number = (0, (omega arith, refl))
 -- one more digit of a number
 pub decimal_more : (n d : ℕ) → 0 < n → n < 2 ^ 16 → d < 10
     → decimal (10 * n + d) ≡ decimal n ++ (48 + d) ∷ []
-decimal_more n d some small digit =
-    let front : (10 * n + d) / 10 ≡ n = omega arith in
-    let last : (10 * n + d) % 10 ≡ d = omega arith in
-    decimal_step (10 * n + d) (omega arith) (omega arith)
-    ∙ ap (λ m. decimal m ++ (48 + (10 * n + d) % 10) ∷ []) front
-    ∙ ap (λ m. decimal n ++ (48 + m) ∷ []) last
+decimal_more n d some small digit = search (rules, decimal_step)
 
 -- a number with these first digits is no smaller than the number of these
 abbrev Begins : ℕ → List ℕ → Type 0
@@ -40,28 +31,14 @@ Begins n text = decimal n ≡ text → n < 2 ^ 64 → (k m : ℕ) → 0 < k → 
     → take k text ≡ decimal m → m ≤ n
 
 begins_one : (n : ℕ) → n < 10 → Begins n ((48 + n) ∷ [])
-begins_one n small is fits k m some fits' same =
-    let whole = take_all k ((48 + n) ∷ []) (omega arith) in
-    let equal = decimal_injective n m fits fits' (is ∙ sym whole ∙ same) in
-    omega arith
+begins_one n small is fits k m some fits' same = search (rules, take_all, decimal_injective)
 
 begins_more : (n : ℕ) (text : List ℕ) → 10 ≤ n → Begins (n / 10) text
     → Begins n (text ++ (48 + n % 10) ∷ [])
 begins_more n text large before is fits k m some fits' same =
     let shorter : decimal (n / 10) ≡ text =
-    append_cancel_right (decimal (n / 10)) text ((48 + n % 10) ∷ [])
-    (sym (decimal_step n large fits) ∙ is) in
-    elim (cases_lt (length text) k) [
-      | inl lt ↦
-          let whole = take_all k (text ++ (48 + n % 10) ∷ [])
-          (omega (arith, length-append text ((48 + n % 10) ∷ []))) in
-          let equal = decimal_injective n m fits fits' (is ∙ sym whole ∙ same) in
-          omega arith
-      | inr le ↦
-          let less : m ≤ n / 10 = before shorter (omega arith) k m some fits'
-          (sym (take-append-le k text ((48 + n % 10) ∷ []) le) ∙ same) in
-          omega arith
-    ]
+    search (rules, append_cancel_right, decimal_step) in
+    search (rules, cases_lt, take_all, length-append, decimal_injective, take-append-le)
 
 begins_le : (n k m : ℕ) → n < 2 ^ 64 → 0 < k → m < 2 ^ 64 → take k (decimal n) ≡ decimal m → m ≤ n
 begins_le n k m fits some fits' same =
@@ -78,35 +55,15 @@ pub read_more : (bytes : List ℕ) (at number next : ℕ) → at < length bytes 
     → (0 < at → 0 < number) → next ≡ 10 * number + (get_or bytes at 0 - 48)
     → ReadNumber bytes (at + 1) next
 read_more bytes at number next lt small (inl (start, none)) low high some is =
-    let d : ℕ = get_or bytes at 0 - 48 in
-    let value : next ≡ d = omega arith in
-    let byte : get_or bytes at 0 ≡ 48 + d = omega arith in
-    let front : take at bytes ≡ [] = ap (λ n. take n bytes) start in
-    inr (
-      omega arith,
-      take_more bytes at 0 lt ∙ ap (λ l. l ++ get_or bytes at 0 ∷ []) front
-          ∙ ap (λ b. b ∷ []) byte ∙ sym (decimal_digit d (omega arith)) ∙ ap decimal (sym value),
-    )
+    search (rules, take_more, decimal_digit)
 read_more bytes at number next lt small (inr (begun, read)) low high some is =
-    let d : ℕ = get_or bytes at 0 - 48 in
-    let byte : get_or bytes at 0 ≡ 48 + d = omega arith in
-    inr (
-      omega arith,
-      take_more bytes at 0 lt ∙ ap (λ l. l ++ get_or bytes at 0 ∷ []) read
-          ∙ ap (λ b. decimal number ++ b ∷ []) byte
-          ∙ sym (decimal_more number d (some begun) small (omega arith)) ∙ ap decimal (sym is),
-    )
+    grind (arith, common_steps, take_more, decimal_more)
 
 -- a number that agrees so far has a digit here
 agrees : (bytes : List ℕ) (at n : ℕ) → at < length bytes → n < 2 ^ 16
     → take (at + 1) (decimal n) ≡ take (at + 1) bytes
     → (at < length (decimal n)) × (get_or (decimal n) at 0 ≡ get_or bytes at 0)
-agrees bytes at n lt small same =
-    let long : length (take (at + 1) (decimal n)) ≡ length (take (at + 1) bytes) =
-    ap length same in (
-      omega (arith, length-take (at + 1) (decimal n), length-take (at + 1) bytes),
-      byte_of (at + 1) at (decimal n) bytes same (omega arith),
-    )
+agrees bytes at n lt small same = grind (arith, common_steps, length-take, byte_of)
 
 -- the byte continues no number
 abbrev pub Stops : ℕ → ℕ → ℕ → Type 0
@@ -119,18 +76,8 @@ leading_zero : (bytes : List ℕ) (at n : ℕ) → n < 2 ^ 16 → 0 < at → at 
     → take at bytes ≡ decimal 0 → take (at + 1) (decimal n) ≡ take (at + 1) bytes → ⊥
 leading_zero bytes at n small begun long read same =
     let first : get_or (decimal n) 0 0 ≡ 48 =
-    byte_of (at + 1) 0 (decimal n) bytes same (omega arith)
-    ∙ sym (byte_of at 0 (decimal 0) bytes
-    (take_all at (decimal 0) (omega (arith, length-decimal-le 1 0)) ∙ sym read) begun)
-    ∙ ap (λ l. get_or l 0 0) (decimal_digit 0 (omega arith)) in
-    elim (cases_eq n 0) [
-      | inl zero_is ↦
-          let short : length (decimal n) ≡ 1 =
-          ap (λ m. length (decimal m)) zero_is
-          ∙ ap (λ l. length l) (decimal_digit 0 (omega arith)) in
-          absurd (omega arith)
-      | inr some ↦ absurd (omega (arith, first_decimal n (omega arith) (omega arith)))
-    ]
+    grind (arith, common_steps, byte_of, take_all, decimal_digit) in
+    search (rules, cases_eq, decimal_digit, first_decimal)
 
 -- no number goes on with a byte that stops it
 stops : (bytes : List ℕ) (at number n : ℕ) → at < length bytes → number < 2 ^ 16
@@ -138,12 +85,10 @@ stops : (bytes : List ℕ) (at number n : ℕ) → at < length bytes → number 
     → take (at + 1) (decimal n) ≡ take (at + 1) bytes → ⊥
 stops bytes at number n lt fits read (inl low) small same =
     let here = agrees bytes at n lt small same in
-    let digit = digit_of n at (omega arith) here.0 in
-    absurd (omega (arith, here.1, digit.0))
+    search (rules, digit_of)
 stops bytes at number n lt fits read (inr (inl high)) small same =
     let here = agrees bytes at n lt small same in
-    let digit = digit_of n at (omega arith) here.0 in
-    absurd (omega (arith, here.1, digit.1))
+    search (rules, digit_of)
 stops bytes at number n lt fits (inl (start, none)) (inr (inr (inl (begun, is)))) small same =
     absurd (omega arith)
 stops bytes at number n lt fits (inr (some, read)) (inr (inr (inl (begun, is)))) small same =
@@ -151,8 +96,7 @@ stops bytes at number n lt fits (inr (some, read)) (inr (inr (inl (begun, is))))
     leading_zero bytes at n small begun here.0 (read ∙ ap decimal is) same
 stops bytes at number n lt fits (inl (start, none)) (inr (inr (inr large))) small same =
     let here = agrees bytes at n lt small same in
-    let digit = digit_of n at (omega arith) here.0 in
-    absurd (omega (arith, here.1, digit.1))
+    search (rules, digit_of)
 stops bytes at number n lt fits (inr (begun, read)) (inr (inr (inr large))) small same =
     let here = agrees bytes at n lt small same in
     let digit = digit_of n at (omega arith) here.0 in
@@ -161,19 +105,13 @@ stops bytes at number n lt fits (inr (begun, read)) (inr (inr (inr large))) smal
     let fits_digit : d < 10 = omega (arith, here.1, digit.1) in
     let some : 0 < number = omega arith in
     let more : take (at + 1) bytes ≡ decimal (10 * number + d) =
-    take_more bytes at 0 lt ∙ ap (λ l. l ++ get_or bytes at 0 ∷ []) read
-    ∙ ap (λ b. decimal number ++ b ∷ []) byte ∙ sym (decimal_more number d some fits fits_digit) in
-    let less = begins_le n (at + 1) (10 * number + d) (omega arith) (omega arith) (omega arith)
-    (same ∙ more) in
-    absurd (omega arith)
+    search (rules, take_more, decimal_more) in
+    search (rules, begins_le)
 
 -- what was read begins a number
 begun_by : (bytes : List ℕ) (at number : ℕ) → number < 2 ^ 16 → ReadNumber bytes at number
     → take at (decimal number) ≡ take at bytes
-begun_by bytes at number fits (inl (start, none)) =
-    ap (λ n. take n (decimal number)) start ∙ sym (ap (λ n. take n bytes) start)
-begun_by bytes at number fits (inr (begun, read)) =
-    ap (λ l. take at l) (sym read) ∙ take-take at at bytes (omega arith)
+begun_by bytes at number fits read_number = search (rules, take-take)
 
 -- the byte is the first wrong one
 pub number_stops : (bytes : List ℕ) (at number : ℕ) → at < length bytes → number < 2 ^ 16
@@ -195,24 +133,13 @@ number_empty bytes none = record {
   right = decimal 0;
   is = (0, (omega arith, refl));
   before = refl;
-  after = λ other o same.
-      let long : length (take 1 other) ≡ length (take 1 bytes) = ap length same in
-      let is : length other ≡ length (decimal o.0) = ap length o.1.1 in
-      absurd (omega (
-        arith,
-        length-take 1 other,
-        length-take 1 bytes,
-        decimal_nonempty o.0
-            (omega (arith, o.1.0)),
-      ));
+  after = search (rules, length-take, decimal_nonempty);
 }
 
 -- the whole text was read
 pub number_read : (bytes : List ℕ) (at number : ℕ) → length bytes ≤ at → 0 < length bytes
     → ReadNumber bytes at number → number < 2 ^ 16 → IsDecimal number bytes
-number_read bytes at number end some (inl (start, none)) fits = absurd (omega arith)
-number_read bytes at number end some (inr (begun, read)) fits =
-    (fits, sym (take_all at bytes end) ∙ read)
+number_read bytes at number end some read_number fits = search (rules, take_all)
 
 pub five_digits : (n : ℕ) → n < 2 ^ 16 → length (decimal n) ≤ 5
 five_digits n small = length-decimal-le 5 n (omega arith) (omega arith) (omega arith)
@@ -221,6 +148,4 @@ pub one_long : (n : ℕ) → n < 10 → length (decimal n) ≡ 1
 one_long n small = ap (λ l. length l) (decimal_digit n small)
 
 pub more_long : (n : ℕ) → 10 ≤ n → n < 2 ^ 16 → length (decimal n) ≡ length (decimal (n / 10)) + 1
-more_long n large small =
-    ap (λ l. length l) (decimal_step n large (omega arith))
-    ∙ length-append (decimal (n / 10)) ((48 + n % 10) ∷ [])
+more_long n large small = search (rules, decimal_step, length-append)

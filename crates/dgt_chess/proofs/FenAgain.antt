@@ -1,18 +1,9 @@
 -- States with the same parts and the same legal moves have the same written text.
-use Rattle.std.proofs.Common.{◌≡◌, ◌∙◌, ℕ, ◌<◌, ◌^◌, List, ap, arith, inl, inr, refl, subst, sym}
-use Rattle.std.specs.Prelude.{Option, Some, None, Result, Ok, Err, option_map}
-use Rattle.dgt_values.specs.declared.squares.Square.{Square}
-use Rattle.dgt_values.specs.Board.{square_number}
-use Rattle.dgt_chess.specs.declared.fen.BadFen.{BadFen}
-use Rattle.dgt_chess.specs.declared.pieces.Colour.{Colour}
-use Rattle.dgt_chess.specs.declared.pieces.Man.{Man}
-use Rattle.dgt_chess.specs.declared.state.State.{State}
-use Rattle.dgt_chess.specs.Attacks.{file, other, piece_at, piece_of}
-use Rattle.dgt_chess.specs.Rules.{LegalBy, PawnMoves, TakesPassing, beside, board, passed}
-use Rattle.dgt_chess.specs.Fen.{CanTakePassing, IsShown, ParsesFen, ReadsBack, SameBut, SameMoves, WritesFen, fen_text, passed_text}
-use Rattle.dgt_chess.proofs.FenLaws.{Accepted, written_fen}
-use Rattle.dgt_chess.proofs.SameMoves.{along, back}
-use Rattle.dgt_chess.proofs.Unique.{not_free, same_man, same_side}
+use Rattle.std.{proofs.Common.{◌≡◌, ◌∙◌, ℕ, ◌<◌, ◌^◌, List, ap, arith, inl, inr, refl, subst, sym}, specs.Prelude.{Option, Some, None, Result, Ok, Err, option_map}}
+use Rattle.{dgt_values.specs.{declared.squares.Square.{Square}, Board.{square_number}}, dgt_chess.specs.declared.{fen.BadFen.{BadFen}, pieces.{Colour.{Colour}, Man.{Man}}, state.State.{State}}}
+use Rattle.dgt_chess.specs.{Attacks.{file, other, piece_at, piece_of}, Rules.{LegalBy, PawnMoves, TakesPassing, beside, board, passed}}
+use Rattle.dgt_chess.{specs.Fen.{CanTakePassing, IsShown, ParsesFen, ReadsBack, SameBut, SameMoves, WritesFen, fen_text, passed_text}, proofs.FenLaws.{Accepted, written_fen}}
+use Rattle.dgt_chess.proofs.{SameMoves.{along, back}, Unique.{not_free, same_man, same_side}}
 
 not_other : (turn : Colour) → Some (other turn) ≡ Some turn → ⊥
 not_other Colour.White e = cc
@@ -104,5 +95,4 @@ read_back_parsed law a text (Err e) few small writes reads = absurd reads
 
 pub read_back_written : (state new : State) (text : List ℕ) → WritesFen state text
     → ReadsBack state (Ok new) → WritesFen new text
-read_back_written state new text writes reads =
-    written_alike state new text reads.0 reads.1 writes
+read_back_written state new text writes reads = written_alike state new text reads.0 reads.1 writes

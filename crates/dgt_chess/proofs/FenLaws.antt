@@ -1,21 +1,11 @@
 -- What the text of a state determines.
 use Prim.Native.Char.{code as ascii}
-use Rattle.std.proofs.Math.Logic.{∥∥₁_elim}
-use Rattle.std.proofs.Common.{◌≡◌, ℕ, ◌+◌, ◌-◌, ◌/◌, ◌%◌, ◌<◌, ◌^◌, inl, inr, refl, sym, ap, ◌∙◌, subst, arith, List, [], ◌∷◌, ◌++◌, length, take, get_or}
-use Rattle.std.proofs.lemmas.{List.{append_assoc, append_cancel_left}, Fmt.{decimal_injective}}
-use Rattle.std.specs.Prelude.{◌||◌, Bool, true, false, Option, Some, None, Ok, Err, Result, nat_eq, option_map, decimal}
-use Rattle.dgt_values.specs.declared.pieces.Piece.{Piece}
-use Rattle.dgt_values.specs.declared.squares.Square.{Square}
-use Rattle.dgt_values.specs.Board.{square_number}
-use Rattle.dgt_values.specs.Placement.{IsPlacement, placement_text}
-use Rattle.dgt_chess.specs.declared.fen.BadFen.{BadFen}
-use Rattle.dgt_chess.specs.declared.pieces.Colour.{Colour}
-use Rattle.dgt_chess.specs.declared.possible.Rights.{Rights}
-use Rattle.dgt_chess.specs.declared.state.State.{State}
-use Rattle.dgt_chess.specs.Possible.{HasPassed, IsPossible, RefusedAreImpossible}
-use Rattle.dgt_chess.specs.Rules.{board, passed}
-use Rattle.dgt_chess.specs.Fen.{Fen, HasNoSpace, IsFen, IsShown, ParsesFen, SameBut, Then, fen_text, passed_text, rights_text, turn_text}
-use Rattle.dgt_chess.proofs.{Decimals.{decimal_plain}, FieldBytes.{passed_plain, pieces_plain, rights_plain, turn_plain}, FirstWrong.{same_first}}
+use Rattle.std.proofs.{Math.Logic.{∥∥₁_elim}, Common.{◌≡◌, ℕ, ◌+◌, ◌<◌, ◌^◌, inl, inr, refl, sym, ap, ◌∙◌, subst, arith, List, [], ◌∷◌, ◌++◌, length, take, rules}}
+use Rattle.std.{proofs.lemmas.{List.{append_assoc, append_cancel_left}, Fmt.{decimal_injective}}, specs.Prelude.{◌||◌, Bool, false, Option, None, Ok, Err, Result, nat_eq, option_map}}
+use Rattle.{dgt_values.specs.{declared.{pieces.Piece.{Piece}, squares.Square.{Square}}, Board.{square_number}, Placement.{IsPlacement, placement_text}}, dgt_chess.specs.declared.fen.BadFen.{BadFen}}
+use Rattle.dgt_chess.specs.{declared.{pieces.Colour.{Colour}, possible.Rights.{Rights}, state.State.{State}}, Possible.{HasPassed, IsPossible, RefusedAreImpossible}, Rules.{board, passed}}
+use Rattle.dgt_chess.{specs.Fen.{Fen, HasNoSpace, IsFen, IsShown, ParsesFen, SameBut, Then, fen_text, passed_text, rights_text, turn_text}, proofs.Decimals.{decimal_plain}}
+use Rattle.dgt_chess.proofs.{FieldBytes.{passed_plain, pieces_plain, rights_plain, turn_plain}, FirstWrong.{same_first}}
 
 -- a text is divided at its spaces in one way
 then_one : (A B A' B' : List ℕ → Type 0) (text text' : List ℕ) → text ≡ text' → (o : Then A B text)
@@ -37,12 +27,7 @@ differ : (a b : ℕ) → a ≡ b → a < b → ⊥
 differ a b e lt = absurd (omega arith)
 
 turn_injective : (a b : Colour) → turn_text a ≡ turn_text b → a ≡ b
-turn_injective Colour.White Colour.White e = refl
-turn_injective Colour.Black Colour.Black e = refl
-turn_injective Colour.White Colour.Black e =
-    absurd (differ 98 119 (sym (ap (λ l. get_or l 0 0) e)) (omega arith))
-turn_injective Colour.Black Colour.White e =
-    absurd (differ 98 119 (ap (λ l. get_or l 0 0) e) (omega arith))
+turn_injective a b e = search (rules, differ)
 
 abbrev has : ℕ → List ℕ → Bool
 has letter [] = false
@@ -60,22 +45,7 @@ abbrev four : Bool → Bool → Bool → Bool → Rights
 four a b c d = record { white_short = a; white_long = b; black_short = c; black_long = d }
 
 rights_read : (a b c d : Bool) → rights_in (rights_text (four a b c d)) ≡ four a b c d
-rights_read false false false false = refl
-rights_read true false false false = refl
-rights_read false true false false = refl
-rights_read true true false false = refl
-rights_read false false true false = refl
-rights_read true false true false = refl
-rights_read false true true false = refl
-rights_read true true true false = refl
-rights_read false false false true = refl
-rights_read true false false true = refl
-rights_read false true false true = refl
-rights_read true true false true = refl
-rights_read false false true true = refl
-rights_read true false true true = refl
-rights_read false true true true = refl
-rights_read true true true true = refl
+rights_read a b c d = search rules
 
 rights_injective : (a b : Rights) → rights_text a ≡ rights_text b → a ≡ b
 rights_injective a b e =
@@ -84,14 +54,7 @@ rights_injective a b e =
 
 passed_injective : (a b : Option Square) → passed_text a ≡ passed_text b
     → option_map square_number a ≡ option_map square_number b
-passed_injective None None e = refl
-passed_injective None (Some b) e = absurd (differ 1 2 (ap (λ l. length l) e) (omega arith))
-passed_injective (Some a) None e = absurd (differ 1 2 (sym (ap (λ l. length l) e)) (omega arith))
-passed_injective (Some a) (Some b) e =
-    let file : 97 + square_number a % 8 ≡ 97 + square_number b % 8 = ap (λ l. get_or l 0 0) e in
-    let row : 56 - square_number a / 8 ≡ 56 - square_number b / 8 = ap (λ l. get_or l 1 0) e in
-    let same : square_number a ≡ square_number b = omega (arith, a.small, b.small) in
-    ap Some same
+passed_injective a b e = search (rules, differ)
 
 -- the parts of two texts are the same
 pub record SameParts (p p' : List Piece) (t t' : Colour) (r r' : Rights) (s s' : Option Square)
@@ -107,8 +70,7 @@ pub record SameParts (p p' : List Piece) (t t' : Colour) (r r' : Rights) (s s' :
 -- what dgt_values says of placements
 abbrev pub OnePlacement : Type 0
 OnePlacement = (text : List ℕ) (first second : List Piece) → IsPlacement text first
-    → IsPlacement text second
-    → first ≡ second
+    → IsPlacement text second → first ≡ second
 
 pub one_fen : OnePlacement → (text : List ℕ) (p p' : List Piece) (t t' : Colour) (r r' : Rights)
     (s s' : Option Square) (h h' n n' : ℕ) → IsFen text p t r s h n → IsFen text p' t' r' s' h' n'
@@ -148,25 +110,14 @@ one_fen law text p p' t t' r r' s s' h h' n n' o o' =
     }
 
 pub one_state : OnePlacement → (text : List ℕ) (first second : State) → Fen first text
-    → Fen second text
-    → SameBut first second × (passed first ≡ passed second)
+    → Fen second text → SameBut first second × (passed first ≡ passed second)
 one_state law text a b first second =
     let same = one_fen law text (board a)
     (board b) a.turn b.turn a.rights b.rights a.passed b.passed
-    a.half_moves b.half_moves a.number b.number first second in (
-      record {
-        pieces = same.pieces;
-        turn = same.turn;
-        rights = same.rights;
-        half_moves = same.half_moves;
-        number = same.number;
-      },
-      same.square,
-    )
+    a.half_moves b.half_moves a.number b.number first second in (search rules)
 
 -- the fields of a written text
-regroup : (p t r s h n : List ℕ)
-    → p ++ 32 ∷ t ++ 32 ∷ r ++ 32 ∷ s ++ 32 ∷ h ++ 32 ∷ n
+regroup : (p t r s h n : List ℕ) → p ++ 32 ∷ t ++ 32 ∷ r ++ 32 ∷ s ++ 32 ∷ h ++ 32 ∷ n
     ≡ p ++ 32 ∷ (t ++ 32 ∷ (r ++ 32 ∷ (s ++ 32 ∷ (h ++ 32 ∷ n))))
 regroup p t r s h n =
     append_assoc (p ++ 32 ∷ t ++ 32 ∷ r ++ 32 ∷ s) (32 ∷ h) (32 ∷ n)
@@ -181,39 +132,7 @@ Accepted = (pieces : List Piece) → length pieces ≡ 64 → IsPlacement (place
 pub written_fen : Accepted → (state : State) (shown : Option Square) (text : List ℕ)
     → state.half_moves < 2 ^ 16 → state.number < 2 ^ 16 → text ≡ fen_text state shown
     → IsFen text (board state) state.turn state.rights shown state.half_moves state.number
-written_fen law state shown text few small is = record {
-  first = placement_text (board state);
-  rest = _;
-  is_first = law (board state) state.position.all;
-  is_rest = record {
-    first = turn_text state.turn;
-    rest = _;
-    is_first = refl;
-    is_rest = record {
-      first = rights_text state.rights;
-      rest = _;
-      is_first = refl;
-      is_rest = record {
-        first = passed_text shown;
-        rest = _;
-        is_first = refl;
-        is_rest = record {
-          first = decimal state.half_moves;
-          rest = decimal state.number;
-          is_first = (few, refl);
-          is_rest = (small, refl);
-          joined = refl;
-        };
-        joined = refl;
-      };
-      joined = refl;
-    };
-    joined = refl;
-  };
-  joined = is
-      ∙ regroup (placement_text (board state)) (turn_text state.turn) (rights_text state.rights)
-      (passed_text shown) (decimal state.half_moves) (decimal state.number);
-}
+written_fen law state shown text few small is = search (rules, regroup)
 
 -- a state is possible also without the square that a pawn has just passed over
 nothing_passed : (pieces : List Piece) (turn : Colour) → HasPassed pieces turn None
@@ -223,22 +142,8 @@ nothing_passed pieces turn = λ square is. let none : ⊥ = cc in absurd none
 shown_possible : (state : State) (shown : Option Square) → IsShown state shown
     → IsPossible (board state) state.turn state.rights (passed state) state.number
     → IsPossible (board state) state.turn state.rights (option_map square_number shown) state.number
-shown_possible state shown (inl (can, is)) p =
-    let P : Option Square → Type 0 = λ s.
-    IsPossible (board state) state.turn state.rights (option_map square_number s) state.number in
-    subst P (sym is) p
-shown_possible state shown (inr (cannot, is)) p =
-    let P : Option Square → Type 0 = λ s.
-    IsPossible (board state) state.turn state.rights (option_map square_number s) state.number in
-    subst P (sym is) (record {
-      kings = p.kings;
-      known = p.known;
-      pawns = p.pawns;
-      safe = p.safe;
-      homes = p.homes;
-      steps = nothing_passed (board state) state.turn;
-      counted = p.counted;
-    })
+shown_possible state shown (inl (can, is)) p = search rules
+shown_possible state shown (inr (cannot, is)) p = search (rules, nothing_passed)
 
 -- a written text is read as a state of the same parts, but for the square
 pub record ReadAs (state : State) (shown : Option Square) (new : State) : Type 0 where
@@ -248,8 +153,7 @@ pub record ReadAs (state : State) (shown : Option Square) (new : State) : Type 0
 pub reads_back : OnePlacement → Accepted → RefusedAreImpossible
     → (state : State) (shown : Option Square) (text : List ℕ)
     (result : Result State BadFen) → state.half_moves < 2 ^ 16 → state.number < 2 ^ 16
-    → IsShown state shown
-    → text ≡ fen_text state shown → ParsesFen text result
+    → IsShown state shown → text ≡ fen_text state shown → ParsesFen text result
     → (new : State) × (result ≡ Ok new) × ReadAs state shown new
 reads_back law accepted refusal state shown text (Ok new) few small is_shown is reads =
     let same = one_fen law text (board state)
@@ -258,20 +162,10 @@ reads_back law accepted refusal state shown text (Ok new) few small is_shown is 
     (written_fen accepted state shown text few small is) reads in (
       new,
       refl,
-      record {
-        same = record {
-          pieces = same.pieces;
-          turn = same.turn;
-          rights = same.rights;
-          half_moves = same.half_moves;
-          number = same.number;
-        };
-        square = same.square;
-      },
+      search rules,
     )
 reads_back law accepted refusal state shown text
-    (Err (BadFen.Text field at)) few small is_shown is reads =
-    absurd (reads.0.after text (
+    (Err (BadFen.Text field at)) few small is_shown is reads = absurd (reads.0.after text (
       board state,
       state.turn,
       state.rights,
@@ -286,6 +180,4 @@ reads_back law accepted refusal state shown text (Err (BadFen.Impossible why)) f
     (board state) t state.turn r state.rights s shown h state.half_moves n state.number
     reads (written_fen accepted state shown text few small is) in
     let refused = rw (same.pieces, same.turn, same.rights, same.square, same.number) at refuses in
-    absurd (∥∥₁_elim state.possible (λ x y. absurd x) (λ possible.
-    refusal why (board state) state.turn state.rights (option_map square_number shown) state.number
-    refused (shown_possible state shown is_shown possible)))
+    absurd (∥∥₁_elim state.possible (λ x y. absurd x) (search (rules, shown_possible)))

@@ -1,19 +1,12 @@
 -- What was written is read back.
-use Rattle.std.proofs.Common.{ℕ, ◌<◌, ◌^◌, sym, subst, List}
-use Rattle.std.specs.Prelude.{Result}
-use Rattle.dgt_chess.specs.declared.fen.BadFen.{BadFen}
-use Rattle.dgt_chess.specs.declared.state.State.{State}
-use Rattle.dgt_chess.specs.Possible.{RefusedAreImpossible}
-use Rattle.dgt_chess.specs.Rules.{board}
-use Rattle.dgt_chess.specs.Fen.{ParsesFen, ReadsBack, SameBut, SameMoves, WritesFen}
-use Rattle.dgt_chess.proofs.FenLaws.{Accepted, OnePlacement, one_fen, reads_back, written_fen}
+use Rattle.{std.{proofs.Common.{ℕ, ◌<◌, ◌^◌, sym, subst, List, rules}, specs.Prelude.{Result}}, dgt_chess.specs.{declared.{fen.BadFen.{BadFen}, state.State.{State}}, Possible.{RefusedAreImpossible}}}
+use Rattle.dgt_chess.{specs.{Rules.{board}, Fen.{ParsesFen, ReadsBack, SameBut, SameMoves, WritesFen}}, proofs.FenLaws.{Accepted, OnePlacement, one_fen, reads_back, written_fen}}
 use Rattle.dgt_chess.proofs.SameMoves.{same_moves, shown_from, shown_same, shown_to}
 
 pub read_back : OnePlacement → Accepted → RefusedAreImpossible
     → (state : State) (text : List ℕ) (result : Result State BadFen)
     → state.half_moves < 2 ^ 16 → state.number < 2 ^ 16 → WritesFen state text
-    → ParsesFen text result
-    → ReadsBack state result
+    → ParsesFen text result → ReadsBack state result
 read_back law accepted refusal state text result few small (shown, is_shown, is) reads =
     let known = reads_back law accepted refusal state shown text result few small is_shown is reads
     in
@@ -37,13 +30,7 @@ written_once law accepted a b text few small few' small' (s, is_shown, is) (s', 
     (board b) a.turn b.turn a.rights b.rights s s' a.half_moves b.half_moves
     a.number b.number (written_fen accepted a s text few small is)
     (written_fen accepted b s' text few' small' is') in
-    let same : SameBut a b = record {
-      pieces = parts.pieces;
-      turn = parts.turn;
-      rights = parts.rights;
-      half_moves = parts.half_moves;
-      number = parts.number;
-    } in (
+    let same : SameBut a b = search rules in (
       same,
       same_moves a b same (shown_same a b s s' is_shown is_shown' parts.square)
           (shown_same b a s' s is_shown' is_shown (sym parts.square)),

@@ -1,37 +1,25 @@
 -- The fields of a text, their bytes and their first wrong bytes.
 use Prim.Native.Char.{code as ascii}
-use Rattle.std.proofs.Common.{◌≡◌, ◌≢◌, ℕ, zero, suc, ◌+◌, ◌-◌, ◌/◌, ◌%◌, ◌<◌, ◌≤◌, ◌⊎◌, inl, inr, refl}
-use Rattle.std.proofs.Common.{sym, ap, ◌∙◌, subst, arith, List, [], ◌∷◌, ◌++◌, length, take, drop, get_or, length-take, take-append-drop, below_more}
-use Rattle.std.proofs.lemmas.Bool.{cases_lt}
-use Rattle.std.proofs.lemmas.List.{length-take-le, take_all, take_at}
-use Rattle.std.specs.Prelude.{Bool, true, false, Option, Some, None}
-use Rattle.std.specs.List.{join_with_byte}
-use Rattle.dgt_values.specs.declared.pieces.Piece.{Piece}
-use Rattle.dgt_values.specs.declared.squares.Square.{Square}
-use Rattle.dgt_values.specs.Board.{piece_letter, square_name, square_number}
-use Rattle.dgt_values.specs.Placement.{AreRanks, IsFirstBadOffset, IsPlacement, IsRank, MeansSquares}
-use Rattle.dgt_chess.specs.declared.pieces.Colour.{Colour}
-use Rattle.dgt_chess.specs.declared.possible.Rights.{Rights}
+use Rattle.std.proofs.Common.{◌≡◌, ◌≢◌, ℕ, ◌+◌, ◌-◌, ◌%◌, ◌<◌, ◌≤◌, ◌⊎◌, inl, inr, refl, sym, ap, ◌∙◌, subst, arith, List, [], ◌∷◌, ◌++◌, length, take, drop, get_or, length-take}
+use Rattle.std.{proofs.{Common.{take-append-drop, below_more, rules}, lemmas.{Bool.{cases_lt}, List.{length-take-le, take_all, take_at}}}, specs.Prelude.{Bool, true, false, Option, Some, None}}
+use Rattle.{std.specs.List.{join_with_byte}, dgt_values.specs.{declared.{pieces.Piece.{Piece}, squares.Square.{Square}}, Board.{piece_letter, square_name, square_number}}}
+use Rattle.{dgt_values.specs.Placement.{AreRanks, IsFirstBadOffset, IsPlacement, IsRank, MeansSquares}, dgt_chess.specs.declared.{pieces.Colour.{Colour}, possible.Rights.{Rights}}}
 use Rattle.dgt_chess.specs.Fen.{HasNoSpace, IsFirstWrong, IsPassed, IsPieces, IsRights, IsTurn, or_hyphen, passed_text, right_text, rights_of, rights_text, turn_text}
 use Rattle.dgt_chess.proofs.FirstWrong.{append_plain, byte_of, fewer}
 
 -- the first byte, and the first two
 
 pub one_byte : (f : List ℕ) → 0 < length f → take 1 f ≡ get_or f 0 0 ∷ []
-one_byte [] some = absurd (omega arith)
-one_byte (x ∷ f) some = refl
+one_byte f some = search rules
 
 pub two_bytes : (f : List ℕ) → 1 < length f → take 2 f ≡ get_or f 0 0 ∷ get_or f 1 0 ∷ []
-two_bytes [] some = absurd (omega arith)
-two_bytes (x ∷ []) some = absurd (omega arith)
-two_bytes (x ∷ y ∷ f) some = refl
+two_bytes f some = search rules
 
 nil_plain : HasNoSpace []
 nil_plain k lt is = absurd (omega arith)
 
 cons_plain : (byte : ℕ) (f : List ℕ) → byte ≢ 32 → HasNoSpace f → HasNoSpace (byte ∷ f)
-cons_plain byte f plain plains zero lt is = plain is
-cons_plain byte f plain plains (suc k) lt is = plains k (omega arith) is
+cons_plain byte f plain plains = search rules
 
 -- placements
 
@@ -40,8 +28,7 @@ letter_high Piece.Empty = omega arith
 letter_high _ = omega arith
 
 byte_plain : (byte : ℕ) (squares : List Piece) → MeansSquares byte squares → byte ≢ 32
-byte_plain byte squares (inl run) is = absurd (omega (arith, run.digit, run.at_least_one))
-byte_plain byte squares (inr one) is = absurd (omega (arith, one.letter, letter_high one.piece))
+byte_plain byte squares means_squares = search (rules, letter_high)
 
 rank_plain : (bytes : List ℕ) (squares : List Piece) → IsRank bytes squares → HasNoSpace bytes
 rank_plain [] squares h = nil_plain
@@ -53,16 +40,10 @@ ranks_plain : (ranks : List (List ℕ)) (pieces : List Piece) → AreRanks ranks
 ranks_plain [] pieces h = nil_plain
 ranks_plain (rank ∷ []) pieces (squares, rest, eight, is, none, e) = rank_plain rank squares is
 ranks_plain (rank ∷ next ∷ ranks) pieces (squares, rest, eight, is, more, e) =
-    append_plain rank (ascii "/" ∷ join_with_byte (ascii "/") (next ∷ ranks))
-    (rank_plain rank squares is)
-    (cons_plain (ascii "/") (join_with_byte (ascii "/") (next ∷ ranks))
-    (λ same. absurd (omega arith))
-    (ranks_plain (next ∷ ranks) rest more))
+    search (rules, append_plain, rank_plain, cons_plain, ranks_plain (next ∷ ranks) rest more)
 
 pub pieces_plain : (text : List ℕ) → IsPieces text → HasNoSpace text
-pieces_plain text (pieces, p) =
-    let P : List ℕ → Type 0 = λ t. HasNoSpace t in
-    subst P (sym p.joined) (ranks_plain p.ranks pieces p.each)
+pieces_plain text (pieces, p) = search (rules, ranks_plain)
 
 -- what dgt_values says of a wrong placement
 pub wrong_pieces : (text : List ℕ) (at : ℕ) → IsFirstBadOffset text at
@@ -78,8 +59,7 @@ wrong_pieces text at bad = record {
         | inl lt ↦ bad.no_longer lt (
           drop (at + 1) other,
           o.0,
-          subst P (sym (take-append-drop (at + 1) other)
-              ∙ ap (λ l. l ++ drop (at + 1) other) same) o.1,
+          subst P (search (rules, take-append-drop)) o.1,
         )
         | inr ge ↦
             let end : at ≡ length text = omega (arith, bad.within) in
@@ -88,31 +68,25 @@ wrong_pieces text at bad = record {
             let short : length other < at + 1 =
             omega (arith, length-take (at + 1) other, length-take (at + 1) text) in
             bad.too_short end o.0
-            (subst P (sym (take_all (at + 1) other (omega arith)) ∙ same
-            ∙ take_all (at + 1) text (omega arith)) o.1)
+            (search (rules, take_all))
       ];
 }
 
 -- the side to move
 
 turn_one : (turn : Colour) → length (turn_text turn) ≡ 1
-turn_one Colour.White = refl
-turn_one Colour.Black = refl
+turn_one turn = search rules
 
 turn_byte : (turn : Colour) → HasNoSpace (turn_text turn)
-turn_byte Colour.White = cons_plain (ascii "w") [] (λ same. absurd (omega arith)) nil_plain
-turn_byte Colour.Black = cons_plain (ascii "b") [] (λ same. absurd (omega arith)) nil_plain
+turn_byte turn = search (rules, cons_plain, nil_plain)
 
 pub turn_plain : (text : List ℕ) → IsTurn text → HasNoSpace text
-turn_plain text (turn, is) = let P : List ℕ → Type 0 = λ t. HasNoSpace t in
-    subst P (sym is) (turn_byte turn)
+turn_plain text (turn, is) = search (rules, turn_byte)
 
 -- a side agrees in its one byte
 turn_agrees : (f other : List ℕ) (turn : Colour) (at : ℕ) → other ≡ turn_text turn
     → take (at + 1) other ≡ take (at + 1) f → turn_text turn ≡ take (at + 1) f
-turn_agrees f other turn at is same =
-    sym (take_all (at + 1) (turn_text turn) (omega (arith, turn_one turn)))
-    ∙ ap (λ l. take (at + 1) l) (sym is) ∙ same
+turn_agrees f other turn at is same = search (rules, take_all, turn_one)
 
 pub turn_none : (f : List ℕ) → length f ≡ 0 → IsFirstWrong IsTurn f 0
 turn_none f none = record {
@@ -120,15 +94,11 @@ turn_none f none = record {
   right = turn_text Colour.White;
   is = (Colour.White, refl);
   before = refl;
-  after = λ other o same.
-      let long : length (turn_text o.0) ≡ length (take 1 f) =
-      ap length (turn_agrees f other o.0 0 o.1 same) in
-      absurd (omega (arith, turn_one o.0, length-take 1 f));
+  after = search (rules, turn_agrees, turn_one, length-take);
 }
 
 pub turn_other : (f : List ℕ) → 0 < length f
-    → ((turn : Colour) → turn_text turn ≢ get_or f 0 0 ∷ [])
-    → IsFirstWrong IsTurn f 0
+    → ((turn : Colour) → turn_text turn ≢ get_or f 0 0 ∷ []) → IsFirstWrong IsTurn f 0
 turn_other f some none = record {
   within = omega arith;
   right = turn_text Colour.White;
@@ -143,32 +113,23 @@ turn_more f turn some is = record {
   within = omega arith;
   right = turn_text turn;
   is = (turn, refl);
-  before = take_all 1 (turn_text turn) (omega (arith, turn_one turn)) ∙ is
-      ∙ sym (one_byte f (omega arith));
-  after = λ other o same.
-      let long : length (turn_text o.0) ≡ length (take 2 f) =
-      ap length (turn_agrees f other o.0 1 o.1 same) in
-      absurd (omega (arith, turn_one o.0, length-take 2 f));
+  before = search (rules, take_all, turn_one, one_byte);
+  after = search (rules, turn_agrees, turn_one, length-take);
 }
 
 pub turn_whole : (f : List ℕ) (turn : Colour) → length f ≡ 1 → turn_text turn ≡ get_or f 0 0 ∷ []
     → f ≡ turn_text turn
-turn_whole f turn one is =
-    sym (take_all 1 f (omega arith)) ∙ one_byte f (omega arith) ∙ sym is
+turn_whole f turn one is = sym (take_all 1 f (omega arith)) ∙ one_byte f (omega arith) ∙ sym is
 
 pub ruleset turns = (turn_none, turn_other, turn_more, turn_whole)
 
 -- the square that a pawn has just passed over
 
 name_plain : (square : ℕ) → square < 64 → HasNoSpace (square_name square)
-name_plain square small =
-    cons_plain (ascii "a" + square % 8) ((ascii "8" - square / 8) ∷ [])
-    (λ same. absurd (omega arith))
-    (cons_plain (ascii "8" - square / 8) [] (λ same. absurd (omega arith)) nil_plain)
+name_plain square small = search (rules, cons_plain, nil_plain)
 
 passed_byte : (passed : Option Square) → HasNoSpace (passed_text passed)
-passed_byte None = cons_plain (ascii "-") [] (λ same. absurd (omega arith)) nil_plain
-passed_byte (Some square) = name_plain (square_number square) square.small
+passed_byte passed = search (rules, cons_plain, nil_plain, name_plain)
 
 pub passed_plain : (text : List ℕ) → IsPassed text → HasNoSpace text
 passed_plain text (passed, is) =
@@ -195,16 +156,8 @@ IsRow byte = (49 ≤ byte) × (byte ≤ 56)
 
 -- nothing agrees with a first byte that is neither a hyphen nor a file
 never_first : (f : List ℕ) → (0 < length f → get_or f 0 0 ≢ 45)
-    → (0 < length f → ¬ (IsFile (get_or f 0 0)))
-    → ¬ (Agrees f 0)
-never_first f no_hyphen no_file (hyphen same) =
-    let long : 1 ≡ length (take 1 f) = ap length same in
-    no_hyphen (omega (arith, length-take 1 f)) (sym (byte_of 1 0 (45 ∷ []) f same (omega arith)))
-never_first f no_hyphen no_file (named square small same) =
-    let long : 1 ≡ length (take 1 f) = ap length same in
-    let byte : 97 + square % 8 ≡ get_or f 0 0 =
-    byte_of 1 0 (square_name square) f same (omega arith) in
-    no_file (omega (arith, length-take 1 f)) (omega arith, omega arith)
+    → (0 < length f → ¬ (IsFile (get_or f 0 0))) → ¬ (Agrees f 0)
+never_first f no_hyphen no_file = search (rules, length-take, byte_of)
 
 pub passed_other : (f : List ℕ) → (0 < length f → get_or f 0 0 ≢ 45)
     → (0 < length f → ¬ (IsFile (get_or f 0 0))) → IsFirstWrong IsPassed f 0
@@ -218,12 +171,7 @@ passed_other f no_hyphen no_file = record {
 
 -- nothing agrees with a hyphen and more
 never_hyphen : (f : List ℕ) → 1 < length f → get_or f 0 0 ≡ 45 → ¬ (Agrees f 1)
-never_hyphen f more is (hyphen same) =
-    let long : 1 ≡ length (take 2 f) = ap length same in absurd (omega (arith, length-take 2 f))
-never_hyphen f more is (named square small same) =
-    let byte : 97 + square % 8 ≡ get_or f 0 0 =
-    byte_of 2 0 (square_name square) f same (omega arith) in
-    absurd (omega arith)
+never_hyphen f more is = search (rules, length-take, byte_of)
 
 pub passed_hyphen : (f : List ℕ) → 1 < length f → get_or f 0 0 ≡ 45 → IsFirstWrong IsPassed f 1
 passed_hyphen f more is = record {
@@ -237,18 +185,10 @@ passed_hyphen f more is = record {
 -- nothing agrees with a file and then no row
 never_row : (f : List ℕ) → IsFile (get_or f 0 0) → (1 < length f → ¬ (IsRow (get_or f 1 0)))
     → ¬ (Agrees f 1)
-never_row f is_file no_row (hyphen same) =
-    let byte : 45 ≡ get_or f 0 0 = byte_of 2 0 (45 ∷ []) f same (omega arith) in
-    absurd (omega (arith, is_file.0))
-never_row f is_file no_row (named square small same) =
-    let long : 2 ≡ length (take 2 f) = ap length same in
-    let byte : 56 - square / 8 ≡ get_or f 1 0 =
-    byte_of 2 1 (square_name square) f same (omega arith) in
-    no_row (omega (arith, length-take 2 f)) (omega arith, omega arith)
+never_row f is_file no_row = search (rules, byte_of, length-take)
 
 pub passed_row : (f : List ℕ) → 0 < length f → IsFile (get_or f 0 0)
-    → (1 < length f → ¬ (IsRow (get_or f 1 0)))
-    → IsFirstWrong IsPassed f 1
+    → (1 < length f → ¬ (IsRow (get_or f 1 0))) → IsFirstWrong IsPassed f 1
 passed_row f some is_file no_row =
     let square : Square = record { index = get_or f 0 0 - 97; small = omega (arith, is_file.1) } in
     let one : 97 + (get_or f 0 0 - 97) % 8 ≡ get_or f 0 0 = omega (arith, is_file.0, is_file.1) in
@@ -262,10 +202,7 @@ passed_row f some is_file no_row =
 
 -- nothing is longer than the name of a square
 never_third : (f : List ℕ) → 2 < length f → ¬ (Agrees f 2)
-never_third f more (hyphen same) =
-    let long : 1 ≡ length (take 3 f) = ap length same in absurd (omega (arith, length-take 3 f))
-never_third f more (named square small same) =
-    let long : 2 ≡ length (take 3 f) = ap length same in absurd (omega (arith, length-take 3 f))
+never_third f more = search (rules, length-take)
 
 pub passed_more : (f : List ℕ) → 2 < length f → (square : Square)
     → square_name (square_number square) ≡ get_or f 0 0 ∷ get_or f 1 0 ∷ []
@@ -283,52 +220,35 @@ pub ruleset passes = (passed_other, passed_hyphen, passed_row, passed_more)
 -- rights
 
 right_plain : (remains : Bool) (letter : ℕ) → letter ≢ 32 → HasNoSpace (right_text remains letter)
-right_plain true letter plain = cons_plain letter [] plain nil_plain
-right_plain false letter plain = nil_plain
+right_plain remains letter plain = search (rules, cons_plain, nil_plain)
 
 hyphen_plain : (text : List ℕ) → HasNoSpace text → HasNoSpace (or_hyphen text)
-hyphen_plain [] plain = cons_plain (ascii "-") [] (λ same. absurd (omega arith)) nil_plain
-hyphen_plain (x ∷ text) plain = plain
+hyphen_plain text plain = search (rules, cons_plain, nil_plain)
 
 -- of no letters, and of some
 
 pub hyphen_of_none : (text : List ℕ) → length text ≡ 0 → or_hyphen text ≡ text ++ ascii "-" ∷ []
-hyphen_of_none [] none = refl
-hyphen_of_none (x ∷ text) none = absurd (omega arith)
+hyphen_of_none text none = search rules
 
 pub hyphen_of_some : (text : List ℕ) → length text ≢ 0 → or_hyphen text ≡ text
-hyphen_of_some [] some = absurd (some refl)
-hyphen_of_some (x ∷ text) some = refl
+hyphen_of_some text some = search rules
 
 pub ruleset hyphens = (hyphen_of_none, hyphen_of_some)
 
 rights_byte : (rights : Rights) → HasNoSpace (rights_text rights)
-rights_byte rights =
-    let ws = right_text rights.white_short (ascii "K") in
-    let wl = right_text rights.white_long (ascii "Q") in
-    let bs = right_text rights.black_short (ascii "k") in
-    let bl = right_text rights.black_long (ascii "q") in
-    hyphen_plain (ws ++ wl ++ bs ++ bl)
-    (append_plain (ws ++ wl ++ bs) bl
-    (append_plain (ws ++ wl) bs
-    (append_plain ws wl (right_plain rights.white_short (ascii "K") (λ same. absurd (omega arith)))
-    (right_plain rights.white_long (ascii "Q") (λ same. absurd (omega arith))))
-    (right_plain rights.black_short (ascii "k") (λ same. absurd (omega arith))))
-    (right_plain rights.black_long (ascii "q") (λ same. absurd (omega arith))))
+rights_byte rights = search (rules, hyphen_plain, append_plain, right_plain)
 
 pub rights_plain : (text : List ℕ) → IsRights text → HasNoSpace text
 rights_plain text (rights, is) =
     let P : List ℕ → Type 0 = λ t. HasNoSpace t in subst P (sym is) (rights_byte rights)
 
 -- all rights have a number
-every_rights : (a b c d : Bool)
-    → (code : ℕ) × (code < 16)
+every_rights : (a b c d : Bool) → (code : ℕ) × (code < 16)
     × (rights_of code ≡ record {
       white_short = a;
       white_long = b;
       black_short = c;
-      black_long =
-          d;
+      black_long = d;
     })
 every_rights false false false false = (0, omega arith, refl)
 every_rights true false false false = (1, omega arith, refl)
@@ -364,14 +284,7 @@ pub best_more : (field : List ℕ) (code most next same : ℕ) (right : List ℕ
 best_more field code most next same right best is other within agrees apart le le' which = record {
   within = elim which [ inl e ↦ omega (arith, best.within) | inr e ↦ omega arith ];
   rights = elim which [ inl e ↦ best.rights | inr e ↦ rights_of code ];
-  best = elim which as (λ w. take next
-      (rights_text (elim w [ inl e ↦ best.rights | inr e ↦ rights_of code ])) ≡ take next field) [
-        | inl e ↦ ap (λ n. take n (rights_text best.rights)) e ∙ best.best
-            ∙ sym (ap (λ n. take n field) e)
-        | inr e ↦ ap (λ n. take n (rights_text (rights_of code))) e ∙ ap (λ l. take same l) (sym is)
-            ∙ agrees
-            ∙ sym (ap (λ n. take n field) e)
-      ];
+  best = search rules;
   others = below_more (λ k. take (next + 1) (rights_text (rights_of k)) ≢ take
       (next + 1) field) code
       (λ k lt agree. best.others k lt
@@ -389,6 +302,5 @@ wrong_rights field code most all best = record {
   after = λ other o same.
       let known = every_rights o.0.white_short o.0.white_long o.0.black_short o.0.black_long in
       best.others known.0 (omega (arith, known.1))
-      (ap (λ r. take (most + 1) (rights_text r)) known.2 ∙ ap (λ l. take (most + 1) l) (sym o.1)
-      ∙ same);
+      (search rules);
 }

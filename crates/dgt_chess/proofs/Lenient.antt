@@ -1,15 +1,7 @@
 -- A text has one lenient reading, and what is read strictly is read leniently as the same move.
-use Rattle.std.proofs.Common.{◌≡◌, ℕ, ◌<◌, ◌∙◌, List, ap, refl, subst, sym}
-use Rattle.std.proofs.Props.{props}
-use Rattle.std.specs.Prelude.{Option, Result, Ok, Err}
-use Rattle.dgt_values.specs.declared.squares.Square.{Square}
-use Rattle.dgt_values.specs.Board.{square_number}
-use Rattle.dgt_chess.specs.declared.pieces.Man.{Man}
-use Rattle.dgt_chess.specs.declared.san_reader.BadSan.{BadSan}
-use Rattle.dgt_chess.specs.declared.state.Move.{Move}
-use Rattle.dgt_chess.specs.declared.state.State.{State}
-use Rattle.dgt_chess.specs.San.{Fits, FitsOnly, FitsSeveral, OneLenientReading, StrictIsLenient}
-use Rattle.dgt_chess.proofs.SanLaws.{one_fits, san_fits}
+use Rattle.{std.{proofs.{Common.{◌≡◌, ℕ, ◌<◌, ◌∙◌, List, ap, refl, subst, sym, rules}, Props.{props}}, specs.Prelude.{Option, Result, Ok, Err}}, dgt_values.specs.declared.squares.Square.{Square}}
+use Rattle.{dgt_values.specs.Board.{square_number}, dgt_chess.specs.declared.{pieces.Man.{Man}, san_reader.BadSan.{BadSan}, state.{Move.{Move}, State.{State}}}}
+use Rattle.dgt_chess.{specs.San.{Fits, FitsOnly, FitsSeveral, OneLenientReading, StrictIsLenient}, proofs.SanLaws.{one_fits, san_fits}}
 
 same_square : (a b : Square) → square_number a ≡ square_number b → a ≡ b
 same_square a b e =
@@ -37,8 +29,7 @@ several : (state : State) (text : List ℕ) (to : ℕ) (promotion : Option Man) 
     → FitsSeveral state to promotion text
     → ((from : ℕ) → from < 64 → to < 64 → Fits state from to promotion text → from ≡ only) → ⊥
 unfolding FitsSeveral
-several state text to promotion only h law =
-    h.5 (law h.0 h.2 h.4 h.6 ∙ sym (law h.1 h.3 h.4 h.7))
+several state text to promotion only h law = h.5 (law h.0 h.2 h.4 h.6 ∙ sym (law h.1 h.3 h.4 h.7))
 
 -- a move that fits, if each that fits is from its square
 only : (state : State) (text : List ℕ) (one : Move) (r : Result Move BadSan)
@@ -57,9 +48,7 @@ only state text one (Err BadSan.NoMove) fits law h =
     absurd (h.0 _ _ _ one.from.small one.to.small fits)
 
 pub one_reading : OneLenientReading
-one_reading state text (Ok one) r h k =
-    sym (only state text one r h.0 (λ from to p small goal fits. (h.1 from to p small goal fits).0)
-    k)
+one_reading state text (Ok one) r h k = search (rules, only)
 one_reading state text (Err e) (Ok one) h k =
     only state text one (Err e) k.0 (λ from to p small goal fits. (k.1 from to p small goal fits).0)
     h
@@ -78,7 +67,4 @@ one_reading state text (Err BadSan.NoMove) (Err BadSan.NoMove) h k = refl
 one_reading state text (Err BadSan.NoMove) (Err BadSan.NotSan) h k = absurd (k.1 h.1)
 
 pub strict_lenient : StrictIsLenient
-strict_lenient state text one r h k =
-    only state text one r (san_fits state _ _ one.promotion text h)
-    (λ from to p small goal fits. sym (one_fits state text _ _ from to one.promotion p
-    one.from.small one.to.small small goal h fits).0) k
+strict_lenient state text one r h k = search (rules, only, san_fits, one_fits)

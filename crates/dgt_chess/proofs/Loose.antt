@@ -1,62 +1,30 @@
 -- A man whose square may be empty without a check may make all its moves.
-use Rattle.std.proofs.lemmas.Bool.{cases_eq}
-use Rattle.std.proofs.lemmas.List.{get_or-set_same, get_or-set_other}
-use Rattle.std.proofs.Math.ListN.{length-set}
-use Rattle.std.proofs.Common.{subst, ◌≡◌, ℕ, ◌<◌, ◌∙◌, sym, ap, refl, arith, List, length, inl, inr, Bool, true, false}
-use Rattle.std.specs.Prelude.{◌≢◌, Option, Some, None, slice_set, if◌then◌else◌, ◌&&◌, not, nat_eq}
-use Rattle.dgt_values.specs.declared.pieces.Piece.{Piece}
-use Rattle.dgt_values.specs.declared.pieces.Piece.TheVariants.{Empty}
-use Rattle.dgt_chess.specs.declared.state.State.{State}
-use Rattle.dgt_chess.specs.declared.lines.Line.{Line}
-use Rattle.dgt_chess.specs.declared.pieces.Colour.{Colour}
-use Rattle.dgt_chess.specs.declared.pieces.Man.{Man}
-use Rattle.dgt_chess.specs.declared.pieces.Man.TheVariants.{Pawn, Knight, Bishop, Rook, Queen, King}
+use Rattle.std.proofs.{lemmas.{Bool.{cases_eq}, List.{get_or-set_same, get_or-set_other}}, Math.ListN.{length-set}}
+use Rattle.std.proofs.Common.{subst, ◌≡◌, ℕ, ◌<◌, ◌∙◌, sym, ap, refl, arith, List, length, inl, inr, Bool, true, rules}
+use Rattle.{std.specs.Prelude.{◌≢◌, Option, Some, None, slice_set, if◌then◌else◌, ◌&&◌, not, nat_eq}, dgt_values.specs.declared.pieces.Piece.{Piece, TheVariants.{Empty}}}
+use Rattle.dgt_chess.specs.declared.{state.State.{State}, lines.Line.{Line}, pieces.{Colour.{Colour}, Man.{Man, TheVariants.{Pawn, Knight, Bishop, Rook, Queen, King}}}}
 use Rattle.dgt_chess.specs.Attacks.{piece_at, piece_of, other, file, row, Attacks, IsAttacked, IsFree, IsInCheck, Slides, Straight, Diagonal}
-use Rattle.dgt_chess.specs.Rules.{board, passed, is_free, last_row, moved, pieces_after, CanGo, Moves, PawnMoves, Promotes}
-use Rattle.dgt_chess.specs.declared.listing.Mover.{Mover}
-use Rattle.dgt_chess.specs.Steps.{IsLoose, IsMover}
-use Rattle.dgt_chess.proofs.Unique.{same_man, not_free, not_theirs}
-use Rattle.dgt_chess.proofs.OneMove.{both, moved_is, other_files, pawn_passes, put}
-use Rattle.dgt_chess.proofs.Staying.{was_king}
+use Rattle.dgt_chess.specs.{Rules.{board, passed, is_free, last_row, moved, pieces_after, CanGo, Moves, PawnMoves, Promotes}, declared.listing.Mover.{Mover}, Steps.{IsLoose, IsMover}}
+use Rattle.dgt_chess.proofs.{Unique.{same_man, not_free, not_theirs}, OneMove.{both, moved_is, other_files, pawn_passes, put}, Staying.{was_king}}
 
 -- ---- attacks with fewer men on the board
 
 slides_on : (line : Line) (old new : List Piece) (a b : ℕ)
     → ((s : ℕ) → IsFree new s → IsFree old s) → Slides line new a b → Slides line old a b
-slides_on line old new a b free slides = (
-  slides.0,
-  elim slides.1 [
-    | inl up ↦ inl (up.0, λ s above below on. free s (up.1 s above below on))
-    | inr down ↦ inr (down.0, λ s above below on. free s (down.1 s above below on))
-  ],
-)
+slides_on line old new a b free slides = search rules
 
 straight_on : (old new : List Piece) (a b : ℕ) → ((s : ℕ) → IsFree new s → IsFree old s)
     → Straight new a b → Straight old a b
-straight_on old new a b free attacks = elim attacks [
-  | inl one ↦ inl (slides_on Line.Rank old new a b free one)
-  | inr one ↦ inr (slides_on Line.File old new a b free one)
-]
+straight_on old new a b free attacks = search (rules, slides_on)
 
 diagonal_on : (old new : List Piece) (a b : ℕ) → ((s : ℕ) → IsFree new s → IsFree old s)
     → Diagonal new a b → Diagonal old a b
-diagonal_on old new a b free attacks = elim attacks [
-  | inl one ↦ inl (slides_on Line.Falling old new a b free one)
-  | inr one ↦ inr (slides_on Line.Rising old new a b free one)
-]
+diagonal_on old new a b free attacks = search (rules, slides_on)
 
 attacks_on : (man : Man) (colour : Colour) (old new : List Piece) (a b : ℕ)
     → ((s : ℕ) → IsFree new s → IsFree old s) → Attacks man colour new a b
     → Attacks man colour old a b
-attacks_on Pawn colour old new a b free attacks = attacks
-attacks_on Knight colour old new a b free attacks = attacks
-attacks_on Bishop colour old new a b free attacks = diagonal_on old new a b free attacks
-attacks_on Rook colour old new a b free attacks = straight_on old new a b free attacks
-attacks_on Queen colour old new a b free attacks = elim attacks [
-  | inl one ↦ inl (straight_on old new a b free one)
-  | inr one ↦ inr (diagonal_on old new a b free one)
-]
-attacks_on King colour old new a b free attacks = attacks
+attacks_on man colour old new a b free attacks = search (rules, diagonal_on, straight_on)
 
 -- a check remains if a man of the king's side, and no king, goes from the board
 covered : (old : List Piece) (turn : Colour) (b : ℕ) (man : Man) → man ≢ King → b < length old
@@ -95,11 +63,9 @@ covered old turn b man no_king within check =
 -- a move that only takes the man from one square to another
 legal : (state : State) (man : Man) (a b : ℕ) (promotion : Option Man) → b < 64
     → piece_at (board state) a ≡ piece_of state.turn man → man ≢ King → Moves man state a b
-    → Promotes man state b promotion
-    → pieces_after man (board state) state.turn a b promotion
+    → Promotes man state b promotion → pieces_after man (board state) state.turn a b promotion
     ≡ moved man (board state) state.turn a b promotion
-    → ¬ (IsInCheck (slice_set (board state) a Empty) state.turn)
-    → CanGo state a b
+    → ¬ (IsInCheck (slice_set (board state) a Empty) state.turn) → CanGo state a b
 unfolding CanGo
 legal state man a b promotion small own no_king moves promotes plain safe = (
   promotion,
@@ -121,30 +87,21 @@ legal state man a b promotion small own no_king moves promotes plain safe = (
 )
 
 steps : (t : Bool) (one two : List Piece) → (t ≡ true → ⊥) → (if t then one else two) ≡ two
-steps true one two never = absurd (never refl)
-steps false one two never = refl
+steps t one two never = search rules
 
 -- a pawn that changes its file attacks the square to which it goes
 takes : (state : State) (a b : ℕ) → PawnMoves (board state) state.turn (passed state) a b
     → file a ≢ file b → Attacks Pawn state.turn (board state) a b
-takes state a b moves files = elim moves [
-  | inl step ↦ absurd (files step.0)
-  | inr more ↦ elim more [ inl double ↦ absurd (files double.0) | inr take ↦ take.0 ]
-]
+takes state a b moves files = search rules
 
 pub loose_pawn : (state : State) (a : ℕ) → piece_at (board state) a ≡ piece_of state.turn Pawn
     → ((b : ℕ) → passed state ≡ Some b → ¬ (Attacks Pawn state.turn (board state) a b))
-    → ¬ (IsInCheck (slice_set (board state) a Empty) state.turn)
-    → IsLoose Pawn state a
+    → ¬ (IsInCheck (slice_set (board state) a Empty) state.turn) → IsLoose Pawn state a
 loose_pawn state a own no_passed safe b small moves =
     let t = is_free (piece_at (board state) b) && not (nat_eq (file a) (file b)) in
     let plain : (promotion : Option Man) → pieces_after Pawn (board state) state.turn a b promotion
     ≡ moved Pawn (board state) state.turn a b promotion = λ promotion.
-    steps t _ _ (λ passes.
-    let passing = pawn_passes state a b moves passes in
-    let files = other_files a b
-    (both (is_free (piece_at (board state) b)) (not (nat_eq (file a) (file b))) passes).1 in
-    no_passed b passing.0 (takes state a b moves files)) in
+    steps t _ _ (search (rules, pawn_passes, other_files, both, takes)) in
     let no_king : Pawn ≢ King = λ e. cc in
     elim (cases_eq (row b) (last_row state.turn)) [
       | inl last ↦ legal state Pawn a b (Some Queen) small own no_king moves
@@ -158,8 +115,7 @@ officer state man b no_pawn = ((λ some. cc, λ due. absurd (no_pawn due.0)), λ
 
 pub loose_officer : (state : State) (man : Man) (a : ℕ)
     → piece_at (board state) a ≡ piece_of state.turn man → man ≢ Pawn → man ≢ King
-    → ¬ (IsInCheck (slice_set (board state) a Empty) state.turn)
-    → IsLoose man state a
+    → ¬ (IsInCheck (slice_set (board state) a Empty) state.turn) → IsLoose man state a
 loose_officer state Pawn a own no_pawn no_king safe b small moves = absurd (no_pawn refl)
 loose_officer state Knight a own no_pawn no_king safe b small moves =
     legal state Knight a b None small own no_king moves (officer state Knight b no_pawn) refl safe
@@ -175,6 +131,4 @@ loose_officer state King a own no_pawn no_king safe b small moves = absurd (no_k
 pub moves_by : (state : State) (mover : Mover) (b : ℕ) → IsMover state mover
     → CanGo state mover.from b → Moves mover.man state mover.from b
 unfolding CanGo
-moves_by state mover b is go =
-    let M : Man → Type 0 = λ man. Moves man state mover.from b in
-    subst M (same_man state.turn go.1.0 mover.man (sym go.1.1.own ∙ is.own)) go.1.1.moves
+moves_by state mover b is go = search (rules, same_man)

@@ -1,14 +1,7 @@
 -- What is read of a move's text is the move.
-use Rattle.std.proofs.Common.{◌≡◌, ◌≢◌, ◌∙◌, ℕ, ◌+◌, ◌-◌, ◌%◌, ◌/◌, ◌<◌, Bool, true, false, not, nat_eq, if◌then◌else◌, List, [], ◌∷◌, ◌++◌, fold, refl, ap, arith}
-use Rattle.std.specs.Prelude.{Option, Some, None}
-use Rattle.std.proofs.lemmas.Bool.Decides.{nat_tests}
-use Rattle.std.proofs.lemmas.List.Sums.{fold-append}
-use Rattle.dgt_values.specs.Board.{square_name}
-use Rattle.dgt_chess.specs.declared.pieces.Man.{Man}
-use Rattle.dgt_chess.specs.declared.san.Sign.{Sign}
-use Rattle.dgt_chess.specs.declared.san.Style.{Style}
-use Rattle.dgt_chess.specs.declared.san_reader.Scan.{Scan}
-use Rattle.dgt_chess.specs.Attacks.{file}
+use Rattle.std.proofs.Common.{◌≡◌, ◌≢◌, ◌∙◌, ℕ, ◌+◌, ◌-◌, ◌%◌, ◌/◌, ◌<◌, Bool, true, false, not, nat_eq, if◌then◌else◌, List, [], ◌∷◌, ◌++◌, fold, refl, ap, arith, rules}
+use Rattle.{std.{specs.Prelude.{Option, Some, None}, proofs.lemmas.{Bool.Decides.{nat_tests}, List.Sums.{fold-append}}}, dgt_values.specs.Board.{square_name}}
+use Rattle.dgt_chess.specs.{declared.{pieces.Man.{Man}, san.{Sign.{Sign}, Style.{Style}}, san_reader.Scan.{Scan}}, Attacks.{file}}
 use Rattle.dgt_chess.specs.San.{castling_letter, castling_text, file_letter, man_letter, ordinary_text, promotion_text, rank_digit, shown, sign_text}
 use Rattle.dgt_chess.specs.Scanning.{is_file, is_rank, scan, start, step, with_file, with_rank}
 
@@ -78,57 +71,33 @@ used_equals equals None = false
 used_equals equals (Some new) = equals
 
 scan_man : (m : Man) → fold step start (man_letter m) ≡ after_man m
-scan_man Man.Pawn = refl
-scan_man Man.Knight = refl
-scan_man Man.Bishop = refl
-scan_man Man.Rook = refl
-scan_man Man.Queen = refl
-scan_man Man.King = refl
+scan_man m = search rules
 
 scan_file : (m : Man) (b : Bool) (square : ℕ)
     → fold step (after_man m) (shown b (file_letter square)) ≡ after_file m b (square % 8)
-scan_file m true square = step_file (after_man m) (square % 8) (omega arith)
-scan_file m false square = refl
+scan_file m b square = search (rules, step_file)
 
 scan_rank : (m : Man) (b : Bool) (file : ℕ) (c : Bool) (square : ℕ) → square < 64
     → fold step (after_file m b file) (shown c (rank_digit square))
     ≡ after_rank m b file c (square / 8)
-scan_rank m b file true square small = step_rank (after_file m b file) (square / 8) (omega arith)
-scan_rank m b file false square small = refl
+scan_rank m b file c square small = search (rules, step_rank)
 
 scan_takes : (m : Man) (b : Bool) (file : ℕ) (c : Bool) (row : ℕ) (takes : Bool)
     → fold step (after_rank m b file c row) (shown takes 120) ≡ after_takes m b file c row takes
-scan_takes m b file c row true = refl
-scan_takes m b file c row false = refl
+scan_takes m b file c row takes = search rules
 
 scan_square : (s : Scan) (square : ℕ) → square < 64 → fold step s (square_name square)
     ≡ with_rank (with_file s (square % 8)) (square / 8)
-scan_square s square small =
-    ap (λ (t : Scan). step t (56 - square / 8)) (step_file s (square % 8) (omega arith))
-    ∙ step_rank (with_file s (square % 8)) (square / 8) (omega arith)
+scan_square s square small = search (rules, step_file, step_rank)
 
 scan_promotion : (s : Scan) (row : ℕ) (equals : Bool) (p : Option Man) → p ≢ Some Man.Pawn
-    → s.equals ≡ false → s.promotion ≡ None
-    → fold step (with_rank s row) (promotion_text equals p)
+    → s.equals ≡ false → s.promotion ≡ None → fold step (with_rank s row) (promotion_text equals p)
     ≡ record (with_rank s row) { equals = used_equals equals p; promotion = p }
-scan_promotion s row equals None not_pawn e f = cc
-scan_promotion s row equals (Some Man.Pawn) not_pawn e f = absurd (not_pawn refl)
-scan_promotion s row true (Some Man.Knight) not_pawn e f = refl
-scan_promotion s row true (Some Man.Bishop) not_pawn e f = refl
-scan_promotion s row true (Some Man.Rook) not_pawn e f = refl
-scan_promotion s row true (Some Man.Queen) not_pawn e f = refl
-scan_promotion s row true (Some Man.King) not_pawn e f = refl
-scan_promotion s row false (Some Man.Knight) not_pawn e f = cc
-scan_promotion s row false (Some Man.Bishop) not_pawn e f = cc
-scan_promotion s row false (Some Man.Rook) not_pawn e f = cc
-scan_promotion s row false (Some Man.Queen) not_pawn e f = cc
-scan_promotion s row false (Some Man.King) not_pawn e f = cc
+scan_promotion s row equals p not_pawn e f = search rules
 
 scan_sign : (s : Scan) (sign : Sign) → s.sign ≡ Sign.Neither → fold step s (sign_text sign)
     ≡ record s { sign = sign }
-scan_sign s Sign.Neither e = ap (λ (x : Sign). record s { sign = x }) e
-scan_sign s Sign.Check e = refl
-scan_sign s Sign.Mate e = refl
+scan_sign s sign e = search rules
 
 -- what is read of a text that is no castling's
 abbrev pub ordinary_scan : Style → Man → Bool → ℕ → ℕ → Option Man → Scan
@@ -172,8 +141,7 @@ scan_ordinary style man takes from to promotion small small' not_pawn =
     let s5 = after_goal man b (from % 8) c (from / 8) takes (to % 8) (to / 8) in
     let s6 : Scan = record s5 {
       equals = used_equals style.equals promotion;
-      promotion =
-          promotion;
+      promotion = promotion;
     } in
     let s7 : Scan = record s6 { sign = style.sign } in
     let e2 : fold step start (M ++ F) ≡ s2 =
@@ -207,18 +175,7 @@ castling_by letter is_short = letter ∷ 45 ∷ letter ∷ (if is_short then [] 
 castles : (zero is_short : Bool) (sign : Sign)
     → fold step start (castling_by (castling_letter zero) is_short ++ sign_text sign)
     ≡ castling_scan zero is_short sign
-castles true true Sign.Neither = refl
-castles true true Sign.Check = refl
-castles true true Sign.Mate = refl
-castles true false Sign.Neither = refl
-castles true false Sign.Check = refl
-castles true false Sign.Mate = refl
-castles false true Sign.Neither = refl
-castles false true Sign.Check = refl
-castles false true Sign.Mate = refl
-castles false false Sign.Neither = refl
-castles false false Sign.Check = refl
-castles false false Sign.Mate = refl
+castles zero is_short sign = search rules
 
 pub scan_castling : (zero : Bool) (to : ℕ) (sign : Sign)
     → scan (castling_text (castling_letter zero) to ++ sign_text sign)

@@ -1,17 +1,8 @@
 -- No two legal moves share a text, and a legal move has one text.
-use Rattle.std.proofs.Common.{◌≡◌, ◌≢◌, ◌∙◌, ℕ, ◌+◌, ◌*◌, ◌%◌, ◌/◌, ◌<◌, Bool, true, false, not, nat_eq, if◌then◌else◌, List, ◌++◌, inl, inr, refl, ap, sym, subst, arith}
-use Rattle.std.specs.Int.{abs_diff}
-use Rattle.std.specs.Prelude.{Option, Some, None}
-use Rattle.std.proofs.lemmas.Bool.Decides.{nat_tests}
-use Rattle.dgt_chess.specs.declared.pieces.Colour.{Colour}
-use Rattle.dgt_chess.specs.declared.pieces.Man.{Man}
-use Rattle.dgt_chess.specs.declared.san.Style.{Style}
-use Rattle.dgt_chess.specs.declared.san_reader.Reading.{Reading}
-use Rattle.dgt_chess.specs.declared.state.State.{State}
-use Rattle.dgt_chess.specs.Attacks.{file, Adjoins}
-use Rattle.dgt_chess.specs.Rules.{board, Castles, CastlesWith, LegalBy, Moves, Promotes}
-use Rattle.dgt_chess.specs.San.{captures, castling_letter, castling_text, is_castling, move_text, ordinary_text, sign_text}
-use Rattle.dgt_chess.specs.Scanning.{castling_goal, read}
+use Rattle.std.{proofs.Common.{◌≡◌, ◌≢◌, ℕ, ◌+◌, ◌*◌, ◌%◌, ◌/◌, ◌<◌, Bool, true, false, not, nat_eq, if◌then◌else◌, ◌++◌, refl, sym, subst, arith, rules}, specs.Int.{abs_diff}}
+use Rattle.{std.{specs.Prelude.{Option, Some, None}, proofs.lemmas.Bool.Decides.{nat_tests}}, dgt_chess.specs.declared.{pieces.{Colour.{Colour}, Man.{Man}}, san.Style.{Style}}}
+use Rattle.dgt_chess.specs.{declared.{san_reader.Reading.{Reading}, state.State.{State}}, Attacks.{file, Adjoins}, Rules.{board, Castles, CastlesWith, LegalBy, Moves, Promotes}}
+use Rattle.dgt_chess.specs.{San.{captures, castling_letter, castling_text, is_castling, move_text, ordinary_text, sign_text}, Scanning.{castling_goal, read}}
 use Rattle.dgt_chess.proofs.SanReads.{scan_castling, scan_ordinary, used_equals}
 
 -- the reading of a text is this move's
@@ -30,8 +21,7 @@ pub record IsRead (r : Reading) (style : Style) (man : Man) (state : State) (fro
   pub takes : is_castling man from to ≡ false → r.takes ≡ captures man (board state) from to
 
 king_none : (s : State) (to : ℕ) (p : Option Man) → Promotes Man.King s to p → p ≡ None
-king_none s to None h = refl
-king_none s to (Some new) h = absurd (let e = (h.0.0 refl).0 in let no : ⊥ = cc in no)
+king_none s to p h = search rules
 
 not_pawn : (man : Man) (s : State) (to : ℕ) (p : Option Man) → Promotes man s to p
     → p ≢ Some Man.Pawn
@@ -53,88 +43,52 @@ at_goal c b goal e f =
 leads : (c : Colour) (s : State) (a b : ℕ) → Castles s c a b
     → (b ≡ castling_goal c (not (nat_eq (file b) 6))) × (a ≡ home c)
 unfolding CastlesWith
-leads Colour.White s a b (inl h) = (at_goal Colour.White b 62 refl h.2, h.1)
-leads Colour.White s a b (inr h) = (at_goal Colour.White b 58 refl h.2, h.1)
-leads Colour.Black s a b (inl h) = (at_goal Colour.Black b 6 refl h.2, h.1)
-leads Colour.Black s a b (inr h) = (at_goal Colour.Black b 2 refl h.2, h.1)
+leads c s a b castles = search (rules, at_goal)
 
 king_castles : (s : State) (a b : ℕ) → Moves Man.King s a b → nat_eq (abs_diff (file a) (file b)) 2
     ≡ true → Castles s s.turn a b
-king_castles s a b (inl h) e = absurd (adjoins_no a b e h.0)
-king_castles s a b (inr h) e = h
+king_castles s a b moves e = search (rules, adjoins_no)
 
 -- of a castling
 read_castling : (s : State) (style : Style) (from to : ℕ) (p : Option Man)
-    → LegalBy Man.King s from to p
-    → nat_eq (abs_diff (file from) (file to)) 2 ≡ true
+    → LegalBy Man.King s from to p → nat_eq (abs_diff (file from) (file to)) 2 ≡ true
     → IsRead (read s.turn (castling_text (castling_letter style.zero) to ++ sign_text style.sign))
     style Man.King s from to p
 unfolding read
 read_castling s style from to p legal e =
     let way = leads s.turn s from to (king_castles s from to legal.moves e) in
-    let none = king_none s to p legal.promotes in
-    rw (scan_castling style.zero to style.sign) (record {
-      castles = sym e;
-      is_man = refl;
-      is_goal = sym way.0;
-      is_promotion = sym none;
-      text = rw (e) refl;
-      by_file = λ f. absurd (let no : true ≡ false = sym e ∙ f in let bad : ⊥ = cc in bad);
-      by_rank = λ f. absurd (let no : true ≡ false = sym e ∙ f in let bad : ⊥ = cc in bad);
-      origin = λ f. absurd (let no : true ≡ false = sym e ∙ f in let bad : ⊥ = cc in bad);
-      takes = λ f. absurd (let no : true ≡ false = sym e ∙ f in let bad : ⊥ = cc in bad);
-    })
+    search (rules, king_none, scan_castling)
 
 -- of any other move
 pub same_promotion : (style : Style) (zero : Bool) (man : Man) (takes : Bool) (from to : ℕ)
-    (p : Option Man)
-    → ordinary_text (record {
+    (p : Option Man) → ordinary_text (record {
       by_file = style.by_file;
       by_rank = style.by_rank;
-      equals =
-          used_equals style.equals p;
+      equals = used_equals style.equals p;
       zero = zero;
       sign = style.sign;
     }) man takes from to p
     ≡ ordinary_text style man takes from to p
-same_promotion style zero man takes from to None = refl
-same_promotion style zero man takes from to (Some new) = refl
+same_promotion style zero man takes from to p = search rules
 
 -- the number of the file and the row that are shown
 small_origin : (b c : Bool) (a : ℕ) → a < 64
     → 8 * ((if c then a / 8 else 0) % 8) + (if b then a % 8 else 0) % 8
     ≡ 8 * (if c then a / 8 else 0) + (if b then a % 8 else 0)
-small_origin true true a h = omega arith
-small_origin true false a h = omega arith
-small_origin false true a h = omega arith
-small_origin false false a h = omega arith
+small_origin b c a h = search rules
 
 read_ordinary : (s : State) (style : Style) (man : Man) (from to : ℕ) (p : Option Man) → from < 64
-    → to < 64 → LegalBy man s from to p
-    → is_castling man from to ≡ false
-    → IsRead (read s.turn
+    → to < 64 → LegalBy man s from to p → is_castling man from to ≡ false → IsRead (read s.turn
     (ordinary_text style man
     (captures man (board s) from to) from to p ++ sign_text style.sign)) style man s from to
     p
 unfolding read
 read_ordinary s style man from to p small small' legal e =
     rw (scan_ordinary style man (captures man (board s) from to) from to p small small'
-    (not_pawn man s to p legal.promotes)) (record {
-      castles = sym e;
-      is_man = refl;
-      is_goal = let goal : 8 * ((to / 8) % 8) + (to % 8) % 8 ≡ to = omega arith in goal;
-      is_promotion = refl;
-      text = rw e (ap (λ (x : List ℕ). x ++ sign_text style.sign)
-          (same_promotion style false man (captures man (board s) from to) from to p));
-      by_file = λ _. refl;
-      by_rank = λ _. refl;
-      origin = λ _. small_origin style.by_file style.by_rank from small;
-      takes = λ _. refl;
-    })
+    (not_pawn man s to p legal.promotes)) (search (rules, same_promotion, small_origin))
 
 read_by : (castles : Bool) (s : State) (style : Style) (man : Man) (from to : ℕ) (p : Option Man)
-    → from < 64 → to < 64 → LegalBy man s from to p
-    → is_castling man from to ≡ castles
+    → from < 64 → to < 64 → LegalBy man s from to p → is_castling man from to ≡ castles
     → IsRead (read s.turn (move_text style man (board s) from to p)) style man s from to p
 read_by false s style man from to p small small' legal e =
     rw e (read_ordinary s style man from to p small small' legal e)
@@ -156,9 +110,4 @@ read_move s style man from to p small small' legal =
 -- a castling begins at home
 pub king_home : (man : Man) (s : State) (a b : ℕ) (p : Option Man) → LegalBy man s a b p
     → is_castling man a b ≡ true → a ≡ home s.turn
-king_home Man.King s a b p legal e = (leads s.turn s a b (king_castles s a b legal.moves e)).1
-king_home Man.Pawn s a b p legal e = absurd (let bad : ⊥ = cc in bad)
-king_home Man.Knight s a b p legal e = absurd (let bad : ⊥ = cc in bad)
-king_home Man.Bishop s a b p legal e = absurd (let bad : ⊥ = cc in bad)
-king_home Man.Rook s a b p legal e = absurd (let bad : ⊥ = cc in bad)
-king_home Man.Queen s a b p legal e = absurd (let bad : ⊥ = cc in bad)
+king_home man s a b p legal e = search (rules, leads, king_castles)

@@ -1,14 +1,11 @@
 -- One field, and what is after its space.
-use Rattle.std.proofs.Common.{◌≡◌, ℕ, ◌+◌, sym, subst, List, ◌∷◌, ◌++◌, length}
-use Rattle.std.specs.Prelude.{Option, Some, None, MatchOption}
+use Rattle.std.{proofs.Common.{◌≡◌, ℕ, ◌+◌, sym, subst, List, ◌∷◌, ◌++◌, length, rules}, specs.Prelude.{Option, Some, None, MatchOption}}
 use denote.Ref.{Bor}
-use Rattle.dgt_chess.specs.Fen.{HasNoSpace, IsFirstWrong, Then}
-use Rattle.dgt_chess.proofs.FirstWrong.{ends_early, wrong_alone, wrong_first, wrong_rest}
+use Rattle.dgt_chess.{specs.Fen.{HasNoSpace, IsFirstWrong, Then}, proofs.FirstWrong.{ends_early, wrong_alone, wrong_first, wrong_rest}}
 
 -- the field is wrong
 pub field_wrong : (A B : List ℕ → Type 0) (text field b : List ℕ) (rest : Option (Bor (List ℕ)))
-    (at : ℕ)
-    → MatchOption rest (text ≡ field) (λ r. text ≡ field ++ 32 ∷ r.now) → HasNoSpace field
+    (at : ℕ) → MatchOption rest (text ≡ field) (λ r. text ≡ field ++ 32 ∷ r.now) → HasNoSpace field
     → ((a : List ℕ) → A a → HasNoSpace a) → B b → IsFirstWrong A field at
     → IsFirstWrong (Then A B) text at
 field_wrong A B text field b None at is plain plains some w =
@@ -30,12 +27,4 @@ pub rest_wrong : (A B : List ℕ → Type 0) (text field rest : List ℕ) (at : 
     → text ≡ field ++ 32 ∷ rest
     → HasNoSpace field → ((a : List ℕ) → A a → HasNoSpace a) → A field → IsFirstWrong B rest at
     → IsFirstWrong (Then A B) text (length field + 1 + at)
-rest_wrong A B text field rest at is plain plains first w =
-    let P : List ℕ → Type 0 = λ t. IsFirstWrong (Then A B) t (length field + 1 + at) in
-    subst P (sym is) (wrong_rest A B field rest at plain plains first w)
-
--- both are right
-pub both_right : (A B : List ℕ → Type 0) (text field rest : List ℕ) → text ≡ field ++ 32 ∷ rest
-    → A field → B rest → Then A B text
-both_right A B text field rest is first second =
-    record { first = field; rest = rest; is_first = first; is_rest = second; joined = is }
+rest_wrong A B text field rest at is plain plains first w = search (rules, wrong_rest)

@@ -1,20 +1,11 @@
 -- The state in which a game begins is possible.
-use Rattle.std.proofs.Common.{subst, ◌≡◌, ℕ, zero, suc, ◌+◌, ◌<◌, ◌∙◌, sym, refl, arith, List, [], ◌∷◌, length, inl, inr, Bool, true, false}
-use Rattle.std.specs.Prelude.{◌⊎◌, None, ◌&&◌, nat_eq, nat_lt}
-use Rattle.std.proofs.lemmas.Bool.Decides.{nat_tests}
-use Rattle.dgt_values.specs.declared.pieces.Piece.{Piece}
-use Rattle.dgt_values.specs.declared.pieces.Piece.TheVariants.{Empty, WhitePawn, WhiteKnight, WhiteBishop, WhiteRook, WhiteQueen, WhiteKing, BlackPawn, BlackKing, FirstExtra, SecondExtra, ThirdExtra}
-use Rattle.dgt_values.specs.Board.{start_pieces}
-use Rattle.dgt_chess.specs.declared.possible.Rights.{Rights}
-use Rattle.dgt_chess.specs.declared.pieces.Colour.{Colour}
-use Rattle.dgt_chess.specs.declared.pieces.Colour.TheVariants.{White, Black}
-use Rattle.dgt_chess.specs.declared.pieces.Man.{Man}
+use Rattle.std.{proofs.Common.{subst, ◌≡◌, ℕ, zero, suc, ◌+◌, ◌<◌, refl, arith, List, [], ◌∷◌, length, inl, inr, Bool, true, false, rules}, specs.Prelude.{◌⊎◌, None, ◌&&◌, nat_eq, nat_lt}}
+use Rattle.{std.proofs.lemmas.Bool.Decides.{nat_tests}, dgt_values.specs.declared.pieces.Piece.{Piece}}
+use Rattle.dgt_values.specs.declared.pieces.Piece.TheVariants.{WhitePawn, WhiteKnight, WhiteBishop, WhiteRook, WhiteQueen, WhiteKing, BlackPawn, BlackKing, FirstExtra, SecondExtra, ThirdExtra}
+use Rattle.{dgt_values.specs.Board.{start_pieces}, dgt_chess.specs.declared.{possible.Rights.{Rights}, pieces.{Colour.{Colour, TheVariants.{White, Black}}, Man.{Man}}}}
 use Rattle.dgt_chess.specs.declared.pieces.Man.TheVariants.{Pawn, Knight, Bishop, Rook, Queen, King}
-use Rattle.dgt_chess.specs.Attacks.{piece_at, piece_of, row, Attacks, Diagonal, IsAttacked, IsInCheck, IsOpen, OnLine, Straight}
-use Rattle.dgt_chess.specs.declared.lines.Line.{Line}
-use Rattle.dgt_chess.specs.declared.lines.Line.TheVariants.{File, Falling, Rising}
-use Rattle.dgt_chess.specs.Possible.{HasOneKing, HasNoExtra, HasNoStray, HasPassed, IsPossible}
-use Rattle.dgt_chess.proofs.OneMove.{both}
+use Rattle.dgt_chess.specs.{Attacks.{piece_at, piece_of, row, Attacks, Diagonal, IsAttacked, IsInCheck, IsOpen, OnLine, Straight}, declared.lines.Line.{Line, TheVariants.{File}}}
+use Rattle.dgt_chess.{specs.Possible.{HasOneKing, HasNoExtra, HasNoStray, HasPassed, IsPossible}, proofs.OneMove.{both}}
 
 -- the pieces at the beginning
 abbrev fits : ℕ → Piece → Bool
@@ -38,10 +29,7 @@ all_fit n (piece ∷ pieces) = fits n piece && all_fit (n + 1) pieces
 fit : (n : ℕ) (pieces : List Piece) → all_fit n pieces ≡ true → (k : ℕ) → k < length pieces
     → fits (n + k) (piece_at pieces k) ≡ true
 fit n [] all k small = absurd (omega arith)
-fit n (piece ∷ pieces) all zero small =
-    let P : ℕ → Type 0 = λ m. fits m piece ≡ true in
-    let same : n ≡ n + 0 = omega arith in
-    subst P same (both (fits n piece) (all_fit (n + 1) pieces) all).0
+fit n (piece ∷ pieces) all zero small = search (rules, both)
 fit n (piece ∷ pieces) all (suc k) small =
     let P : ℕ → Type 0 = λ m. fits m (piece_at pieces k) ≡ true in
     let same : n + 1 + k ≡ n + suc k = omega arith in
@@ -74,10 +62,7 @@ white_low s King small here = let at = equals s 60 (stands s WhiteKing small her
 blocked : (line : Line) (a at : ℕ) (P : Type 0) → 47 < a → 4 < at → at < 47 → OnLine line 4 at
     → piece_at start_pieces at ≡ BlackPawn → ((a < 4) × P)
     ⊎ ((4 < a) × IsOpen line start_pieces 4 a) → ⊥
-blocked line a at P low above below on pawn slides = elim slides [
-  | inl up ↦ let small = up.0 in omega arith
-  | inr down ↦ let wrong : BlackPawn ≡ Empty = sym pawn ∙ down.1 at above (omega arith) on in cc
-]
+blocked line a at P low above below on pawn slides = search (rules, above)
 
 not_straight : (a : ℕ) → 47 < a → Straight start_pieces a 4 → ⊥
 not_straight a low h = elim h [
@@ -86,19 +71,10 @@ not_straight a low h = elim h [
 ]
 
 not_diagonal : (a : ℕ) → 47 < a → Diagonal start_pieces a 4 → ⊥
-not_diagonal a low h = elim h [
-  | inl falls ↦ blocked Falling a 13 _ low (omega arith) (omega arith) refl refl falls.1
-  | inr rises ↦ blocked Rising a 11 _ low (omega arith) (omega arith) refl refl rises.1
-]
+not_diagonal a low h = search (rules, blocked)
 
 no_attack : (man : Man) (a : ℕ) → 47 < a → Attacks man White start_pieces a 4 → ⊥
-no_attack Pawn a low h = let ahead = h.1 in omega arith
-no_attack Knight a low h =
-    elim h [ inl x ↦ let rows = x.1 in omega arith | inr x ↦ let rows = x.1 in omega arith ]
-no_attack Bishop a low h = not_diagonal a low h
-no_attack Rook a low h = not_straight a low h
-no_attack Queen a low h = elim h [ inl s ↦ not_straight a low s | inr d ↦ not_diagonal a low d ]
-no_attack King a low h = let rows = h.2 in omega arith
+no_attack man a low h = search (rules, not_diagonal, not_straight)
 
 no_check : ¬ (IsInCheck start_pieces Black)
 unfolding IsAttacked
@@ -137,14 +113,10 @@ pawn_rows : (s : ℕ) (colour : Colour) → s < 64 → piece_at start_pieces s �
     → (row s ≡ 0) ⊎ (row s ≡ 7) → ⊥
 pawn_rows s White small here edge =
     let parts = both (nat_lt 47 s) (nat_lt s 56) (stands s WhitePawn small here) in
-    let low = above 47 s parts.0 in
-    let high = above s 56 parts.1 in
-    elim edge [ inl x ↦ omega arith | inr x ↦ omega arith ]
+    search (rules, above)
 pawn_rows s Black small here edge =
     let parts = both (nat_lt 7 s) (nat_lt s 16) (stands s BlackPawn small here) in
-    let low = above 7 s parts.0 in
-    let high = above s 16 parts.1 in
-    elim edge [ inl x ↦ omega arith | inr x ↦ omega arith ]
+    search (rules, above)
 
 no_stray : HasNoStray start_pieces
 unfolding HasNoStray
@@ -157,13 +129,4 @@ not_passed square is = let no : ⊥ = cc in absurd no
 pub at_start : (pieces : List Piece) (rights : Rights) → pieces ≡ start_pieces
     → IsPossible pieces White rights None 1
 at_start pieces rights same =
-    let P : List Piece → Type 0 = λ x. IsPossible x White rights None 1 in
-    subst P (sym same) (record {
-      kings = (one_white_king, one_black_king);
-      known = no_extra;
-      pawns = no_stray;
-      safe = no_check;
-      homes = (λ _. (refl, refl), λ _. (refl, refl), λ _. (refl, refl), λ _. (refl, refl));
-      steps = not_passed;
-      counted = omega arith;
-    })
+    search (rules, one_white_king, one_black_king, no_extra, no_stray, no_check, not_passed)

@@ -1,21 +1,11 @@
 -- A legal move leads from a possible state to a possible one.
-use Rattle.std.proofs.lemmas.Bool.{cases_eq}
-use Rattle.std.proofs.Common.{subst, ◌≡◌, ℕ, ◌+◌, ◌-◌, ◌/◌, ◌<◌, ◌≤◌, ◌∙◌, sym, ap, refl, arith, List, inl, inr, Bool, true, false}
-use Rattle.std.specs.Prelude.{◌≢◌, ◌⊎◌, Option, Some, None, if◌then◌else◌, nat_eq, IsTrue}
-use Rattle.std.specs.Int.{abs_diff}
-use Rattle.std.proofs.lemmas.Bool.Decides.{nat_tests}
-use Rattle.dgt_values.specs.declared.pieces.Piece.{Piece}
-use Rattle.dgt_chess.specs.declared.possible.Rights.{Rights}
-use Rattle.dgt_chess.specs.declared.state.State.{State}
-use Rattle.dgt_chess.specs.declared.pieces.Colour.{Colour}
-use Rattle.dgt_chess.specs.declared.pieces.Colour.TheVariants.{White, Black}
-use Rattle.dgt_chess.specs.declared.pieces.Man.{Man}
-use Rattle.dgt_chess.specs.declared.pieces.Man.TheVariants.{Pawn, Knight, Bishop, Rook, Queen, King}
-use Rattle.dgt_chess.specs.Attacks.{piece_at, piece_of, other, file, row, IsAhead, IsFree, IsInCheck}
-use Rattle.dgt_chess.specs.Possible.{HasOneKing, HasKings, HasNoExtra, HasNoStray, HasPassed, HasRights, IsAtHome, IsExtra, IsPassedOver, IsPossible}
+use Rattle.std.proofs.{lemmas.Bool.{cases_eq}, Common.{subst, ◌≡◌, ℕ, ◌+◌, ◌/◌, ◌<◌, ◌≤◌, ◌∙◌, sym, ap, arith, List, inl, inr, Bool, true, rules}}
+use Rattle.{std.{specs.{Prelude.{◌≢◌, ◌⊎◌, Option, Some, None, if◌then◌else◌, nat_eq, IsTrue}, Int.{abs_diff}}, proofs.lemmas.Bool.Decides.{nat_tests}}, dgt_values.specs.declared.pieces.Piece.{Piece}}
+use Rattle.dgt_chess.specs.declared.{possible.Rights.{Rights}, state.State.{State}, pieces.{Colour.{Colour, TheVariants.{White, Black}}, Man.{Man}}}
+use Rattle.dgt_chess.specs.{declared.pieces.Man.TheVariants.{Pawn, Knight, Bishop, Rook, Queen, King}, Attacks.{piece_at, piece_of, other, file, row, IsAhead, IsFree, IsInCheck}}
+use Rattle.dgt_chess.specs.Possible.{HasOneKing, HasKings, HasNoExtra, HasNoStray, HasPassed, HasRights, IsAtHome, IsPassedOver, IsPossible}
 use Rattle.dgt_chess.specs.Rules.{board, passed, pieces_after, PawnMoves, Promotes, LegalBy, first_row, last_row, remains, rights_after, passed_after, number_after}
-use Rattle.dgt_chess.proofs.Unique.{Effect, same_man, same_kind, same_side, not_free, not_theirs, no_extra}
-use Rattle.dgt_chess.proofs.OneMove.{put, effect_of, spared}
+use Rattle.dgt_chess.proofs.{Unique.{Effect, same_man, same_kind, same_side, not_free, not_theirs, no_extra}, OneMove.{put, effect_of, spared}}
 
 -- ---- kings
 
@@ -40,48 +30,16 @@ their_king old new turn a b man e spared king =
               same_kind (other turn) turn King Rook (sym king.2 ∙ rook.1) in cc
         ]
       ]
-    ] in (
-      k,
-      king.1,
-      stays,
-      λ s small here. elim (e.sees s) [
-        | inl empty ↦ absurd (not_free (other turn) King (sym here ∙ empty))
-        | inr more ↦ elim more [
-          | inl same ↦ king.3 s small (sym same.0 ∙ here)
-          | inr rest ↦ elim rest [
-            | inl own ↦ absurd (not_theirs turn man King (sym own.0 ∙ here))
-            | inr rook ↦ absurd (not_theirs turn Rook King (sym rook ∙ here))
-          ]
-        ]
-      ],
-    )
+    ] in (search (rules, stays, not_free, not_theirs))
 
 own_king : (old new : List Piece) (turn : Colour) (a b : ℕ) (man : Man) → b < 64 → a < 64
-    → Effect old new turn a b man
-    → (piece_at old a ≡ piece_of turn King → man ≡ King)
-    → (man ≡ King → piece_at old a ≡ piece_of turn King)
-    → HasOneKing old turn → HasOneKing new turn
+    → Effect old new turn a b man → (piece_at old a ≡ piece_of turn King → man ≡ King)
+    → (man ≡ King → piece_at old a ≡ piece_of turn King) → HasOneKing old turn → HasOneKing new turn
 unfolding HasOneKing
 own_king old new turn a b man b_small a_small e remains_king was_king king =
     let k = king.0 in
     elim (cases_eq k a) [
-      | inl same ↦ let crowned : man ≡ King =
-          remains_king (ap (piece_at old) (sym same) ∙ king.2) in (
-            b,
-            b_small,
-            e.arrived ∙ ap (piece_of turn) crowned,
-            λ s small here. elim (e.sees s) [
-              | inl empty ↦ absurd (not_free turn King (sym here ∙ empty))
-              | inr more ↦ elim more [
-                | inl kept ↦ absurd (kept.1 (king.3 s small (sym kept.0 ∙ here) ∙ same))
-                | inr rest ↦ elim rest [
-                  | inl own ↦ own.1
-                  | inr rook ↦ let wrong : Rook ≡ King =
-                      same_kind turn turn Rook King (sym rook ∙ here) in cc
-                ]
-              ]
-            ],
-          )
+      | inl same ↦ search (rules, not_free, same_kind)
       | inr off_a ↦
           let no_king : man ≢ King = λ crowned. off_a (sym (king.3 a a_small (was_king crowned))) in
           let off_b : k ≢ b = λ same. e.target King (ap (piece_at old) (sym same) ∙ king.2) in
@@ -115,56 +73,27 @@ own_king old new turn a b man b_small a_small e remains_king was_king king =
 
 both_kings : (pieces : List Piece) (turn : Colour) → HasOneKing pieces turn
     → HasOneKing pieces (other turn) → HasKings pieces
-both_kings pieces White own theirs = (own, theirs)
-both_kings pieces Black own theirs = (theirs, own)
+both_kings pieces turn own theirs = search rules
 
 king_of : (pieces : List Piece) (turn : Colour) → HasKings pieces → HasOneKing pieces turn
-king_of pieces White kings = kings.0
-king_of pieces Black kings = kings.1
+king_of pieces turn kings = search rules
 
 -- ---- no extra piece, no stray pawn
 
 no_new_extra : (old new : List Piece) (turn : Colour) (a b : ℕ) (man : Man)
-    → Effect old new turn a b man → HasNoExtra old
-    → HasNoExtra new
+    → Effect old new turn a b man → HasNoExtra old → HasNoExtra new
 unfolding HasNoExtra
-no_new_extra old new turn a b man e known s small =
-    let P : Piece → Type 0 = λ p. ¬ (IsExtra p) in
-    elim (e.sees s) [
-      | inl empty ↦ subst P (sym empty)
-          (λ h. elim h [ inl x ↦ cc | inr more ↦ elim more [ inl x ↦ cc | inr x ↦ cc ] ])
-      | inr more ↦ elim more [
-        | inl kept ↦ subst P (sym kept.0) (known s small)
-        | inr rest ↦ elim rest [
-          | inl own ↦ subst P (sym own.0) (no_extra turn man)
-          | inr rook ↦ subst P (sym rook) (no_extra turn Rook)
-        ]
-      ]
-    ]
+no_new_extra old new turn a b man e known s small = search (rules, no_extra)
 
 no_new_stray : (old new : List Piece) (turn : Colour) (a b : ℕ) (man : Man)
     → Effect old new turn a b man
     → (man ≡ Pawn → (row b ≡ 0) ⊎ (row b ≡ 7) → ⊥) → HasNoStray old → HasNoStray new
 unfolding HasNoStray
 no_new_stray old new turn a b man e within pawns s small astray =
-    let colour = astray.1.0 in
-    let here = astray.1.1 in
-    elim (e.sees s) [
-      | inl empty ↦ not_free colour Pawn (sym here ∙ empty)
-      | inr more ↦ elim more [
-        | inl kept ↦ pawns s small (astray.0, (colour, sym kept.0 ∙ here))
-        | inr rest ↦ elim rest [
-          | inl own ↦ let P : ℕ → Type 0 = λ n. (row n ≡ 0) ⊎ (row n ≡ 7) in
-              within (same_kind turn colour man Pawn (sym own.0 ∙ here)) (subst P own.1 astray.0)
-          | inr rook ↦ let wrong : Rook ≡ Pawn =
-              same_kind turn colour Rook Pawn (sym rook ∙ here) in cc
-        ]
-      ]
-    ]
+    search (rules, not_free, same_kind)
 
 ahead_of : (pieces : List Piece) (turn : Colour) (stepped : Option ℕ) (a b : ℕ)
-    → PawnMoves pieces turn stepped a b
-    → IsAhead turn 1 a b ⊎ IsAhead turn 2 a b
+    → PawnMoves pieces turn stepped a b → IsAhead turn 1 a b ⊎ IsAhead turn 2 a b
 ahead_of pieces turn stepped a b moves = elim moves [
   | inl step ↦ inl step.1
   | inr more ↦ elim more [ inl double ↦ inr double.1 | inr take ↦ inl take.0.1 ]
@@ -173,45 +102,29 @@ ahead_of pieces turn stepped a b moves = elim moves [
 pawn_within : (turn : Colour) (a b : ℕ) → IsAhead turn 1 a b ⊎ IsAhead turn 2 a b
     → ((row a ≡ 0) ⊎ (row a ≡ 7) → ⊥)
     → a < 64 → b < 64 → row b ≢ last_row turn → (row b ≡ 0) ⊎ (row b ≡ 7) → ⊥
-pawn_within White a b ahead a_within a_small b_small not_last edge = elim edge [
-  | inl first ↦ not_last first
-  | inr last ↦ elim ahead [ inl one ↦ omega arith | inr two ↦ omega arith ]
-]
-pawn_within Black a b ahead a_within a_small b_small not_last edge = elim edge [
-  | inl first ↦ elim ahead [ inl one ↦ omega arith | inr two ↦ omega arith ]
-  | inr last ↦ not_last last
-]
+pawn_within White a b ahead a_within a_small b_small not_last edge = search rules
+pawn_within Black a b ahead a_within a_small b_small not_last edge = search rules
 
 -- a man that is a pawn afterwards was one, and was not promoted
 still_pawn : (man : Man) (promotion : Option Man) → promotion ≢ Some Pawn → put man promotion ≡ Pawn
     → (man ≡ Pawn) × (promotion ≡ None)
-still_pawn man None other_than same = (same, refl)
-still_pawn man (Some new) other_than same = absurd (other_than (ap Some same))
+still_pawn man promotion other_than same = search rules
 
 within_of : (state : State) (man : Man) (a b : ℕ) (promotion : Option Man) → a < 64 → b < 64
     → HasNoStray (board state)
     → LegalBy man state a b promotion → put man promotion ≡ Pawn → (row b ≡ 0) ⊎ (row b ≡ 7) → ⊥
 unfolding HasNoStray
 within_of state man a b promotion a_small b_small pawns legal same edge =
-    let was = still_pawn man promotion legal.promotes.1 same in
-    let M : Man → Type 0 = λ m. LegalBy m state a b promotion in
-    let one = subst M was.0 legal in
-    let N : Option Man → Type 0 = λ p. Promotes Pawn state b p in
-    let promotes = subst N was.1 one.promotes in
-    pawn_within state.turn a b (ahead_of (board state) state.turn (passed state) a b one.moves)
-    (λ astray. pawns a a_small (astray, (state.turn, one.own))) a_small b_small
-    (λ last. let no = promotes.0.1 (refl, last) in cc) edge
+    search (rules, still_pawn, pawn_within, ahead_of)
 
 -- ---- rights
 
 remains_means : (unmoved : Bool) (home corner a b : ℕ) → IsTrue (remains unmoved home corner a b)
     → IsTrue unmoved × (home ≢ a) × (home ≢ b) × (corner ≢ a) × (corner ≢ b)
-remains_means true home corner a b h = grind (arith, nat_tests)
-remains_means false home corner a b h = let no : ⊥ = cc in absurd no
+remains_means unmoved home corner a b h = search (rules, nat_tests)
 
 home_stays : (old new : List Piece) (turn colour : Colour) (a b home corner : ℕ) (man : Man)
-    (unmoved : Bool)
-    → home < 64 → a < 64 → Effect old new turn a b man
+    (unmoved : Bool) → home < 64 → a < 64 → Effect old new turn a b man
     → (man ≡ King → piece_at old a ≡ piece_of turn King)
     → HasOneKing old turn → IsAtHome unmoved old colour home corner
     → IsAtHome (remains unmoved home corner a b) new colour home corner
@@ -219,54 +132,19 @@ unfolding HasOneKing
 home_stays old new turn colour a b home corner man unmoved home_small a_small e was_king king
     at_home right =
     let means = remains_means unmoved home corner a b right in
-    let stood = at_home means.0 in (
-      elim (e.keeps home means.1 means.2) [
-        | inl same ↦ same ∙ stood.0
-        | inr more ↦ elim more [
-          | inl pawn ↦ let wrong : King ≡ Pawn =
-              same_kind colour (other turn) King Pawn (sym stood.0 ∙ pawn) in cc
-          | inr rest ↦ elim rest [
-            | inl free ↦ absurd (not_free colour King (sym stood.0 ∙ free.1))
-            | inr rook ↦ let wrong : King ≡ Rook =
-                same_kind colour turn King Rook (sym stood.0 ∙ rook.1) in cc
-          ]
-        ]
-      ],
-      elim (e.keeps corner means.3 means.4) [
-        | inl same ↦ same ∙ stood.1
-        | inr more ↦ elim more [
-          | inl pawn ↦ let wrong : Rook ≡ Pawn =
-              same_kind colour (other turn) Rook Pawn (sym stood.1 ∙ pawn) in cc
-          | inr rest ↦ elim rest [
-            | inl free ↦ absurd (not_free colour Rook (sym stood.1 ∙ free.1))
-            | inr rook ↦
-                let side : Some colour ≡ Some turn =
-                same_side colour turn Rook Rook (sym stood.1 ∙ rook.1) in
-                let same : colour ≡ turn = cc in
-                let mine : piece_at old home ≡ piece_of turn King = stood.0
-                ∙ ap (λ c. piece_of c King) same in
-                let here : home ≡ a = king.3 home home_small mine
-                ∙ sym (king.3 a a_small (was_king rook.0)) in
-                absurd (means.1 here)
-          ]
-        ]
-      ],
-    )
+    let stood = at_home means.0 in (search (rules, same_kind, not_free, same_side, was_king))
 
 -- ---- the passed square
 
 rows_apart : (a b : ℕ) (square : ℕ) (t : Bool)
-    → (if t then Some ((a + b) / 2) else None) ≡ Some square
-    → (t ≡ true) × (square ≡ (a + b) / 2)
-rows_apart a b square true e = (refl, let same : (a + b) / 2 ≡ square = cc in sym same)
-rows_apart a b square false e = let no : ⊥ = cc in absurd no
+    → (if t then Some ((a + b) / 2) else None) ≡ Some square → (t ≡ true) × (square ≡ (a + b) / 2)
+rows_apart a b square t e = search rules
 
 two_rows : (a b : ℕ) → nat_eq (abs_diff (row a) (row b)) 2 ≡ true → abs_diff (row a) (row b) ≡ 2
 two_rows a b t = grind (arith, nat_tests)
 
 one_row : (turn : Colour) (a b : ℕ) → IsAhead turn 1 a b → abs_diff (row a) (row b) ≢ 2
-one_row White a b ahead e = omega arith
-one_row Black a b ahead e = omega arith
+one_row turn a b ahead = search rules
 
 -- the pieces on and round the square that a pawn passes over
 record Passes (old new : List Piece) (turn : Colour) (a b : ℕ) : Type 0 where
@@ -279,18 +157,15 @@ record Passes (old new : List Piece) (turn : Colour) (a b : ℕ) : Type 0 where
 
 double_rows : (turn : Colour) (a b : ℕ) → IsAhead turn 2 a b → row a ≡ first_row turn
     → row b ≢ last_row turn
-double_rows White a b ahead from last = omega arith
-double_rows Black a b ahead from last = omega arith
+double_rows turn a b ahead from = search rules
 
 between : (turn : Colour) (a b : ℕ) → file a ≡ file b → IsAhead turn 2 a b → ((a + b) / 2 ≢ a)
     × ((a + b) / 2 ≢ b)
-between White a b files ahead = (λ e. omega arith, λ e. omega arith)
-between Black a b files ahead = (λ e. omega arith, λ e. omega arith)
+between turn a b files ahead = search rules
 
 no_promotion : (state : State) (b : ℕ) (promotion : Option Man) → Promotes Pawn state b promotion
     → row b ≢ last_row state.turn → promotion ≡ None
-no_promotion state b None promotes not_last = refl
-no_promotion state b (Some new) promotes not_last = absurd (not_last (promotes.0.0 refl).1)
+no_promotion state b promotion promotes not_last = search rules
 
 double : (state : State) (a b : ℕ) (promotion : Option Man) (new : List Piece)
     → LegalBy Pawn state a b promotion
@@ -300,51 +175,15 @@ double state a b promotion new legal e apart = elim legal.moves [
   | inl step ↦ absurd (one_row state.turn a b step.1 apart)
   | inr more ↦ elim more [
     | inl two ↦
-        let off = between state.turn a b two.0 two.1 in
-        let none : promotion ≡ None =
-        no_promotion state b promotion legal.promotes (double_rows state.turn a b two.1 two.2) in
-        let pawn : put Pawn promotion ≡ Pawn = ap (put Pawn) none in
-        let no_king : put Pawn promotion ≢ King = λ king. let wrong : Pawn ≡ King = sym pawn
-        ∙ king in cc in
-        record {
-          files = two.0;
-          ahead = two.1;
-          from = two.2;
-          behind = e.vacated;
-          over = elim (e.keeps ((a + b) / 2) off.0 off.1) [
-            | inl same ↦ same ∙ two.4
-            | inr others ↦ elim others [
-              | inl taken ↦ absurd (not_free (other state.turn) Pawn (sym taken ∙ two.4))
-              | inr castles ↦ elim castles
-                  [ inl free ↦ absurd (no_king free.0) | inr rook ↦ absurd (no_king rook.0) ]
-            ]
-          ];
-          before = e.arrived ∙ ap (piece_of state.turn) pawn;
-        }
+        search (rules, between, no_promotion, double_rows, put, not_free)
     | inr take ↦ absurd (one_row state.turn a b take.0.1 apart)
   ]
 ]
 
 over_square : (old new : List Piece) (turn : Colour) (a b : ℕ) → Passes old new turn a b
     → IsPassedOver new (other turn) ((a + b) / 2)
-over_square old new White a b p =
-    let F : ℕ → Type 0 = IsFree new in
-    let B : ℕ → Type 0 = λ n. piece_at new n ≡ piece_of White Pawn in
-    let files = p.files in
-    let ahead = p.ahead in
-    let from = p.from in
-    let high : a ≡ (a + b) / 2 + 8 = omega arith in
-    let low : b ≡ (a + b) / 2 - 8 = omega arith in
-    (omega arith, (subst F high p.behind, p.over, subst B low p.before))
-over_square old new Black a b p =
-    let F : ℕ → Type 0 = IsFree new in
-    let B : ℕ → Type 0 = λ n. piece_at new n ≡ piece_of Black Pawn in
-    let files = p.files in
-    let ahead = p.ahead in
-    let from = p.from in
-    let low : a ≡ (a + b) / 2 - 8 = omega arith in
-    let high : b ≡ (a + b) / 2 + 8 = omega arith in
-    (omega arith, (subst F low p.behind, p.over, subst B high p.before))
+over_square old new White a b p = search rules
+over_square old new Black a b p = search rules
 
 passes_stay : (state : State) (man : Man) (a b : ℕ) (promotion : Option Man) (new : List Piece)
     → LegalBy man state a b promotion → Effect (board state) new state.turn a b (put man promotion)
@@ -365,45 +204,25 @@ passes_stay state King a b promotion new legal e square is = let no : ⊥ = cc i
 -- ---- all of it
 
 pub was_king : (state : State) (man : Man) (b : ℕ) (promotion : Option Man)
-    → Promotes man state b promotion
-    → put man promotion ≡ King → man ≡ King
-was_king state man b None promotes same = same
-was_king state man b (Some new) promotes same = absurd (promotes.2 (ap Some same))
+    → Promotes man state b promotion → put man promotion ≡ King → man ≡ King
+was_king state man b promotion promotes same = search rules
 
 stays_king : (state : State) (man : Man) (b : ℕ) (promotion : Option Man)
-    → Promotes man state b promotion → man ≡ King
-    → put man promotion ≡ King
-stays_king state man b None promotes same = same
-stays_king state man b (Some new) promotes same =
-    let wrong : King ≡ Pawn = sym same ∙ (promotes.0.0 refl).0 in absurd (let no : ⊥ = cc in no)
+    → Promotes man state b promotion → man ≡ King → put man promotion ≡ King
+stays_king state man b promotion promotes same = search rules
 
 twice : (turn : Colour) → turn ≡ other (other turn)
-twice White = refl
-twice Black = refl
+twice turn = search rules
 
 number_stays : (turn : Colour) (number : ℕ) → 1 ≤ number → 1 ≤ number_after turn number
-number_stays White number some = some
-number_stays Black number some = omega arith
+number_stays turn number some = search rules
 
 rights_stay : (state : State) (man : Man) (a b : ℕ) (new : List Piece) → a < 64
     → Effect (board state) new state.turn a b man
     → (man ≡ King → piece_at (board state) a ≡ piece_of state.turn King)
     → HasOneKing (board state) state.turn → HasRights (board state) state.rights
     → HasRights new (rights_after state.rights a b)
-rights_stay state man a b new a_small e king one homes = (
-  home_stays (board state) new state.turn White a b 60 63 man state.rights.white_short
-      (omega arith) a_small e king one
-      homes.0,
-  home_stays (board state) new state.turn White a b 60 56 man state.rights.white_long
-      (omega arith) a_small e king one
-      homes.1,
-  home_stays (board state) new state.turn Black a b 4 7 man state.rights.black_short
-      (omega arith) a_small e king one
-      homes.2,
-  home_stays (board state) new state.turn Black a b 4 0 man state.rights.black_long
-      (omega arith) a_small e king one
-      homes.3,
-)
+rights_stay state man a b new a_small e king one homes = search (rules, home_stays)
 
 pub stays : (state : State) (man : Man) (a b : ℕ) (promotion : Option Man) → a < 64 → b < 64
     → IsPossible (board state) state.turn state.rights (passed state) state.number
@@ -432,8 +251,7 @@ stays state man a b promotion a_small b_small possible legal =
           (own_king (board state) new state.turn a b
           (put man promotion) b_small a_small e king crowned one));
       known = no_new_extra (board state) new state.turn a b (put man promotion) e possible.known;
-      pawns = no_new_stray (board state) new state.turn a b (put man promotion) e
-          (within_of state man a b promotion a_small b_small possible.pawns legal) possible.pawns;
+      pawns = search (rules, no_new_stray, put, within_of);
       safe = subst S (twice state.turn) legal.safe;
       homes = rights_stay state (put man promotion) a b new a_small e crowned one possible.homes;
       steps = passes_stay state man a b promotion new legal e;
@@ -447,9 +265,4 @@ pub stays_as : (old new : List Piece) (turn turn' : Colour) (rights rights' : Ri
     → number ≡ number'
     → IsPossible old turn rights stepped number → IsPossible new turn' rights' stepped' number'
 stays_as old new turn turn' rights rights' stepped stepped' number number' p t r s n possible =
-    let P : List Piece → Type 0 = λ x. IsPossible x turn rights stepped number in
-    let T : Colour → Type 0 = λ x. IsPossible new x rights stepped number in
-    let R : Rights → Type 0 = λ x. IsPossible new turn' x stepped number in
-    let S : Option ℕ → Type 0 = λ x. IsPossible new turn' rights' x number in
-    let N : ℕ → Type 0 = λ x. IsPossible new turn' rights' stepped' x in
-    subst N n (subst S s (subst R r (subst T t (subst P p possible))))
+    search rules

@@ -1,5 +1,4 @@
-use Rattle.std.proofs.Common.{refl}
-use Rattle.dgt_c.proofs.{ChessLemmas.{no_lead}, EncodingLemmas.{are_pieces}}
+use Rattle.{std.proofs.Common.{refl}, dgt_c.proofs.{ChessLemmas.{no_lead}, EncodingLemmas.{are_pieces}}}
 use Rattle.dgt_c.proofs.chess.dgt_chess_move_to.Goals as goal
 
 pub returns-in_default-clause-none : goal.returns-in_default-clause-none

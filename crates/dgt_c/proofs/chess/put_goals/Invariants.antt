@@ -1,5 +1,4 @@
-use Rattle.std.{proofs.Common.{ℕ, ◌<◌}, specs.Prelude.{◌↔◌, slice_index, IsBitSet}}
-use Rattle.dgt_chess.specs.Rules.{CanGo}
+use Rattle.{std.{proofs.Common.{ℕ, ◌<◌}, specs.Prelude.{◌↔◌, slice_index, IsBitSet}}, dgt_chess.specs.Rules.{CanGo}}
 use Rattle.dgt_c.proofs.chess.put_goals.Given as goal
 
 abbrev pub invariant-loop-from : goal.invariant-loop-from

@@ -1,5 +1,4 @@
-use Rattle.std.proofs.Common.{rules}
-use Rattle.dgt_c.proofs.ChessLemmas.{only_move}
+use Rattle.{std.proofs.Common.{rules}, dgt_c.proofs.ChessLemmas.{only_move}}
 use Rattle.dgt_c.proofs.chess_states.read_move.Goals as goal
 
 pub returns : goal.returns

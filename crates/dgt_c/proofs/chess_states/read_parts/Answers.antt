@@ -1,5 +1,4 @@
-use Rattle.std.proofs.Common.{sym}
-use Rattle.dgt_c.proofs.EncodingLemmas.{are_pieces}
+use Rattle.{std.proofs.Common.{sym}, dgt_c.proofs.EncodingLemmas.{are_pieces}}
 use Rattle.dgt_c.proofs.chess_states.read_parts.Goals as goal
 
 pub returns-in_err-position : goal.returns-in_err-position

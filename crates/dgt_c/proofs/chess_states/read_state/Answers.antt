@@ -2,8 +2,7 @@ use Rattle.dgt_c.proofs.ChessLemmas.{only_state, refused_state}
 use Rattle.dgt_c.proofs.chess_states.read_state.Goals as goal
 
 pub returns-in-Ok : goal.returns-in-Ok
-returns-in-Ok c =
-    only_state c.one_piece_a_code.ensures _ _ (rw c.in-Ok.is at c.in_ok-state.ensures)
+returns-in-Ok c = only_state c.one_piece_a_code.ensures _ _ (rw c.in-Ok.is at c.in_ok-state.ensures)
 
 pub returns-in-Err : goal.returns-in-Err
 returns-in-Err c =

@@ -1,5 +1,4 @@
-use Rattle.std.proofs.Common.{◌<◌, List, ℕ, arith, length}
-use Rattle.dgt_c.proofs.ChessTextLemmas.{refused_after, refused_in_prefix}
+use Rattle.{std.proofs.Common.{◌<◌, List, ℕ, arith, length}, dgt_c.proofs.ChessTextLemmas.{refused_after, refused_in_prefix}}
 use Rattle.dgt_c.proofs.chess_texts.parse_fen.Goals as goal
 
 pub returns-in-Err-Text : goal.returns-in-Err-Text

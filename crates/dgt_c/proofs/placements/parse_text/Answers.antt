@@ -1,6 +1,4 @@
-use Rattle.std.proofs.Common.{List, rules, subst, ℕ}
-use Rattle.dgt_values.specs.Placement.{IsFirstBadOffset}
-use Rattle.dgt_c.proofs.AsciiLemmas.{bad_behind, bad_in_prefix}
+use Rattle.{std.proofs.Common.{List, rules, subst, ℕ}, dgt_values.specs.Placement.{IsFirstBadOffset}, dgt_c.proofs.AsciiLemmas.{bad_behind, bad_in_prefix}}
 use Rattle.dgt_c.proofs.placements.parse_text.Goals as goal
 
 pub returns-in-Err : goal.returns-in-Err

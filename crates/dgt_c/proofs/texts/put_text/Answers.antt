@@ -10,8 +10,7 @@ set_after (x ∷ xs) (suc n) within = search (rules, set_after xs n (omega (arit
 
 -- a zero byte is written after a text that was written to a prefix of a slice
 zero_after : (text old : List ℕ) (room n : ℕ) → length text ≡ n → n ≤ length (take room old)
-    → n < length old
-    → set ((text ++ drop n (take room old)) ++ drop room old) n 0
+    → n < length old → set ((text ++ drop n (take room old)) ++ drop room old) n 0
     ≡ (text ++ 0 ∷ []) ++ drop (n + 1) old
 zero_after text old room n len fits within =
     let rest : drop n (take room old) ++ drop room old ≡ drop n old =

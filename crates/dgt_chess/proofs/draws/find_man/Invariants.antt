@@ -1,5 +1,4 @@
-use Rattle.std.proofs.Common.{ℕ, ◌<◌, ◌≤◌}
-use Rattle.dgt_chess.specs.Draws.{IsBare}
+use Rattle.{std.proofs.Common.{ℕ, ◌<◌, ◌≤◌}, dgt_chess.specs.Draws.{IsBare}}
 use Rattle.dgt_chess.proofs.draws.find_man.Given as goal
 
 abbrev pub invariant-loop-square : goal.invariant-loop-square

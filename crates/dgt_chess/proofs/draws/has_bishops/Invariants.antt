@@ -1,5 +1,4 @@
-use Rattle.std.proofs.Common.{ℕ, ◌<◌}
-use Rattle.dgt_chess.specs.Draws.{FitsShade}
+use Rattle.{std.proofs.Common.{ℕ, ◌<◌}, dgt_chess.specs.Draws.{FitsShade}}
 use Rattle.dgt_chess.proofs.draws.has_bishops.Given as goal
 
 abbrev pub invariant-loop-square : goal.invariant-loop-square

@@ -1,9 +1,5 @@
-use Rattle.std.proofs.Common.{◌≡◌, ℕ, List, sym, ◌∙◌, arith, inl, inr}
-use Rattle.std.specs.Prelude.{IsTrue, false}
-use Rattle.dgt_values.specs.declared.pieces.Piece.{Piece}
-use Rattle.dgt_chess.specs.declared.pieces.Man.TheVariants.{Knight, King}
-use Rattle.dgt_chess.specs.Draws.{HasOneKnight, Holds, IsBare}
-use Rattle.dgt_chess.proofs.Unique.{not_free, same_kind}
+use Rattle.{std.{proofs.Common.{◌≡◌, ℕ, List, sym, ◌∙◌, arith, inl, inr}, specs.Prelude.{IsTrue, false}}, dgt_values.specs.declared.pieces.Piece.{Piece}}
+use Rattle.dgt_chess.{specs.{declared.pieces.Man.TheVariants.{Knight, King}, Draws.{HasOneKnight, Holds, IsBare}}, proofs.Unique.{not_free, same_kind}}
 use Rattle.dgt_chess.proofs.draws.has_one_knight.Goals as goal
 
 not_bare : (pieces : List Piece) (square : ℕ) → Holds pieces Knight square → IsBare pieces square

@@ -1,5 +1,4 @@
-use Rattle.std.proofs.{Common.{◌+◌, ◌%◌, ◌/◌, ◌∙◌, ◌∷◌, ◌++◌, [], ap, arith, sym, append_assoc}, lemmas.Fmt.{decimal_digit, decimal_step}}
-use Rattle.std.specs.Prelude.{decimal}
+use Rattle.std.{proofs.{Common.{◌+◌, ◌%◌, ◌/◌, ◌∙◌, ◌∷◌, ◌++◌, [], ap, arith, sym, append_assoc}, lemmas.Fmt.{decimal_digit, decimal_step}}, specs.Prelude.{decimal}}
 use Rattle.dgt_chess.proofs.Decimals.{more_long, one_long}
 use Rattle.dgt_chess.proofs.fields.+push_digits.Goals as goal
 
@@ -22,13 +21,12 @@ push_digits-requires t c = (
 )
 
 pub push_digit-requires-2-clause-room : goal.push_digit-requires-2-clause-room
-push_digit-requires-2-clause-room t c =
-    omega (
-      arith,
-      c.push_digits.ensures.len,
-      more_long c.args.number c.if-number-lt10.false
-          (omega arith),
-    )
+push_digit-requires-2-clause-room t c = omega (
+  arith,
+  c.push_digits.ensures.len,
+  more_long c.args.number c.if-number-lt10.false
+      (omega arith),
+)
 
 pub returns-clause-text : goal.returns-clause-text
 returns-clause-text t c =
@@ -39,10 +37,9 @@ returns-clause-text t c =
     (sym (decimal_step c.args.number c.if-number-lt10.false (omega arith)))
 
 pub returns-clause-len : goal.returns-clause-len
-returns-clause-len t c =
-    omega (
-      arith,
-      c.push_digits.ensures.len,
-      c.push_digit-2.ensures.len,
-      more_long c.args.number c.if-number-lt10.false (omega arith),
-    )
+returns-clause-len t c = omega (
+  arith,
+  c.push_digits.ensures.len,
+  c.push_digit-2.ensures.len,
+  more_long c.args.number c.if-number-lt10.false (omega arith),
+)

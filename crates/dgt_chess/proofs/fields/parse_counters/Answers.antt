@@ -1,7 +1,4 @@
-use Rattle.dgt_chess.specs.Fen.{IsNumber}
-use Rattle.dgt_chess.proofs.Chain.{some_number}
-use Rattle.dgt_chess.proofs.Decimals.{number_plain}
-use Rattle.dgt_chess.proofs.Stages.{field_wrong, rest_missing, rest_wrong}
+use Rattle.dgt_chess.{specs.Fen.{IsNumber}, proofs.{Chain.{some_number}, Decimals.{number_plain}, Stages.{field_wrong, rest_missing, rest_wrong}}}
 use Rattle.dgt_chess.proofs.fields.parse_counters.Goals as goal
 
 pub returns-in-Err : goal.returns-in-Err

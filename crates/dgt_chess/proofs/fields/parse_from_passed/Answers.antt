@@ -1,7 +1,4 @@
-use Rattle.dgt_chess.specs.Fen.{IsPassed, AreCounters}
-use Rattle.dgt_chess.proofs.Chain.{some_counters}
-use Rattle.dgt_chess.proofs.FieldBytes.{passed_plain}
-use Rattle.dgt_chess.proofs.Stages.{field_wrong, rest_missing, rest_wrong}
+use Rattle.dgt_chess.{specs.Fen.{IsPassed, AreCounters}, proofs.{Chain.{some_counters}, FieldBytes.{passed_plain}, Stages.{field_wrong, rest_missing, rest_wrong}}}
 use Rattle.dgt_chess.proofs.fields.parse_from_passed.Goals as goal
 
 pub returns-in-Err : goal.returns-in-Err

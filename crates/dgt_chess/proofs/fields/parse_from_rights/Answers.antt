@@ -1,7 +1,4 @@
-use Rattle.dgt_chess.specs.Fen.{IsRights, IsFromPassed}
-use Rattle.dgt_chess.proofs.Chain.{some_from_passed}
-use Rattle.dgt_chess.proofs.FieldBytes.{rights_plain}
-use Rattle.dgt_chess.proofs.Stages.{field_wrong, rest_missing, rest_wrong}
+use Rattle.dgt_chess.{specs.Fen.{IsRights, IsFromPassed}, proofs.{Chain.{some_from_passed}, FieldBytes.{rights_plain}, Stages.{field_wrong, rest_missing, rest_wrong}}}
 use Rattle.dgt_chess.proofs.fields.parse_from_rights.Goals as goal
 
 pub returns-in-Err : goal.returns-in-Err

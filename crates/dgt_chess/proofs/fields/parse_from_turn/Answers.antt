@@ -1,7 +1,4 @@
-use Rattle.dgt_chess.specs.Fen.{IsTurn, IsFromRights}
-use Rattle.dgt_chess.proofs.Chain.{some_from_rights}
-use Rattle.dgt_chess.proofs.FieldBytes.{turn_plain}
-use Rattle.dgt_chess.proofs.Stages.{field_wrong, rest_missing, rest_wrong}
+use Rattle.dgt_chess.{specs.Fen.{IsTurn, IsFromRights}, proofs.{Chain.{some_from_rights}, FieldBytes.{turn_plain}, Stages.{field_wrong, rest_missing, rest_wrong}}}
 use Rattle.dgt_chess.proofs.fields.parse_from_turn.Goals as goal
 
 pub returns-in-Err : goal.returns-in-Err

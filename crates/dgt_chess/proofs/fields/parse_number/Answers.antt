@@ -1,5 +1,4 @@
-use Rattle.std.proofs.{Common.{arith, inl, refl}, lemmas.Grind.{common_steps}}
-use Rattle.dgt_chess.proofs.Decimals.{number_empty, number_read, number_stops, read_more}
+use Rattle.{std.proofs.{Common.{arith, inl, refl}, lemmas.Grind.{common_steps}}, dgt_chess.proofs.Decimals.{number_empty, number_read, number_stops, read_more}}
 use Rattle.dgt_chess.proofs.fields.parse_number.Goals as goal
 
 pub loop-at-init : goal.loop-at-init

@@ -1,5 +1,4 @@
-use Rattle.std.proofs.Common.{◌<◌, ◌^◌}
-use Rattle.dgt_chess.proofs.Decimals.{ReadNumber}
+use Rattle.{std.proofs.Common.{◌<◌, ◌^◌}, dgt_chess.proofs.Decimals.{ReadNumber}}
 use Rattle.dgt_chess.proofs.fields.parse_number.Given as goal
 
 abbrev pub invariant-loop-at : goal.invariant-loop-at

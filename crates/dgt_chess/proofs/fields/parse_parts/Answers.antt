@@ -1,7 +1,4 @@
-use Rattle.dgt_chess.specs.Fen.{IsFromTurn, IsPieces}
-use Rattle.dgt_values.specs.Board.{pieces_of}
-use Rattle.dgt_chess.proofs.Chain.{some_from_turn, wrong_fen}
-use Rattle.dgt_chess.proofs.FieldBytes.{pieces_plain, wrong_pieces}
+use Rattle.{dgt_chess.{specs.Fen.{IsFromTurn, IsPieces}, proofs.{Chain.{some_from_turn, wrong_fen}, FieldBytes.{pieces_plain, wrong_pieces}}}, dgt_values.specs.Board.{pieces_of}}
 use Rattle.dgt_chess.proofs.Stages.{field_wrong, rest_missing, rest_wrong}
 use Rattle.dgt_chess.proofs.fields.parse_parts.Goals as goal
 

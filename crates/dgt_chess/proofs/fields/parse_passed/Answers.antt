@@ -1,5 +1,4 @@
-use Rattle.std.proofs.{Common.{◌<◌, length, arith}, lemmas.Grind.{common_steps}}
-use Rattle.dgt_chess.proofs.FieldBytes.{passed_more}
+use Rattle.{std.proofs.{Common.{◌<◌, length, arith}, lemmas.Grind.{common_steps}}, dgt_chess.proofs.FieldBytes.{passed_more}}
 use Rattle.dgt_chess.proofs.fields.parse_passed.Goals as goal
 
 pub returns-else-bytes-eq2 : goal.returns-else-bytes-eq2

@@ -1,17 +1,13 @@
-use Rattle.std.proofs.Common.{◌≡◌, ◌≤◌, ◌<◌, ℕ, ◌∙◌, sym, ap, arith, refl, subst, List, length, take}
-use Rattle.dgt_chess.specs.Fen.{rights_of, rights_text}
-use Rattle.dgt_chess.proofs.FieldBytes.{best_more, wrong_rights}
+use Rattle.{std.proofs.Common.{◌≡◌, ◌≤◌, ◌<◌, ℕ, ◌∙◌, sym, ap, arith, refl, subst, List, length, take}, dgt_chess.{specs.Fen.{rights_of, rights_text}, proofs.FieldBytes.{best_more, wrong_rights}}}
 use Rattle.dgt_chess.proofs.fields.parse_rights.Goals as goal
 
 pub loop-code-init : goal.loop-code-init
-loop-code-init c =
-    record {
-      within = omega arith;
-      rights = rights_of 0;
-      best = refl;
-      others =
-          λ k lt _. absurd (omega arith);
-    }
+loop-code-init c = record {
+  within = omega arith;
+  rights = rights_of 0;
+  best = refl;
+  others = λ k lt _. absurd (omega arith);
+}
 
 pub loop-code-preserved : goal.loop-code-preserved
 loop-code-preserved c =

@@ -1,5 +1,4 @@
-use Rattle.std.proofs.{Common.{arith}, lemmas.Grind.{common_steps}}
-use Rattle.dgt_chess.proofs.FieldBytes.{turn_more}
+use Rattle.{std.proofs.{Common.{arith}, lemmas.Grind.{common_steps}}, dgt_chess.proofs.FieldBytes.{turn_more}}
 use Rattle.dgt_chess.proofs.fields.parse_turn.Goals as goal
 
 pub returns-else-bytes-eq1 : goal.returns-else-bytes-eq1

@@ -1,6 +1,4 @@
-use Rattle.std.proofs.Common.{◌≡◌, ℕ, ◌+◌, ◌∙◌, [], ◌∷◌, sym, ap, inl, inr}
-use Rattle.dgt_chess.specs.declared.state.State.{State}
-use Rattle.dgt_chess.specs.Draws.{Counts, OneCount}
+use Rattle.{std.proofs.Common.{◌≡◌, ℕ, ◌+◌, ◌∙◌, [], ◌∷◌, sym, ap, inl, inr}, dgt_chess.specs.{declared.state.State.{State}, Draws.{Counts, OneCount}}}
 use Rattle.dgt_chess.proofs.laws.one_count.Goals as goal
 
 same_counts : (one state : State) (n m : ℕ) → Counts one state n → Counts one state m → n ≡ m

@@ -1,6 +1,4 @@
-use Rattle.std.proofs.Common.{refl}
-use Rattle.dgt_chess.specs.Fen.{IsAnyFen}
-use Rattle.dgt_chess.proofs.FirstWrong.{one_wrong}
+use Rattle.{std.proofs.Common.{refl}, dgt_chess.{specs.Fen.{IsAnyFen}, proofs.FirstWrong.{one_wrong}}}
 use Rattle.dgt_chess.proofs.laws.one_first_wrong_byte.Goals as goal
 
 pub returns-clause-one : goal.returns-clause-one

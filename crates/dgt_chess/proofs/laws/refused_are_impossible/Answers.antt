@@ -1,6 +1,4 @@
-use Rattle.std.proofs.Common.{arith}
-use Rattle.dgt_chess.specs.declared.possible.Impossible.TheVariants.{Kings, Extra, Pawn, Check, Rights, Passed, Number}
-use Rattle.dgt_chess.specs.Possible.{RefusedAreImpossible}
+use Rattle.{std.proofs.Common.{arith}, dgt_chess.specs.{declared.possible.Impossible.TheVariants.{Kings, Extra, Pawn, Check, Rights, Passed, Number}, Possible.{RefusedAreImpossible}}}
 use Rattle.dgt_chess.proofs.laws.refused_are_impossible.Goals as goal
 
 refused : RefusedAreImpossible

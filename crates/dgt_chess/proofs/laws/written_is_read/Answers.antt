@@ -1,7 +1,4 @@
-use Rattle.std.specs.Prelude.{Ok, Err}
-use Rattle.dgt_values.specs.Board.{square_number}
-use Rattle.dgt_chess.specs.San.{WrittenIsRead}
-use Rattle.dgt_chess.proofs.SanLaws.{one_move}
+use Rattle.{std.specs.Prelude.{Ok, Err}, dgt_values.specs.Board.{square_number}, dgt_chess.{specs.San.{WrittenIsRead}, proofs.SanLaws.{one_move}}}
 use Rattle.dgt_chess.proofs.laws.written_is_read.Goals as goal
 
 read_back : WrittenIsRead

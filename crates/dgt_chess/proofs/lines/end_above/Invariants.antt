@@ -1,5 +1,4 @@
-use Rattle.std.specs.Prelude.{◌<◌, ◌≤◌, ◌-◌, ◌+◌}
-use Rattle.dgt_chess.specs.Attacks.{OnLine, IsOpen}
+use Rattle.{std.specs.Prelude.{◌<◌, ◌≤◌, ◌-◌, ◌+◌}, dgt_chess.specs.Attacks.{OnLine, IsOpen}}
 use Rattle.dgt_chess.proofs.lines.end_above.Given as goal
 
 abbrev pub invariant-loop-line : goal.invariant-loop-line

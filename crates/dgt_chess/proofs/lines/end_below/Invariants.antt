@@ -1,5 +1,4 @@
-use Rattle.std.specs.Prelude.{◌<◌, ◌≤◌, ℕ}
-use Rattle.dgt_chess.specs.Attacks.{OnLine, IsFree}
+use Rattle.{std.specs.Prelude.{◌<◌, ◌≤◌, ℕ}, dgt_chess.specs.Attacks.{OnLine, IsFree}}
 use Rattle.dgt_chess.proofs.lines.end_below.Given as goal
 
 abbrev pub invariant-loop-line : goal.invariant-loop-line

@@ -1,5 +1,4 @@
-use Rattle.std.specs.Prelude.{◌<◌, ◌-◌, ◌+◌}
-use Rattle.dgt_chess.specs.Attacks.{OnLine, IsOpen}
+use Rattle.{std.specs.Prelude.{◌<◌, ◌-◌, ◌+◌}, dgt_chess.specs.Attacks.{OnLine, IsOpen}}
 use Rattle.dgt_chess.proofs.lines.is_open.Given as goal
 
 abbrev pub invariant-loop-at : goal.invariant-loop-at

@@ -1,6 +1,4 @@
-use Rattle.std.specs.Prelude.{ℕ, ◌<◌, IsTrue}
-use Rattle.dgt_chess.specs.Attacks.{piece_at}
-use Rattle.dgt_chess.specs.Possible.{IsExtra}
+use Rattle.{std.specs.Prelude.{ℕ, ◌<◌, IsTrue}, dgt_chess.specs.{Attacks.{piece_at}, Possible.{IsExtra}}}
 use Rattle.dgt_chess.proofs.possible.has_no_extra.Given as goal
 
 abbrev pub invariant-loop-square : goal.invariant-loop-square

@@ -1,5 +1,4 @@
-use Rattle.std.specs.Prelude.{ℕ, ◌<◌, IsTrue}
-use Rattle.dgt_chess.specs.Possible.{IsAstray}
+use Rattle.{std.specs.Prelude.{ℕ, ◌<◌, IsTrue}, dgt_chess.specs.Possible.{IsAstray}}
 use Rattle.dgt_chess.proofs.possible.has_no_stray.Given as goal
 
 abbrev pub invariant-loop-square : goal.invariant-loop-square

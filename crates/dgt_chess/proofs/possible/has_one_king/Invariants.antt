@@ -1,6 +1,4 @@
-use Rattle.std.specs.Prelude.{◌≡◌, ◌≢◌, ℕ, ◌<◌, ◌≤◌}
-use Rattle.dgt_chess.specs.declared.pieces.Man.TheVariants.{King}
-use Rattle.dgt_chess.specs.Attacks.{piece_at, piece_of}
+use Rattle.{std.specs.Prelude.{◌≡◌, ◌≢◌, ℕ, ◌<◌, ◌≤◌}, dgt_chess.specs.{declared.pieces.Man.TheVariants.{King}, Attacks.{piece_at, piece_of}}}
 use Rattle.dgt_chess.proofs.possible.has_one_king.Given as goal
 
 abbrev pub invariant-loop-square : goal.invariant-loop-square

@@ -1,5 +1,4 @@
-use Rattle.dgt_c.proofs.ChessLemmas.{of_legal, only_move, only_state}
-use Rattle.dgt_c.proofs.ChessOnceLemmas.{one_lead, one_play}
+use Rattle.dgt_c.proofs.{ChessLemmas.{of_legal, only_move, only_state}, ChessOnceLemmas.{one_lead, one_play}}
 use Rattle.dgt_c.proofs.laws.chess.one_play.Goals as goal
 
 pub returns-clause-play : goal.returns-clause-play

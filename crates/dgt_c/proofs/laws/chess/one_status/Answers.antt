@@ -1,5 +1,4 @@
-use Rattle.dgt_c.proofs.ChessLemmas.{members_are_listed}
-use Rattle.dgt_c.proofs.ChessOnceLemmas.{one_status, refused_are_none, statuses_are}
+use Rattle.dgt_c.proofs.{ChessLemmas.{members_are_listed}, ChessOnceLemmas.{one_status, refused_are_none, statuses_are}}
 use Rattle.dgt_c.proofs.laws.chess.one_status.Goals as goal
 
 pub returns-clause-one : goal.returns-clause-one

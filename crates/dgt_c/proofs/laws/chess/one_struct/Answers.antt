@@ -1,5 +1,4 @@
-use Rattle.dgt_c.proofs.ChessLemmas.{one_move, one_state}
-use Rattle.dgt_c.proofs.ChessOnceLemmas.{one_kind, one_move_struct, one_state_struct}
+use Rattle.dgt_c.proofs.{ChessLemmas.{one_move, one_state}, ChessOnceLemmas.{one_kind, one_move_struct, one_state_struct}}
 use Rattle.dgt_c.proofs.laws.chess.one_struct.Goals as goal
 
 pub returns-clause-state : goal.returns-clause-state

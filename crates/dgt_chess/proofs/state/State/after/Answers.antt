@@ -1,6 +1,4 @@
-use Rattle.std.proofs.Common.{sym}
-use Rattle.std.proofs.Math.Logic.{∥∥₁_map}
-use Rattle.dgt_chess.proofs.Staying.{stays, stays_as}
+use Rattle.{std.proofs.{Common.{sym}, Math.Logic.{∥∥₁_map}}, dgt_chess.proofs.Staying.{stays, stays_as}}
 use Rattle.dgt_chess.proofs.state.State.after.Goals as goal
 
 pub invariant_of-result : goal.invariant_of-result

@@ -1,5 +1,4 @@
-use Rattle.std.specs.Prelude.{IsTrue, false}
-use Rattle.dgt_chess.proofs.Loose.{moves_by}
+use Rattle.{std.specs.Prelude.{IsTrue, false}, dgt_chess.proofs.Loose.{moves_by}}
 use Rattle.dgt_chess.proofs.state.State.can_reach.Goals as goal
 
 pub returns-then-not-moves : goal.returns-then-not-moves

@@ -1,6 +1,4 @@
-use Rattle.std.proofs.Common.{◌<◌, ℕ, arith, refl, subst}
-use Rattle.std.specs.Prelude.{Option}
-use Rattle.dgt_chess.specs.San.{FitsFrom, FitsSeveral}
+use Rattle.{std.{proofs.Common.{◌<◌, ℕ, arith, refl, subst}, specs.Prelude.{Option}}, dgt_chess.specs.San.{FitsFrom, FitsSeveral}}
 use Rattle.dgt_chess.proofs.state.State.fitting_from.Goals as goal
 
 pub returns-in-Some : goal.returns-in-Some

@@ -1,7 +1,4 @@
-use Rattle.std.proofs.Common.{◌+◌, rules}
-use Rattle.dgt_chess.specs.Attacks.{IsFree}
-use Rattle.dgt_chess.specs.Rules.{board}
-use Rattle.dgt_chess.proofs.Rays.{one_more}
+use Rattle.{std.proofs.Common.{◌+◌, rules}, dgt_chess.{specs.{Attacks.{IsFree}, Rules.{board}}, proofs.Rays.{one_more}}}
 use Rattle.dgt_chess.proofs.state.State.goals_above.Goals as goal
 
 pub loop-line-preserved : goal.loop-line-preserved

@@ -1,7 +1,4 @@
-use Rattle.std.specs.Prelude.{ℕ, ◌<◌, ◌≤◌, IsBitSet}
-use Rattle.dgt_chess.specs.Attacks.{OnLine, IsFree}
-use Rattle.dgt_chess.specs.Rules.{board, CanGo}
-use Rattle.dgt_chess.specs.Steps.{AreGoals}
+use Rattle.{std.specs.Prelude.{ℕ, ◌<◌, ◌≤◌, IsBitSet}, dgt_chess.specs.{Attacks.{OnLine, IsFree}, Rules.{board, CanGo}, Steps.{AreGoals}}}
 use Rattle.dgt_chess.proofs.state.State.goals_below.Given as goal
 
 abbrev pub invariant-loop-line : goal.invariant-loop-line

@@ -1,6 +1,4 @@
-use Rattle.std.proofs.Common.{below_more, arith}
-use Rattle.std.specs.Prelude.{IsTrue, false}
-use Rattle.dgt_chess.specs.San.{HasRival}
+use Rattle.{std.{proofs.Common.{below_more, arith}, specs.Prelude.{IsTrue, false}}, dgt_chess.specs.San.{HasRival}}
 use Rattle.dgt_chess.proofs.state.State.has_rival.Goals as goal
 
 pub loop-other-preserved : goal.loop-other-preserved

@@ -1,5 +1,4 @@
-use Rattle.std.proofs.Common.{ℕ, ◌<◌}
-use Rattle.dgt_chess.specs.San.{IsRival}
+use Rattle.{std.proofs.Common.{ℕ, ◌<◌}, dgt_chess.specs.San.{IsRival}}
 use Rattle.dgt_chess.proofs.state.State.has_rival.Given as goal
 
 abbrev pub invariant-loop-other : goal.invariant-loop-other

@@ -1,6 +1,4 @@
-use Rattle.std.proofs.Common.{◌≡◌, ℕ, ◌<◌}
-use Rattle.dgt_chess.specs.Attacks.{file}
-use Rattle.dgt_chess.specs.San.{IsRival}
+use Rattle.{std.proofs.Common.{◌≡◌, ℕ, ◌<◌}, dgt_chess.specs.{Attacks.{file}, San.{IsRival}}}
 use Rattle.dgt_chess.proofs.state.State.has_rival_on_file.Given as goal
 
 abbrev pub invariant-loop-other : goal.invariant-loop-other

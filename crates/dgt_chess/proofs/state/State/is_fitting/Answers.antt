@@ -1,10 +1,5 @@
-use Rattle.std.proofs.Common.{◌≡◌, ◌∙◌, List, ap, arith, sym}
-use Rattle.std.specs.Prelude.{IsTrue, false}
-use Rattle.dgt_values.specs.declared.pieces.Piece.{Piece}
-use Rattle.dgt_values.specs.Board.{pieces_of}
-use Rattle.dgt_chess.specs.Attacks.{piece_at, piece_of}
-use Rattle.dgt_chess.specs.San.{Fits, move_text}
-use Rattle.dgt_chess.proofs.SanParsing.{fits_as, fits_own}
+use Rattle.{std.{proofs.Common.{◌≡◌, ◌∙◌, List, ap, arith, sym}, specs.Prelude.{IsTrue, false}}, dgt_values.specs.{declared.pieces.Piece.{Piece}, Board.{pieces_of}}}
+use Rattle.dgt_chess.{specs.{Attacks.{piece_at, piece_of}, San.{Fits, move_text}}, proofs.SanParsing.{fits_as, fits_own}}
 use Rattle.dgt_chess.proofs.state.State.is_fitting.Goals as goal
 
 pub returns-then-not-is_on : goal.returns-then-not-is_on
@@ -35,20 +30,19 @@ returns-then-not-is_same c = (
 
 pub returns : goal.returns
 unfolding Fits
-returns c =
-    let r = c.args.r in (
-      λ yes. (
-        r.man,
-        c.is_legal_by.ensures.0 yes,
-        (
-          r.style,
-          sym (c.is_same.ensures.0 c.if-not-is_same.false)
-              ∙ c.as_bytes.ensures.value ∙ c.deref.ensures.0 ∙ c.move_text-written.ensures
-              ∙ ap (λ (q : List Piece). move_text r.style r.man q c.args.a r.b r.promotion)
-              (c.pieces-pieces.ensures.pieces ∙ ap pieces_of c.position.ensures),
-        ),
-      ),
-      λ fits. c.is_legal_by.ensures.1
-          (fits_as c.args.self.now c.args.text.now r c.args.a r.b r.promotion c.requires.read
-          (omega arith) (omega arith) fits).legal,
-    )
+returns c = let r = c.args.r in (
+  λ yes. (
+    r.man,
+    c.is_legal_by.ensures.0 yes,
+    (
+      r.style,
+      sym (c.is_same.ensures.0 c.if-not-is_same.false)
+          ∙ c.as_bytes.ensures.value ∙ c.deref.ensures.0 ∙ c.move_text-written.ensures
+          ∙ ap (λ (q : List Piece). move_text r.style r.man q c.args.a r.b r.promotion)
+          (c.pieces-pieces.ensures.pieces ∙ ap pieces_of c.position.ensures),
+    ),
+  ),
+  λ fits. c.is_legal_by.ensures.1
+      (fits_as c.args.self.now c.args.text.now r c.args.a r.b r.promotion c.requires.read
+      (omega arith) (omega arith) fits).legal,
+)

@@ -1,5 +1,4 @@
-use Rattle.std.proofs.Common.{below_more, arith}
-use Rattle.std.specs.Prelude.{IsTrue, false}
+use Rattle.std.{proofs.Common.{below_more, arith}, specs.Prelude.{IsTrue, false}}
 use Rattle.dgt_chess.proofs.state.State.is_taken.Goals as goal
 
 pub loop-a-preserved : goal.loop-a-preserved

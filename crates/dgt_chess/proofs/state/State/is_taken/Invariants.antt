@@ -1,7 +1,4 @@
-use Rattle.std.proofs.Common.{ℕ, ◌<◌}
-use Rattle.std.specs.Prelude.{None}
-use Rattle.dgt_chess.specs.declared.pieces.Man.TheVariants.{Pawn}
-use Rattle.dgt_chess.specs.Rules.{LegalBy, TakesPassing, board, passed}
+use Rattle.{std.{proofs.Common.{ℕ, ◌<◌}, specs.Prelude.{None}}, dgt_chess.specs.{declared.pieces.Man.TheVariants.{Pawn}, Rules.{LegalBy, TakesPassing, board, passed}}}
 use Rattle.dgt_chess.proofs.state.State.is_taken.Given as goal
 
 abbrev pub invariant-loop-a : goal.invariant-loop-a

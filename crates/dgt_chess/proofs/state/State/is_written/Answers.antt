@@ -1,8 +1,4 @@
-use Rattle.std.proofs.Common.{◌≡◌, ◌∙◌, ℕ, List, arith, subst, sym}
-use Rattle.std.specs.Prelude.{IsTrue, false}
-use Rattle.dgt_chess.specs.Attacks.{piece_at, piece_of}
-use Rattle.dgt_chess.specs.San.{IsSan}
-use Rattle.dgt_chess.proofs.SanLaws.{one_text}
+use Rattle.{std.{proofs.Common.{◌≡◌, ◌∙◌, ℕ, List, arith, subst, sym}, specs.Prelude.{IsTrue, false}}, dgt_chess.{specs.{Attacks.{piece_at, piece_of}, San.{IsSan}}, proofs.SanLaws.{one_text}}}
 use Rattle.dgt_chess.proofs.SanParsing.{san_own}
 use Rattle.dgt_chess.proofs.state.State.is_written.Goals as goal
 

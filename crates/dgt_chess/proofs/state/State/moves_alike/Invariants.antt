@@ -1,6 +1,4 @@
-use Rattle.std.proofs.Common.{ℕ, ◌<◌}
-use Rattle.std.specs.Prelude.{◌↔◌}
-use Rattle.dgt_chess.specs.Rules.{CanGo}
+use Rattle.{std.{proofs.Common.{ℕ, ◌<◌}, specs.Prelude.{◌↔◌}}, dgt_chess.specs.Rules.{CanGo}}
 use Rattle.dgt_chess.proofs.state.State.moves_alike.Given as goal
 
 abbrev pub invariant-loop-a : goal.invariant-loop-a

@@ -1,7 +1,4 @@
-use Rattle.std.proofs.Common.{◌≡◌, ℕ, ◌<◌, List, arith, subst}
-use Rattle.dgt_chess.specs.San.{IsRefusal, IsSan}
-use Rattle.dgt_chess.specs.Scanning.{read}
-use Rattle.dgt_chess.proofs.SanParsing.{none_written}
+use Rattle.{std.proofs.Common.{◌≡◌, ℕ, ◌<◌, List, arith, subst}, dgt_chess.{specs.{San.{IsRefusal, IsSan}, Scanning.{read}}, proofs.SanParsing.{none_written}}}
 use Rattle.dgt_chess.proofs.state.State.parse_san.Goals as goal
 
 pub returns : goal.returns

@@ -1,5 +1,4 @@
-use Rattle.std.proofs.Common.{ℕ, ◌<◌}
-use Rattle.dgt_chess.specs.San.{IsSan}
+use Rattle.{std.proofs.Common.{ℕ, ◌<◌}, dgt_chess.specs.San.{IsSan}}
 use Rattle.dgt_chess.proofs.state.State.parse_san.Given as goal
 
 abbrev pub invariant-loop-a : goal.invariant-loop-a

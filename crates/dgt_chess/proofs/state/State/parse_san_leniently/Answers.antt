@@ -1,7 +1,4 @@
-use Rattle.std.proofs.Common.{◌≡◌, ℕ, List, subst}
-use Rattle.std.specs.Prelude.{Option, Some, None}
-use Rattle.dgt_chess.specs.San.{FitsFrom, IsRefusal}
-use Rattle.dgt_chess.specs.Scanning.{read}
+use Rattle.{std.{proofs.Common.{◌≡◌, ℕ, List, subst}, specs.Prelude.{Option, Some, None}}, dgt_chess.specs.{San.{FitsFrom, IsRefusal}, Scanning.{read}}}
 use Rattle.dgt_chess.proofs.SanParsing.{none_fits, only_fits, refused}
 use Rattle.dgt_chess.proofs.state.State.parse_san_leniently.Goals as goal
 

@@ -1,5 +1,4 @@
-use Rattle.std.proofs.Common.{ℕ, ◌+◌, ◌≤◌, drop}
-use Rattle.dgt_chess.specs.Draws.{Repeats}
+use Rattle.{std.proofs.Common.{ℕ, ◌+◌, ◌≤◌, drop}, dgt_chess.specs.Draws.{Repeats}}
 use Rattle.dgt_chess.proofs.state.State.repetitions.Given as goal
 
 abbrev pub invariant-loop-one : goal.invariant-loop-one

@@ -1,9 +1,5 @@
-use Rattle.std.proofs.Common.{◌≡◌, ◌<◌, ◌∙◌, ℕ, ap, arith, inl, inr, refl, sym, subst}
-use Rattle.std.specs.Prelude.{None, Some, option_map}
-use Rattle.dgt_values.specs.Board.{square_number}
-use Rattle.dgt_chess.specs.declared.pieces.Man.{Man}
-use Rattle.dgt_chess.specs.Fen.{CanTakePassing}
-use Rattle.dgt_chess.specs.Rules.{LegalBy, TakesPassing, board, passed}
+use Rattle.{std.{proofs.Common.{◌≡◌, ◌<◌, ◌∙◌, ℕ, ap, arith, inl, inr, refl, sym, subst}, specs.Prelude.{None, Some, option_map}}, dgt_values.specs.Board.{square_number}}
+use Rattle.dgt_chess.specs.{declared.pieces.Man.{Man}, Fen.{CanTakePassing}, Rules.{LegalBy, TakesPassing, board, passed}}
 use Rattle.dgt_chess.proofs.state.State.shown.Goals as goal
 
 pub returns-then-is_taken : goal.returns-then-is_taken

@@ -1,5 +1,4 @@
-use Rattle.std.proofs.lemmas.Grind.{merely}
-use Rattle.dgt_chess.proofs.Start.{at_start}
+use Rattle.{std.proofs.lemmas.Grind.{merely}, dgt_chess.proofs.Start.{at_start}}
 use Rattle.dgt_chess.proofs.state.State.start.Goals as goal
 
 pub invariant_of-result : goal.invariant_of-result
