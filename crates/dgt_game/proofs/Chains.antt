@@ -1,11 +1,12 @@
 -- Steps in turn, and places for them.
-use Rattle.std.proofs.Common.{◌≡◌, ◌≢◌, ◌⊎◌, ◌<◌, ◌+◌, ◌++◌, ◌∷◌, ◌∙◌, refl, sym, ap, subst, inl, inr, arith, ℕ, zero, suc, length, drop, List, [], Option, Some, None, unwrap_or, slice_index_or}
+use Rattle.std.proofs.Common.{◌≡◌, ◌≢◌, ◌⊎◌, ◌<◌, ◌≤◌, ◌+◌, ◌++◌, ◌∷◌, ◌∙◌, refl, sym, ap, subst, inl, inr, arith, ℕ, zero, suc, length, drop, List, [], Option, Some, None, unwrap_or, slice_index_or}
+use Rattle.std.proofs.lemmas.List.{length-map}
 use Rattle.std.specs.Prelude.{⊤, MatchOption, slice_get}
 use Rattle.dgt_values.specs.declared.pieces.Piece.{Piece}
 use Rattle.dgt_game.specs.declared.node.Node.{Node}
 use Rattle.dgt_game.specs.declared.node.Place.{Place}
 use Rattle.dgt_game.specs.declared.node.Step.{Step}
-use Rattle.dgt_game.specs.Memory.{By, Chain, Grows, IsSeen, Links, step_at, steps, tip}
+use Rattle.dgt_game.specs.Memory.{By, Chain, Grows, IsBefore, IsRooted, IsSeen, Links, step_at, steps, tip}
 use Rattle.dgt_game.proofs.Told.{links_any, links_moved}
 
 abbrev pub moved : Step → Place → Step
@@ -80,18 +81,63 @@ stays kept old new Place.Nowhere step h = h
 
 -- a step at an index is an old one, or the new one
 split_at : (old : List Step) (new : Step) (k : ℕ) (step : Step)
-    → slice_get (old ++ new ∷ []) k ≡ Some step → (slice_get old k ≡ Some step) ⊎ (new ≡ step)
-split_at [] new zero step e = inr (ap (λ (o : Option Step). unwrap_or o new) e)
+    → slice_get (old ++ new ∷ []) k ≡ Some step
+    → (slice_get old k ≡ Some step) ⊎ ((new ≡ step) × (k ≡ length old))
+split_at [] new zero step e = inr (ap (λ (o : Option Step). unwrap_or o new) e, refl)
 split_at [] new (suc k) step e = absurd (subst (λ (o : Option Step). MatchOption o ⊤ (λ _. ⊥)) e tt)
 split_at (first ∷ old) new zero step e = inl e
-split_at (first ∷ old) new (suc k) step e = split_at old new k step e
+split_at (first ∷ old) new (suc k) step e = elim (split_at old new k step e) [
+  | inl at ↦ inl at
+  | inr last ↦ inr (last.0, ap (λ (n : ℕ). suc n) last.1)
+]
+
+pub rooted_push : (lines : ℕ) (old : List Step) (new : Step) → IsRooted lines old
+    → IsBefore lines (length old) new.parent → IsRooted lines (old ++ new ∷ [])
+rooted_push lines old new rooted before k step e = elim (split_at old new k step e) [
+  | inl at ↦ rooted k step at
+  | inr last ↦ subst (λ (n : ℕ). IsBefore lines n step.parent) (sym last.1)
+      (subst (λ (s : Step). IsBefore lines (length old) s.parent) last.0 before)
+]
+
+-- what may follow is before all later steps, too
+pub before_later : (lines k later : ℕ) (place : Place) → k ≤ later → IsBefore lines k place
+    → IsBefore lines later place
+before_later lines k later (Place.Line base) more h = h
+before_later lines k later (Place.Seen j) more h = omega (arith, h, more)
+before_later lines k later Place.Nowhere more h = tt
+
+-- a place that was not seen since is before all steps
+pub before_all : (lines k : ℕ) (place : Place) → ((j : ℕ) → place ≢ Place.Seen j)
+    → IsBefore lines k place → IsBefore lines 0 place
+before_all lines k (Place.Line base) other h = h
+before_all lines k (Place.Seen j) other h = absurd (other j refl)
+before_all lines k Place.Nowhere other h = tt
+
+-- a path that has left a place began at one that was seen
+pub is_within : (k len at : ℕ) (place : Place) → (at ≡ 0 → place ≡ Place.Seen k)
+    → (at ≢ 0 → k < len) → (k < len) ⊎ ((j : ℕ) → place ≢ Place.Seen j) → k < len
+is_within k len at place first later (inl within) = within
+is_within k len zero place first later (inr other) = absurd (other k (first refl))
+is_within k len (suc at) place first later (inr other) = later (λ e. omega (arith, e))
+
+pub last_item : {X : Type 0} (old : List X) (item : X) (k : ℕ) → length old ≡ k
+    → slice_get (old ++ item ∷ []) k ≡ Some item
+last_item [] item k e = ap (λ (n : ℕ). slice_get (item ∷ []) n) (sym e)
+last_item (first ∷ old) item zero e = absurd (omega arith)
+last_item (first ∷ old) item (suc k) e = last_item old item k (omega arith)
+
+-- a place of the line, or none, was not seen since
+pub not_seen : (lines : ℕ) (place : Place) → IsBefore lines 0 place → (j : ℕ)
+    → place ≢ Place.Seen j
+not_seen lines place before j e = absurd (let wrong : j < 0 = subst (λ (p : Place). IsBefore lines 0
+    p) e before in omega arith)
 
 pub grows_push : (shown : List (List Piece)) (kept old : List Step) (new : Step)
     → Grows shown kept old → Links (step_at kept old new.parent) new → IsSeen shown new
     → Grows shown kept (old ++ new ∷ [])
 grows_push shown kept old new grows links seen k step e = elim (split_at old new k step e) [
   | inl at ↦ (stays kept old new step.parent step (grows k step at).0, (grows k step at).1)
-  | inr same ↦ subst (λ (s : Step). Links (step_at kept (old ++ new ∷ []) s.parent) s
+  | inr (same, _) ↦ subst (λ (s : Step). Links (step_at kept (old ++ new ∷ []) s.parent) s
       × IsSeen shown s) same
       (stays kept old new new.parent new links, seen)
 ]
@@ -139,3 +185,44 @@ pub place_at : (kept seen : List Step) (place : Place) → ((k : ℕ) → place 
 place_at kept seen (Place.Line k) h = refl
 place_at kept seen (Place.Seen k) h = absurd (h k refl)
 place_at kept seen Place.Nowhere h = refl
+
+pub some_at : {X : Type 0} (items : List X) (k : ℕ) → k < length items → slice_get items k ≢ None
+some_at [] k l e = omega (arith, l)
+some_at (first ∷ items) zero l e = absurd (let wrong : ⊥ = cc in wrong)
+some_at (first ∷ items) (suc k) l e = some_at items k (omega (arith, l)) e
+
+pub below_some : {X : Type 0} (items : List X) (k : ℕ) (item : X) → slice_get items k ≡ Some item
+    → k < length items
+below_some [] k item e = absurd (let wrong : ⊥ = cc in wrong)
+below_some (first ∷ items) zero item e = omega arith
+below_some (first ∷ items) (suc k) item e =
+    let l = below_some items k item e in omega (arith, l)
+
+pub steps_some : (nodes : List Node) → nodes ≢ [] → steps nodes ≢ []
+steps_some [] some e = some refl
+steps_some (first ∷ nodes) some e = absurd (let wrong : ⊥ = cc in wrong)
+
+-- there is a last step if there is one at all
+pub tip_there : (before : Option Step) (path : List Step) → (before ≢ None) ⊎ (path ≢ [])
+    → tip before path ≢ None
+tip_there before [] (inl some) = some
+tip_there before [] (inr some) = absurd (some refl)
+tip_there before (first ∷ path) some = tip_there (Some first) path (inl (λ e. let wrong : ⊥ = cc in
+    wrong))
+
+pub steps_length : (nodes : List Node) → length (steps nodes) ≡ length nodes
+steps_length nodes = length-map nodes (λ (n : Node). n.step)
+
+-- what is found at a place can be followed, if it isn't too far back
+pub found_before : (line seen : List Step) (place : Place) (step : Step)
+    → ((k : ℕ) → place ≡ Place.Line k → k ≤ 4) → step_at line seen place ≡ Some step
+    → IsBefore (length line) (length seen) place
+found_before line seen (Place.Line k) step near e = (below_some line k step e, near k refl)
+found_before line seen (Place.Seen k) step near e = below_some seen k step e
+found_before line seen Place.Nowhere step near e = tt
+
+pub some_below : {X : Type 0} (items : List X) (k : ℕ) → k < length items → (item : X)
+    × (slice_get items k ≡ Some item)
+some_below [] k l = absurd (omega (arith, l))
+some_below (first ∷ items) zero l = (first, refl)
+some_below (first ∷ items) (suc k) l = some_below items k (omega (arith, l))

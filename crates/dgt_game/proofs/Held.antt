@@ -1,10 +1,10 @@
 -- What is held stays so, if steps stay as they are.
-use Rattle.std.proofs.Common.{◌≡◌, inl, inr, List, []}
+use Rattle.std.proofs.Common.{◌≡◌, inl, inr, length, List, []}
 use Rattle.dgt_values.specs.declared.pieces.Piece.{Piece}
 use Rattle.dgt_game.specs.declared.memory.Memory.{Memory}
 use Rattle.dgt_game.specs.Told.{Told}
-use Rattle.dgt_game.specs.Memory.{Grows, Holds, steps}
-use Rattle.dgt_game.proofs.Told.{grows_none}
+use Rattle.dgt_game.specs.Memory.{Grows, Holds, IsRooted, steps}
+use Rattle.dgt_game.proofs.Told.{grows_none, rooted_none}
 
 pub same_line : (shown : List (List Piece)) (line : List Told) (old new : Memory)
     → steps new.line.items ≡ steps old.line.items → new.seen ≡ old.seen → new.back ≡ old.back
@@ -16,7 +16,9 @@ same_line shown line old new lines seen back unsaid answer h = record {
   back = rw (lines, back) h.back;
   unsaid = rw (lines, back, unsaid) h.unsaid;
   answer = rw (lines, back, unsaid, answer) h.answer;
+  answered = rw (lines, back, unsaid, answer) h.answered;
   grows = rw (lines, seen) h.grows;
+  rooted = rw (lines, seen) h.rooted;
   quiet = rw (seen, back, unsaid) h.quiet;
 }
 
@@ -30,7 +32,9 @@ same_seen shown line old new lines seen back unsaid answer h = record {
   back = rw (lines, back) h.back;
   unsaid = rw (lines, back, unsaid) h.unsaid;
   answer = rw (lines, back, unsaid, answer) h.answer;
+  answered = rw (lines, back, unsaid, answer) h.answered;
   grows = rw (lines, seen) h.grows;
+  rooted = rw (lines, seen) h.rooted;
   quiet = rw (seen, back, unsaid) h.quiet;
 }
 
@@ -44,21 +48,26 @@ none_seen shown line old new lines seen back unsaid answer h = record {
   back = rw (lines, back) h.back;
   unsaid = rw (lines, back, unsaid) h.unsaid;
   answer = rw (lines, back, unsaid, answer) h.answer;
+  answered = rw (lines, back, unsaid, answer) h.answered;
   grows = rw seen (grows_none shown (steps new.line.items));
+  rooted = rw seen (rooted_none _);
   quiet = inl seen;
 }
 
 pub seen_new : (shown : List (List Piece)) (line : List Told) (old new : Memory)
     → new.line ≡ old.line → new.back ≡ old.back → new.unsaid ≡ old.unsaid
     → new.answer ≡ old.answer → old.back ≡ 0 → old.unsaid.items ≡ []
-    → Grows shown (steps new.line.items) (steps new.seen.items) → Holds shown line old
+    → Grows shown (steps new.line.items) (steps new.seen.items)
+    → IsRooted (length (steps new.line.items)) (steps new.seen.items) → Holds shown line old
     → Holds shown line new
-seen_new shown line old new lines back unsaid answer none nothing grows h = record {
+seen_new shown line old new lines back unsaid answer none nothing grows rooted h = record {
   shown_line = h.shown_line;
   kept = rw lines h.kept;
   back = rw (lines, back) h.back;
   unsaid = rw (lines, back, unsaid) h.unsaid;
   answer = rw (lines, back, unsaid, answer) h.answer;
+  answered = rw (lines, back, unsaid, answer) h.answered;
   grows = grows;
+  rooted = rooted;
   quiet = inr (rw back none, rw unsaid nothing);
 }

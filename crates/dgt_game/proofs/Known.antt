@@ -1,10 +1,9 @@
 -- What is known stays so when more is shown, and over whole runs.
-use Rattle.std.proofs.Common.{◌≡◌, ◌∙◌, ◌++◌, ◌⊎◌, ◌<◌, refl, sym, ap, subst, inl, inr, arith, ℕ, zero, suc, length, slice_index_or, Bool, List, [], ◌∷◌, Option, Some, None}
+use Rattle.std.proofs.Common.{◌≡◌, ◌∙◌, ◌++◌, ◌<◌, refl, sym, ap, subst, inl, inr, arith, ℕ, zero, suc, length, slice_index_or, Bool, List, [], ◌∷◌, Option, Some, None}
 use Rattle.std.specs.Prelude.{Contains, IfSome}
 use Rattle.dgt_values.specs.declared.pieces.Piece.{Piece}
 use Rattle.dgt_values.specs.Board.{pieces_of}
 use Rattle.dgt_chess.specs.declared.state.State.{State}
-use Rattle.dgt_game.specs.declared.event.Event.{Event}
 use Rattle.dgt_game.specs.declared.memory.Memory.{Memory}
 use Rattle.dgt_game.specs.declared.node.Node.{Node}
 use Rattle.dgt_game.specs.declared.node.Place.{Place}
@@ -13,12 +12,12 @@ use Rattle.dgt_game.specs.declared.node.Way.{Way}
 use Rattle.dgt_game.specs.declared.observation.Sight.{Sight}
 use Rattle.dgt_game.specs.declared.recogniser.Recogniser.{Recogniser}
 use Rattle.dgt_game.specs.declared.view.View.{View}
-use Rattle.dgt_game.specs.Told.{IsLegalTold, IsShown, Leads, Told, WasShown, as_shown, told_pieces}
-use Rattle.dgt_game.specs.Memory.{Chain, Holds, Links, steps, tip}
-use Rattle.dgt_game.specs.Recogniser.{GoesOn, Knows, Reports, Sees, new_recogniser, shown_after}
-use Rattle.dgt_game.specs.Runs.{Call, CallsAreRuns, Does, IsLegalAndShown, Runs, events_of, shown_in}
+use Rattle.dgt_game.specs.Told.{IsLegalTold, IsShown, Told, WasShown, told_pieces}
+use Rattle.dgt_game.specs.Memory.{Chain, Holds, steps}
+use Rattle.dgt_game.specs.Recogniser.{GoesOn, Knows, new_recogniser, shown_after}
+use Rattle.dgt_game.specs.Runs.{Call, CallsAreRuns, IsLegalAndShown, Runs, events_of, shown_in}
 use Rattle.dgt_game.proofs.Links.{was_shown}
-use Rattle.dgt_game.proofs.Told.{grows_none}
+use Rattle.dgt_game.proofs.Told.{grows_none, rooted_none}
 
 -- all pictures of the first are among the second
 abbrev pub Within : List (List Piece) → List (List Piece) → Type 0
@@ -83,7 +82,9 @@ holds_more shown more line self within h = record {
   unsaid = chain_more shown more _ _ within h.unsaid;
   answer = some_more _ _ self.answer (λ node seen. (seen.0, was_more shown more _ within seen.1))
       h.answer;
+  answered = h.answered;
   grows = λ k step e. let seen = h.grows k step e in (seen.0, was_more shown more _ within seen.1);
+  rooted = h.rooted;
   quiet = h.quiet;
 }
 
@@ -118,7 +119,9 @@ knows_nothing = record {
     back = inl refl;
     unsaid = tt;
     answer = tt;
+    answered = tt;
     grows = grows_none [] [];
+    rooted = rooted_none 0;
     quiet = inl refl;
   };
   seen = tt;
@@ -164,7 +167,9 @@ goes_on state is_turned old self node new step line back unsaid answer seen view
         back = inl (back ∙ ap (λ (r : Recogniser). r.memory.back) new);
         unsaid = rw none tt;
         answer = rw no_answer tt;
+        answered = rw no_answer tt;
         grows = rw nothing (grows_none _ _);
+        rooted = rw nothing (rooted_none _);
         quiet = inl nothing;
       };
       seen = rw no_view tt;

@@ -12,7 +12,12 @@ pub mod Chains
 pub mod Nodes
 pub mod Hands
 pub mod Known
+pub mod Pictures
+pub mod Moved
 pub mod Meaning
 pub mod Results
 pub mod Waiting
 pub mod Timing
+pub mod Standing
+pub mod Planning
+pub mod Rests

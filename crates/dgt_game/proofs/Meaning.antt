@@ -1,6 +1,6 @@
 -- What lines, events and pictures mean, in other words.
-use Rattle.std.proofs.Common.{◌≡◌, ◌∙◌, ◌<◌, ◌≤◌, ◌⊎◌, refl, sym, ap, subst, inl, inr, arith, ℕ, zero, suc, length, length-append, List, [], ◌∷◌, ◌++◌, Option, Some, None, unwrap_or}
-use Rattle.std.specs.Prelude.{⊤, Contains, MatchOption, slice_get}
+use Rattle.std.proofs.Common.{◌≡◌, ◌∙◌, ◌<◌, ◌≤◌, refl, sym, ap, subst, inl, inr, arith, zero, suc, length, length-append, List, [], ◌∷◌, ◌++◌, Option, unwrap_or}
+use Rattle.std.specs.Prelude.{⊤, Contains, MatchOption}
 use Rattle.dgt_values.specs.declared.pieces.Piece.{Piece}
 use Rattle.dgt_chess.specs.declared.state.Move.{Move}
 use Rattle.dgt_chess.specs.declared.state.State.{State}
@@ -8,7 +8,7 @@ use Rattle.dgt_chess.specs.Attacks.{piece_at}
 use Rattle.dgt_chess.specs.Rules.{board}
 use Rattle.dgt_game.specs.declared.event.Event.{Event}
 use Rattle.dgt_game.specs.Lines.{IsLine, IsMove, IsOnly, LeadsTo, moves_of}
-use Rattle.dgt_game.specs.Told.{IsHeld, IsLegalTold, IsShown, Joins, Leads, Told, WasShown, as_shown, told_pieces}
+use Rattle.dgt_game.specs.Told.{IsLegalTold, Joins, Leads, Told, WasShown, told_pieces}
 use Rattle.dgt_game.specs.Laws.{AreJoined, BackIsCounted, JoinedIsOne, LegalIsJoined, NoneAndOne, OneIsShown, OneLine, OthersAreHeld, SeveralAreShown, ShownIsHeld, StartIsShown, UnseenIsOnly}
 use Rattle.dgt_game.specs.Laws.{first_of}
 use Rattle.dgt_game.proofs.Links.{turned_back}

@@ -5,6 +5,7 @@ use Rattle.std.proofs.Math.Seq.{map-set_same}
 use Rattle.std.proofs.lemmas.List.{length-set, places, same_lists}
 use Rattle.dgt_game.specs.declared.node.Node.{Node}
 use Rattle.dgt_game.specs.Memory.{steps}
+use Rattle.dgt_game.specs.Reading.{origins}
 
 pub same_steps : (old : List Node) (k : ℕ) (new other : Node)
     → new.step ≡ (slice_index_or old k other).step → steps (slice_set old k new) ≡ steps old
@@ -22,4 +23,15 @@ same_written old read written k new other reads writes at e =
     slice_index_or xs k other) reads at in
     let same : steps (slice_set old k new) ≡ steps old = same_steps old k new other (e ∙ ap (λ (n :
     Node). n.step) from) in
+    rw writes (rw (refill_same old (slice_set old k new) (length-set old k new)) same)
+
+-- where its path begins stays so too
+pub origins_written : (old read written : List Node) (k : ℕ) (new other : Node) → read ≡ old
+    → written ≡ old → other ≡ slice_index_or read k other → new.origin ≡ other.origin
+    → origins (refill (length old) old (slice_set written k new)) ≡ origins old
+origins_written old read written k new other reads writes at e =
+    let from : other ≡ slice_index_or old k other = subst (λ (xs : List Node). other ≡
+    slice_index_or xs k other) reads at in
+    let same : origins (slice_set old k new) ≡ origins old = map-set_same (λ (n : Node). n.origin)
+    old k new other (e ∙ ap (λ (n : Node). n.origin) from) in
     rw writes (rw (refill_same old (slice_set old k new) (length-set old k new)) same)

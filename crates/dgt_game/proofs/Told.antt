@@ -9,7 +9,7 @@ use Rattle.dgt_game.specs.declared.node.Step.{Step}
 use Rattle.dgt_game.specs.declared.node.Way.{Way}
 use Rattle.dgt_game.specs.declared.node.Place.{Place}
 use Rattle.dgt_game.specs.Told.{Told, IsShown, Leads, WasShown}
-use Rattle.dgt_game.specs.Memory.{By, Chain, Grows, IsKept, IsSeen, Links, event_by, event_of, halves_of, line_after, line_by, step_at, steps, tip, told_of}
+use Rattle.dgt_game.specs.Memory.{By, Chain, Grows, IsBefore, IsKept, IsRooted, IsSeen, Links, event_by, event_of, halves_of, line_after, line_by, step_at, steps, tip, told_of}
 
 pub kept_take : (nodes : List Node) (line : List Told) (n : ℕ) → IsKept (steps nodes) line
     → IsKept (steps (take n nodes)) line
@@ -216,3 +216,17 @@ grows_one shown kept step h seen (suc k) other e =
 
 pub grows_none : (shown : List (List Piece)) (kept : List Step) → Grows shown kept []
 grows_none shown kept k step e = absurd (subst (λ (o : Option Step). MatchOption o ⊤ (λ _. ⊥)) e tt)
+
+pub rooted_none : (lines : ℕ) → IsRooted lines []
+rooted_none lines k step e = absurd (subst (λ (o : Option Step). MatchOption o ⊤ (λ _. ⊥)) e tt)
+
+-- a single node after the line's last state
+pub rooted_one : (kept : List Step) (step : Step) → slice_get kept 0 ≢ None
+    → step.parent ≡ Place.Line 0 → IsRooted (length kept) (step ∷ [])
+rooted_one [] step some first k other e = absurd (some refl)
+rooted_one (last ∷ kept) step some first zero other e =
+    let same : step ≡ other = ap (λ (o : Option Step). unwrap_or o step) e in
+    subst (λ (s : Step). IsBefore (length (last ∷ kept)) 0 s.parent) same
+    (rw first (omega arith, omega arith))
+rooted_one (last ∷ kept) step some first (suc k) other e =
+    absurd (subst (λ (o : Option Step). MatchOption o ⊤ (λ _. ⊥)) e tt)

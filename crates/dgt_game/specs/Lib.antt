@@ -8,6 +8,9 @@ pub mod Laws
 pub mod Results
 pub mod Waiting
 pub mod Timing
+pub mod Planning
+pub mod Reading
+pub mod Standing
 -- Only for bodies.
 pub mod Ways
 pub mod Arrivals

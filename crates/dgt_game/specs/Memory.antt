@@ -1,5 +1,5 @@
 -- What a recogniser holds, after these positions were shown and this line was reported.
-use Rattle.std.specs.Prelude.{◌≡◌, ◌≢◌, ◌<◌, ◌⊎◌, ⊤, ℕ, Bool, List, [], ◌∷◌, Option, Some, None, IfSome, length, map, slice_get}
+use Rattle.std.specs.Prelude.{◌≡◌, ◌≢◌, ◌<◌, ◌≤◌, ◌⊎◌, ⊤, ℕ, Bool, List, [], ◌∷◌, Option, Some, None, IfSome, length, map, slice_get}
 use Rattle.dgt_values.specs.declared.pieces.Piece.{Piece}
 use Rattle.dgt_chess.specs.declared.state.State.{State}
 use Rattle.dgt_chess.specs.Rules.{board}
@@ -89,6 +89,17 @@ Grows shown line seen =
     (k : ℕ) (step : Step) → slice_get seen k ≡ Some step
     → Links (step_at line seen step.parent) step × IsSeen shown step
 
+-- What the step with this index may follow: one that was seen before it, or one of the line's last
+-- five states.
+abbrev pub IsBefore : ℕ → ℕ → Place → Type 0
+IsBefore lines k (Place.Line base) = (base < lines) × (base ≤ 4)
+IsBefore lines k (Place.Seen j) = j < k
+IsBefore lines k Place.Nowhere = ⊤
+
+abbrev pub IsRooted : ℕ → List Step → Type 0
+IsRooted lines seen =
+    (k : ℕ) (step : Step) → slice_get seen k ≡ Some step → IsBefore lines k step.parent
+
 -- the steps kept are the last ones of the line
 abbrev pub IsKept : List Step → List Told → Type 0
 IsKept [] line = ⊤
@@ -107,7 +118,11 @@ pub record Holds (shown : List (List Piece)) (line : List Told) (self : Memory) 
   pub answer : IfSome self.answer (λ node. Links
       (tip (slice_get (steps self.line.items) self.back) (steps self.unsaid.items)) node.step
       × IsSeen shown node.step)
+  -- and it follows something
+  pub answered : IfSome self.answer (λ node.
+      tip (slice_get (steps self.line.items) self.back) (steps self.unsaid.items) ≢ None)
   pub grows : Grows shown (steps self.line.items) (steps self.seen.items)
+  pub rooted : IsRooted (length (steps self.line.items)) (steps self.seen.items)
   -- while something is reported, nothing else is seen
   pub quiet : (steps self.seen.items ≡ []) ⊎ IsTold self
 

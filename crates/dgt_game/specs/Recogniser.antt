@@ -1,5 +1,6 @@
 -- A recogniser, and what its calls do.
-use Rattle.std.specs.Prelude.{List, [], ◌∷◌, Bool, false, Option, None, Contains, IfSome, MatchOption}
+use Rattle.std.proofs.Common.{arith}
+use Rattle.std.specs.Prelude.{List, [], ◌∷◌, Bool, false, Option, Some, None, option_map, Contains, IfSome, MatchOption}
 use Rattle.dgt_values.specs.declared.pieces.Piece.{Piece}
 use Rattle.dgt_values.specs.Board.{pieces_of}
 use Rattle.dgt_chess.specs.declared.state.State.{State}
@@ -11,6 +12,7 @@ use Rattle.dgt_game.specs.declared.recogniser.Lost.{Lost}
 use Rattle.dgt_game.specs.declared.recogniser.Over.{Over}
 use Rattle.dgt_game.specs.declared.recogniser.Recogniser.{Recogniser}
 use Rattle.dgt_game.specs.declared.recogniser.Search.{Search}
+use Rattle.dgt_game.specs.declared.view.View.{View}
 use Rattle.dgt_game.specs.Told.{Leads, Told, told_pieces}
 use Rattle.dgt_game.specs.Memory.{Holds, IsTold}
 
@@ -42,7 +44,7 @@ new_recogniser = record {
   search = Search.Hopeless;
   next = None;
   has_kings = false;
-  returned = 0;
+  returned = record { count = 0; near = omega arith };
   is_behind = false;
   is_set_up = false;
   is_white_king_lifted = false;
@@ -59,6 +61,15 @@ abbrev pub Stays : Recogniser → Recogniser → Type 0
 Stays old new =
     (shown : List (List Piece)) (line : List Told) → IsTold old.memory → Knows shown line old
     → Knows shown line new
+
+-- the picture that is seen, and the one that was taken last, if the board isn't away
+abbrev pub picture_of : Sight → Option (List Piece)
+picture_of (Sight.Sure position) = Some (pieces_of position)
+picture_of (Sight.Doubted position) = Some (pieces_of position)
+picture_of Sight.Away = None
+
+abbrev pub pictured : Option View → Option (List Piece)
+pictured = option_map (λ view. pieces_of view.shown)
 
 -- the pictures shown so far, the last one first
 abbrev pub shown_after : Sight → List (List Piece) → List (List Piece)

@@ -1,5 +1,5 @@
 -- What a recogniser reports over whole runs.
-use Rattle.std.specs.Prelude.{◌≡◌, Bool, List, [], ◌∷◌, ◌++◌, Option, None, Some}
+use Rattle.std.specs.Prelude.{◌≡◌, Bool, List, [], ◌∷◌, ◌++◌, Option, Some}
 use Rattle.dgt_values.specs.declared.pieces.Piece.{Piece}
 use Rattle.dgt_chess.specs.declared.state.State.{State}
 use Rattle.dgt_chess.specs.Rules.{board}

@@ -1,5 +1,10 @@
 //! Half-moves that a player makes before the answer to his last one.
 
+ghost use Rattle.std.specs.Prelude.{◌≡◌, Some, true, false};
+ghost use Rattle.dgt_values.specs.Board.{pieces_of};
+ghost use Rattle.dgt_game.specs.declared.view.View.{View};
+ghost use Rattle.dgt_game.specs.Reading.{HasAnswered, HasMoved};
+
 use crate::recogniser::Recogniser;
 use dgt_chess::State;
 use dgt_values::{Piece, Position, Square};
@@ -7,7 +12,10 @@ use dgt_values::{Piece, Position, Square};
 impl Recogniser {
     /// Whether the player who moved last has moved again. The answer isn't on the board yet, and
     /// until then his pieces may stand anywhere.
-    pub(crate) fn is_early(&self) -> bool {
+    pub(crate) fn is_early(&self) -> bool
+        ensures reads { (view : View) → self.now.view ≡ Some view → self.now.is_behind ≡ true
+            → HasAnswered self.now.memory (pieces_of view.shown) → result ≡ false }
+    {
         let Some(view) = &self.view else {
             return false;
         };
@@ -37,7 +45,9 @@ impl Recogniser {
 
 /// Whether a picture differs from a state by pieces of the player who made the last half-move. All
 /// those of the other one stand.
-pub(crate) fn moves_again(shown: &Position, state: &State) -> bool {
+pub(crate) fn moves_again(shown: &Position, state: &State) -> bool
+    ensures reads { HasMoved (pieces_of shown.now) state.now state.now.turn → result ≡ false }
+{
     let side = state.turn().other();
     let mut left = 0u8;
     let mut arrived = 0u8;

@@ -1,9 +1,10 @@
 //! Results that the players show by their kings, on squares in the centre.
 
-ghost use Rattle.std.specs.Prelude.{◌≡◌, ◌<◌, List, [], None, Some, IfSome, IsTrue};
+ghost use Rattle.std.specs.Prelude.{ℕ, false, ◌≡◌, ◌<◌, ◌≤◌, List, [], None, Some, IfSome, IsTrue, length, true};
 ghost use Rattle.dgt_values.specs.declared.pieces.Piece.{Piece};
 ghost use Rattle.dgt_values.specs.Board.{pieces_of};
 ghost use Rattle.dgt_chess.specs.Rules.{board};
+ghost use Rattle.dgt_game.specs.declared.node.Place.{Place};
 ghost use Rattle.dgt_game.specs.declared.node.Step.{Step};
 ghost use Rattle.dgt_game.specs.Memory.{step_at, steps};
 ghost use Rattle.dgt_game.specs.Results.{ByKings, FitsAt, IsCentre, IsLike, IsOnlyOn, KingsMean};
@@ -17,7 +18,9 @@ use crate::ways::is_same;
 use dgt_values::{Piece, Position, Square};
 
 impl Recogniser {
-    ghost use Rattle.dgt_game.specs.Memory.{Holds};
+    ghost use Rattle.dgt_game.specs.Memory.{Holds, IsRooted, IsTold};
+    ghost use Rattle.dgt_game.specs.Standing.{IsOpen, Stands};
+    ghost use Rattle.dgt_game.specs.Planning.{AddsNone, todo, IsLostOr, WhyHopeless};
     ghost use Rattle.dgt_game.specs.Waiting.{Follows, IsQuiet, Keeps, Waits, coming};
 
     /// Looks whether both kings were lifted since the line's last state, and stand on squares that
@@ -27,6 +30,8 @@ impl Recogniser {
         ensures view { self.new.view ≡ self.old.view }
         ensures keeps { Keeps self.old self.new }
         ensures lost { self.new.lost ≡ self.old.lost }
+        ensures search { self.new.search ≡ self.old.search }
+        ensures returned { self.new.returned ≡ self.old.returned }
     {
         let Some(last) = self.memory.line.get(0) else {
             return;
@@ -47,10 +52,11 @@ impl Recogniser {
     }
 
     fn kings_result(&self, view: &View) -> Option<(GameResult, Place)>
-        ensures { IfSome result (λ end. (step : Step)
+        ensures is { IfSome result (λ end. (step : Step)
             × (step_at (steps self.now.memory.line.items) (steps self.now.memory.seen.items) end.1
             ≡ Some step)
             × ByKings (as_shown step.is_turned (pieces_of view.now.shown)) step.state end.0) }
+        ensures near { IfSome result (λ end. (k : ℕ) → end.1 ≡ Place.Line k → k ≡ 0) }
     {
         let last = self.memory.line.get(0)?;
         let shown = view.from(last.step.is_turned);
@@ -84,6 +90,12 @@ impl Recogniser {
         ensures view { self.new.view ≡ self.old.view }
         ensures right { IsQuiet self.old → Waits self.old → Waits self.new }
         ensures follows { Follows self.old None self.new }
+        ensures stands { IsRooted (length (steps self.old.memory.line.items))
+            (steps self.old.memory.seen.items) → IsTold self.old.memory
+            → self.old.is_sure ≡ true → Stands self.old → Stands self.new }
+        ensures todo { self.old.has_kings ≡ true → todo self.new < todo self.old }
+        ensures lost { IsLostOr self.old → IsLostOr self.new }
+        ensures hopeless { WhyHopeless self.old → WhyHopeless self.new }
     {
         self.has_kings = false;
         let Some(view) = self.view else {
@@ -111,6 +123,12 @@ impl Recogniser {
             → self.old.memory.back ≡ 0 → self.old.memory.unsaid.items ≡ []
             → step_at (steps self.old.memory.line.items) (steps self.old.memory.seen.items) place
             ≡ Some step → IsTrue result → coming self.new.memory ≡ Some step }
+        ensures todo { AddsNone self.old self.new }
+        ensures back { (step : Step) → IsOpen self.old.memory
+            → step_at (steps self.old.memory.line.items) (steps self.old.memory.seen.items) place
+            ≡ Some step → ((k : ℕ) → place ≡ Place.Line k → k ≡ 0)
+            → (self.new.memory.back ≤ 4) × (self.new.memory.answer ≡ None)
+            × (result ≡ false → IsTold self.new.memory) }
     {
         if place == Place::Line(0) {
             self.memory.forget_seen();

@@ -1,9 +1,12 @@
 //! Laws of a recogniser. Each function does nothing at run time: its contract states the facts.
 
 ghost use Rattle.dgt_game.specs.Laws.{BackIsCounted, JoinedIsOne, LegalIsJoined, NoneAndOne, OneIsShown, OneLine, OthersAreHeld, SeveralAreShown, ShownIsHeld, StartIsShown, UnseenIsOnly};
+ghost use Rattle.dgt_game.specs.Planning.{IsLostOr, IsPlanned, LostIsReported, NothingFits, OneFits, PossibleIsHopeful, WhyHopeless};
+ghost use Rattle.dgt_game.specs.Reading.{EarlierAreKnown, ElseStartIsKnown, MovesAreKnown, StartIsKnown, TwoAreKnown, IsExplained};
 ghost use Rattle.dgt_game.specs.Recogniser.{new_recogniser};
 ghost use Rattle.dgt_game.specs.Results.{LostInTurn, OneByKings, OneByRules, OneOther, OneResult};
 ghost use Rattle.dgt_game.specs.Runs.{CallsAreRuns, IsLegalAndShown};
+ghost use Rattle.dgt_game.specs.Standing.{OnlyShownIsReported, RestIsReported, Stands};
 ghost use Rattle.dgt_game.specs.Timing.{NoCallMatters};
 ghost use Rattle.dgt_game.specs.Waiting.{CallsFollowOn, RightIfAway, RunsInTurn, Waits};
 
@@ -13,9 +16,13 @@ pub fn reports_are_legal()
     ensures runs { CallsAreRuns }
 {}
 
-/// Nothing waits to be reported at first.
+/// Nothing waits to be reported at first, and nothing is planned.
 pub fn nothing_waits_at_first()
-    ensures { Waits new_recogniser }
+    ensures waits { Waits new_recogniser }
+    ensures planned { IsPlanned new_recogniser }
+    ensures lost { IsLostOr new_recogniser }
+    ensures hopeless { WhyHopeless new_recogniser }
+    ensures stands { Stands new_recogniser }
 {}
 
 /// What events say of the line.
@@ -53,7 +60,31 @@ pub fn what_runs_say()
     ensures turn { RunsInTurn }
 {}
 
+/// What is planned, and why nothing is.
+pub fn what_plans_say()
+    ensures one { OneFits }
+    ensures nothing { NothingFits }
+    ensures lost { LostIsReported }
+    ensures hopeful { PossibleIsHopeful }
+{}
+
+/// What rests on the board is reported, and only what it shows.
+pub fn what_rests_is_reported()
+    ensures rest { RestIsReported }
+    ensures only { OnlyShownIsReported }
+{}
+
 /// It doesn't matter how often `due` is called before.
 pub fn no_call_matters()
     ensures { NoCallMatters }
+{}
+
+/// Which pictures are known.
+pub fn what_is_known()
+    ensures first { IsExplained new_recogniser }
+    ensures moves { MovesAreKnown }
+    ensures two { TwoAreKnown }
+    ensures earlier { EarlierAreKnown }
+    ensures start { StartIsKnown }
+    ensures others { ElseStartIsKnown }
 {}

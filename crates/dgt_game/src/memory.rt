@@ -1,15 +1,18 @@
 //! What was reported, and what was seen since.
 
-ghost use Rattle.std.specs.Prelude.{◌≡◌, ◌≢◌, ◌⊎◌, ◌<◌, ◌↔◌, ℕ, List, [], ◌∷◌, ◌++◌, Option, Some, None, IfSome, IsTrue, MatchOption, Contains, length, slice_get};
+ghost use Rattle.std.specs.Prelude.{◌≡◌, ◌≢◌, ◌⊎◌, ◌<◌, ◌≤◌, ◌↔◌, ℕ, List, [], ◌∷◌, ◌++◌, Option, Some, None, IfSome, IsSome, IsTrue, MatchOption, Contains, length, slice_get, ◌+◌};
 ghost use Rattle.dgt_values.specs.declared.pieces.Piece.{Piece};
 ghost use Rattle.dgt_game.specs.declared.node.Place.{Place};
+ghost use Rattle.dgt_game.specs.declared.node.Node.{Node};
 ghost use Rattle.dgt_game.specs.declared.node.Step.{Step};
+ghost use Rattle.dgt_game.specs.declared.node.Way.{Way};
 ghost use Rattle.dgt_game.specs.Told.{Leads, Told};
-ghost use Rattle.dgt_game.specs.Memory.{Chain, Grows, IsKept, Links, event_of, halves_of, line_after, step_at, steps, tip, told_of};
+ghost use Rattle.dgt_game.specs.Memory.{Chain, Grows, IsBefore, IsKept, IsRooted, Links, event_of, halves_of, line_after, step_at, steps, tip, told_of};
+ghost use Rattle.dgt_game.specs.Reading.{origins};
 
 use crate::event::Event;
 use crate::node::{Node, Place, Way};
-use crate::times::{KEPT, SEEN, SETTLE};
+use crate::times::{KEPT, NEAR, SEEN, SETTLE};
 use arrayvec::ArrayVec;
 use dgt_chess::State;
 
@@ -30,6 +33,7 @@ pub(crate) struct Memory {
 impl Memory {
     ghost use Rattle.dgt_game.specs.Memory.{Holds, IsSeen, IsTold};
     ghost use Rattle.dgt_game.specs.Waiting.{IsOfLine, coming};
+    ghost use Rattle.dgt_game.specs.Reading.{FollowsSeen};
     ghost use Rattle.dgt_game.specs.Recogniser.{new_memory};
 
     pub(crate) fn new() -> Self
@@ -66,6 +70,13 @@ impl Memory {
         }
     }
 
+    /// The node that was seen with this index.
+    pub(crate) fn seen_node(&self, k: usize) -> Option<Node>
+        ensures { result ≡ slice_get self.now.seen.items k }
+    {
+        self.seen.get(k).copied()
+    }
+
     /// The board leaves a place at this time.
     pub(crate) fn leave(&mut self, place: Place, now: u64)
         ensures holds { (shown : List (List Piece)) (line : List Told) → Holds shown line self.old
@@ -73,6 +84,10 @@ impl Memory {
         ensures back { self.new.back ≡ self.old.back }
         ensures unsaid { self.new.unsaid.items ≡ self.old.unsaid.items }
         ensures line { steps self.new.line.items ≡ steps self.old.line.items }
+        ensures answer { self.new.answer ≡ self.old.answer }
+        ensures few { length self.new.seen.items ≡ length self.old.seen.items }
+        ensures seen { (picture : List Piece) → FollowsSeen self.old picture
+            → FollowsSeen self.new picture }
     {
         match place {
             Place::Line(k) => set_left(&mut self.line, k, now),
@@ -88,6 +103,8 @@ impl Memory {
         ensures back { self.new.back ≡ self.old.back }
         ensures unsaid { self.new.unsaid.items ≡ self.old.unsaid.items }
         ensures line { self.new.line ≡ self.old.line }
+        ensures answer { self.new.answer ≡ self.old.answer }
+        ensures seen { steps self.new.seen.items ≡ steps self.old.seen.items }
     {
         set_sure(&mut self.seen, k);
     }
@@ -98,6 +115,8 @@ impl Memory {
         ensures back { self.new.back ≡ self.old.back }
         ensures unsaid { self.new.unsaid.items ≡ self.old.unsaid.items }
         ensures line { self.new.line ≡ self.old.line }
+        ensures answer { self.new.answer ≡ self.old.answer }
+        ensures none { self.new.seen.items ≡ [] }
     {
         self.seen.clear();
     }
@@ -109,6 +128,9 @@ impl Memory {
         ensures back { self.new.back ≡ self.old.back }
         ensures unsaid { self.new.unsaid.items ≡ self.old.unsaid.items }
         ensures line { self.new.line ≡ self.old.line }
+        ensures answer { self.new.answer ≡ self.old.answer }
+        ensures few { length self.new.seen.items ≤ length self.old.seen.items }
+        ensures kept { length self.old.seen.items + room ≤ 24 → self.new ≡ self.old }
     {
         if self.seen.remaining_capacity() < room {
             self.forget_seen();
@@ -132,9 +154,24 @@ impl Memory {
               way = node.step.way;
               parent = place;
             }))) }
+        ensures answer { self.new.answer ≡ self.old.answer }
+        ensures room { IsBefore (length (steps self.old.line.items)) 0 node.step.parent
+            → IsSome result }
+        ensures whole { IfSome result (λ k. (new : Node) × (slice_get self.new.seen.items k ≡ Some
+            new)
+            × (new.is_held ≡ node.is_held) × (new.origin ≡ node.origin)) }
+        ensures rooted { IsRooted (length (steps self.old.line.items)) (steps self.old.seen.items)
+            → IsRooted (length (steps self.new.line.items)) (steps self.new.seen.items) }
+        ensures free { length self.old.seen.items < 24
+            → IsBefore (length (steps self.old.line.items)) (length (steps self.old.seen.items))
+            node.step.parent → IsSome result }
+        ensures few { length self.old.seen.items < 24
+            → length self.new.seen.items ≤ length self.old.seen.items + 1 }
+        ensures kept { length self.old.seen.items < 24 → (picture : List Piece)
+            → FollowsSeen self.old picture → FollowsSeen self.new picture }
     {
         let parent = self.keep_path(node.step.parent)?;
-        if self.seen.is_full() {
+        if self.seen.is_full() || !self.may_follow(parent) {
             return None;
         }
         let len = self.seen.len();
@@ -142,6 +179,19 @@ impl Memory {
         new.step.parent = parent;
         self.seen.push(new);
         Some(len)
+    }
+
+    // Whether a new node may follow a place: one seen before, or one of the last states of the
+    // line.
+    fn may_follow(&self, place: Place) -> bool
+        ensures { IsTrue result ↔ IsBefore (length (steps self.now.line.items))
+            (length (steps self.now.seen.items)) place }
+    {
+        match place {
+            Place::Line(base) => base < self.line.len() && base <= NEAR,
+            Place::Seen(k) => k < self.seen.len(),
+            Place::Nowhere => true,
+        }
     }
 
     // Makes room for a node after a place, if need be: only the path to the place is kept then.
@@ -156,6 +206,13 @@ impl Memory {
         ensures back { self.new.back ≡ self.old.back }
         ensures unsaid { self.new.unsaid.items ≡ self.old.unsaid.items }
         ensures line { self.new.line ≡ self.old.line }
+        ensures answer { self.new.answer ≡ self.old.answer }
+        ensures rooted { IsRooted (length (steps self.old.line.items)) (steps self.old.seen.items)
+            → IsRooted (length (steps self.new.line.items)) (steps self.new.seen.items) }
+        ensures room { ((j : ℕ) → place ≢ Place.Seen j)
+            → (result ≡ Some place) × (length self.new.seen.items < 24) }
+        ensures few { length self.old.seen.items < 24
+            → (result ≡ Some place) × (self.new ≡ self.old) }
     {
         if !self.seen.is_full() {
             return Some(place);
@@ -181,10 +238,15 @@ impl Memory {
         ensures tip { tip (step_at (steps self.now.line.items) (steps self.now.seen.items)
             result.1) (steps result.0.items)
             ≡ step_at (steps self.now.line.items) (steps self.now.seen.items) (Place.Seen k) }
+        ensures start { IsRooted (length (steps self.now.line.items)) (steps self.now.seen.items)
+            → (k < length (steps self.now.seen.items))
+            ⊎ ((j : ℕ) → result.1 ≢ Place.Seen j)
+            → IsBefore (length (steps self.now.line.items)) 0 result.1 }
+        ensures some { k < length (steps self.now.seen.items) → result.0.items ≢ [] }
     {
         let mut path = ArrayVec::new();
         let mut place = Place::Seen(k);
-        for _at in 0..SEEN {
+        for _at in 0..self.seen.len() {
             let Place::Seen(k) = place else {
                 return (path, place);
             };
@@ -210,6 +272,21 @@ impl Memory {
             → step_at (steps self.old.line.items) (steps self.old.seen.items) place ≡ Some step
             → ((self.new.back ≡ 0) × (self.new.unsaid.items ≡ []))
             ⊎ (coming self.new ≡ Some step) }
+        ensures lands { (step : Step)
+            → IsRooted (length (steps self.old.line.items)) (steps self.old.seen.items)
+            → step_at (steps self.old.line.items) (steps self.old.seen.items) place ≡ Some step
+            → coming self.new ≡ Some step }
+        ensures near { (step : Step)
+            → IsRooted (length (steps self.old.line.items)) (steps self.old.seen.items)
+            → step_at (steps self.old.line.items) (steps self.old.seen.items) place ≡ Some step
+            → (self.new.back ≤ 4) ⊎ (place ≡ Place.Line self.new.back) }
+        ensures answer { (step : Step)
+            → IsRooted (length (steps self.old.line.items)) (steps self.old.seen.items)
+            → step_at (steps self.old.line.items) (steps self.old.seen.items) place ≡ Some step
+            → place ≢ Place.Line 0 → self.new.answer ≡ answer }
+        ensures idle { IsTold self.new → self.new.answer ≡ None }
+        ensures cleared { self.new.seen.items ≡ [] }
+        ensures either { (self.new.answer ≡ answer) ⊎ (self.new.answer ≡ None) }
     {
         let way = self.way_to(place, is_open);
         self.seen.clear();
@@ -217,7 +294,9 @@ impl Memory {
         if let Some((back, unsaid)) = way {
             self.back = back;
             self.unsaid = unsaid;
-            self.answer = answer;
+            if !self.is_quiet() {
+                self.answer = answer;
+            }
         }
     }
 
@@ -235,27 +314,35 @@ impl Memory {
             → step_at (steps self.now.line.items) (steps self.now.seen.items) place ≡ Some step
             → IfSome result (λ way.
             tip (slice_get (steps self.now.line.items) way.0) (steps way.1.items) ≡ Some step) }
+        ensures some { IfSome result (λ way.
+            tip (slice_get (steps self.now.line.items) way.0) (steps way.1.items) ≢ None) }
+        ensures found { (step : Step)
+            → IsRooted (length (steps self.now.line.items)) (steps self.now.seen.items)
+            → step_at (steps self.now.line.items) (steps self.now.seen.items) place ≡ Some step
+            → IsSome result }
+        ensures near { (step : Step)
+            → IsRooted (length (steps self.now.line.items)) (steps self.now.seen.items)
+            → step_at (steps self.now.line.items) (steps self.now.seen.items) place ≡ Some step
+            → IfSome result (λ way. (way.0 ≤ 4) ⊎ (place ≡ Place.Line way.0)) }
+        ensures news { (step : Step)
+            → step_at (steps self.now.line.items) (steps self.now.seen.items) place ≡ Some step
+            → place ≢ Place.Line 0
+            → IfSome result (λ way. (way.0 ≢ 0) ⊎ (way.1.items ≢ [])) }
     {
         let (path, start) = match place {
             Place::Seen(k) => self.path(k),
             _ => (ArrayVec::new(), place),
         };
         match start {
-            Place::Line(base) => {
-                if base < self.line.len() {
-                    Some((base, path))
-                } else {
-                    None
-                }
-            }
-            Place::Nowhere => {
+            Place::Line(base) if base < self.line.len() => Some((base, path)),
+            Place::Nowhere if !path.is_empty() => {
                 if is_open {
                     Some((0, self.with_last(path)))
                 } else {
                     Some((0, path))
                 }
             }
-            Place::Seen(_) => None,
+            _ => None,
         }
     }
 
@@ -267,6 +354,7 @@ impl Memory {
             → Links (tip (slice_get (steps self.now.line.items) 0) (steps result.items)) step }
         ensures there { (step : Step) → tip None (steps path.items) ≡ Some step
             → tip (slice_get (steps self.now.line.items) 0) (steps result.items) ≡ Some step }
+        ensures some { (path.items ≢ []) → result.items ≢ [] }
     {
         if path.is_full() || path.is_empty() {
             return path;
@@ -310,6 +398,9 @@ impl Memory {
         ensures same { result ≡ None → self.new.line ≡ self.old.line }
         ensures idle { self.old.back ≡ 0 → self.old.unsaid.items ≡ []
             → (result ≡ None) × (self.new ≡ self.old) }
+        ensures nothing { result ≡ None → self.new ≡ self.old }
+        ensures answer { self.new.answer ≡ self.old.answer }
+        ensures less { self.new.back ≤ self.old.back }
     {
         if self.back > 0 {
             Some(self.take_back())
@@ -324,6 +415,8 @@ impl Memory {
             → (new : List Told) × Leads line result new × Holds shown new self.new }
         ensures coming { self.old.back ≢ 0 → coming self.new ≡ coming self.old }
         ensures of_line { IsOfLine result }
+        ensures answer { self.new.answer ≡ self.old.answer }
+        ensures less { self.new.back ≤ self.old.back }
     {
         self.back = self.back.saturating_sub(1);
         Event::Back(drop_first(&mut self.line))
@@ -342,6 +435,9 @@ impl Memory {
         ensures still { self.old.unsaid.items ≡ [] → result ≡ None }
         ensures same { result ≡ None → self.new.line ≡ self.old.line }
         ensures idle { self.old.unsaid.items ≡ [] → (result ≡ None) × (self.new ≡ self.old) }
+        ensures nothing { result ≡ None → self.new ≡ self.old }
+        ensures answer { self.new.answer ≡ self.old.answer }
+        ensures less { self.new.back ≡ self.old.back }
     {
         let Some(node) = take_first(&mut self.unsaid) else {
             return None;
@@ -358,6 +454,12 @@ impl Memory {
         ensures back { self.new.back ≡ self.old.back }
         ensures unsaid { self.new.unsaid ≡ self.old.unsaid }
         ensures line { self.new.line ≡ self.old.line }
+        ensures taken { self.new.answer ≡ None }
+        ensures is { MatchOption self.old.answer (result ≡ None) (λ node. (new : Node)
+            × (result ≡ Some new) × (self.new.seen.items ≡ new ∷ [])
+            × (new.step.state ≡ node.step.state) × (new.step.is_turned ≡ node.step.is_turned)
+            × (new.step.way ≡ node.step.way) × (new.is_held ≡ node.is_held)
+            × (node.step.way ≡ Way.Begun → new.origin ≡ node.origin)) }
     {
         let Some(node) = self.answer.take() else {
             return None;
@@ -372,7 +474,8 @@ impl Memory {
 // What is known of when a node was shown is no part of its step.
 #[tactic(auto, using(crate::proofs::Nodes::same_steps))]
 fn set_left<const ROOM: usize>(nodes: &mut ArrayVec<Node, ROOM>, k: usize, now: u64)
-    ensures { steps nodes.new.items ≡ steps nodes.old.items }
+    ensures steps { steps nodes.new.items ≡ steps nodes.old.items }
+    ensures origins { origins nodes.new.items ≡ origins nodes.old.items }
 {
     if k < nodes.len() {
         let mut node = nodes[k];
@@ -408,6 +511,7 @@ fn chained(path: &ArrayVec<Node, SEEN>, start: Place) -> (ArrayVec<Node, SEEN>, 
     ensures grows { (shown : List (List Piece)) (kept : List Step)
         → Chain shown (step_at kept [] start) (steps path.now.items)
         → Grows shown kept (steps result.0.items) }
+    ensures rooted { (lines : ℕ) → IsBefore lines 0 start → IsRooted lines (steps result.0.items) }
     ensures links { (kept : List Step) (step : Step)
         → Links (tip (step_at kept [] start) (steps path.now.items)) step
         → Links (step_at kept (steps result.0.items) result.1) step }
@@ -429,6 +533,7 @@ fn take_first(nodes: &mut ArrayVec<Node, SEEN>) -> Option<Node>
     ensures none { result ≡ None → nodes.new.items ≡ [] }
     ensures empty { nodes.old.items ≡ [] → result ≡ None }
     ensures idle { nodes.old.items ≡ [] → (result ≡ None) × (nodes.new ≡ nodes.old) }
+    ensures nothing { result ≡ None → nodes.new ≡ nodes.old }
 {
     if nodes.is_empty() {
         return None;

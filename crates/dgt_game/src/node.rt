@@ -1,6 +1,6 @@
 //! States that the board has shown, and how they follow each other.
 
-ghost use Rattle.std.specs.Prelude.{◌≡◌};
+ghost use Rattle.std.specs.Prelude.{◌≡◌, ◌≤◌};
 ghost use Rattle.dgt_game.specs.Memory.{halves_of};
 
 use crate::event::Moves;
@@ -53,6 +53,13 @@ pub(crate) enum Place {
     /// At this node of those that were seen since.
     Seen(usize),
     Nowhere,
+}
+
+/// How many states back the board shows the line, if these are few.
+#[derive(Clone, Copy, Debug, PartialEq, Eq)]
+pub(crate) struct Returned {
+    pub(crate) count: usize,
+    ghost near: { count ≤ 4 },
 }
 
 /// Where the path of a node begins.
@@ -131,7 +138,9 @@ impl Node {
 
     /// The same node, as one that follows the line's last state.
     pub(crate) fn after_line(&self) -> Self
-        ensures { result.step ≡ record {
+        ensures rest { (result.is_held ≡ self.now.is_held)
+            × (self.now.step.way ≡ Way.Begun → result.origin ≡ self.now.origin) }
+        ensures step { result.step ≡ record {
           state = self.now.step.state;
           is_turned = self.now.step.is_turned;
           way = self.now.step.way;

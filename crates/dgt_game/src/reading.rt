@@ -1,20 +1,27 @@
 //! What a picture means: the likeliest of the few half-moves that lead to it.
 
-ghost use Rattle.std.specs.Prelude.{◌≡◌, ◌⊎◌, List, Option, None, Some, IfSome, IsTrue, Contains, length};
+ghost use Rattle.std.specs.Prelude.{ℕ, ◌≡◌, ◌↔◌, ◌≤◌, ◌⊎◌, List, Option, None, Some, IfSome, IsSome, IsTrue, Contains, false, length, slice_get, ◌≢◌, MatchOption, true};
 ghost use Rattle.dgt_values.specs.declared.pieces.Piece.{Piece};
 ghost use Rattle.dgt_values.specs.Board.{pieces_of};
 ghost use Rattle.dgt_chess.specs.Rules.{board};
 ghost use Rattle.dgt_chess.specs.declared.state.State.{State};
 ghost use Rattle.dgt_game.specs.Lines.{IsLine, IsOnly, moves_of};
 ghost use Rattle.dgt_chess.specs.declared.pieces.Man.{Man};
+ghost use Rattle.dgt_game.specs.declared.node.Step.{Step};
+ghost use Rattle.dgt_game.specs.Planning.{LacksOnly};
 ghost use Rattle.dgt_chess.specs.Attacks.{piece_of};
 ghost use Rattle.dgt_game.specs.Told.{IsHeld, Told, told_pieces};
 ghost use Rattle.dgt_game.specs.Memory.{By, told_of};
+ghost use Rattle.dgt_game.specs.declared.node.Origin.{Origin};
+ghost use Rattle.dgt_game.specs.declared.node.Place.{Place};
+ghost use Rattle.dgt_game.specs.declared.recogniser.Over.{Over};
+ghost use Rattle.dgt_game.specs.declared.reading.Reading.{Reading};
+ghost use Rattle.dgt_game.specs.declared.view.View.{View};
 
 use crate::early::moves_again;
 use crate::event::{GAP, Moves};
 use crate::node::{Node, Origin, Place, Step, Way};
-use crate::recogniser::{Over, Recogniser, lacks_only};
+use crate::recogniser::{Over, Recogniser};
 use crate::times::{HANDS, NEAR, SETTLE};
 use crate::view::View;
 use crate::ways::{Ways, find_ways, half_move, is_same};
@@ -34,11 +41,28 @@ pub(crate) enum Reading {
 
 impl Recogniser {
     ghost use Rattle.dgt_game.specs.Memory.{Fits, FitsBy, Holds, Links, Reads, step_at, steps};
+    ghost use Rattle.dgt_game.specs.Reading.{HasLine, HasLineFrom, HasRoom, IsLive, IsNear, IsRead, IsRoomFor, ReadsView, Shows, ShowsAt, SomeLine, FollowsSeen, IsReplaced, ShowsEarlier, ShowsStart};
+    ghost use Rattle.dgt_game.specs.Waiting.{last_of};
 
     /// The likeliest meaning.
     pub(crate) fn read(&self, view: &View) -> Reading
-        ensures { (shown : List (List Piece)) (line : List Told) → Holds shown line self.now.memory
-            → Contains shown (pieces_of view.now.shown) → Reads shown self.now.memory result }
+        ensures linked { (shown : List (List Piece)) (line : List Told)
+            → Holds shown line self.now.memory → Contains shown (pieces_of view.now.shown)
+            → Reads shown self.now.memory result }
+        ensures at { ReadsView self.now.memory view.now result }
+        ensures reads { IsLive self.now
+            → HasLine 1 self.now.memory (Place.Line 0) (pieces_of view.now.shown) → IsNear result }
+        ensures jumps { IsLive self.now → self.now.returned.count ≡ 0
+            → HasLine 2 self.now.memory (Place.Line 0) (pieces_of view.now.shown) → IsRead result }
+        ensures start { ShowsStart view.now → IsRead result }
+        ensures earlier { IsLive self.now → ShowsEarlier self.now.memory view.now
+            → IsRead result }
+        ensures seen { FollowsSeen self.now.memory (pieces_of view.now.shown) → IsNear result }
+        ensures replaced { IsLive self.now → self.now.is_set_up ≡ false
+            → IsReplaced self.now.memory (pieces_of view.now.shown) → IsRead result }
+        ensures last { self.now.over ≡ Over.No → ShowsAt self.now.memory view.now (Place.Line 0)
+            → result ≡ Reading.At (Place.Line 0) }
+        ensures room { HasRoom self.now.memory result }
     {
         if let Some(place) = self.read_line(view) {
             return Reading::At(place);
@@ -66,7 +90,11 @@ impl Recogniser {
 
     // The line's last state, or one that was left too quickly for hands. No other line begins with
     // the state in which a game has ended, but for the one in which all begin.
-    fn read_line(&self, view: &View) -> Option<Place> {
+    fn read_line(&self, view: &View) -> Option<Place>
+        ensures at { IfSome result (λ place. ShowsAt self.now.memory view.now place) }
+        ensures last { self.now.over ≡ Over.No → ShowsAt self.now.memory view.now (Place.Line 0)
+            → result ≡ Some (Place.Line 0) }
+    {
         let last = self.memory.line.get(0)?;
         let may_begin = last.step.state.position() == State::start().position();
         if view.is(&last.step.state, last.step.is_turned) && (self.over == Over::No || !may_begin) {
@@ -99,7 +127,11 @@ impl Recogniser {
 
     // An earlier state of the line. If it is far back, and something wasn't shown meanwhile, it is
     // rather another game that has begun in the same way.
-    fn read_earlier(&self, view: &View) -> Option<usize> {
+    fn read_earlier(&self, view: &View) -> Option<usize>
+        ensures at { IfSome result (λ k. ShowsAt self.now.memory view.now (Place.Line k)) }
+        ensures reads { IsLive self.now → ShowsEarlier self.now.memory view.now
+            → IsSome result }
+    {
         let k = self.earlier(view)?;
         if k > NEAR && self.is_behind && self.from_start(view).is_some() {
             return None;
@@ -108,7 +140,11 @@ impl Recogniser {
     }
 
     // An earlier state of the line.
-    fn earlier(&self, view: &View) -> Option<usize> {
+    fn earlier(&self, view: &View) -> Option<usize>
+        ensures at { IfSome result (λ k. ShowsAt self.now.memory view.now (Place.Line k)) }
+        ensures reads { IsLive self.now → ShowsEarlier self.now.memory view.now
+            → MatchOption result ⊥ (λ k. k ≤ 4) }
+    {
         if !self.is_live() {
             return None;
         }
@@ -125,11 +161,19 @@ impl Recogniser {
 
     // One half-move, or a node that was seen before.
     fn read_half_move(&self, view: &View) -> Option<Reading>
-        ensures { (shown : List (List Piece)) → Contains shown (pieces_of view.now.shown)
+        ensures linked { (shown : List (List Piece)) → Contains shown (pieces_of view.now.shown)
             → IfSome result (λ reading. Reads shown self.now.memory reading) }
+        ensures at { IfSome result (λ reading. ReadsView self.now.memory view.now reading) }
+        ensures room { IfSome result (HasRoom self.now.memory) }
+        ensures near { IfSome result IsNear }
+        ensures reads { IsLive self.now
+            → HasLine 1 self.now.memory (Place.Line 0) (pieces_of view.now.shown)
+            → IsSome result }
+        ensures seen { FollowsSeen self.now.memory (pieces_of view.now.shown)
+            → IsSome result }
     {
-        if self.returned > 0 && self.is_live() {
-            if let Some(node) = self.made(Place::Line(self.returned), view) {
+        if self.returned.count > 0 && self.is_live() {
+            if let Some(node) = self.made(Place::Line(self.returned.count), view) {
                 return Some(self.known(node));
             }
         }
@@ -142,12 +186,19 @@ impl Recogniser {
 
     // A node that follows a state of the line, unless it was seen before.
     fn known(&self, node: Node) -> Reading
-        ensures { (shown : List (List Piece)) (pieces : List Piece) → Contains shown pieces
+        ensures linked { (shown : List (List Piece)) (pieces : List Piece) → Contains shown pieces
             → Fits self.now.memory pieces node → Reads shown self.now.memory result }
+        ensures at { (view : View) → Shows view node.step → ReadsView self.now.memory view result }
+        ensures room { IsRoomFor self.now.memory node → HasRoom self.now.memory result }
+        ensures near { IsNear result }
     {
+        dgt_values::laws::equal_is_same();
         for k in 0..self.memory.seen.len() {
             let other = &self.memory.seen[k];
-            if other.step.parent == node.step.parent && other.step.state == node.step.state {
+            if other.step.parent == node.step.parent
+                && other.step.is_turned == node.step.is_turned
+                && other.step.state == node.step.state
+            {
                 return Reading::At(Place::Seen(k));
             }
         }
@@ -155,7 +206,9 @@ impl Recogniser {
     }
 
     // The node with these pieces that was seen last.
-    fn seen_before(&self, view: &View, is_shadow: bool) -> Option<usize> {
+    fn seen_before(&self, view: &View, is_shadow: bool) -> Option<usize>
+        ensures at { IfSome result (λ k. ShowsAt self.now.memory view.now (Place.Seen k)) }
+    {
         let len = self.memory.seen.len();
         for at in 0..len {
             let node = &self.memory.seen[len - 1 - at];
@@ -171,8 +224,10 @@ impl Recogniser {
 
     /// The meaning of a picture that lacks a king: it may be the next piece that moves.
     pub(crate) fn read_king_in_hand(&self, view: &View) -> Reading
-        ensures { (shown : List (List Piece)) → Contains shown (pieces_of view.now.shown)
+        ensures linked { (shown : List (List Piece)) → Contains shown (pieces_of view.now.shown)
             → Reads shown self.now.memory result }
+        ensures at { ReadsView self.now.memory view.now result }
+        ensures room { HasRoom self.now.memory result }
     {
         match self.read_held(view) {
             Some(node) => Reading::Held(node),
@@ -182,8 +237,11 @@ impl Recogniser {
 
     // A half-move after which the other side has its next piece in a hand already.
     fn read_held(&self, view: &View) -> Option<Node>
-        ensures { (shown : List (List Piece)) → Contains shown (pieces_of view.now.shown)
+        ensures linked { (shown : List (List Piece)) → Contains shown (pieces_of view.now.shown)
             → IfSome result (λ node. Reads shown self.now.memory (Reading.Held node)) }
+        ensures at { IfSome result
+            (λ node. ReadsView self.now.memory view.now (Reading.Held node)) }
+        ensures room { IfSome result (IsRoomFor self.now.memory) }
     {
         let len = self.memory.seen.len();
         for at in 0..len {
@@ -201,8 +259,12 @@ impl Recogniser {
     }
 
     fn held(&self, place: Place, view: &View) -> Option<Node>
-        ensures { (shown : List (List Piece)) → Contains shown (pieces_of view.now.shown)
+        ensures linked { (shown : List (List Piece)) → Contains shown (pieces_of view.now.shown)
             → IfSome result (λ node. Reads shown self.now.memory (Reading.Held node)) }
+        ensures at { IfSome result
+            (λ node. ReadsView self.now.memory view.now (Reading.Held node)) }
+        ensures room { ((k : ℕ) → place ≡ Place.Line k → k ≤ 4)
+            → IfSome result (IsRoomFor self.now.memory) }
     {
         let from = self.memory.node(place)?;
         let shown = view.from(from.step.is_turned);
@@ -212,17 +274,26 @@ impl Recogniser {
         }
         let (one, state) = half_move(&from.step.state, &whole)?;
         if is_held(shown, &state) {
-            let mut node = self.follow(&from, place, Way::Made(one), state);
-            node.is_held = true;
-            return Some(node);
+            return Some(self.follow(&from, place, Way::Made(one), state));
         }
         None
     }
 
     /// The node with the same half-moves after the same place, if there is one.
-    pub(crate) fn same_node(&self, node: &Node) -> Option<usize> {
+    pub(crate) fn same_node(&self, node: &Node) -> Option<usize>
+        ensures { IfSome result (λ k. (step : Step)
+            × (slice_get (steps self.now.memory.seen.items) k ≡ Some step)
+            × (step.is_turned ≡ node.now.step.is_turned)
+            × (board step.state ≡ board node.now.step.state)) }
+    {
+        dgt_values::laws::equal_is_same();
         for k in 0..self.memory.seen.len() {
-            if self.memory.seen[k].step == node.step {
+            let other = &self.memory.seen[k].step;
+            if other.parent == node.step.parent
+                && other.way == node.step.way
+                && other.is_turned == node.step.is_turned
+                && other.state == node.step.state
+            {
                 return Some(k);
             }
         }
@@ -232,7 +303,14 @@ impl Recogniser {
     // The shortest way by one half-move more. Of several, one that moved what has just changed.
     // A square that a piece slid over leads nowhere, unless nothing else does.
     fn one_more(&self, view: &View) -> Option<Node>
-        ensures { IfSome result (λ node. Fits self.now.memory (pieces_of view.now.shown) node) }
+        ensures linked { IfSome result
+            (λ node. Fits self.now.memory (pieces_of view.now.shown) node) }
+        ensures reads { IsLive self.now
+            → HasLine 1 self.now.memory (Place.Line 0) (pieces_of view.now.shown)
+            → IsSome result }
+        ensures room { IfSome result (IsRoomFor self.now.memory) }
+        ensures seen { FollowsSeen self.now.memory (pieces_of view.now.shown)
+            → IsSome result }
     {
         let mut best = None;
         let len = self.memory.seen.len();
@@ -248,7 +326,9 @@ impl Recogniser {
     }
 
     fn better(&self, best: Option<Node>, other: Option<Node>) -> Option<Node>
-        ensures { (result ≡ best) ⊎ (result ≡ other) }
+        ensures linked { (result ≡ best) ⊎ (result ≡ other) }
+        ensures first { IsSome best → IsSome result }
+        ensures second { IsSome other → IsSome result }
     {
         let (Some(first), Some(second)) = (best, other) else {
             return best.or(other);
@@ -278,7 +358,10 @@ impl Recogniser {
 
     /// Whether half-moves that weren't shown may follow. A square that a piece slid over doesn't
     /// count, unless something else wasn't shown.
-    pub(crate) fn may_jump(&self, place: Place) -> bool {
+    pub(crate) fn may_jump(&self, place: Place) -> bool
+        ensures reads { place ≡ Place.Line 0 → IsLive self.now → last_of self.now.memory ≢ None
+            → result ≡ true }
+    {
         match (place, self.memory.node(place)) {
             (_, None) => false,
             (Place::Seen(k), Some(node)) => {
@@ -308,9 +391,14 @@ impl Recogniser {
 
     // The state in which a game begins, seen from either side.
     fn read_start(&self, view: &View) -> Option<Reading>
-        ensures { (shown : List (List Piece)) → Contains shown (pieces_of view.now.shown)
+        ensures linked { (shown : List (List Piece)) → Contains shown (pieces_of view.now.shown)
             → IfSome result (λ reading. Reads shown self.now.memory reading) }
+        ensures at { IfSome result (λ reading. ReadsView self.now.memory view.now reading) }
+        ensures room { IfSome result (HasRoom self.now.memory) }
+        ensures near { IfSome result IsNear }
+        ensures reads { ShowsStart view.now → IsSome result }
     {
+        dgt_chess::laws::one_start();
         let start = State::start();
         for is_turned in [false, true] {
             if view.is(&start, is_turned) {
@@ -328,9 +416,15 @@ impl Recogniser {
 
     // Two half-moves, or a correction of how many there were before.
     fn read_jump(&self, view: &View) -> Option<Reading>
-        ensures { (shown : List (List Piece)) (line : List Told) → Holds shown line self.now.memory
-            → Contains shown (pieces_of view.now.shown)
+        ensures linked { (shown : List (List Piece)) (line : List Told)
+            → Holds shown line self.now.memory → Contains shown (pieces_of view.now.shown)
             → IfSome result (λ reading. Reads shown self.now.memory reading) }
+        ensures at { IfSome result (λ reading. ReadsView self.now.memory view.now reading) }
+        ensures read { IfSome result IsRead }
+        ensures reads { IsLive self.now → self.now.returned.count ≡ 0
+            → HasLine 2 self.now.memory (Place.Line 0) (pieces_of view.now.shown)
+            → IsSome result }
+        ensures room { IfSome result (HasRoom self.now.memory) }
     {
         if self.lifts_after_back(view) {
             return None;
@@ -351,10 +445,13 @@ impl Recogniser {
     }
 
     // Whether pieces are lifted from the state to which the line is taken back.
-    fn lifts_after_back(&self, view: &View) -> bool {
-        match self.memory.line.get(self.returned) {
+    fn lifts_after_back(&self, view: &View) -> bool
+        ensures { self.now.returned.count ≡ 0 → result ≡ false }
+    {
+        match self.memory.line.get(self.returned.count) {
             Some(node) => {
-                self.returned > 0 && lacks_only(view.from(node.step.is_turned), &node.step.state)
+                self.returned.count > 0
+                    && lacks_only(view.from(node.step.is_turned), &node.step.state)
             }
             None => false,
         }
@@ -362,7 +459,12 @@ impl Recogniser {
 
     // Two half-moves more. Of several, those that moved what has just changed.
     fn two_more(&self, view: &View) -> Option<Node>
-        ensures { IfSome result (λ node. Fits self.now.memory (pieces_of view.now.shown) node) }
+        ensures linked { IfSome result
+            (λ node. Fits self.now.memory (pieces_of view.now.shown) node) }
+        ensures reads { IsLive self.now
+            → HasLine 2 self.now.memory (Place.Line 0) (pieces_of view.now.shown)
+            → IsSome result }
+        ensures room { IfSome result (IsRoomFor self.now.memory) }
     {
         let mut found = None;
         let len = self.memory.seen.len();
@@ -373,8 +475,11 @@ impl Recogniser {
             }
         }
         if self.is_live() {
-            if self.returned > 0 {
-                found = self.fresher(found, self.jumped(Place::Line(self.returned), view, 2));
+            if self.returned.count > 0 {
+                found = self.fresher(
+                    found,
+                    self.jumped(Place::Line(self.returned.count), view, 2),
+                );
             }
             found = self.fresher(found, self.jumped(Place::Line(0), view, 2));
         }
@@ -383,7 +488,9 @@ impl Recogniser {
 
     // The first of both, unless only the second moved what has just changed.
     fn fresher(&self, first: Option<Node>, second: Option<Node>) -> Option<Node>
-        ensures { (result ≡ first) ⊎ (result ≡ second) }
+        ensures linked { (result ≡ first) ⊎ (result ≡ second) }
+        ensures first { IsSome first → IsSome result }
+        ensures second { IsSome second → IsSome result }
     {
         let (Some(old), Some(new)) = (first, second) else {
             return first.or(second);
@@ -397,9 +504,12 @@ impl Recogniser {
 
     // If the other side has moved after a jump, the jump had one half-move more or less.
     fn recounted(&self, place: Place, view: &View) -> Option<Reading>
-        ensures { (shown : List (List Piece)) (line : List Told) → Holds shown line self.now.memory
-            → Contains shown (pieces_of view.now.shown)
+        ensures linked { (shown : List (List Piece)) (line : List Told)
+            → Holds shown line self.now.memory → Contains shown (pieces_of view.now.shown)
             → IfSome result (λ reading. Reads shown self.now.memory reading) }
+        ensures at { IfSome result (λ reading. ReadsView self.now.memory view.now reading) }
+        ensures read { IfSome result IsRead }
+        ensures room { IfSome result (HasRoom self.now.memory) }
     {
         let node = self.memory.node(place)?;
         if node.step.way.halves() < 2 || !node.was_behind {
@@ -433,10 +543,13 @@ impl Recogniser {
 
     // As many half-moves to a node, and one more.
     fn recounted_by(&self, parent: Place, node: &Node, view: &View, halves: u8) -> Option<Reading>
-        ensures { (shown : List (List Piece))
+        ensures linked { (shown : List (List Piece))
             → Contains shown (told_pieces (told_of node.now.step))
             → Contains shown (pieces_of view.now.shown)
             → IfSome result (λ reading. Reads shown self.now.memory reading) }
+        ensures at { IfSome result (λ reading. ReadsView self.now.memory view.now reading) }
+        ensures read { IfSome result IsRead }
+        ensures room { IfSome result (HasRoom self.now.memory) }
     {
         let first = self.other_jump(parent, node, halves)?;
         let second = self.next(&first, Place::Nowhere, view)?;
@@ -445,11 +558,12 @@ impl Recogniser {
 
     // The node with the pieces of another that as many half-moves from a place lead to.
     fn other_jump(&self, place: Place, node: &Node, halves: u8) -> Option<Node>
-        ensures { IfSome result (λ other.
+        ensures linked { IfSome result (λ other.
             Fits self.now.memory (told_pieces (told_of node.now.step)) other) }
+        ensures room { IfSome result (IsRoomFor self.now.memory) }
     {
         let from = self.memory.node(place)?;
-        if from.step.is_turned != node.step.is_turned {
+        if from.step.is_turned != node.step.is_turned || is_far(place) {
             return None;
         }
         self.jumped_from(&from, place, node.step.state.position(), halves)
@@ -457,7 +571,11 @@ impl Recogniser {
 
     // Another half-move, or another two, after one of the last states of the line.
     fn read_replaced(&self, view: &View) -> Option<Node>
-        ensures { IfSome result (λ node. Fits self.now.memory (pieces_of view.now.shown) node) }
+        ensures linked { IfSome result
+            (λ node. Fits self.now.memory (pieces_of view.now.shown) node) }
+        ensures reads { IsLive self.now → self.now.is_set_up ≡ false
+            → IsReplaced self.now.memory (pieces_of view.now.shown) → IsSome result }
+        ensures room { IfSome result (IsRoomFor self.now.memory) }
     {
         if !self.is_live() || self.is_set_up {
             return None;
@@ -476,8 +594,10 @@ impl Recogniser {
     }
 
     fn read_shadow(&self, view: &View) -> Reading
-        ensures { (shown : List (List Piece)) → Contains shown (pieces_of view.now.shown)
+        ensures linked { (shown : List (List Piece)) → Contains shown (pieces_of view.now.shown)
             → Reads shown self.now.memory result }
+        ensures at { ReadsView self.now.memory view.now result }
+        ensures room { HasRoom self.now.memory result }
     {
         if let Some(k) = self.seen_before(view, true) {
             return Reading::At(Place::Seen(k));
@@ -528,7 +648,9 @@ impl Recogniser {
     }
 
     /// Whether a node goes on from a position that nothing led to.
-    pub(crate) fn is_shadow(&self, node: &Node) -> bool {
+    pub(crate) fn is_shadow(&self, node: &Node) -> bool
+        ensures reads { node.now.origin ≢ Origin.Shadow → result ≡ false }
+    {
         node.origin == Origin::Shadow && !self.is_same_start(node)
     }
 
@@ -557,7 +679,12 @@ impl Recogniser {
 
     /// The node that one half-move from a place leads to.
     pub(crate) fn made(&self, place: Place, view: &View) -> Option<Node>
-        ensures { IfSome result (λ node. Fits self.now.memory (pieces_of view.now.shown) node) }
+        ensures linked { IfSome result
+            (λ node. Fits self.now.memory (pieces_of view.now.shown) node) }
+        ensures reads { HasLine 1 self.now.memory place (pieces_of view.now.shown)
+            → IsSome result }
+        ensures room { ((k : ℕ) → place ≡ Place.Line k → k ≤ 4)
+            → IfSome result (IsRoomFor self.now.memory) }
     {
         let from = self.memory.node(place)?;
         self.next(&from, place, view)
@@ -565,9 +692,10 @@ impl Recogniser {
 
     // The node that one half-move from another leads to.
     fn next(&self, from: &Node, place: Place, view: &View) -> Option<Node>
-        ensures { IfSome result (λ node. (node.step.parent ≡ place)
+        ensures linked { IfSome result (λ node. (node.step.parent ≡ place)
             × Links (Some from.now.step) node.step
             × (told_pieces (told_of node.step) ≡ pieces_of view.now.shown)) }
+        ensures reads { HasLineFrom 1 from.now.step (pieces_of view.now.shown) → IsSome result }
     {
         let (one, state) = half_move(&from.step.state, view.from(from.step.is_turned))?;
         Some(self.follow(from, place, Way::Made(one), state))
@@ -575,7 +703,12 @@ impl Recogniser {
 
     /// The node that as many half-moves from a place lead to.
     pub(crate) fn jumped(&self, place: Place, view: &View, halves: u8) -> Option<Node>
-        ensures { IfSome result (λ node. FitsBy self.now.memory (pieces_of view.now.shown) node) }
+        ensures linked { IfSome result
+            (λ node. FitsBy self.now.memory (pieces_of view.now.shown) node) }
+        ensures reads { 1 ≤ halves → halves ≤ 4
+            → HasLine halves self.now.memory place (pieces_of view.now.shown) → IsSome result }
+        ensures room { ((k : ℕ) → place ≡ Place.Line k → k ≤ 4)
+            → IfSome result (IsRoomFor self.now.memory) }
     {
         let from = self.memory.node(place)?;
         self.jumped_from(&from, place, view.from(from.step.is_turned), halves)
@@ -589,10 +722,12 @@ impl Recogniser {
         shown: &Position,
         halves: u8,
     ) -> Option<Node>
-        ensures { IfSome result (λ node. (node.step.parent ≡ place)
+        ensures linked { IfSome result (λ node. (node.step.parent ≡ place)
             × (node.step.is_turned ≡ from.now.step.is_turned)
             × By from.now.step.state node.step.way node.step.state
             × (board node.step.state ≡ pieces_of shown.now)) }
+        ensures reads { 1 ≤ halves → halves ≤ 4
+            → SomeLine halves from.now.step.state (pieces_of shown.now) → IsSome result }
     {
         let (way, state) = self.jump(from, place, shown, halves)?;
         Some(self.follow(from, place, way, state))
@@ -600,8 +735,10 @@ impl Recogniser {
 
     // As many half-moves that lead to a picture, and the state after them.
     fn jump(&self, from: &Node, place: Place, shown: &Position, halves: u8) -> Option<(Way, State)>
-        ensures { IfSome result (λ found. By from.now.step.state found.0 found.1
+        ensures linked { IfSome result (λ found. By from.now.step.state found.0 found.1
             × (board found.1 ≡ pieces_of shown.now)) }
+        ensures reads { 1 ≤ halves → halves ≤ 4
+            → SomeLine halves from.now.step.state (pieces_of shown.now) → IsSome result }
     {
         if halves == 0 || halves > GAP as u8 {
             return None;
@@ -695,6 +832,16 @@ impl Recogniser {
     }
 }
 
+// Whether half-moves that were reported may not be replaced from a place, as it is too far back.
+fn is_far(place: Place) -> bool
+    ensures { result ≡ false → (k : ℕ) → place ≡ Place.Line k → k ≤ 4 }
+{
+    match place {
+        Place::Line(k) => k > NEAR,
+        _ => false,
+    }
+}
+
 // What is shown, with the missing pieces of the side that has to move next put back.
 fn put_back(shown: &Position, state: &State) -> Position {
     let side = state.turn().other();
@@ -766,4 +913,24 @@ fn other_side(state: &State) -> Option<State> {
         state.number(),
     )
     .ok()
+}
+
+// Whether pieces of a state are gone, and no others are shown.
+pub(crate) fn lacks_only(shown: &Position, state: &State) -> bool
+    ensures { IsTrue result ↔ LacksOnly (pieces_of shown.now) state.now }
+{
+    for at in 0..64 {
+        let square = Square::from_small(at);
+        if !is_same_or_gone(shown.get(square), state.position().get(square)) {
+            return false;
+        }
+    }
+    true
+}
+
+// Whether a square shows its piece, or none.
+fn is_same_or_gone(shown: Piece, piece: Piece) -> bool
+    ensures { IsTrue result ↔ (shown ≡ piece) ⊎ (shown ≡ Piece.Empty) }
+{
+    is_same(shown, piece) || is_same(shown, Piece::Empty)
 }

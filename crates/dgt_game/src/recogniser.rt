@@ -1,22 +1,28 @@
 //! The recogniser of games.
 
-ghost use Rattle.std.specs.Prelude.{IsErr, IsOk, false, ◌≡◌, ◌↔◌, ◌⊎◌, ℕ, List, [], ◌∷◌, Option, Some, None, IfSome, MatchOption, Contains, option_map, map, length, slice_get};
+ghost use Rattle.std.specs.Prelude.{IsErr, IsOk, false, true, ◌≡◌, ◌≢◌, ◌≤◌, ◌↔◌, ◌⊎◌, ℕ, List, [], ◌∷◌, Option, Some, None, IfSome, IsTrue, MatchOption, Contains, option_map, map, length, slice_get, ◌<◌};
 ghost use Rattle.dgt_values.specs.declared.pieces.Piece.{Piece};
 ghost use Rattle.dgt_values.specs.Board.{pieces_of};
+ghost use Rattle.dgt_chess.specs.Attacks.{piece_at, piece_of};
+ghost use Rattle.dgt_chess.specs.declared.pieces.Man.{Man};
 ghost use Rattle.dgt_game.specs.declared.node.Place.{Place};
 ghost use Rattle.dgt_game.specs.declared.reading.Reading.{Reading};
+ghost use Rattle.dgt_game.specs.declared.recogniser.Search.{Search};
+ghost use Rattle.dgt_game.specs.Planning.{LacksOnly};
+ghost use Rattle.dgt_game.specs.declared.view.View.{View};
 ghost use Rattle.dgt_game.specs.Told.{Told};
 
 use crate::event::{Event, GameResult};
 use crate::memory::Memory;
-use crate::node::{Node, Origin, Place, Way};
+use crate::node::{Node, Origin, Place, Returned, Way};
 use crate::observation::{Observation, Sight};
-use crate::reading::Reading;
+use crate::reading::{Reading, lacks_only};
 use crate::resting::Next;
-use crate::times::{FINAL, GLANCE};
+use crate::times::{FINAL, GLANCE, NEAR};
 use crate::view::{View, king};
+use crate::ways::is_same;
 use dgt_chess::{Colour, State};
-use dgt_values::{Position, Square};
+use dgt_values::{Piece, Position, Square};
 use thiserror::Error;
 
 /// Something is due, and has to be reported first.
@@ -77,7 +83,7 @@ pub struct Recogniser {
     pub(crate) next: Option<Next>,
     pub(crate) has_kings: bool,
     // what has happened since the line's last state was shown
-    pub(crate) returned: usize,
+    pub(crate) returned: Returned,
     pub(crate) is_behind: bool,
     pub(crate) is_set_up: bool,
     pub(crate) is_white_king_lifted: bool,
@@ -85,8 +91,12 @@ pub struct Recogniser {
 }
 
 impl Recogniser {
-    ghost use Rattle.dgt_game.specs.Memory.{Holds, Reads};
-    ghost use Rattle.dgt_game.specs.Recogniser.{GoesOn, Knows, Sees, new_recogniser};
+    ghost use Rattle.dgt_game.specs.Memory.{Holds, IsTold, Reads, steps};
+    ghost use Rattle.dgt_game.specs.Planning.{AddsNone, IsLifted, IsPlanned, HasKing, IsLostOr, PlacesOr, WhyHopeless};
+    ghost use Rattle.dgt_game.specs.Reading.{HasLine, IsExplained, HasRoom, IsLive, IsRoomFor, ReadsView, FollowsSeen, IsKnown, IsRead};
+    ghost use Rattle.dgt_game.specs.Recogniser.{GoesOn, Knows, Sees, new_recogniser, picture_of, pictured};
+    ghost use Rattle.dgt_game.specs.Reading.{ReadsView, Shows};
+    ghost use Rattle.dgt_game.specs.Standing.{IsOpen, ShowsAs, Stands};
     ghost use Rattle.dgt_game.specs.Timing.{IsIdle};
     ghost use Rattle.dgt_game.specs.Waiting.{Follows, IsQuiet, Keeps, LostWaits, Waits, has_notice, has_result, is_lost, is_sure_sight};
 
@@ -111,7 +121,7 @@ impl Recogniser {
             search: Search::Hopeless,
             next: None,
             has_kings: false,
-            returned: 0,
+            returned: Returned { count: 0 },
             is_behind: false,
             is_set_up: false,
             is_white_king_lifted: false,
@@ -132,6 +142,22 @@ impl Recogniser {
             → IsQuiet self.new }
         ensures since { (self.new.since ≡ self.old.since)
             ⊎ (self.new.since ≡ observation.now.at) }
+        ensures shown { IsOk result → (pictured self.new.view ≡ picture_of observation.now.sight)
+            × (self.new.is_confirmed ≡ observation.now.is_confirmed) }
+        ensures changed { IsOk result → pictured self.new.view ≢ pictured self.old.view
+            → self.new.since ≡ observation.now.at }
+        ensures stands { (shown : List (List Piece)) (line : List Told)
+            → Knows shown line self.old → Stands self.old → Stands self.new }
+        ensures plans { IsOk result → IsPlanned self.new }
+        ensures planned { IsPlanned self.old → IsPlanned self.new }
+        ensures reads { length self.old.memory.seen.items < 21 → IsExplained self.old
+            → IsExplained self.new }
+        ensures lost { IsLostOr self.old → IsLostOr self.new }
+        ensures hopeless { WhyHopeless self.old → WhyHopeless self.new }
+        ensures since_seen { length self.old.memory.seen.items < 21 → (view : View)
+            → self.new.view ≡ Some view → self.new.view ≢ self.old.view
+            → FollowsSeen self.old.memory (pieces_of view.shown)
+            → self.new.here ≢ Place.Nowhere }
     {
         if self.is_due(observation.at) {
             return Err(StillDue);
@@ -139,7 +165,7 @@ impl Recogniser {
         let view = View::of(observation.sight);
         let is_sure = matches!(observation.sight, Sight::Sure(_));
         self.running = observation.running;
-        if view != self.view || is_sure != self.is_sure {
+        if !View::is_same_picture(&view, &self.view) || is_sure != self.is_sure {
             self.leave(observation.at);
             if !self.is_sure {
                 self.sure_since = observation.at;
@@ -168,6 +194,11 @@ impl Recogniser {
         ensures on { GoesOn state is_turned self.new }
         ensures right { Waits self.new }
         ensures anew { (has_result self.new.over ≡ false) × (is_lost self.new.lost ≡ false) }
+        ensures stands { Stands self.new }
+        ensures planned { IsPlanned self.new }
+        ensures lost { IsLostOr self.new }
+        ensures hopeless { WhyHopeless self.new }
+        ensures reads { IsExplained self.new }
     {
         *self = Recogniser::new();
         self.memory
@@ -176,7 +207,9 @@ impl Recogniser {
     }
 
     /// Whether the line may go on.
-    pub(crate) fn is_live(&self) -> bool {
+    pub(crate) fn is_live(&self) -> bool
+        ensures { IsTrue result ↔ IsLive self.now }
+    {
         !self.memory.line.is_empty()
             && match self.over {
                 Over::No => true,
@@ -196,6 +229,11 @@ impl Recogniser {
         ensures unsaid { self.new.memory.unsaid.items ≡ self.old.memory.unsaid.items }
         ensures keeps { Keeps self.old self.new }
         ensures lost { self.new.lost ≡ self.old.lost }
+        ensures answer { self.new.memory.answer ≡ self.old.memory.answer }
+        ensures few { length self.old.memory.seen.items < 21
+            → length self.new.memory.seen.items < 23 }
+        ensures kept { length self.old.memory.seen.items < 21 → (picture : List Piece)
+            → FollowsSeen self.old.memory picture → FollowsSeen self.new.memory picture }
     {
         self.memory.leave(self.here, now);
         if self.is_unexplained(now) || self.may_either_move() {
@@ -235,12 +273,21 @@ impl Recogniser {
         ensures doubt { self.old.is_sure ≡ false → IsQuiet self.old → IsQuiet self.new }
         ensures sure { self.new.is_sure ≡ self.old.is_sure }
         ensures since { (self.new.since ≡ self.old.since) ⊎ (self.new.since ≡ now) }
+        ensures changed { pictured view ≢ pictured self.old.view → self.new.since ≡ now }
+        ensures stands { IsOpen self.old.memory → Stands self.new }
+        ensures reads { length self.old.memory.seen.items < 23 → IsExplained self.new }
+        ensures search { self.new.search ≢ Search.Done }
+        ensures hopeless { WhyHopeless self.new }
+        ensures shown { self.new.view ≡ view }
+        ensures seen { (shown : View) → view ≡ Some shown → length self.old.memory.seen.items < 23
+            → FollowsSeen self.old.memory (pieces_of shown.shown)
+            → self.new.here ≢ Place.Nowhere }
     {
         self.changed = match (&self.view, &view) {
             (Some(old), Some(new)) => old.shown.differ(&new.shown),
             _ => 0,
         };
-        if view != self.view {
+        if !View::is_same_picture(&view, &self.view) {
             self.since = now;
         }
         self.view = view;
@@ -262,6 +309,18 @@ impl Recogniser {
         ensures view { self.new.view ≡ self.old.view }
         ensures keeps { Keeps self.old self.new }
         ensures doubt { self.old.is_sure ≡ false → IsQuiet self.old → IsQuiet self.new }
+        ensures stands { IsOpen self.old.memory → self.old.view ≡ Some view.now → Stands self.new }
+        ensures line { self.new.memory.line ≡ self.old.memory.line }
+        ensures reads { length self.old.memory.seen.items < 23 → IsKnown self.old view.now
+            → self.new.here ≢ Place.Nowhere }
+        ensures search { self.old.search ≢ Search.Done → self.new.search ≢ Search.Done }
+        ensures hopeless { self.new.search ≡ Search.Hopeless
+            → (colour : Colour) × ¬ (HasKing (pieces_of view.now.shown) colour) }
+        ensures seen { length self.old.memory.seen.items < 23
+            → FollowsSeen self.old.memory (pieces_of view.now.shown)
+            → self.new.here ≢ Place.Nowhere }
+        ensures unread { length self.old.memory.seen.items < 23
+            → (self.new.here ≢ Place.Nowhere) ⊎ (self.new.returned ≡ self.old.returned) }
     {
         let has_white = self.has_king(view, Colour::White);
         let has_black = self.has_king(view, Colour::Black);
@@ -275,8 +334,15 @@ impl Recogniser {
     }
 
     fn read_by_kings(&self, view: &View, has_white: bool, has_black: bool) -> Reading
-        ensures { (shown : List (List Piece)) (line : List Told) → Holds shown line self.now.memory
-            → Contains shown (pieces_of view.now.shown) → Reads shown self.now.memory result }
+        ensures linked { (shown : List (List Piece)) (line : List Told)
+            → Holds shown line self.now.memory → Contains shown (pieces_of view.now.shown)
+            → Reads shown self.now.memory result }
+        ensures at { ReadsView self.now.memory view.now result }
+        ensures reads { IsKnown self.now view.now → has_white ≡ true → has_black ≡ true
+            → IsRead result }
+        ensures seen { FollowsSeen self.now.memory (pieces_of view.now.shown) → has_white ≡ true
+            → has_black ≡ true → IsRead result }
+        ensures room { HasRoom self.now.memory result }
     {
         if has_white && has_black {
             self.read(view)
@@ -295,6 +361,16 @@ impl Recogniser {
         ensures view { self.new.view ≡ self.old.view }
         ensures keeps { Keeps self.old self.new }
         ensures doubt { self.old.is_sure ≡ false → IsQuiet self.old → IsQuiet self.new }
+        ensures stands { (view : View) → IsOpen self.old.memory → self.old.view ≡ Some view
+            → ReadsView self.old.memory view reading
+            → Stands self.new }
+        ensures here { length self.old.memory.seen.items < 23 → IsRead reading
+            → HasRoom self.old.memory reading
+            → self.new.here ≢ Place.Nowhere }
+        ensures unread { reading ≡ Reading.At Place.Nowhere
+            → self.new.returned ≡ self.old.returned }
+        ensures line { self.new.memory.line ≡ self.old.memory.line }
+        ensures search { self.new.search ≡ self.old.search }
     {
         match reading {
             Reading::At(Place::Line(k)) => self.stand_on_line(k),
@@ -305,12 +381,15 @@ impl Recogniser {
         }
     }
 
-    fn has_king(&self, view: &View, colour: Colour) -> bool {
-        let mut found = false;
+    fn has_king(&self, view: &View, colour: Colour) -> bool
+        ensures { IsTrue result ↔ HasKing (pieces_of view.now.shown) colour }
+    {
         for at in 0..64 {
-            found = found || view.shown.get(Square::from_small(at)) == king(colour);
+            if is_same(view.shown.get(Square::from_small(at)), king(colour)) {
+                return true;
+            }
         }
-        found
+        false
     }
 
     fn stand_on_line(&mut self, k: usize)
@@ -319,9 +398,17 @@ impl Recogniser {
         ensures view { self.new.view ≡ self.old.view }
         ensures keeps { Keeps self.old self.new }
         ensures doubt { self.old.is_sure ≡ false → IsQuiet self.old → IsQuiet self.new }
+        ensures stands { (view : View) → IsOpen self.old.memory → self.old.view ≡ Some view
+            → MatchOption (slice_get (steps self.old.memory.line.items) k) ⊥ (Shows view)
+            → Stands self.new }
+        ensures here { self.new.here ≢ Place.Nowhere }
+        ensures line { self.new.memory.line ≡ self.old.memory.line }
+        ensures search { self.new.search ≡ self.old.search }
     {
         self.here = Place::Line(k);
-        self.returned = k;
+        self.returned = Returned {
+            count: if k <= NEAR { k } else { 0 },
+        };
         if !self.is_sure {
             return;
         }
@@ -342,13 +429,22 @@ impl Recogniser {
         ensures view { self.new.view ≡ self.old.view }
         ensures keeps { Keeps self.old self.new }
         ensures doubt { self.old.is_sure ≡ false → IsQuiet self.old → IsQuiet self.new }
+        ensures stands { (view : View) → IsOpen self.old.memory → self.old.view ≡ Some view
+            → ((k : ℕ) → place ≢ Place.Line k)
+            → ReadsView self.old.memory view (Reading.At place)
+            → Stands self.new }
+        ensures here { place ≢ Place.Nowhere → self.new.here ≢ Place.Nowhere }
+        ensures returned { self.new.returned ≡ self.old.returned }
+        ensures line { self.new.memory.line ≡ self.old.memory.line }
+        ensures search { self.new.search ≡ self.old.search }
     {
         self.here = place;
+        self.is_next = false;
         if let Place::Seen(k) = place {
             if self.is_sure {
                 self.memory.set_sure(k);
+                self.is_next = true;
             }
-            self.is_next = self.is_sure;
         }
     }
 
@@ -361,22 +457,37 @@ impl Recogniser {
         ensures view { self.new.view ≡ self.old.view }
         ensures keeps { Keeps self.old self.new }
         ensures doubt { self.old.is_sure ≡ false → IsQuiet self.old → IsQuiet self.new }
+        ensures stands { (view : View) → IsOpen self.old.memory → self.old.view ≡ Some view
+            → ReadsView self.old.memory view (Reading.Held node)
+            → Stands self.new }
+        ensures here { length self.old.memory.seen.items < 24
+            → IsRoomFor self.old.memory node → self.new.here ≢ Place.Nowhere }
+        ensures line { self.new.memory.line ≡ self.old.memory.line }
+        ensures search { self.new.search ≡ self.old.search }
     {
         match self.same_node(&node) {
             Some(k) => self.here = Place::Seen(k),
-            None => self.add(node),
+            None => {
+                let mut held = node;
+                held.is_held = true;
+                self.add(held);
+            }
         }
         self.is_next = false;
     }
 
     // Whether a node shows that the one before was meant: the line was taken back to it, or it was
     // answered.
-    fn is_answer(&self, node: &Node) -> bool {
-        match node.step.parent {
-            Place::Line(base) => base > 0 && base == self.returned,
-            Place::Seen(parent) => self.is_answered(parent, node),
-            Place::Nowhere => false,
-        }
+    fn is_answer(&self, node: &Node) -> bool
+        ensures { IsTrue result → (node.now.step.parent ≢ Place.Line 0)
+            × (node.now.step.parent ≢ Place.Nowhere) × (node.now.step.way ≢ Way.Begun) }
+    {
+        node.step.way != Way::Begun
+            && match node.step.parent {
+                Place::Line(base) => base > 0 && base == self.returned.count,
+                Place::Seen(parent) => self.is_answered(parent, node),
+                Place::Nowhere => false,
+            }
     }
 
     pub(crate) fn add_two(&mut self, first: Node, second: Node)
@@ -387,12 +498,23 @@ impl Recogniser {
         ensures view { self.new.view ≡ self.old.view }
         ensures keeps { Keeps self.old self.new }
         ensures doubt { self.old.is_sure ≡ false → IsQuiet self.old → IsQuiet self.new }
+        ensures stands { (view : View) → IsOpen self.old.memory → self.old.view ≡ Some view
+            → ReadsView self.old.memory view (Reading.Two first second)
+            → Stands self.new }
+        ensures todo { AddsNone self.old self.new }
+        ensures here { length self.old.memory.seen.items < 23
+            → IsRoomFor self.old.memory first → self.new.here ≢ Place.Nowhere }
+        ensures line { self.new.memory.line ≡ self.old.memory.line }
+        ensures lost { PlacesOr self.old self.new }
     {
-        if let Some(k) = self.memory.push(first) {
-            let mut node = second;
-            node.step.parent = Place::Seen(k);
-            self.add(node);
-        }
+        let Some(k) = self.memory.push(first) else {
+            self.here = Place::Nowhere;
+            self.is_next = false;
+            return;
+        };
+        let mut node = second;
+        node.step.parent = Place::Seen(k);
+        self.add(node);
     }
 
     // Adds a node, at which the board is now. It may answer the half-move before.
@@ -404,13 +526,23 @@ impl Recogniser {
         ensures view { self.new.view ≡ self.old.view }
         ensures keeps { Keeps self.old self.new }
         ensures doubt { self.old.is_sure ≡ false → IsQuiet self.old → IsQuiet self.new }
+        ensures stands { (view : View) → IsOpen self.old.memory → self.old.view ≡ Some view
+            → (Shows view node.step → Stands self.new)
+            × (ShowsAs view node → Stands (record self.new { is_next = false })) }
+        ensures todo { AddsNone self.old self.new }
+        ensures here { length self.old.memory.seen.items < 24
+            → IsRoomFor self.old.memory node → self.new.here ≢ Place.Nowhere }
+        ensures line { self.new.memory.line ≡ self.old.memory.line }
+        ensures lost { PlacesOr self.old self.new }
     {
         let Some(k) = self.memory.push(node) else {
+            self.here = Place::Nowhere;
+            self.is_next = false;
             return;
         };
         self.here = Place::Seen(k);
         self.is_next = self.is_sure;
-        if let Some(new) = self.memory.node(Place::Seen(k)) {
+        if let Some(new) = self.memory.seen_node(k) {
             if self.is_sure && self.is_answer(&new) {
                 self.tell(new.step.parent, Some(new));
             }
@@ -418,7 +550,9 @@ impl Recogniser {
     }
 
     // Whether the board lacks pieces of a known state, and shows no others.
-    pub(crate) fn is_lifted(&self) -> bool {
+    pub(crate) fn is_lifted(&self) -> bool
+        ensures { IsTrue result ↔ IsLifted self.now }
+    {
         let Some(view) = self.view else {
             return false;
         };
@@ -435,16 +569,4 @@ impl Recogniser {
         }
         false
     }
-}
-
-// Whether pieces of a state are gone, and no others are shown.
-pub(crate) fn lacks_only(shown: &Position, state: &State) -> bool {
-    for at in 0..64 {
-        let square = Square::from_small(at);
-        let piece = shown.get(square);
-        if piece != dgt_values::Piece::Empty && piece != state.position().get(square) {
-            return false;
-        }
-    }
-    true
 }

@@ -1,6 +1,6 @@
 //! What is due, and when.
 
-ghost use Rattle.std.specs.Prelude.{◌≡◌, ◌↔◌, ◌<◌, ◌≤◌, ◌+◌, ℕ, false, None, Some, IfSome, MatchOption, List, [], option_map};
+ghost use Rattle.std.specs.Prelude.{◌≡◌, ◌↔◌, ◌<◌, ◌≤◌, ◌+◌, ℕ, false, true, length, None, Some, IfSome, MatchOption, List, [], option_map, ◌⊎◌};
 ghost use Rattle.dgt_values.specs.declared.pieces.Piece.{Piece};
 ghost use Rattle.dgt_game.specs.Told.{Told};
 
@@ -29,8 +29,10 @@ pub(crate) struct Next {
 }
 
 impl Recogniser {
-    ghost use Rattle.dgt_game.specs.Memory.{Holds, IsTold};
-    ghost use Rattle.dgt_game.specs.Recogniser.{Reports, Stays};
+    ghost use Rattle.dgt_game.specs.Memory.{Holds, IsRooted, IsTold, steps};
+    ghost use Rattle.dgt_game.specs.Recogniser.{Knows, Reports, Stays};
+    ghost use Rattle.dgt_game.specs.Planning.{TaskFits, IsAtLast, IsPlanned, MayNotBegin, Plans, PlansPosition, todo, HasNothing, IsLostOr, StaysPlaced, WhyHopeless};
+    ghost use Rattle.dgt_game.specs.Standing.{ShowsHere, Stands};
     ghost use Rattle.dgt_game.specs.Timing.{Acts, Due, IsIdle, Tells, next_time};
     ghost use Rattle.dgt_game.specs.Waiting.{Follows, IsQuiet, IsRight, Keeps, Waits};
 
@@ -41,6 +43,8 @@ impl Recogniser {
         ensures at { MatchOption result ((now : ℕ) → IsIdle now self.now)
             (λ at. (now : ℕ) → IsIdle now self.now ↔ (IsQuiet self.now × (now < at))) }
         ensures news { ¬ (IsQuiet self.now) → result ≡ Some self.now.since }
+        ensures why { IsPlanned self.now → result ≡ None → (self.now.is_sure ≡ false)
+            ⊎ (self.now.is_confirmed ≡ false) ⊎ HasNothing self.now }
     {
         if self.has_news() {
             return Some(self.since);
@@ -61,6 +65,11 @@ impl Recogniser {
         ensures due { Due now self.old result self.new }
         ensures after { result ≡ None → IsIdle now self.new }
         ensures idle { IsIdle now self.old → (result ≡ None) × (self.new ≡ self.old) }
+        ensures planned { IsPlanned self.old → IsPlanned self.new }
+        ensures lost { IsLostOr self.old → IsLostOr self.new }
+        ensures hopeless { WhyHopeless self.old → WhyHopeless self.new }
+        ensures stands { (shown : List (List Piece)) (line : List Told)
+            → Knows shown line self.old → IsPlanned self.old → Stands self.old → Stands self.new }
     {
         for done in 0..3u8 {
             if let Some(event) = self.report() {
@@ -79,7 +88,12 @@ impl Recogniser {
 
     // The next event that waits. What is done next may be another task then.
     fn report(&mut self) -> Option<Event>
-        ensures { Tells self.old result self.new }
+        ensures tells { Tells self.old result self.new }
+        ensures planned { MatchOption result (self.new ≡ record self.old { ended = None })
+            (λ event. IsPlanned self.new) }
+        ensures lost { IsLostOr self.old → IsLostOr self.new }
+        ensures place { StaysPlaced self.old self.new }
+        ensures stands { Stands self.old → Stands self.new }
     {
         let event = self.next_event()?;
         self.next = self.plan();
@@ -101,6 +115,7 @@ impl Recogniser {
         ensures soon { IfSome result (λ next. next.0 ≤ self.now.since + NEW_STILL) }
         ensures doubt { self.now.is_sure ≡ false → result ≡ None }
         ensures time { option_map (λ next. next.0) result ≡ next_time self.now }
+        ensures fits { IsPlanned self.now → IfSome result (λ next. TaskFits self.now next.1) }
     {
         if !self.is_sure {
             return None;
@@ -110,7 +125,9 @@ impl Recogniser {
     }
 
     // What is to be done next.
-    pub(crate) fn plan(&self) -> Option<Next> {
+    pub(crate) fn plan(&self) -> Option<Next>
+        ensures plans { Plans self.now result }
+    {
         let other = self.next_of_position();
         if self.has_kings && self.is_confirmed {
             match other {
@@ -127,7 +144,9 @@ impl Recogniser {
     }
 
     // What is done next with the position that is shown.
-    fn next_of_position(&self) -> Option<Next> {
+    fn next_of_position(&self) -> Option<Next>
+        ensures plans { PlansPosition self.now result }
+    {
         let (wait, task) = if self.is_next {
             (self.rest(), Task::Tell)
         } else if self.here != Place::Nowhere {
@@ -151,6 +170,13 @@ impl Recogniser {
         ensures stays { Stays self.old self.new }
         ensures right { IsQuiet self.old → Waits self.old → Waits self.new }
         ensures follows { Follows self.old None self.new }
+        ensures stands { IsRooted (length (steps self.old.memory.line.items))
+            (steps self.old.memory.seen.items) → IsTold self.old.memory
+            → self.old.is_sure ≡ true → TaskFits self.old task → Stands self.old
+            → Stands self.new }
+        ensures todo { TaskFits self.old task → todo self.new < todo self.old }
+        ensures lost { IsQuiet self.old → IsLostOr self.old → IsLostOr self.new }
+        ensures hopeless { WhyHopeless self.old → WhyHopeless self.new }
     {
         match task {
             Task::EndByKings => self.end_by_kings(),
@@ -171,6 +197,12 @@ impl Recogniser {
             → Holds shown line self.old.memory → Holds shown line self.new.memory }
         ensures view { self.new.view ≡ self.old.view }
         ensures keeps { Keeps self.old self.new }
+        ensures stands { IsRooted (length (steps self.old.memory.line.items))
+            (steps self.old.memory.seen.items) → IsTold self.old.memory
+            → self.old.is_sure ≡ true
+            → ShowsHere self.old → self.old.memory.answer ≡ None
+            → Stands self.new }
+        ensures todo { IsAtLast self.old self.new }
     {
         if let (Some(root), Some(k)) = (self.memory.node(self.here), self.last_rested()) {
             if root.origin == Origin::Start && root.step.way == Way::Begun {
@@ -182,7 +214,9 @@ impl Recogniser {
     }
 
     // The last half-moves after the line's last state that rested.
-    fn last_rested(&self) -> Option<usize> {
+    fn last_rested(&self) -> Option<usize>
+        ensures { IfSome result (λ k. k < length (steps self.now.memory.seen.items)) }
+    {
         let len = self.memory.seen.len();
         for at in 0..len {
             let node = &self.memory.seen[len - 1 - at];
@@ -200,7 +234,8 @@ impl Recogniser {
 
     // How long a position that no half-moves lead to rests before a line begins with it.
     fn new_wait(&self) -> Option<u64>
-        ensures { IfSome result (λ wait. wait ≤ NEW_STILL) }
+        ensures soon { IfSome result (λ wait. wait ≤ NEW_STILL) }
+        ensures plans { result ≡ None → MayNotBegin self.now }
     {
         if self.memory.line.is_empty() {
             Some(FIRST)
@@ -250,7 +285,7 @@ impl Recogniser {
         if self.may_castle(node) {
             wait = wait.max(CASTLE);
         }
-        if base > 1 && base != self.returned {
+        if base > 1 && base != self.returned.count {
             wait = wait.max(REPLACE);
         }
         if base == 0 && self.running == Some(node.mover()) && node.step.state.can_move() {

@@ -1,23 +1,35 @@
 //! Positions that no half-move leads to: several half-moves, or another line.
 
-ghost use Rattle.std.specs.Prelude.{◌≡◌, ◌⊎◌, ℕ, List, [], Option, Some, None, IfSome, Contains};
+ghost use Rattle.std.specs.Prelude.{◌≡◌, ◌⊎◌, ℕ, List, [], Option, Some, None, IfSome, Contains, length, true, ◌<◌, ◌≤◌, ◌+◌, ◌≢◌, Bool, IsTrue, IsSome};
 ghost use Rattle.dgt_values.specs.declared.pieces.Piece.{Piece};
 ghost use Rattle.dgt_values.specs.Board.{pieces_of};
+ghost use Rattle.dgt_chess.specs.Attacks.{piece_at};
+ghost use Rattle.dgt_chess.specs.Possible.{IsAtHome};
 ghost use Rattle.dgt_chess.specs.Rules.{board};
+ghost use Rattle.dgt_game.specs.Planning.{IsRefused};
 ghost use Rattle.dgt_game.specs.declared.reading.Reading.{Reading};
+ghost use Rattle.dgt_game.specs.declared.recogniser.Lost.{Lost};
+ghost use Rattle.dgt_game.specs.declared.recogniser.Search.{Search};
+ghost use Rattle.dgt_game.specs.declared.node.Place.{Place};
+ghost use Rattle.dgt_game.specs.declared.view.View.{View};
 ghost use Rattle.dgt_game.specs.Told.{Told};
 
 use crate::event::GAP;
 use crate::node::{Node, Origin, Place, Way};
 use crate::recogniser::{Lost, Over, Recogniser, Search};
 use crate::times::ROOTS;
-use crate::view::View;
-use dgt_chess::{Colour, Rights, State};
+use crate::view::{View, king};
+use crate::ways::is_same;
+use dgt_chess::{Colour, Man, Rights, State};
 use dgt_values::{Piece, Position, Square};
 
 impl Recogniser {
-    ghost use Rattle.dgt_game.specs.Memory.{Fits, FitsBy, Holds, IsRoot, Reads};
-    ghost use Rattle.dgt_game.specs.Waiting.{Keeps};
+    ghost use Rattle.dgt_game.specs.Memory.{Fits, FitsBy, Holds, IsRoot, IsRooted, IsTold, Reads, steps};
+    ghost use Rattle.dgt_game.specs.Reading.{IsRoomFor, ReadsView, Shows, FollowsSeen, HasAnswered, HasLine, HasSomeLines, IsLive};
+    ghost use Rattle.dgt_game.specs.Standing.{IsOpen, Stands};
+    ghost use Rattle.dgt_game.specs.declared.resting.Task.{Task};
+    ghost use Rattle.dgt_game.specs.Planning.{TaskFits, AddsNone, IsAsBefore, IsAtLast, CannotBegin, CannotMove, EndsSearch, IsLostOr, LosesLine, PlacesOr, WhyHopeless};
+    ghost use Rattle.dgt_game.specs.Waiting.{Keeps, IsQuiet, last_of};
 
     /// Looks for several half-moves, also from the start of another game. If there are none, the
     /// line is lost.
@@ -28,16 +40,26 @@ impl Recogniser {
             → Holds shown line self.old.memory → Holds shown line self.new.memory }
         ensures view { self.new.view ≡ self.old.view }
         ensures keeps { Keeps self.old self.new }
+        ensures stands { IsRooted (length (steps self.old.memory.line.items))
+            (steps self.old.memory.seen.items) → IsTold self.old.memory
+            → self.old.is_sure ≡ true → Stands self.old → Stands self.new }
+        ensures todo { AddsNone (record self.old { search = Search.Done }) self.new }
+        ensures lost { IsQuiet self.old → IsLostOr self.new }
+        ensures reads { (view : View) → length self.old.memory.seen.items < 24
+            → self.old.view ≡ Some view → IsLive self.old → self.old.is_behind ≡ true
+            → HasAnswered self.old.memory (pieces_of view.shown)
+            → HasSomeLines self.old.memory (pieces_of view.shown)
+            → self.new.here ≢ Place.Nowhere }
     {
         self.search = Search::Done;
         let Some(view) = self.view else {
             return;
         };
-        if let Some(node) = self.deep(&view) {
-            self.add_jump(node, &view);
-            return;
+        match self.deep(&view) {
+            Some(node) => self.add_jump(node, &view),
+            None => self.start_deep(&view),
         }
-        if !self.start_deep(&view) {
+        if self.here == Place::Nowhere {
             self.lose(&view);
         }
     }
@@ -50,10 +72,15 @@ impl Recogniser {
             → Holds shown line self.old.memory → Holds shown line self.new.memory }
         ensures view { self.new.view ≡ self.old.view }
         ensures keeps { Keeps self.old self.new }
+        ensures stands { (view : View) → IsOpen self.old.memory → self.old.view ≡ Some view
+            → ReadsView self.old.memory view (Reading.New node) → Stands self.new }
+        ensures todo { AddsNone self.old self.new }
+        ensures lost { PlacesOr self.old self.new }
+        ensures here { length self.old.memory.seen.items < 24
+            → IsRoomFor self.old.memory node → self.new.here ≢ Place.Nowhere }
     {
         self.lose_by(&node, view);
         self.add(node);
-        self.is_next = self.here != Place::Nowhere;
     }
 
     fn lose_by(&mut self, node: &Node, view: &View)
@@ -61,6 +88,8 @@ impl Recogniser {
         ensures same { self.new.memory ≡ self.old.memory }
         ensures view { self.new.view ≡ self.old.view }
         ensures keeps { Keeps self.old self.new }
+        ensures todo { IsAsBefore self.old self.new }
+        ensures lost { self.old.lost ≢ Lost.Found → self.new.lost ≢ Lost.Found }
     {
         if node.jumps_far && !self.is_behind {
             self.lose(view);
@@ -70,7 +99,12 @@ impl Recogniser {
     // The fewest half-moves from the line's last state or from a node that was seen since. The
     // player whose clock runs moves next, if there is such a line.
     fn deep(&self, view: &View) -> Option<Node>
-        ensures { IfSome result (λ node. FitsBy self.now.memory (pieces_of view.now.shown) node) }
+        ensures linked { IfSome result
+            (λ node. FitsBy self.now.memory (pieces_of view.now.shown) node) }
+        ensures reads { self.now.view ≡ Some view.now → IsLive self.now
+            → self.now.is_behind ≡ true → HasAnswered self.now.memory (pieces_of view.now.shown)
+            → HasSomeLines self.now.memory (pieces_of view.now.shown) → IsSome result }
+        ensures room { IfSome result (IsRoomFor self.now.memory) }
     {
         // pieces are rather in a hand than captured in half-moves that weren't shown
         if self.is_early() || !self.is_behind && self.is_lifted() {
@@ -90,7 +124,12 @@ impl Recogniser {
     // The same, by as many half-moves. If there are some from the line's last state, and some from
     // a node that was shown for a moment, it isn't known which were made.
     fn deep_by(&self, view: &View, halves: u8) -> Option<Node>
-        ensures { IfSome result (λ node. FitsBy self.now.memory (pieces_of view.now.shown) node) }
+        ensures linked { IfSome result
+            (λ node. FitsBy self.now.memory (pieces_of view.now.shown) node) }
+        ensures reads { IsLive self.now → self.now.is_behind ≡ true → 1 ≤ halves → halves ≤ 4
+            → HasLine halves self.now.memory (Place.Line 0) (pieces_of view.now.shown)
+            → IsSome result }
+        ensures room { IfSome result (IsRoomFor self.now.memory) }
     {
         let first = self.jumped_far(Place::Line(0), view, halves);
         let len = self.memory.seen.len();
@@ -104,9 +143,11 @@ impl Recogniser {
     }
 
     fn or_line(&self, line: Option<Node>, node: Node, place: Place) -> Node
-        ensures { (pieces : List Piece)
+        ensures linked { (pieces : List Piece)
             → IfSome line (λ other. FitsBy self.now.memory pieces other)
             → FitsBy self.now.memory pieces node → FitsBy self.now.memory pieces result }
+        ensures room { IfSome line (IsRoomFor self.now.memory) → IsRoomFor self.now.memory node
+            → IsRoomFor self.now.memory result }
     {
         match line {
             Some(other) => {
@@ -121,7 +162,14 @@ impl Recogniser {
     }
 
     fn jumped_far(&self, place: Place, view: &View, halves: u8) -> Option<Node>
-        ensures { IfSome result (λ node. FitsBy self.now.memory (pieces_of view.now.shown) node) }
+        ensures linked { IfSome result
+            (λ node. FitsBy self.now.memory (pieces_of view.now.shown) node) }
+        ensures reads { place ≡ Place.Line 0 → IsLive self.now → self.now.is_behind ≡ true
+            → 1 ≤ halves → halves ≤ 4
+            → HasLine halves self.now.memory (Place.Line 0) (pieces_of view.now.shown)
+            → IsSome result }
+        ensures room { ((k : ℕ) → place ≡ Place.Line k → k ≤ 4)
+            → IfSome result (IsRoomFor self.now.memory) }
     {
         if !self.may_jump(place) || !self.may_jump_far(place, view, halves) {
             return None;
@@ -131,7 +179,10 @@ impl Recogniser {
 
     // Whether as many half-moves are looked for from there. If a side has no man on another square,
     // it has gone out and back: rather the other one has moved twice, but in a doubt.
-    fn may_jump_far(&self, place: Place, view: &View, halves: u8) -> bool {
+    fn may_jump_far(&self, place: Place, view: &View, halves: u8) -> bool
+        ensures reads { place ≡ Place.Line 0 → self.now.is_behind ≡ true
+            → last_of self.now.memory ≢ None → result ≡ true }
+    {
         let Some(node) = self.memory.node(place) else {
             return false;
         };
@@ -148,7 +199,9 @@ impl Recogniser {
     }
 
     // Whether there is a node after which the player whose clock runs moves next.
-    fn is_in_turn(&self, found: &Option<Node>) -> bool {
+    fn is_in_turn(&self, found: &Option<Node>) -> bool
+        ensures reads { result ≡ true → IsSome found.now }
+    {
         match found {
             Some(node) => { self.running.is_none() || self.running == Some(node.step.state.turn()) }
             None => false,
@@ -157,10 +210,15 @@ impl Recogniser {
 
     // The first of both. It isn't known by which half-moves the second was reached.
     fn or_unordered(&self, first: Option<Node>, second: Option<Node>) -> Option<Node>
-        ensures { (pieces : List Piece)
+        ensures linked { (pieces : List Piece)
             → IfSome first (λ node. FitsBy self.now.memory pieces node)
             → IfSome second (λ node. FitsBy self.now.memory pieces node)
             → IfSome result (λ node. FitsBy self.now.memory pieces node) }
+        ensures first { IsSome first → IsSome result }
+        ensures second { IsSome second → IsSome result }
+        ensures room { IfSome first (IsRoomFor self.now.memory)
+            → IfSome second (IsRoomFor self.now.memory)
+            → IfSome result (IsRoomFor self.now.memory) }
     {
         if first.is_some() {
             return first;
@@ -171,8 +229,9 @@ impl Recogniser {
 
     // The same node, but it isn't known by which half-moves it was reached.
     fn unordered(&self, node: Node) -> Node
-        ensures { (pieces : List Piece) → FitsBy self.now.memory pieces node
+        ensures linked { (pieces : List Piece) → FitsBy self.now.memory pieces node
             → FitsBy self.now.memory pieces result }
+        ensures room { IsRoomFor self.now.memory node → IsRoomFor self.now.memory result }
     {
         let mut new = node;
         new.step.way = Way::Gap(node.step.way.halves());
@@ -184,30 +243,34 @@ impl Recogniser {
         self.is_set_up || self.is_behind || self.memory.line.is_empty()
     }
 
-    // A game whose first half-moves weren't shown, if one may begin. Returns whether there is one.
-    fn start_deep(&mut self, view: &View) -> bool
+    // A game whose first half-moves weren't shown, if one may begin.
+    fn start_deep(&mut self, view: &View)
         ensures holds { (shown : List (List Piece)) (line : List Told)
             → self.old.memory.back ≡ 0 → self.old.memory.unsaid.items ≡ []
             → Contains shown (pieces_of view.now.shown)
             → Holds shown line self.old.memory → Holds shown line self.new.memory }
         ensures view { self.new.view ≡ self.old.view }
         ensures keeps { Keeps self.old self.new }
+        ensures stands { IsOpen self.old.memory → self.old.view ≡ Some view.now → Stands self.old
+            → Stands self.new }
+        ensures todo { AddsNone self.old self.new }
+        ensures lost { PlacesOr self.old self.new }
     {
         if !self.may_start() {
-            return false;
+            return;
         }
         let Some((root, node)) = self.from_start(view) else {
-            return false;
+            return;
         };
         self.add_two(root, node);
-        self.is_next = self.here != Place::Nowhere;
-        true
     }
 
     /// The start of a game, and the fewest half-moves from there.
     pub(crate) fn from_start(&self, view: &View) -> Option<(Node, Node)>
-        ensures { (shown : List (List Piece)) → Contains shown (pieces_of view.now.shown)
+        ensures linked { (shown : List (List Piece)) → Contains shown (pieces_of view.now.shown)
             → IfSome result (λ two. Reads shown self.now.memory (Reading.Two two.0 two.1)) }
+        ensures at { IfSome result
+            (λ two. ReadsView self.now.memory view.now (Reading.Two two.0 two.1)) }
     {
         for halves in 1..GAP as u8 + 1 {
             for is_turned in [false, true] {
@@ -220,8 +283,10 @@ impl Recogniser {
     }
 
     fn from_start_by(&self, view: &View, is_turned: bool, halves: u8) -> Option<(Node, Node)>
-        ensures { (shown : List (List Piece)) → Contains shown (pieces_of view.now.shown)
+        ensures linked { (shown : List (List Piece)) → Contains shown (pieces_of view.now.shown)
             → IfSome result (λ two. Reads shown self.now.memory (Reading.Two two.0 two.1)) }
+        ensures at { IfSome result
+            (λ two. ReadsView self.now.memory view.now (Reading.Two two.0 two.1)) }
     {
         let mut root = Node::root(State::start(), is_turned, Origin::Start, self.since);
         root.is_sure = true;
@@ -235,6 +300,9 @@ impl Recogniser {
         ensures same { self.new.memory ≡ self.old.memory }
         ensures view { self.new.view ≡ self.old.view }
         ensures keeps { Keeps self.old self.new }
+        ensures todo { IsAsBefore self.old self.new }
+        ensures lost { self.old.lost ≢ Lost.Found
+            → (self.new.lost ≢ Lost.Found) × LosesLine self.new }
     {
         if self.over != Over::No || self.lost != Lost::No || self.is_lifted() {
             return;
@@ -258,14 +326,21 @@ impl Recogniser {
             → Holds shown line self.old.memory → Holds shown line self.new.memory }
         ensures view { self.new.view ≡ self.old.view }
         ensures keeps { Keeps self.old self.new }
+        ensures stands { IsRooted (length (steps self.old.memory.line.items))
+            (steps self.old.memory.seen.items) → IsTold self.old.memory
+            → self.old.is_sure ≡ true → TaskFits self.old Task.Begin → Stands self.old
+            → Stands self.new }
+        ensures todo { EndsSearch self.old self.new }
+        ensures hopeless { WhyHopeless self.new }
     {
         self.search = Search::Hopeless;
         self.memory.forget_seen();
         let Some((root, other)) = self.first_root() else {
             return;
         };
-        self.memory.push(root);
-        self.tell(Place::Seen(0), other);
+        if let Some(k) = self.memory.push(root) {
+            self.tell(Place::Seen(k), other);
+        }
     }
 
     /// Keeps the position that is shown, for lines that may go on from it.
@@ -279,6 +354,11 @@ impl Recogniser {
         ensures unsaid { self.new.memory.unsaid.items ≡ self.old.memory.unsaid.items }
         ensures keeps { Keeps self.old self.new }
         ensures lost { self.new.lost ≡ self.old.lost }
+        ensures few { length self.old.memory.seen.items < 21
+            → length self.new.memory.seen.items < 23 }
+        ensures answer { self.new.memory.answer ≡ self.old.memory.answer }
+        ensures kept { length self.old.memory.seen.items < 21 → (picture : List Piece)
+            → FollowsSeen self.old.memory picture → FollowsSeen self.new.memory picture }
     {
         let (white, black) = self.roots();
         self.memory.make_room(2);
@@ -296,6 +376,11 @@ impl Recogniser {
         ensures unsaid { self.new.memory.unsaid.items ≡ self.old.memory.unsaid.items }
         ensures keeps { Keeps self.old self.new }
         ensures lost { self.new.lost ≡ self.old.lost }
+        ensures few { length self.old.memory.seen.items < 24
+            → length self.new.memory.seen.items ≤ length self.old.memory.seen.items + 1 }
+        ensures answer { self.new.memory.answer ≡ self.old.memory.answer }
+        ensures kept { length self.old.memory.seen.items < 24 → (picture : List Piece)
+            → FollowsSeen self.old.memory picture → FollowsSeen self.new.memory picture }
     {
         if let Some(node) = root {
             self.memory.push(node);
@@ -304,10 +389,15 @@ impl Recogniser {
 
     // One of the next two, and the other if there are both.
     fn first_root(&self) -> Option<(Node, Option<Node>)>
-        ensures { (shown : List (List Piece))
+        ensures roots { (shown : List (List Piece))
             → IfSome self.now.view (λ view. Contains shown (pieces_of view.shown))
             → IfSome result (λ found. IsRoot shown found.0
             × IfSome found.1 (λ node. IsRoot shown node)) }
+        ensures none { result ≡ None → (view : View) → self.now.view ≡ Some view
+            → CannotBegin view }
+        ensures at { IfSome self.now.view (λ view. IfSome result (λ found. Shows view found.0.step
+            × IfSome found.1 (λ node. Shows view node.step))) }
+        ensures free { IfSome result (λ found. found.0.step.parent ≡ Place.Nowhere) }
     {
         let (white, black) = self.roots();
         match white {
@@ -318,27 +408,47 @@ impl Recogniser {
 
     // The position that is shown, with White to move and with Black, if that is possible.
     fn roots(&self) -> (Option<Node>, Option<Node>)
-        ensures { (shown : List (List Piece))
+        ensures roots { (shown : List (List Piece))
             → IfSome self.now.view (λ view. Contains shown (pieces_of view.shown))
             → IfSome result.0 (λ node. IsRoot shown node)
             × IfSome result.1 (λ node. IsRoot shown node) }
+        ensures none { (is_turned : Bool) × ((view : View) → self.now.view ≡ Some view
+            → (result.0 ≡ None → CannotMove self.now.running is_turned view Colour.White)
+            × (result.1 ≡ None → CannotMove self.now.running is_turned view Colour.Black)) }
+        ensures at { IfSome self.now.view (λ view. IfSome result.0 (λ node. Shows view node.step)
+            × IfSome result.1 (λ node. Shows view node.step)) }
+        ensures free { IfSome result.0 (λ node. node.step.parent ≡ Place.Nowhere)
+            × IfSome result.1 (λ node. node.step.parent ≡ Place.Nowhere) }
     {
-        (self.root(Colour::White), self.root(Colour::Black))
+        let is_turned = self.is_shown_turned();
+        (
+            self.root(Colour::White, is_turned),
+            self.root(Colour::Black, is_turned),
+        )
     }
 
-    fn root(&self, turn: Colour) -> Option<Node>
-        ensures { (shown : List (List Piece))
+    // Whether the board is turned, as in the line before, or as it seems.
+    fn is_shown_turned(&self) -> bool {
+        match (self.memory.line.get(0), &self.view) {
+            (Some(last), _) => last.step.is_turned,
+            (None, Some(view)) => is_white_above(&view.shown),
+            (None, None) => false,
+        }
+    }
+
+    fn root(&self, turn: Colour, is_turned: bool) -> Option<Node>
+        ensures root { (shown : List (List Piece))
             → IfSome self.now.view (λ view. Contains shown (pieces_of view.shown))
             → IfSome result (λ node. IsRoot shown node) }
+        ensures at { IfSome self.now.view (λ view. IfSome result (λ node. Shows view node.step)) }
+        ensures none { result ≡ None → (view : View) → self.now.view ≡ Some view
+            → CannotMove self.now.running is_turned view turn }
+        ensures free { IfSome result (λ node. node.step.parent ≡ Place.Nowhere) }
     {
         let view = self.view?;
         if self.is_confirmed && self.running == Some(turn.other()) {
             return None;
         }
-        let is_turned = match self.memory.line.get(0) {
-            Some(last) => last.step.is_turned,
-            None => is_white_above(&view.shown),
-        };
         let state = placed(view.from(is_turned), turn)?;
         let mut node = Node::root(state, is_turned, Origin::Shadow, self.since);
         node.is_sure = self.is_sure;
@@ -363,18 +473,31 @@ fn has_moved(shown: &Position, state: &State, side: Colour) -> bool {
 
 // The state of pieces that were set up: castlings are allowed if king and rook are at home.
 fn placed(position: &Position, turn: Colour) -> Option<State>
-    ensures { IfSome result (λ state. board state ≡ pieces_of position.now) }
+    ensures placed { IfSome result (λ state. board state ≡ pieces_of position.now) }
+    ensures none { result ≡ None → IsRefused (pieces_of position.now) turn }
 {
-    let is_on = |at: u8, piece: Piece| position.get(Square::from_small(at)) == piece;
-    let white = is_on(60, Piece::WhiteKing);
-    let black = is_on(4, Piece::BlackKing);
     let rights = Rights {
-        white_short: white && is_on(63, Piece::WhiteRook),
-        white_long: white && is_on(56, Piece::WhiteRook),
-        black_short: black && is_on(7, Piece::BlackRook),
-        black_long: black && is_on(0, Piece::BlackRook),
+        white_short: is_home(position, Colour::White, 60, 63),
+        white_long: is_home(position, Colour::White, 60, 56),
+        black_short: is_home(position, Colour::Black, 4, 7),
+        black_long: is_home(position, Colour::Black, 4, 0),
     };
     State::new(*position, turn, rights, None, 0, 1).ok()
+}
+
+// Whether king and rook are at home.
+fn is_home(position: &Position, colour: Colour, home: u8, corner: u8) -> bool
+    requires { (home < 64) × (corner < 64) }
+    ensures { IsAtHome result (pieces_of position.now) colour home corner }
+{
+    is_on(position, home, king(colour)) && is_on(position, corner, colour.piece(Man::Rook))
+}
+
+fn is_on(position: &Position, at: u8, piece: Piece) -> bool
+    requires { at < 64 }
+    ensures { IsTrue result → piece_at (pieces_of position.now) at ≡ piece }
+{
+    is_same(position.get(Square::from_small(at)), piece)
 }
 
 // Whether most of White's pieces are on the upper half.

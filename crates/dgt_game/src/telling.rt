@@ -1,20 +1,24 @@
 //! What is reported, one event at a time.
 
-ghost use Rattle.std.specs.Prelude.{◌≡◌, ◌↔◌, ◌⊎◌, List, [], None, Some, IfSome, false};
+ghost use Rattle.std.specs.Prelude.{◌≡◌, ◌≤◌, ◌↔◌, ◌⊎◌, List, [], None, Some, IfSome, false, true};
 ghost use Rattle.dgt_chess.specs.Rules.{CanMove};
 ghost use Rattle.dgt_values.specs.declared.pieces.Piece.{Piece};
 ghost use Rattle.dgt_game.specs.Told.{Told};
+ghost use Rattle.dgt_game.specs.declared.node.Place.{Place};
+ghost use Rattle.dgt_game.specs.declared.node.Place.{Place};
 ghost use Rattle.dgt_game.specs.declared.node.Step.{Step};
 ghost use Rattle.dgt_game.specs.Memory.{steps};
 ghost use Rattle.dgt_game.specs.Results.{ByRules};
 
 use crate::event::{Event, GameResult};
-use crate::node::{Node, Origin, Place, Way};
+use crate::node::{Node, Origin, Place, Returned, Way};
 use crate::recogniser::{Lost, Over, Recogniser};
 use dgt_chess::{Colour, State};
 
 impl Recogniser {
+    ghost use Rattle.dgt_game.specs.Planning.{IsAsBefore, IsAtLast, IsLostOr, StaysPlaced};
     ghost use Rattle.dgt_game.specs.Results.{HasResult};
+    ghost use Rattle.dgt_game.specs.Standing.{EndsHere, IsCalledFor, IsMeant, IsOpen, Stands, TakesBack};
     ghost use Rattle.dgt_game.specs.Timing.{next_time};
     ghost use Rattle.dgt_game.specs.Waiting.{EndWaits, EndsBy, Follows, IsOfLine, IsQuiet, IsRight, Keeps, Waits, coming, has_notice, has_result, last_of};
     ghost use Rattle.dgt_game.specs.Memory.{Holds, IsSeen, IsTold, Links, step_at};
@@ -41,6 +45,17 @@ impl Recogniser {
             → step_at (steps self.old.memory.line.items) (steps self.old.memory.seen.items) place
             ≡ Some step → ((self.new.memory.back ≡ 0) × (self.new.memory.unsaid.items ≡ []))
             ⊎ (coming self.new.memory ≡ Some step) }
+        ensures stands { IsOpen self.old.memory → self.old.is_sure ≡ true
+            → IfSome self.old.view (IsCalledFor self.old.memory place answer) → Stands self.new }
+        ensures todo { IsAtLast self.old self.new }
+        ensures here { self.new.here ≡ Place.Line 0 }
+        ensures line { self.new.memory.line ≡ self.old.memory.line }
+        ensures near { (step : Step) → IsOpen self.old.memory
+            → step_at (steps self.old.memory.line.items) (steps self.old.memory.seen.items) place
+            ≡ Some step
+            → (self.new.memory.back ≤ 4) ⊎ (place ≡ Place.Line self.new.memory.back) }
+        ensures idle { IsTold self.new.memory → self.new.memory.answer ≡ None }
+        ensures either { (self.new.memory.answer ≡ answer) ⊎ (self.new.memory.answer ≡ None) }
     {
         self.find();
         self.memory.tell(place, answer, self.over == Over::No);
@@ -51,7 +66,7 @@ impl Recogniser {
         self.is_white_king_lifted = false;
         self.is_black_king_lifted = false;
         self.has_kings = false;
-        self.returned = 0;
+        self.returned = Returned { count: 0 };
     }
 
     /// The next event that waits to be reported.
@@ -65,6 +80,10 @@ impl Recogniser {
         ensures none { result ≡ None
             → IsQuiet self.new × (next_time self.new ≡ next_time self.old) }
         ensures idle { IsQuiet self.old → (result ≡ None) × (self.new ≡ self.old) }
+        ensures stands { Stands self.old → Stands self.new }
+        ensures nothing { result ≡ None → self.new ≡ record self.old { ended = None } }
+        ensures lost { IsLostOr self.old → IsLostOr self.new }
+        ensures place { StaysPlaced self.old self.new }
     {
         if let Some(event) = self.next_notice() {
             return Some(event);
@@ -97,6 +116,9 @@ impl Recogniser {
         ensures quiet { has_notice self.new.lost ≡ false }
         ensures still { has_notice self.old.lost ≡ false → result ≡ None }
         ensures idle { has_notice self.old.lost ≡ false → result ≡ None }
+        ensures stands { Stands self.old → Stands self.new }
+        ensures lost { IsLostOr self.old → IsLostOr self.new }
+        ensures place { StaysPlaced self.old self.new }
     {
         match self.lost {
             Lost::Now(squares) => {
@@ -115,6 +137,8 @@ impl Recogniser {
     pub(crate) fn find(&mut self)
         ensures memory { self.new.memory ≡ self.old.memory }
         ensures keeps { Keeps self.old self.new }
+        ensures todo { IsAsBefore self.old self.new }
+        ensures here { self.new.here ≡ self.old.here }
     {
         match self.lost {
             Lost::Now(_) => self.lost = Lost::No,
@@ -132,6 +156,8 @@ impl Recogniser {
         ensures result { IsOfLine event.now
             → HasResult (has_result self.old.over) event.now (has_result self.new.over) }
         ensures lost { self.new.lost ≡ self.old.lost }
+        ensures stands { IsMeant self.old → TakesBack 4 self.old → Stands self.new }
+        ensures place { StaysPlaced self.old self.new }
     {
         match event {
             Event::Begun(_, _) | Event::Back(_) => self.over = Over::No,
@@ -158,6 +184,8 @@ impl Recogniser {
         ensures keeps { Keeps self.old self.new }
         ensures lost { self.new.lost ≡ self.old.lost }
         ensures coming { coming self.new.memory ≡ coming self.old.memory }
+        ensures stands { IsTold self.old.memory → EndsHere self.old → Stands self.new }
+        ensures place { StaysPlaced self.old self.new }
     {
         if let Some(node) = self.memory.take_answer() {
             if node.step.way != Way::Begun || node.origin == Origin::Start {

@@ -4,6 +4,8 @@ ghost use Rattle.std.specs.Prelude.{◌≡◌, ◌↔◌, List, Contains, IfSome
 ghost use Rattle.dgt_values.specs.declared.pieces.Piece.{Piece};
 ghost use Rattle.std.specs.Prelude.{◌≡◌, ◌↔◌, IfSome, IsTrue, reverse};
 ghost use Rattle.dgt_values.specs.Board.{pieces_of};
+ghost use Rattle.dgt_chess.specs.Attacks.{piece_of};
+ghost use Rattle.dgt_chess.specs.declared.pieces.Man.{Man};
 ghost use Rattle.dgt_chess.specs.Rules.{board};
 ghost use Rattle.dgt_game.specs.Results.{IsOnlyOn};
 ghost use Rattle.dgt_game.specs.Told.{as_shown};
@@ -22,7 +24,7 @@ pub(crate) struct View {
 }
 
 impl View {
-    ghost use Rattle.dgt_game.specs.Recogniser.{shown_after};
+    ghost use Rattle.dgt_game.specs.Recogniser.{picture_of, pictured, shown_after};
 
     pub(crate) fn new(shown: Position) -> Self
         ensures { result.shown ≡ shown }
@@ -35,12 +37,25 @@ impl View {
 
     /// What is seen, if the board isn't away.
     pub(crate) fn of(sight: Sight) -> Option<Self>
-        ensures { (shown : List (List Piece)) → IfSome result (λ view.
+        ensures seen { (shown : List (List Piece)) → IfSome result (λ view.
             Contains (shown_after sight shown) (pieces_of view.shown)) }
+        ensures is { pictured result ≡ picture_of sight }
     {
         match sight {
             Sight::Sure(position) | Sight::Doubted(position) => Some(View::new(position)),
             Sight::Away => None,
+        }
+    }
+
+    /// Whether both show the same picture, or none.
+    pub(crate) fn is_same_picture(a: &Option<View>, b: &Option<View>) -> bool
+        ensures { IsTrue result ↔ (pictured a.now ≡ pictured b.now) }
+    {
+        dgt_values::laws::equal_is_same();
+        match (a, b) {
+            (Some(one), Some(other)) => one.shown == other.shown,
+            (None, None) => true,
+            _ => false,
         }
     }
 
@@ -90,6 +105,8 @@ pub(crate) fn only_square(position: &Position, piece: Piece) -> Option<u8>
 }
 
 /// The king of a colour.
-pub(crate) fn king(colour: Colour) -> Piece {
+pub(crate) fn king(colour: Colour) -> Piece
+    ensures { result ≡ piece_of colour Man.King }
+{
     colour.piece(Man::King)
 }

@@ -3,8 +3,8 @@ use Rattle.std.proofs.lemmas.List.{length-map}
 use Rattle.dgt_game.specs.declared.node.Node.{Node}
 use Rattle.dgt_game.specs.declared.node.Place.{Place}
 use Rattle.dgt_game.specs.declared.node.Step.{Step}
-use Rattle.dgt_game.specs.Memory.{Chain, Grows, Links, step_at, steps, tip}
-use Rattle.dgt_game.proofs.Chains.{moved, next_chained, next_tip, steps_drop, steps_push}
+use Rattle.dgt_game.specs.Memory.{Chain, Grows, IsRooted, Links, step_at, steps, tip}
+use Rattle.dgt_game.proofs.Chains.{moved, next_chained, next_tip, rooted_push, steps_drop, steps_push}
 use Rattle.dgt_game.proofs.memory.chained.Goals as goal
 
 pub loop-k-preserved : goal.loop-k-preserved
@@ -39,7 +39,16 @@ loop-k-preserved c =
           subst (λ (xs : List Step). Links (tip (step_at kept xs (Place.Seen k)) rest) next) (sym
           new)
           (next_tip kept old rest step next parent k len at)),
+      (λ lines start.
+          let at = c.loop-k.invariant.3 lines start in (
+            subst (λ (xs : List Step). IsRooted lines xs) (sym new)
+                (rooted_push lines old (moved step parent) at.0 (rw len at.1)),
+            omega arith,
+          )),
     )
 
 pub returns-clause-grows : goal.returns-clause-grows
 returns-clause-grows c = λ shown kept chain. (c.loop-k.invariant.1 shown kept chain).0
+
+pub returns-clause-rooted : goal.returns-clause-rooted
+returns-clause-rooted c = λ lines start. (c.loop-k.invariant.3 lines start).0

@@ -1,7 +1,7 @@
-use Rattle.std.proofs.Common.{◌≡◌, [], refl, sym, subst, Option}
+use Rattle.std.proofs.Common.{rules, ◌≡◌, [], refl, sym, subst, inr, length, Option}
 use Rattle.dgt_game.specs.declared.node.Place.{Place}
 use Rattle.dgt_game.specs.declared.node.Step.{Step}
-use Rattle.dgt_game.specs.Memory.{Chain, Links, step_at, steps, tip}
+use Rattle.dgt_game.specs.Memory.{Chain, IsBefore, IsRooted, Links, step_at, steps, tip}
 use Rattle.dgt_game.proofs.Chains.{place_at}
 use Rattle.dgt_game.proofs.Held.{seen_new}
 use Rattle.dgt_game.proofs.memory.Memory.keep_path.Goals as goal
@@ -15,11 +15,14 @@ returns c =
     let start = c.path-path.result.1 in
     let at : step_at kept seen start ≡ step_at kept [] start =
     place_at kept seen start c.in_default-start.not-Seen in
+    let within : (IsRooted (length kept) seen) → IsBefore (length kept) 0 start =
+    λ rooted. c.path-path.ensures.start rooted (inr c.in_default-start.not-Seen) in
     record {
       holds = λ shown line back nothing h.
           seen_new shown line m _ refl refl refl refl back nothing
           (c.chained-seen.ensures.grows shown kept (subst (λ (o : Option Step). Chain shown o path)
           at (c.path-path.ensures.path shown line h)))
+          (c.chained-seen.ensures.rooted (length kept) (within h.rooted))
           h;
       links = λ step h.
           c.chained-seen.ensures.links kept step
@@ -29,4 +32,8 @@ returns c =
       back = refl;
       unsaid = refl;
       line = refl;
+      answer = refl;
+      room = λ other. absurd (other c.in-Seen.k c.in-Seen.is);
+      few = λ few. absurd (search (rules, few));
+      rooted = λ rooted. c.chained-seen.ensures.rooted (length kept) (within rooted);
     }

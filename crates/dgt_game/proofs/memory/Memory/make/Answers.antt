@@ -1,11 +1,11 @@
-use Rattle.std.proofs.Common.{ℕ, sym, subst, inl, List, Option}
+use Rattle.std.proofs.Common.{◌≢◌, ℕ, sym, subst, inl, List, Option, None}
 use Rattle.std.specs.Prelude.{slice_get, IfSome}
 use Rattle.dgt_game.specs.declared.event.Event.{Event}
 use Rattle.dgt_game.specs.declared.node.Node.{Node}
 use Rattle.dgt_game.specs.declared.node.Step.{Step}
 use Rattle.dgt_game.specs.Told.{Leads}
 use Rattle.dgt_game.specs.Memory.{Chain, Grows, IsSeen, Links, line_after, steps}
-use Rattle.dgt_game.proofs.Told.{grows_none, makes, nothing_seen, same_tip}
+use Rattle.dgt_game.proofs.Told.{grows_none, makes, rooted_none, nothing_seen, same_tip}
 use Rattle.dgt_game.proofs.memory.Memory.make.Goals as goal
 
 pub returns-clause-told : goal.returns-clause-told
@@ -34,7 +34,11 @@ returns-clause-told c = λ shown line back h.
             × IsSeen shown n.step))
             (same_tip kept new m.unsaid.items rest node m.back back c.in-Some.ensures.rest
             c.put_first.ensures.first) h.answer;
+        answered = subst (λ (t : Option Step). IfSome m.answer (λ n. t ≢ None))
+            (same_tip kept new m.unsaid.items rest node m.back back c.in-Some.ensures.rest
+            c.put_first.ensures.first) h.answered;
         grows = subst (λ (xs : List Step). Grows shown new xs) (sym none) (grows_none shown new);
+        rooted = rw none (rooted_none _);
         quiet = inl none;
       },
     )

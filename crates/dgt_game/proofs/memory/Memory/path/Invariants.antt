@@ -1,8 +1,8 @@
-use Rattle.std.proofs.Common.{◌≡◌, List}
+use Rattle.std.proofs.Common.{◌≡◌, ◌≢◌, ◌+◌, ◌-◌, ◌<◌, List, length}
 use Rattle.dgt_values.specs.declared.pieces.Piece.{Piece}
 use Rattle.dgt_game.specs.declared.node.Place.{Place}
 use Rattle.dgt_game.specs.Told.{Told}
-use Rattle.dgt_game.specs.Memory.{Chain, Holds, step_at, steps, tip}
+use Rattle.dgt_game.specs.Memory.{Chain, Holds, IsBefore, IsRooted, step_at, steps, tip}
 use Rattle.dgt_game.proofs.memory.Memory.path.Given as goal
 
 abbrev pub invariant-loop-at : goal.invariant-loop-at
@@ -13,3 +13,9 @@ invariant-loop-at l =
     × (tip (step_at (steps l.self.line.items) (steps l.self.seen.items) l.place)
     (steps l.path.items)
     ≡ step_at (steps l.self.line.items) (steps l.self.seen.items) (Place.Seen l.k))
+    × (length l.path.items ≡ l._at)
+    × (IsRooted (length (steps l.self.line.items)) (steps l.self.seen.items)
+    → l.k < length (steps l.self.seen.items)
+    → IsBefore (length (steps l.self.line.items)) (l.k + 1 - l._at) l.place)
+    × (l._at ≡ 0 → l.place ≡ Place.Seen l.k)
+    × (l._at ≢ 0 → l.k < length (steps l.self.seen.items))

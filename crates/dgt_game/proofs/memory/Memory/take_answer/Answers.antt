@@ -1,10 +1,10 @@
-use Rattle.std.proofs.Common.{◌∷◌, [], ℕ, sym, subst, inr, List, Option}
+use Rattle.std.proofs.Common.{◌≢◌, ◌∙◌, ◌++◌, ◌∷◌, [], ℕ, ap, refl, sym, subst, inr, length, List, Option, None}
 use Rattle.std.specs.Prelude.{slice_get, IfSome}
 use Rattle.dgt_game.specs.declared.node.Node.{Node}
 use Rattle.dgt_game.specs.declared.node.Place.{Place}
 use Rattle.dgt_game.specs.declared.node.Step.{Step}
-use Rattle.dgt_game.specs.Memory.{Grows, IsSeen, Links, steps, tip}
-use Rattle.dgt_game.proofs.Told.{grows_one, links_moved}
+use Rattle.dgt_game.specs.Memory.{Grows, IsRooted, IsSeen, Links, steps, tip}
+use Rattle.dgt_game.proofs.Told.{grows_one, links_moved, rooted_one}
 use Rattle.dgt_game.proofs.memory.Memory.take_answer.Goals as goal
 
 pub returns-clause-holds : goal.returns-clause-holds
@@ -31,14 +31,39 @@ returns-clause-holds c = λ shown line back nothing h.
     let grows : Grows shown kept (new ∷ []) =
     grows_one shown kept new (links_moved (slice_get kept 0) node.step (Place.Line 0) after)
     answer.1 in
+    let follows : tip (slice_get kept m.back) (steps m.unsaid.items) ≢ None =
+    subst (λ (o : Option Node). IfSome o (λ n. tip (slice_get kept m.back) (steps m.unsaid.items)
+    ≢ None)) (sym c.in-Some.ensures.value) h.answered in
     record {
       shown_line = h.shown_line;
       kept = h.kept;
       back = h.back;
       unsaid = h.unsaid;
       answer = rw c.in-Some.ensures.after tt;
+      answered = rw c.in-Some.ensures.after tt;
       grows = rw (c.push.ensures.items, c.clear.ensures)
-          (subst (λ (step : Step). Grows shown kept (step ∷ [])) (sym c.after_line-new.ensures)
+          (subst (λ (step : Step). Grows shown kept (step ∷ [])) (sym c.after_line-new.ensures.step)
           grows);
+      rooted = rw (c.push.ensures.items, c.clear.ensures)
+          (subst (λ (step : Step). IsRooted (length kept) (step ∷ [])) (sym
+          c.after_line-new.ensures.step)
+          (rooted_one kept new (subst (λ (xs : List Node). tip (slice_get kept 0) (steps xs)
+          ≢ None) nothing (subst (λ (n : ℕ). tip (slice_get kept n) (steps m.unsaid.items)
+          ≢ None) back follows)) refl));
       quiet = inr (back, nothing);
     }
+
+pub returns-clause-is : goal.returns-clause-is
+returns-clause-is c =
+    let new = c.after_line-new.result in
+    let after = c.after_line-new.ensures in
+    rw (sym c.in-Some.ensures.value) (
+      new,
+      refl,
+      c.push.ensures.items ∙ ap (λ (xs : List Node). xs ++ new ∷ []) c.clear.ensures,
+      ap (λ (s : Step). s.state) after.step,
+      ap (λ (s : Step). s.is_turned) after.step,
+      ap (λ (s : Step). s.way) after.step,
+      after.rest.0,
+      after.rest.1,
+    )

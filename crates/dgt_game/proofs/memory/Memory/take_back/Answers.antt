@@ -1,8 +1,8 @@
-use Rattle.std.proofs.Common.{◌≡◌, [], ap, sym, subst, inl, inr, List, Option}
+use Rattle.std.proofs.Common.{◌≡◌, ◌≢◌, [], ap, sym, subst, inl, inr, List, Option, None}
 use Rattle.std.specs.Prelude.{slice_get, IfSome}
 use Rattle.dgt_game.specs.declared.node.Step.{Step}
 use Rattle.dgt_game.specs.Memory.{Chain, Grows, IsSeen, Links, steps, tip}
-use Rattle.dgt_game.proofs.Told.{grows_none, taken_back}
+use Rattle.dgt_game.proofs.Told.{grows_none, rooted_none, taken_back}
 use Rattle.dgt_game.proofs.Waiting.{dropped}
 use Rattle.dgt_game.proofs.memory.Memory.take_back.Goals as goal
 
@@ -26,8 +26,11 @@ returns-clause-holds c = λ shown line some h.
         unsaid = subst (λ (o : Option Step). Chain shown o (steps m.unsaid.items)) same h.unsaid;
         answer = subst (λ (o : Option Step). IfSome m.answer (λ n. Links (tip o (steps
             m.unsaid.items)) n.step × IsSeen shown n.step)) same h.answer;
+        answered = subst (λ (o : Option Step). IfSome m.answer (λ n. tip o (steps m.unsaid.items)
+            ≢ None)) same h.answered;
         grows = subst (λ (xs : List Step). Grows shown (steps new) xs) (sym none) (grows_none shown
             (steps new));
+        rooted = rw none (rooted_none _);
         quiet = inl none;
       },
     )

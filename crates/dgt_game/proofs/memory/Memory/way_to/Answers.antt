@@ -1,9 +1,13 @@
-use Rattle.std.proofs.Common.{rules}
+use Rattle.std.proofs.Common.{rules, ◌≡◌, ◌≢◌, ◌<◌, arith, inl, inr, subst, ℕ, [], Some, length}
 use Rattle.std.specs.Prelude.{slice_get}
-use Rattle.dgt_game.specs.Memory.{steps}
-use Rattle.dgt_game.proofs.Chains.{chain_any, tip_any}
+use Rattle.std.proofs.lemmas.Option.{none-some}
+use Rattle.dgt_game.specs.declared.node.Place.{Place}
+use Rattle.dgt_game.specs.Memory.{IsBefore, step_at, steps}
+use Rattle.dgt_game.proofs.Chains.{below_some, not_seen, steps_length, chain_any, some_at, steps_some, tip_any, tip_there}
 use Rattle.dgt_game.proofs.Waiting.{tip_some}
 use Rattle.dgt_game.proofs.memory.Memory.way_to.Goals as goal
+use Rattle.dgt_game.proofs.memory.Memory.way_to.Goals.{in-Seen, in_default}
+use Rattle.dgt_game.proofs.memory.Memory.way_to.Goals.{in_default-start-via-in-Line+else-base-len, in_default-start-via-in-Nowhere+else-not-is_empty, in_default-start-via-in_default-start}
 
 pub returns-else-is_open-clause-chain : goal.returns-else-is_open-clause-chain
 returns-else-is_open-clause-chain c = λ shown line h.
@@ -19,3 +23,72 @@ pub returns-else-is_open-clause-there : goal.returns-else-is_open-clause-there
 returns-else-is_open-clause-there c = λ step e.
     tip_some (slice_get (steps c.args.self.now.line.items) 0) (steps c.match-place.path.0.items)
     step (search (rules, e))
+
+pub returns-in-Line-clause-some : goal.returns-in-Line-clause-some
+returns-in-Line-clause-some c =
+    tip_there (slice_get (steps c.args.self.now.line.items) c.in-Line.base) (steps
+    c.match-place.path.0.items) (inl (some_at _ c.in-Line.base (search (rules, steps_length))))
+
+pub returns-in-Line-clause-near : goal.returns-in-Line-clause-near
+returns-in-Line-clause-near c = λ step rooted e. elim c.match-place.branch [
+  | in-Seen w ↦ search (rules, rooted)
+  | in_default w ↦ inr (search rules)
+]
+
+pub returns-in-Line-clause-news : goal.returns-in-Line-clause-news
+returns-in-Line-clause-news c = λ step e other. elim c.match-place.branch [
+  | in-Seen w ↦ inr (search (rules, e, below_some))
+  | in_default w ↦ inl (search (rules, other))
+]
+
+pub returns-then-is_open-clause-some : goal.returns-then-is_open-clause-some
+returns-then-is_open-clause-some c =
+    tip_there (slice_get (steps c.args.self.now.line.items) 0) (steps c.with_last.result.items)
+    (inr (steps_some _ (c.with_last.ensures.some (search rules))))
+
+pub returns-else-is_open-clause-some : goal.returns-else-is_open-clause-some
+returns-else-is_open-clause-some c =
+    tip_there (slice_get (steps c.args.self.now.line.items) 0) (steps c.match-place.path.0.items)
+    (inr (steps_some _ (search rules)))
+
+pub returns-in_default-start-clause-found : goal.returns-in_default-start-clause-found
+returns-in_default-start-clause-found c = λ step rooted e.
+    let lines = steps c.args.self.now.line.items in
+    let seen = steps c.args.self.now.seen.items in
+    let path = c.match-place.path in
+    let facts : ((base : ℕ) → path.1 ≡ Place.Line base → base < length lines)
+    × (path.1 ≡ Place.Nowhere → path.0.items ≢ []) × ((j : ℕ) → path.1 ≢ Place.Seen j) =
+    elim c.match-place.branch [
+      | in-Seen w ↦
+          let within = below_some seen w.in-Seen.k step (subst (λ (p : Place). step_at lines seen p
+          ≡ Some step) w.in-Seen.is e) in
+          let before = w.path.ensures.start rooted (inl within) in
+          rw w.path-is (
+            (λ base at. (subst (IsBefore (length lines) 0) at before).0),
+            (λ at. w.path.ensures.some within),
+            not_seen (length lines) w.path.result.1 before,
+          )
+      | in_default w ↦ rw w.path-is (
+        (λ base at. below_some lines base step (subst (λ (p : Place). step_at lines seen p
+            ≡ Some step) at e)),
+        (λ at. absurd (none-some step (subst (λ (p : Place). step_at lines seen p
+            ≡ Some step) at e))),
+        w.in_default.not-Seen,
+      )
+    ] in
+    elim c.in_default-start.branch [
+      | in_default-start-via-in-Line+else-base-len w ↦
+          let within = facts.0 w.in-Line.base w.in-Line.is in
+          absurd (omega (
+            arith,
+            within,
+            w.if-base-len.false,
+            w.len.ensures.value,
+            steps_length
+                c.args.self.now.line.items,
+          ))
+      | in_default-start-via-in-Nowhere+else-not-is_empty w ↦
+          absurd (facts.1 w.in-Nowhere.is (search rules))
+      | in_default-start-via-in_default-start w ↦
+          absurd (facts.2 w.in_default-start.field-0 w.in_default-start.is)
+    ]

@@ -1,32 +1,53 @@
-use Rattle.std.proofs.Common.{rules, ◌∙◌, sym, subst, Option}
+use Rattle.std.proofs.Common.{rules, ◌∙◌, arith, sym, subst, Option}
 use Rattle.dgt_game.specs.declared.node.Place.{Place}
 use Rattle.dgt_game.specs.declared.node.Step.{Step}
-use Rattle.dgt_game.specs.Memory.{Links}
+use Rattle.dgt_game.specs.Memory.{Links, steps}
+use Rattle.dgt_game.proofs.Chains.{below_some}
 use Rattle.dgt_game.proofs.Told.{links_after}
 use Rattle.dgt_game.proofs.recogniser.Recogniser.add_two.Goals as goal
 
-pub returns-in-Some : goal.returns-in-Some
-returns-in-Some c = record {
-  holds = λ shown line back unsaid reads holds.
-      let seen = c.in-Some.ensures.seen in
-      let next = c.args.second.step in
-      let after = links_after c.args.first.step next seen.0 (Place.Seen c.in-Some.k) reads.2 in
-      c.add.ensures.holds shown line (c.push.ensures.back ∙ back) (c.push.ensures.unsaid ∙ unsaid) (
-        subst (λ (o : Option Step). Links o (record {
-          state = next.state;
-          is_turned =
-              next.is_turned;
-          way = next.way;
-          parent = Place.Seen c.in-Some.k;
-        })) (sym seen.1) after,
-        reads.3,
-      )
-      (c.push.ensures.holds shown line back unsaid reads.0 reads.1 holds);
-  view = c.add.ensures.view;
-  keeps = search (rules, c.push.ensures.line);
-  doubt = λ sure quiet. c.add.ensures.doubt sure (
-    (c.push.ensures.back ∙ quiet.0.0, c.push.ensures.unsaid ∙ quiet.0.1),
-    quiet.1,
-    quiet.2,
-  );
-}
+pub returns-clause-holds : goal.returns-clause-holds
+returns-clause-holds c = λ shown line back unsaid reads holds.
+    let seen = c.in-Some.ensures.seen in
+    let next = c.args.second.step in
+    let after = links_after c.args.first.step next seen.0 (Place.Seen c.in-Some.k) reads.2 in
+    c.add.ensures.holds shown line (c.push.ensures.back ∙ back) (c.push.ensures.unsaid ∙ unsaid) (
+      subst (λ (o : Option Step). Links o (record {
+        state = next.state;
+        is_turned = next.is_turned;
+        way = next.way;
+        parent = Place.Seen c.in-Some.k;
+      })) (sym seen.1) after,
+      reads.3,
+    )
+    (c.push.ensures.holds shown line back unsaid reads.0 reads.1 holds)
+
+pub returns-clause-keeps : goal.returns-clause-keeps
+returns-clause-keeps c = search (rules, c.push.ensures.line)
+
+pub returns-clause-doubt : goal.returns-clause-doubt
+returns-clause-doubt c = λ sure quiet. c.add.ensures.doubt sure (
+  (c.push.ensures.back ∙ quiet.0.0, c.push.ensures.unsaid ∙ quiet.0.1),
+  quiet.1,
+  quiet.2,
+)
+
+pub returns-clause-stands : goal.returns-clause-stands
+returns-clause-stands c = λ view ready seen shows.
+    let push = c.push.ensures in
+    (c.add.ensures.stands view (
+      (push.back ∙ ready.0.0, push.unsaid ∙ ready.0.1),
+      push.answer ∙ ready.1,
+      push.rooted ready.2,
+    ) seen).0 shows
+
+pub returns-clause-here : goal.returns-clause-here
+returns-clause-here c = λ few room.
+    let items = steps c.push.new.self.seen.items in
+    let kept = c.in-Some.ensures.seen in
+    let more = c.push.ensures.few (omega (arith, few)) in
+    c.add.ensures.here (omega (arith, few, more)) (below_some items c.in-Some.k _ kept.1)
+
+pub returns-clause-lost : goal.returns-clause-lost
+returns-clause-lost c = λ nowhere. let (found, told) = c.add.ensures.lost nowhere in
+    (found, λ t. told (c.push.ensures.back ∙ t.0, c.push.ensures.unsaid ∙ t.1))

@@ -1,14 +1,53 @@
-use Rattle.std.proofs.Common.{◌∙◌}
+use Rattle.std.proofs.Common.{rules, ◌∙◌, inl, length}
+use Rattle.std.specs.Prelude.{slice_get}
+use Rattle.dgt_game.specs.declared.node.Place.{Place}
+use Rattle.dgt_game.specs.Memory.{IsBefore, IsRooted, steps}
+use Rattle.dgt_game.specs.Standing.{IsCalledFor}
+use Rattle.dgt_game.proofs.Standing.{if_some, of_some, shows_as}
+use Rattle.dgt_game.proofs.Told.{rooted_none}
 use Rattle.dgt_game.proofs.Links.{begins, root_links}
 use Rattle.dgt_game.proofs.recogniser.Recogniser.begin.Goals as goal
 
-pub returns-clause-holds : goal.returns-clause-holds
-returns-clause-holds c = λ shown line back unsaid seen holds.
+pub returns-in-Some-push-clause-holds : goal.returns-in-Some-push-clause-holds
+returns-in-Some-push-clause-holds c = λ shown line back unsaid seen holds.
     let forget = c.forget_seen.ensures in
     let push = c.push.ensures in
-    let roots = c.in-Some.ensures shown seen in
+    let roots = c.in-Some.ensures.roots shown seen in
     c.tell.ensures.holds shown line (push.back ∙ forget.back ∙ back) (push.unsaid ∙ forget.unsaid ∙
     unsaid)
     (root_links shown _ c.in-Some.other roots.1)
     (push.holds shown line (forget.back ∙ back) (forget.unsaid ∙ unsaid)
     (begins _ c.in-Some.root.step roots.0.0) roots.0.1 (forget.holds shown line holds))
+
+pub returns-in_default-push-clause-holds : goal.returns-in_default-push-clause-holds
+returns-in_default-push-clause-holds c = λ shown line back unsaid seen holds.
+    let forget = c.forget_seen.ensures in
+    let roots = c.in-Some.ensures.roots shown seen in
+    c.push.ensures.holds shown line (forget.back ∙ back) (forget.unsaid ∙ unsaid)
+    (begins _ c.in-Some.root.step roots.0.0) roots.0.1 (forget.holds shown line holds)
+
+pub returns-in-Some-push-clause-stands : goal.returns-in-Some-push-clause-stands
+returns-in-Some-push-clause-stands c = λ rooted told sure fits stands.
+    let forget = c.forget_seen.ensures in
+    let push = c.push.ensures in
+    let new = c.push.new.self in
+    let cleared = c.forget_seen.new.self in
+    let bare : IsRooted (length (steps cleared.line.items)) (steps cleared.seen.items) =
+    rw forget.none (rooted_none _) in
+    let at = c.in-Some-push.ensures.seen in
+    c.tell.ensures.stands (
+      (push.back ∙ forget.back ∙ told.0, push.unsaid ∙ forget.unsaid ∙ told.1),
+      push.answer ∙ forget.answer ∙ stands.1 told,
+      push.rooted bare,
+    ) sure (if_some c.args.self.now.view _ (IsCalledFor new (Place.Seen c.in-Some-push.k)
+    c.in-Some.other) c.in-Some.ensures.at (λ view shown. (
+      of_some (slice_get (steps new.seen.items) c.in-Some-push.k) _ _ at.1 (inl shown.0),
+      if_some c.in-Some.other _ _ shown.1 (λ node shows. λ counts. shows_as view node shows),
+    )))
+
+pub returns-in_default-push-clause-hopeless : goal.returns-in_default-push-clause-hopeless
+returns-in_default-push-clause-hopeless c =
+    let free : IsBefore (length (steps c.forget_seen.new.self.line.items)) 0
+    c.in-Some.root.step.parent = rw c.in-Some.ensures.free tt in
+    let some = c.push.ensures.room free in
+    absurd (search (rules, some))

@@ -1,8 +1,11 @@
-use Rattle.std.proofs.Common.{rules, ◌≡◌, ◌<◌, ◌≤◌, sym, subst, refl, arith, None, Some, Option}
-use Rattle.std.specs.Prelude.{IfSome, MatchOption}
+use Rattle.std.proofs.Common.{rules, true, ◌≡◌, ◌<◌, ap, inr, sym, subst, refl, arith, None, Some, Option}
+use Rattle.std.specs.Prelude.{IfSome}
 use Rattle.dgt_game.specs.declared.event.Event.{Event}
 use Rattle.dgt_game.specs.declared.recogniser.Recogniser.{Recogniser}
+use Rattle.dgt_game.specs.declared.resting.Next.{Next}
+use Rattle.dgt_game.specs.Planning.{IsPlanned, todo}
 use Rattle.dgt_game.specs.Timing.{Due, HasTask, next_time}
+use Rattle.dgt_game.proofs.Planning.{hopeless_stays, nothing_left, planned_quiet, planned_then, plans_with, todo_most}
 use Rattle.dgt_game.proofs.Timing.{acts_with, follows_then, idle_in_doubt, idle_stays, no_time, one_more, quiet_now, told_now}
 use Rattle.dgt_game.proofs.recogniser.Recogniser.due.Goals as goal
 use Rattle.dgt_game.proofs.recogniser.Recogniser.due.Goals.{then-done-lt2, else-done-lt2}
@@ -12,7 +15,7 @@ returns-in-Some-clause-idle c = λ idle.
     let event = c.in-Some.event in
     let new = c.report.new.self in
     idle_stays c.args.now c.args.self.now new (Some event) idle (c.loop-done.invariant.due
-    (Some event) new (told_now c.args.now c.loop-done.self new event c.in-Some.ensures))
+    (Some event) new (told_now c.args.now c.loop-done.self new event c.in-Some.ensures.tells))
 
 pub returns-in_err-at-clause-due : goal.returns-in_err-at-clause-due
 returns-in_err-at-clause-due c =
@@ -21,7 +24,7 @@ returns-in_err-at-clause-due c =
     let idle : IfSome (next_time new) (λ at. c.args.now < at) = search rules in
     subst (λ (r : Option Event). Due c.args.now c.args.self.now r new) (sym none)
     (c.loop-done.invariant.due None new
-    (quiet_now c.args.now c.loop-done.self new c.in_default.ensures idle))
+    (quiet_now c.args.now c.loop-done.self new c.in_default.ensures.tells idle))
 
 pub returns-in_err-at-clause-idle : goal.returns-in_err-at-clause-idle
 returns-in_err-at-clause-idle c = λ idle.
@@ -33,7 +36,19 @@ returns-then-at-now-clause-idle c = λ idle.
     let new = c.report.new.self in
     let later : IfSome (next_time new) (λ at. c.args.now < at) = search rules in
     idle_stays c.args.now c.args.self.now new None idle (c.loop-done.invariant.due None new
-    (quiet_now c.args.now c.loop-done.self new c.in_default.ensures later))
+    (quiet_now c.args.now c.loop-done.self new c.in_default.ensures.tells later))
+
+pub loop-done-init : goal.loop-done-init
+loop-done-init c = record {
+  knows = λ shown line knows. knows;
+  waits = λ waits. (waits, (refl, refl));
+  due = λ report new due. due;
+  last = λ e. absurd (omega (arith, e));
+  planned = λ h. (h, omega (arith, todo_most c.args.self.now));
+  lost = λ h. h;
+  hopeless = λ h. h;
+  stands = λ shown line knows plans h. h;
+}
 
 pub loop-done-preserved : goal.loop-done-preserved
 loop-done-preserved c =
@@ -41,7 +56,7 @@ loop-done-preserved c =
     let old = c.args.self.now in
     let self = c.loop-done.self in
     let quiet = c.report.new.self in
-    let tells = c.in_default.ensures in
+    let tells = c.in_default.ensures.tells in
     let is = (tells.3 refl).0 in
     let act = c.act.ensures in
     let new : Recogniser = record c.act.new.self { next = c.if-done-lt2.self } in
@@ -62,6 +77,30 @@ loop-done-preserved c =
         | then-done-lt2 w ↦ absurd (omega (arith, e, w.if-done-lt2.true))
         | else-done-lt2 w ↦ no_time new w.self-is
       ];
+      planned = λ h.
+          let (plans, most) = c.loop-done.invariant.planned h in
+          let same = c.in_default.ensures.planned in
+          let fits = c.in_ok-at.ensures.fits (planned_quiet self quiet same plans) in
+          let less = act.todo fits in
+          let before : todo quiet ≡ todo self = ap (λ (r : Recogniser). todo r) same in
+          let P : Option Next → Type 0 = λ n. IsPlanned (record c.act.new.self { next = n }) in
+          let next : IsPlanned new = elim c.if-done-lt2.branch [
+            | then-done-lt2 w ↦ subst P (sym w.self-is) (plans_with c.act.new.self
+                w.plan-self.result w.plan-self.result w.plan-self.ensures.plans)
+            | else-done-lt2 w ↦ subst P (sym w.self-is) (inr (nothing_left c.act.new.self
+                (omega (arith, less, before, most, w.if-done-lt2.false))))
+          ] in
+          (next, omega (arith, less, before, most));
+      lost = λ h. act.lost is (c.in_default.ensures.lost (c.loop-done.invariant.lost h));
+      hopeless = λ h. act.hopeless (hopeless_stays self quiet c.in_default.ensures.place
+          (c.loop-done.invariant.hopeless h));
+      stands = λ shown line knows plans h.
+          let known = tells.0 shown line (c.loop-done.invariant.knows shown line knows) in
+          let sure : quiet.is_sure ≡ true = search rules in
+          act.stands known.held.rooted is.0 sure
+          (c.in_ok-at.ensures.fits (planned_quiet self quiet c.in_default.ensures.planned
+          (c.loop-done.invariant.planned plans).0))
+          (c.in_default.ensures.stands (c.loop-done.invariant.stands shown line knows plans h));
     }
 
 pub returns-clause-idle : goal.returns-clause-idle
@@ -82,3 +121,60 @@ returns-in_err-at-clause-doubt c = λ sure quiet.
 pub returns-clause-doubt : goal.returns-clause-doubt
 returns-clause-doubt c = λ sure quiet.
     (returns-clause-idle c (idle_in_doubt c.args.now c.args.self.now sure quiet)).0
+
+pub returns-in_err-at-clause-planned : goal.returns-in_err-at-clause-planned
+returns-in_err-at-clause-planned c = λ h.
+    planned_quiet c.loop-done.self c.report.new.self c.in_default.ensures.planned
+    (c.loop-done.invariant.planned h).0
+
+pub returns-then-at-now-clause-planned : goal.returns-then-at-now-clause-planned
+returns-then-at-now-clause-planned c = λ h.
+    planned_quiet c.loop-done.self c.report.new.self c.in_default.ensures.planned
+    (c.loop-done.invariant.planned h).0
+
+pub returns-clause-planned : goal.returns-clause-planned
+returns-clause-planned c = λ h.
+    planned_then c.loop-done.self c.report-2.new.self c.report-2.result c.report-2.ensures.planned
+    (c.loop-done.invariant.planned h).0
+
+pub returns-in-Some-clause-lost : goal.returns-in-Some-clause-lost
+returns-in-Some-clause-lost c = λ h. c.in-Some.ensures.lost (c.loop-done.invariant.lost h)
+
+pub returns-clause-lost : goal.returns-clause-lost
+returns-clause-lost c = λ h. c.report-2.ensures.lost (c.loop-done.invariant.lost h)
+
+pub returns-in-Some-clause-hopeless : goal.returns-in-Some-clause-hopeless
+returns-in-Some-clause-hopeless c = λ h.
+    hopeless_stays c.loop-done.self c.report.new.self c.in-Some.ensures.place
+    (c.loop-done.invariant.hopeless h)
+
+pub returns-in_err-at-clause-hopeless : goal.returns-in_err-at-clause-hopeless
+returns-in_err-at-clause-hopeless c = λ h.
+    hopeless_stays c.loop-done.self c.report.new.self c.in_default.ensures.place
+    (c.loop-done.invariant.hopeless h)
+
+pub returns-then-at-now-clause-hopeless : goal.returns-then-at-now-clause-hopeless
+returns-then-at-now-clause-hopeless c = λ h.
+    hopeless_stays c.loop-done.self c.report.new.self c.in_default.ensures.place
+    (c.loop-done.invariant.hopeless h)
+
+pub returns-clause-hopeless : goal.returns-clause-hopeless
+returns-clause-hopeless c = λ h.
+    hopeless_stays c.loop-done.self c.report-2.new.self c.report-2.ensures.place
+    (c.loop-done.invariant.hopeless h)
+
+pub returns-in-Some-clause-stands : goal.returns-in-Some-clause-stands
+returns-in-Some-clause-stands c = λ shown line knows plans h.
+    c.in-Some.ensures.stands (c.loop-done.invariant.stands shown line knows plans h)
+
+pub returns-in_err-at-clause-stands : goal.returns-in_err-at-clause-stands
+returns-in_err-at-clause-stands c = λ shown line knows plans h.
+    c.in_default.ensures.stands (c.loop-done.invariant.stands shown line knows plans h)
+
+pub returns-then-at-now-clause-stands : goal.returns-then-at-now-clause-stands
+returns-then-at-now-clause-stands c = λ shown line knows plans h.
+    c.in_default.ensures.stands (c.loop-done.invariant.stands shown line knows plans h)
+
+pub returns-clause-stands : goal.returns-clause-stands
+returns-clause-stands c = λ shown line knows plans h.
+    c.report-2.ensures.stands (c.loop-done.invariant.stands shown line knows plans h)

@@ -1,11 +1,13 @@
-use Rattle.std.proofs.Common.{◌∙◌}
+use Rattle.std.proofs.Common.{◌∙◌, inl, inr, refl}
 use Rattle.dgt_game.specs.Waiting.{Show}
+use Rattle.dgt_game.proofs.Planning.{fewer_by_result}
+use Rattle.dgt_game.proofs.Standing.{every_some}
 use Rattle.dgt_game.proofs.recogniser.Recogniser.end_by_kings.Goals as goal
 
 pub returns-then-is_there-clause-right : goal.returns-then-is_there-clause-right
 unfolding Show
 returns-then-is_there-clause-right c = λ quiet waits.
-    let (step, at, by) = c.in-Some-kings_result.ensures in
+    let (step, at, by) = c.in-Some-kings_result.ensures.is in
     let end = c.end_at-is_there.ensures in
     let keeps = end.keeps in (
       (
@@ -15,3 +17,59 @@ returns-then-is_there-clause-right c = λ quiet waits.
       ),
       keeps.4 waits.1,
     )
+
+pub returns-then-is_there-clause-todo : goal.returns-then-is_there-clause-todo
+returns-then-is_there-clause-todo c = λ kings.
+    fewer_by_result c.args.self.now c.end_at-is_there.new.self.has_kings kings
+    c.end_at-is_there.ensures.todo.1
+
+pub returns-else-is_there-clause-todo : goal.returns-else-is_there-clause-todo
+returns-else-is_there-clause-todo c = λ kings.
+    fewer_by_result c.args.self.now c.end_at-is_there.new.self.has_kings kings
+    c.end_at-is_there.ensures.todo.1
+
+pub returns-then-is_there-clause-stands : goal.returns-then-is_there-clause-stands
+returns-then-is_there-clause-stands c = λ rooted told sure stands.
+    let found = c.in-Some-kings_result.ensures in
+    let end = c.end_at-is_there.ensures in
+    let back = end.back found.is.0 (told, stands.1 told, rooted) found.is.1 found.near in (
+      every_some _ _ (λ view. refl),
+      λ told. back.1,
+      inr (end.keeps.6 ∙ sure, inr (refl, refl, back.1, (c.in-Some-kings_result.result, refl))),
+      inl back.0,
+    )
+
+pub returns-else-is_there-clause-stands : goal.returns-else-is_there-clause-stands
+returns-else-is_there-clause-stands c = λ rooted told sure stands.
+    let found = c.in-Some-kings_result.ensures in
+    let back = c.end_at-is_there.ensures.back found.is.0 (told, stands.1 told, rooted) found.is.1
+    found.near in (
+      every_some _ _ (λ view. refl),
+      λ told. back.1,
+      inl (back.2 c.if-is_there.false),
+      inl back.0,
+    )
+
+pub returns-then-is_there-clause-hopeless : goal.returns-then-is_there-clause-hopeless
+unfolding Show
+returns-then-is_there-clause-hopeless c = λ why view e here search.
+    let (step, at, by) = c.in-Some-kings_result.ensures.is in
+    inr (inr (
+      step,
+      (
+        c.in-Some-kings_result.result,
+        (c.in-Some.view, c.end_at-is_there.ensures.keeps.0 ∙ c.in-Some.is, by),
+      ),
+    ))
+
+pub returns-else-is_there-clause-hopeless : goal.returns-else-is_there-clause-hopeless
+unfolding Show
+returns-else-is_there-clause-hopeless c = λ why view e here search.
+    let (step, at, by) = c.in-Some-kings_result.ensures.is in
+    inr (inr (
+      step,
+      (
+        c.in-Some-kings_result.result,
+        (c.in-Some.view, c.end_at-is_there.ensures.keeps.0 ∙ c.in-Some.is, by),
+      ),
+    ))

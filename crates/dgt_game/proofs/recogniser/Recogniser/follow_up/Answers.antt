@@ -1,8 +1,12 @@
-use Rattle.std.proofs.Common.{rules, ◌≡◌, ◌∙◌, [], Some, ap}
+use Rattle.std.proofs.Common.{rules, ◌≡◌, ◌∙◌, [], Some, None, ap, subst, sym}
 use Rattle.std.proofs.lemmas.Option.{IfSome_then}
 use Rattle.dgt_game.specs.declared.event.GameResult.{GameResult}
 use Rattle.dgt_game.specs.declared.node.Step.{Step}
 use Rattle.dgt_game.specs.declared.recogniser.Over.{Over}
+use Rattle.dgt_game.specs.declared.recogniser.Recogniser.{Recogniser}
+use Rattle.dgt_game.specs.Memory.{IsTold}
+use Rattle.dgt_game.specs.Standing.{EndsHere, Stands}
+use Rattle.dgt_game.proofs.Standing.{ends_of, meant_stands}
 use Rattle.dgt_game.specs.Waiting.{EndWaits, EndsBy, coming}
 use Rattle.dgt_game.proofs.Known.{knows_same, memory_of, view_of}
 use Rattle.dgt_game.proofs.Waiting.{last_comes, or_some}
@@ -59,3 +63,26 @@ returns-then-is_quiet-clause-right c = λ h.
     (λ end h. (h.0, last ∙ h.1, h.2)) in
     let both = or_some c.end_of_line.result self.ended P ends waits in
     rw (keeps.2, c.or-self.ensures, keeps.0, c.stand_on_last.ensures.coming) both
+
+pub returns-else-is_quiet-clause-stands : goal.returns-else-is_quiet-clause-stands
+returns-else-is_quiet-clause-stands c = λ meant back.
+    let waits : IsTold c.match-event.self.memory → ⊥ = λ told. search (rules, told) in
+    elim c.match-event.branch [
+      | in_default w ↦ subst Stands (sym w.self-is) (meant_stands c.args.self.now meant back
+          (subst (λ
+          (s : Recogniser). IsTold s.memory → s.memory.answer ≡ None) w.self-is (λ told. absurd
+          (waits told))))
+      | in-Begun w ↦ subst Stands (sym w.self-is) (meant_stands (record c.args.self.now {
+        over =
+            Over.No;
+      }) meant back (subst (λ (s : Recogniser). IsTold s.memory → s.memory.answer ≡ None)
+          w.self-is (λ told. absurd (waits told))))
+    ]
+
+pub returns-then-is_quiet-clause-stands : goal.returns-then-is_quiet-clause-stands
+returns-then-is_quiet-clause-stands c = λ meant back.
+    let ends : EndsHere c.match-event.self = elim c.match-event.branch [
+      | in_default w ↦ subst EndsHere (sym w.self-is) (ends_of c.args.self.now meant)
+      | in-Begun w ↦ subst EndsHere (sym w.self-is) (ends_of c.args.self.now meant)
+    ] in
+    c.stand_on_last.ensures.stands (c.is_quiet.ensures.0 c.if-is_quiet.true) ends

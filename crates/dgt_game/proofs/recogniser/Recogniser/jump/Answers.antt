@@ -1,9 +1,15 @@
-use Rattle.std.proofs.Common.{arith}
+use Rattle.std.proofs.Common.{arith, refl}
 use Rattle.dgt_values.specs.Board.{pieces_of}
 use Rattle.dgt_game.proofs.Links.{several}
+use Rattle.dgt_game.proofs.Pictures.{no_line}
 use Rattle.dgt_game.proofs.recogniser.Recogniser.jump.Goals as goal
 
-pub returns-in-Several : goal.returns-in-Several
-returns-in-Several c =
+pub returns-in-Several-clause-linked : goal.returns-in-Several-clause-linked
+returns-in-Several-clause-linked c =
     several c.args.halves c.args.from.now.step.state c.in-Several.new
     (pieces_of c.args.shown.now) (c.in-Several.ensures (omega arith) (omega arith))
+
+pub returns-in-Nothing-clause-reads : goal.returns-in-Nothing-clause-reads
+returns-in-Nothing-clause-reads c = λ some few line.
+    absurd (no_line c.args.halves c.args.from.now.step.state (pieces_of c.args.shown.now)
+    (pieces_of c.args.shown.now) (c.in-Nothing.ensures some few) refl line)

@@ -9,8 +9,8 @@ use Rattle.dgt_game.specs.Told.{as_shown}
 use Rattle.dgt_game.proofs.Chains.{get_step}
 use Rattle.dgt_game.proofs.recogniser.Recogniser.kings_result.Goals as goal
 
-pub returns-then-stands : goal.returns-then-stands
-returns-then-stands c =
+pub returns-then-stands-clause-is : goal.returns-then-stands-clause-is
+returns-then-stands-clause-is c =
     let seen = c.args.self.now.memory.seen.items in
     let node = c.index-deref-len.result in
     let result = c.in_ok-result.result in
@@ -33,8 +33,8 @@ returns-then-stands c =
       ),
     )
 
-pub returns-then-stands-2 : goal.returns-then-stands-2
-returns-then-stands-2 c =
+pub returns-then-stands-2-clause-is : goal.returns-then-stands-2-clause-is
+returns-then-stands-2-clause-is c =
     let look = c.in_ok-last.ensures.lookup in
     let line = c.deref.result.now in
     let last = c.in_ok-last.last.now in

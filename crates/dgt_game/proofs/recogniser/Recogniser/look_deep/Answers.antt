@@ -1,35 +1,64 @@
-use Rattle.std.proofs.Common.{subst, sym}
+use Rattle.std.proofs.Common.{rules, ◌≡◌, ◌≢◌, subst, sym}
 use Rattle.std.specs.Prelude.{⊤, Contains}
 use Rattle.std.proofs.lemmas.Option.{MatchOption-at_some}
 use Rattle.dgt_values.specs.Board.{pieces_of}
 use Rattle.dgt_game.specs.declared.memory.Memory.{Memory}
+use Rattle.dgt_game.specs.declared.node.Place.{Place}
+use Rattle.dgt_game.specs.declared.recogniser.Recogniser.{Recogniser}
 use Rattle.dgt_game.specs.Memory.{Holds}
+use Rattle.dgt_game.specs.declared.view.View.{View}
+use Rattle.dgt_game.specs.Reading.{HasAnswered, HasSomeLines}
 use Rattle.dgt_game.proofs.Links.{reads}
+use Rattle.dgt_game.proofs.Moved.{none_some, same_view}
 use Rattle.dgt_game.proofs.recogniser.Recogniser.look_deep.Goals as goal
+use Rattle.dgt_game.proofs.recogniser.Recogniser.look_deep.Goals.{in-Some-deep, in-None}
 
-pub returns-in-Some-deep-clause-holds : goal.returns-in-Some-deep-clause-holds
-returns-in-Some-deep-clause-holds c = λ shown line back unsaid seen holds.
+pub returns-then-eq-clause-holds : goal.returns-then-eq-clause-holds
+returns-then-eq-clause-holds c = λ shown line back unsaid seen holds.
+    let self = c.args.self.now in
     let view = c.in-Some.view in
     let here = MatchOption-at_some ⊤ (λ view. Contains shown (pieces_of view.shown)) view
-    c.in-Some.is
-    seen in
-    c.add_jump.ensures.holds shown line back unsaid
-    (reads shown c.args.self.now.memory (pieces_of view.shown) c.in-Some-deep.node here
-    c.in-Some-deep.ensures.0) holds
+    c.in-Some.is seen in
+    let new : Holds shown line c.match-deep.self.memory = elim c.match-deep.branch [
+      | in-Some-deep w ↦ subst (λ (r : Recogniser). Holds shown line r.memory) (sym w.self-is)
+          (w.add_jump.ensures.holds shown line back unsaid
+          (reads shown self.memory (pieces_of view.shown) w.in-Some-deep.node here
+          w.in-Some-deep.ensures.linked.0) holds)
+      | in-None w ↦ subst (λ (r : Recogniser). Holds shown line r.memory) (sym w.self-is)
+          (w.start_deep.ensures.holds shown line back unsaid here holds)
+    ] in
+    subst (λ (m : Memory). Holds shown line m) (sym c.lose.ensures.same) new
 
-pub returns-then-not-start_deep-clause-holds : goal.returns-then-not-start_deep-clause-holds
-returns-then-not-start_deep-clause-holds c = λ shown line back unsaid seen holds.
+pub returns-else-eq-clause-holds : goal.returns-else-eq-clause-holds
+returns-else-eq-clause-holds c = λ shown line back unsaid seen holds.
+    let self = c.args.self.now in
     let view = c.in-Some.view in
     let here = MatchOption-at_some ⊤ (λ view. Contains shown (pieces_of view.shown)) view
-    c.in-Some.is
-    seen in
-    subst (λ (m : Memory). Holds shown line m) (sym c.lose.ensures.same)
-    (c.start_deep.ensures.holds shown line back unsaid here holds)
+    c.in-Some.is seen in
+    let new : Holds shown line c.match-deep.self.memory = elim c.match-deep.branch [
+      | in-Some-deep w ↦ subst (λ (r : Recogniser). Holds shown line r.memory) (sym w.self-is)
+          (w.add_jump.ensures.holds shown line back unsaid
+          (reads shown self.memory (pieces_of view.shown) w.in-Some-deep.node here
+          w.in-Some-deep.ensures.linked.0) holds)
+      | in-None w ↦ subst (λ (r : Recogniser). Holds shown line r.memory) (sym w.self-is)
+          (w.start_deep.ensures.holds shown line back unsaid here holds)
+    ] in
+    new
 
-pub returns-else-not-start_deep-clause-holds : goal.returns-else-not-start_deep-clause-holds
-returns-else-not-start_deep-clause-holds c = λ shown line back unsaid seen holds.
-    let view = c.in-Some.view in
-    let here = MatchOption-at_some ⊤ (λ view. Contains shown (pieces_of view.shown)) view
-    c.in-Some.is
-    seen in
-    c.start_deep.ensures.holds shown line back unsaid here holds
+pub returns-then-eq-clause-reads : goal.returns-then-eq-clause-reads
+returns-then-eq-clause-reads c = λ view few seen live behind answered lines.
+    let self = c.args.self.now in
+    let same = same_view self.view c.in-Some.view view c.in-Some.is seen in
+    let here : c.match-deep.self.here ≢ Place.Nowhere = elim c.match-deep.branch [
+      | in-Some-deep w ↦ subst (λ (r : Recogniser). r.here ≢ Place.Nowhere) (sym w.self-is)
+          (w.add_jump.ensures.here few w.in-Some-deep.ensures.room)
+      | in-None w ↦ absurd (none_some c.deep.result w.in-None.is (c.deep.ensures.reads c.in-Some.is
+          live behind
+          (subst (λ (v : View). HasAnswered self.memory (pieces_of v.shown)) same answered)
+          (subst (λ (v : View). HasSomeLines self.memory (pieces_of v.shown)) same lines)))
+    ] in
+    let wrong : c.match-deep.self.here ≡ Place.Nowhere = search rules in
+    absurd (here wrong)
+
+pub returns-else-eq-clause-reads : goal.returns-else-eq-clause-reads
+returns-else-eq-clause-reads c = λ view few seen live behind answered lines. search rules

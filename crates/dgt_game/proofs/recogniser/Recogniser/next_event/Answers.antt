@@ -1,11 +1,13 @@
-use Rattle.std.proofs.Common.{rules, ◌≡◌, ◌∙◌, Some, Option, false, refl, ap, sym, subst}
+use Rattle.std.proofs.Common.{rules, ◌≡◌, ◌∙◌, Some, Option, false, inl, inr, refl, ap, sym, subst}
 use Rattle.std.specs.Prelude.{⊤, IfSome}
-use Rattle.std.proofs.lemmas.Option.{MatchOption-at_some}
+use Rattle.std.proofs.lemmas.Option.{MatchOption-at_some, none-some}
 use Rattle.dgt_game.specs.declared.event.GameResult.{GameResult}
 use Rattle.dgt_game.specs.declared.node.Step.{Step}
 use Rattle.dgt_game.specs.declared.recogniser.Lost.{Lost}
 use Rattle.dgt_game.specs.declared.recogniser.Over.{Over}
 use Rattle.dgt_game.specs.Waiting.{EndsBy, coming, has_notice, has_result}
+use Rattle.dgt_game.specs.Standing.{IsMeant}
+use Rattle.dgt_game.proofs.Standing.{back_moved, meant_moved}
 use Rattle.dgt_game.proofs.Waiting.{ended_right, last_comes, right_of_line, silent}
 use Rattle.dgt_game.proofs.recogniser.Recogniser.next_event.Goals as goal
 
@@ -67,3 +69,18 @@ returns-clause-follows c = λ h.
       ),
       follows.1,
     )
+
+pub returns-in-Some-next_event-clause-stands : goal.returns-in-Some-next_event-clause-stands
+returns-in-Some-next_event-clause-stands c = λ stands.
+    let self = c.next_notice.new.self in
+    let new = c.next_event.new.self in
+    let event = c.next_event.ensures in
+    let was = c.next_notice.ensures.stands stands in
+    let meant : IsMeant self = elim was.2 [
+      | inl told ↦ absurd (none-some c.in-Some-next_event.event (sym (event.still told)
+          ∙ c.in-Some-next_event.is))
+      | inr meant ↦ meant
+    ] in
+    c.follow_up.ensures.stands (meant_moved self new event.coming event.answer meant)
+    (back_moved self
+    new event.coming event.less was.3)

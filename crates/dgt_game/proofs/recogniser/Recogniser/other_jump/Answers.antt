@@ -1,19 +1,30 @@
-use Rattle.std.proofs.Common.{rules, ◌≡◌, ◌∙◌, ap, sym}
+use Rattle.std.proofs.Common.{rules, ◌≡◌, ◌∙◌, ap, length, subst, sym}
 use Rattle.std.proofs.lemmas.Option.{IfSome_then}
 use Rattle.dgt_values.specs.Board.{pieces_of}
-use Rattle.dgt_game.specs.Memory.{step_at, steps}
+use Rattle.dgt_game.specs.Memory.{IsBefore, step_at, steps}
+use Rattle.dgt_game.proofs.Chains.{found_before}
 use Rattle.dgt_game.proofs.Links.{links, same_told}
 use Rattle.dgt_game.proofs.recogniser.Recogniser.other_jump.Goals as goal
 
-pub returns : goal.returns
-returns c =
+pub returns-clause-linked : goal.returns-clause-linked
+returns-clause-linked c =
     let line = steps c.args.self.now.memory.line.items in
     let seen = steps c.args.self.now.memory.seen.items in
     let from = c.in_ok-from.from.step in
     let node = c.args.node.now.step in
     let same : from.is_turned ≡ node.is_turned = search rules in
-    IfSome_then c.jumped_from.result c.jumped_from.ensures (λ other (parent, turned, by, here). (
+    IfSome_then c.jumped_from.result c.jumped_from.ensures.linked
+    (λ other (parent, turned, by, here). (
       links (step_at line seen other.step.parent) from other.step
           (ap (step_at line seen) parent ∙ c.in_ok-from.ensures) (sym turned) by,
       same_told other.step node (turned ∙ same) (here ∙ ap pieces_of c.position.ensures),
     ))
+
+pub returns-clause-room : goal.returns-clause-room
+returns-clause-room c =
+    let line = steps c.args.self.now.memory.line.items in
+    let seen = steps c.args.self.now.memory.seen.items in
+    IfSome_then c.jumped_from.result c.jumped_from.ensures.linked
+    (λ other (parent, turned, by, here). subst (IsBefore (length line) (length seen)) (sym parent)
+    (found_before line seen c.args.place c.in_ok-from.from.step (c.is_far.ensures (search rules))
+    c.in_ok-from.ensures))

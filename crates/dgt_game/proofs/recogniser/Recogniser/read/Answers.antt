@@ -1,11 +1,29 @@
 use Rattle.dgt_values.specs.Board.{pieces_of}
 use Rattle.dgt_game.proofs.Links.{reads}
+use Rattle.dgt_game.proofs.Pictures.{reads_at}
 use Rattle.dgt_game.proofs.recogniser.Recogniser.read.Goals as goal
 
-pub returns-in-Some-read_replaced : goal.returns-in-Some-read_replaced
-returns-in-Some-read_replaced c = λ shown line holds seen.
-    reads shown c.args.self.now.memory (pieces_of c.args.view.now.shown)
-    c.in-Some-read_replaced.node seen c.in-Some-read_replaced.ensures
+pub returns-in-Some-clause-at : goal.returns-in-Some-clause-at
+returns-in-Some-clause-at c =
+    reads_at c.args.self.now.memory c.args.view.now c.in-Some.place c.in-Some.ensures.at
 
-pub returns : goal.returns
-returns c = λ shown line holds seen. c.read_shadow.ensures shown seen
+pub returns-in-Some-read_half_move-clause-linked :
+    goal.returns-in-Some-read_half_move-clause-linked
+returns-in-Some-read_half_move-clause-linked c = λ shown line holds seen.
+    c.in-Some-read_half_move.ensures.linked shown seen
+
+pub returns-in-Some-read_start-clause-linked : goal.returns-in-Some-read_start-clause-linked
+returns-in-Some-read_start-clause-linked c = λ shown line holds seen.
+    c.in-Some-read_start.ensures.linked shown seen
+
+pub returns-in-Some-read_held-clause-linked : goal.returns-in-Some-read_held-clause-linked
+returns-in-Some-read_held-clause-linked c = λ shown line holds seen.
+    c.in-Some-read_held.ensures.linked shown seen
+
+pub returns-in-Some-read_replaced-clause-linked : goal.returns-in-Some-read_replaced-clause-linked
+returns-in-Some-read_replaced-clause-linked c = λ shown line holds seen.
+    reads shown c.args.self.now.memory (pieces_of c.args.view.now.shown)
+    c.in-Some-read_replaced.node seen c.in-Some-read_replaced.ensures.linked
+
+pub returns-clause-linked : goal.returns-clause-linked
+returns-clause-linked c = λ shown line holds seen. c.read_shadow.ensures.linked shown seen

@@ -1,15 +1,21 @@
 use Rattle.std.specs.Prelude.{⊤}
 use Rattle.std.proofs.lemmas.Option.{MatchOption-at_some}
 use Rattle.dgt_values.specs.Board.{pieces_of}
+use Rattle.dgt_game.specs.Reading.{IsRoomFor}
 use Rattle.dgt_game.specs.Memory.{Fits}
 use Rattle.dgt_game.proofs.Links.{reads}
 use Rattle.dgt_game.proofs.recogniser.Recogniser.read_shadow.Goals as goal
 
-pub returns-in-Some-best : goal.returns-in-Some-best
-returns-in-Some-best c = λ shown seen.
+pub returns-in-Some-best-clause-linked : goal.returns-in-Some-best-clause-linked
+returns-in-Some-best-clause-linked c = λ shown seen.
     let memory = c.args.self.now.memory in
     let pieces = pieces_of c.args.view.now.shown in
     let node = c.in-Some-best.node in
     reads shown memory pieces node seen
     (MatchOption-at_some ⊤ (λ node. Fits memory pieces node) node c.in-Some-best.is
-    c.loop-k.invariant)
+    c.loop-k.invariant.0)
+
+pub returns-in-Some-best-clause-room : goal.returns-in-Some-best-clause-room
+returns-in-Some-best-clause-room c =
+    MatchOption-at_some ⊤ (IsRoomFor c.args.self.now.memory) c.in-Some-best.node c.in-Some-best.is
+    c.loop-k.invariant.1

@@ -4,10 +4,10 @@ use Rattle.dgt_game.specs.Memory.{told_of}
 use Rattle.dgt_game.proofs.Links.{was_shown}
 use Rattle.dgt_game.proofs.recogniser.Recogniser.recounted_by.Goals as goal
 
-pub returns : goal.returns
-returns c = λ shown seen now.
-    let first = c.in_ok-first.ensures in
-    let second = c.in_ok-second.ensures in (
+pub returns-clause-linked : goal.returns-clause-linked
+returns-clause-linked c = λ shown seen now.
+    let first = c.in_ok-first.ensures.linked in
+    let second = c.in_ok-second.ensures.linked in (
       first.0,
       was_shown shown (told_of c.in_ok-first.first.step)
           (told_pieces (told_of c.args.node.now.step)) seen first.1,

@@ -1,10 +1,11 @@
 use Rattle.std.proofs.Common.{sym}
 use Rattle.std.proofs.lemmas.Option.{none-some}
+use Rattle.dgt_game.proofs.Planning.{plans_with}
 use Rattle.dgt_game.proofs.Timing.{right_with}
 use Rattle.dgt_game.proofs.recogniser.Recogniser.report.Goals as goal
 
-pub returns : goal.returns
-returns c =
+pub returns-clause-tells : goal.returns-clause-tells
+returns-clause-tells c =
     let event = c.in_ok-event.event in
     let ensures = c.in_ok-event.ensures in (
       λ shown line knows. let (after, leads, known) = ensures.told shown line knows in
@@ -15,3 +16,7 @@ returns c =
       λ none. absurd (none-some event (sym none)),
       λ quiet. absurd (none-some event (sym (ensures.idle quiet).0)),
     )
+
+pub returns-clause-planned : goal.returns-clause-planned
+returns-clause-planned c =
+    plans_with c.next_event.new.self c.plan-self.result c.plan-self.result c.plan-self.ensures.plans

@@ -1,14 +1,38 @@
-use Rattle.std.proofs.Common.{◌∙◌}
+use Rattle.std.proofs.Common.{◌∙◌, sym, subst, ◌≡◌, List, Option, ap, inr, unwrap_or}
 use Rattle.std.specs.Prelude.{⊤, Contains}
 use Rattle.std.proofs.lemmas.Option.{MatchOption-at_some}
+use Rattle.dgt_values.specs.declared.pieces.Piece.{Piece}
 use Rattle.dgt_values.specs.Board.{pieces_of}
-use Rattle.dgt_game.proofs.Links.{is_root}
+use Rattle.dgt_game.specs.declared.node.Step.{Step}
+use Rattle.dgt_game.specs.declared.view.View.{View}
+use Rattle.dgt_game.specs.Planning.{IsRefused}
+use Rattle.dgt_game.specs.Reading.{Shows}
+use Rattle.dgt_game.specs.Told.{as_shown}
+use Rattle.dgt_game.proofs.Links.{is_root, turned_back}
+use Rattle.dgt_game.proofs.Standing.{some_view}
 use Rattle.dgt_game.proofs.recogniser.Recogniser.root.Goals as goal
 
-pub returns : goal.returns
-returns c = λ shown seen.
+pub returns-clause-root : goal.returns-clause-root
+returns-clause-root c = λ shown seen.
     let view = c.in_ok-view.view in
     is_root shown c.in_ok-state.state _ (pieces_of view.shown) _ c.root-node.ensures
-    (c.in_ok-state.ensures ∙ c.from.ensures)
+    (c.in_ok-state.ensures.placed ∙ c.from.ensures)
     (MatchOption-at_some ⊤ (λ view. Contains shown (pieces_of view.shown)) view c.in_ok-view.was
     seen)
+
+pub returns-clause-at : goal.returns-clause-at
+returns-clause-at c =
+    let view = c.in_ok-view.view in
+    some_view view c.args.self.now.view _ c.in_ok-view.was (subst (λ (s : Step). Shows view s) (sym
+    c.root-node.ensures) (turned_back _ _ (pieces_of view.shown)
+    (c.in_ok-state.ensures.placed ∙ c.from.ensures)))
+
+pub returns-in_err-state-clause-none : goal.returns-in_err-state-clause-none
+returns-in_err-state-clause-none c = λ none view e.
+    let turned = c.args.is_turned in
+    let turn = c.args.turn in
+    let same : c.in_ok-view.view ≡ view =
+    ap (λ (o : Option View). unwrap_or o view) (sym c.in_ok-view.was ∙ e) in
+    inr (subst (λ (v : View). IsRefused (as_shown turned (pieces_of v.shown)) turn) same
+    (subst (λ (ps : List Piece). IsRefused ps turn) c.from.ensures
+    (c.placed.ensures.none c.in_err-state.was)))

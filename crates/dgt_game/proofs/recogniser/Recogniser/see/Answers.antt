@@ -1,21 +1,29 @@
-use Rattle.std.proofs.Common.{◌≡◌, ◌∙◌, None, false, sym, ap, subst}
+use Rattle.std.proofs.Common.{◌≡◌, ◌∙◌, ◌<◌, None, false, length, sym, ap, subst}
+use Rattle.std.specs.Prelude.{◌≢◌}
+use Rattle.dgt_values.specs.Board.{pieces_of}
+use Rattle.dgt_game.specs.declared.node.Place.{Place}
+use Rattle.dgt_game.specs.declared.recogniser.Recogniser.{Recogniser}
+use Rattle.dgt_game.specs.Reading.{FollowsSeen, IsExplained}
 use Rattle.dgt_game.specs.declared.memory.Memory.{Memory}
 use Rattle.dgt_game.specs.Memory.{Holds}
+use Rattle.dgt_game.specs.Planning.{WhyHopeless}
 use Rattle.dgt_game.specs.Recogniser.{Knows, shown_after}
 use Rattle.dgt_game.proofs.Known.{holds_more, knows_more, knows_same, memory_of, view_of, within_after}
 use Rattle.dgt_game.specs.declared.recogniser.Lost.{Lost}
+use Rattle.dgt_game.specs.Standing.{IsOpen, Stands}
 use Rattle.dgt_game.specs.Waiting.{Waits, has_notice}
 use Rattle.dgt_game.proofs.Waiting.{ended_of, lost_of}
 use Rattle.dgt_game.proofs.recogniser.Recogniser.see.Goals as goal
-use Rattle.dgt_game.proofs.recogniser.Recogniser.see.Goals.{then-ne, then-not-self, else-not-self, else-ne+else-is_sure-self}
+use Rattle.dgt_game.proofs.recogniser.Recogniser.see.Goals.{then-not-is_same_picture, then-not-self, else-not-self, else-not-is_same_picture+else-is_sure-self}
 
 pub returns-clause-seen : goal.returns-clause-seen
 returns-clause-seen c = λ done shown line knows.
     let (back, unsaid) = (c.is_due.ensures.0 c.if-is_due.false).0.0 in
     let sight = c.args.observation.now.sight in
     let more = within_after sight shown in
-    let new : Knows (shown_after sight shown) line c.if-ne.self = elim c.if-ne.branch [
-      | then-ne w ↦
+    let new : Knows (shown_after sight shown) line c.if-not-is_same_picture.self = elim
+    c.if-not-is_same_picture.branch [
+      | then-not-is_same_picture w ↦
           let same : memory_of w.if-not-self.self ≡ w.leave.new.self.memory =
           elim w.if-not-self.branch [
             | then-not-self w' ↦ ap memory_of w'.self-is
@@ -25,12 +33,12 @@ returns-clause-seen c = λ done shown line knows.
           (w.show.ensures.knows (shown_after sight shown) line
           (ap (λ (m : Memory). m.back) same ∙ w.leave.ensures.back ∙ back)
           (ap (λ (m : Memory). m.unsaid.items) same ∙ w.leave.ensures.unsaid ∙ unsaid)
-          (c.of-view.ensures shown)
+          (c.of-view.ensures.seen shown)
           (subst (Holds (shown_after sight shown) line) (sym same)
           (holds_more shown (shown_after sight shown) line w.leave.new.self.memory more
           (w.leave.ensures.holds shown line back unsaid knows.seen knows.held))))
-      | else-ne+else-is_sure-self w ↦
-          knows_same (shown_after sight shown) line c.args.self.now c.if-ne.self
+      | else-not-is_same_picture+else-is_sure-self w ↦
+          knows_same (shown_after sight shown) line c.args.self.now c.if-not-is_same_picture.self
           (ap memory_of w.self-is) (ap view_of w.self-is)
           (knows_more shown (shown_after sight shown) line c.args.self.now more knows)
     ] in
@@ -39,8 +47,8 @@ returns-clause-seen c = λ done shown line knows.
 pub returns-clause-right : goal.returns-clause-right
 returns-clause-right c = λ waits.
     let quiet = (c.is_due.ensures.0 c.if-is_due.false).0 in
-    let new : Waits c.if-ne.self = elim c.if-ne.branch [
-      | then-ne w ↦
+    let new : Waits c.if-not-is_same_picture.self = elim c.if-not-is_same_picture.branch [
+      | then-not-is_same_picture w ↦
           let same_lost : lost_of w.if-not-self.self ≡ w.leave.new.self.lost =
           elim w.if-not-self.branch [
             | then-not-self w' ↦ ap lost_of w'.self-is
@@ -56,6 +64,66 @@ returns-clause-right c = λ waits.
           let none : w.show.new.self.ended ≡ None =
           w.show.ensures.ended ∙ same_ended ∙ w.leave.ensures.keeps.2 ∙ quiet.2 in
           subst Waits (sym w.self-is) (rw none tt, w.show.ensures.lost silent)
-      | else-ne+else-is_sure-self w ↦ subst Waits (sym w.self-is) waits
+      | else-not-is_same_picture+else-is_sure-self w ↦ subst Waits (sym w.self-is) waits
     ] in
     (new.0, new.1)
+
+pub returns-clause-reads : goal.returns-clause-reads
+returns-clause-reads c = λ few explained.
+    let new : IsExplained c.if-not-is_same_picture.self = elim c.if-not-is_same_picture.branch [
+      | then-not-is_same_picture w ↦
+          let same : memory_of w.if-not-self.self ≡ w.leave.new.self.memory =
+          elim w.if-not-self.branch [
+            | then-not-self w' ↦ ap memory_of w'.self-is
+            | else-not-self w' ↦ ap memory_of w'.self-is
+          ] in
+          subst IsExplained (sym w.self-is)
+          (w.show.ensures.reads (subst (λ (m : Memory). length m.seen.items < 23) (sym same)
+          (w.leave.ensures.few few)))
+      | else-not-is_same_picture+else-is_sure-self w ↦ subst IsExplained (sym w.self-is) explained
+    ] in new
+
+pub returns-clause-stands : goal.returns-clause-stands
+returns-clause-stands c = λ shown line knows stands.
+    let (back, unsaid) = (c.is_due.ensures.0 c.if-is_due.false).0.0 in
+    let new : Stands c.if-not-is_same_picture.self = elim c.if-not-is_same_picture.branch [
+      | then-not-is_same_picture w ↦
+          let same : memory_of w.if-not-self.self ≡ w.leave.new.self.memory =
+          elim w.if-not-self.branch [
+            | then-not-self w' ↦ ap memory_of w'.self-is
+            | else-not-self w' ↦ ap memory_of w'.self-is
+          ] in
+          let held = w.leave.ensures.holds shown line back unsaid knows.seen knows.held in
+          subst Stands (sym w.self-is) (w.show.ensures.stands (subst IsOpen (sym same) (
+            (w.leave.ensures.back ∙ back, w.leave.ensures.unsaid ∙ unsaid),
+            w.leave.ensures.answer ∙ stands.1 (back, unsaid),
+            held.rooted,
+          )))
+      | else-not-is_same_picture+else-is_sure-self w ↦ subst Stands (sym w.self-is) stands
+    ] in
+    new
+
+pub returns-clause-hopeless : goal.returns-clause-hopeless
+returns-clause-hopeless c = λ h.
+    let new : WhyHopeless c.if-not-is_same_picture.self = elim c.if-not-is_same_picture.branch [
+      | then-not-is_same_picture w ↦ subst WhyHopeless (sym w.self-is) w.show.ensures.hopeless
+      | else-not-is_same_picture+else-is_sure-self w ↦ subst WhyHopeless (sym w.self-is) h
+    ] in new
+
+pub returns-clause-since_seen : goal.returns-clause-since_seen
+returns-clause-since_seen c = λ few view is changed seen.
+    elim c.if-not-is_same_picture.branch [
+      | then-not-is_same_picture w ↦
+          let same : memory_of w.if-not-self.self ≡ w.leave.new.self.memory =
+          elim w.if-not-self.branch [
+            | then-not-self w' ↦ ap memory_of w'.self-is
+            | else-not-self w' ↦ ap memory_of w'.self-is
+          ] in
+          let shown = sym w.show.ensures.shown ∙ sym (ap view_of w.self-is) ∙ is in
+          let stands = w.show.ensures.seen view shown
+          (subst (λ (m : Memory). length m.seen.items < 23) (sym same) (w.leave.ensures.few few))
+          (subst (λ (m : Memory). FollowsSeen m (pieces_of view.shown)) (sym same)
+          (w.leave.ensures.kept few (pieces_of view.shown) seen)) in
+          subst (λ (r : Recogniser). r.here ≢ Place.Nowhere) (sym w.self-is) stands
+      | else-not-is_same_picture+else-is_sure-self w ↦ absurd (changed (ap view_of w.self-is))
+    ]

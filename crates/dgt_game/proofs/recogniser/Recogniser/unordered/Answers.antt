@@ -3,8 +3,8 @@ use Rattle.dgt_game.specs.Memory.{steps}
 use Rattle.dgt_game.proofs.Links.{fits_gap}
 use Rattle.dgt_game.proofs.recogniser.Recogniser.unordered.Goals as goal
 
-pub returns : goal.returns
-returns c = λ pieces fits.
+pub returns-clause-linked : goal.returns-clause-linked
+returns-clause-linked c = λ pieces fits.
     let memory = c.args.self.now.memory in
     fits_gap (steps memory.line.items) (steps memory.seen.items) pieces c.args.node.step _
     c.halves.result c.halves.ensures refl fits

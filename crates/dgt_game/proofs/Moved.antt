@@ -1,0 +1,151 @@
+-- Men that have moved.
+use Rattle.std.proofs.Common.{◌≡◌, ◌≢◌, ◌∙◌, ◌⊎◌, ap, ◌<◌, ◌≤◌, ◌+◌, arith, sym, subst, inl, inr, ℕ}
+use Rattle.std.proofs.Common.{zero, suc, List, [], ◌∷◌, ◌++◌, length, slice_index_or, unwrap_or, Option, Some, None, slice_get}
+use Rattle.std.specs.Prelude.{IsSome, MatchOption}
+use Rattle.std.proofs.lemmas.Bool.{cases_lt}
+use Rattle.std.proofs.lemmas.Option.{get_or_from_slice_get, slice_get-get_or, slice_get_within}
+use Rattle.std.proofs.lemmas.List.{length-map}
+use Rattle.dgt_values.specs.declared.pieces.Piece.{Piece}
+use Rattle.dgt_values.specs.Board.{pieces_of}
+use Rattle.dgt_chess.specs.declared.pieces.Colour.{Colour}
+use Rattle.dgt_chess.specs.declared.pieces.Man.{Man}
+use Rattle.dgt_chess.specs.declared.state.State.{State}
+use Rattle.dgt_chess.specs.Attacks.{other, piece_at, piece_of}
+use Rattle.dgt_chess.specs.Rules.{board}
+use Rattle.dgt_chess.proofs.Unique.{not_free, not_theirs}
+use Rattle.dgt_game.specs.declared.node.Node.{Node}
+use Rattle.dgt_game.specs.declared.node.Origin.{Origin}
+use Rattle.dgt_game.specs.declared.node.Step.{Step}
+use Rattle.dgt_game.specs.declared.view.View.{View}
+use Rattle.dgt_game.specs.Told.{as_shown}
+use Rattle.dgt_game.specs.Memory.{steps}
+use Rattle.dgt_game.specs.Reading.{HasLineFrom, HasMoved, MovedAt, origins}
+use Rattle.dgt_game.proofs.Chains.{get_step}
+
+-- on a square only men of a side have moved
+abbrev pub Keeps : Colour → Piece → Piece → Type 0
+Keeps side old new =
+    (new ≡ old)
+    ⊎ ((man : Man) × (new ≡ piece_of side man))
+    ⊎ ((new ≡ Piece.Empty) × ((man : Man) × (old ≡ piece_of side man)))
+
+pub some_man : (found : Option Man) (side : Colour) (piece : Piece)
+    → MatchOption found ((man : Man) → piece ≢ piece_of side man) (λ man. piece ≡ piece_of side man)
+    → IsSome found → (man : Man) × (piece ≡ piece_of side man)
+some_man None side piece is some = let wrong : ⊥ = cc in absurd wrong
+some_man (Some man) side piece is some = (man, is)
+
+-- then none of the other side has
+kept : (picture : List Piece) (state : State) (side : Colour) (k : ℕ) → side ≡ other state.turn
+    → Keeps side (piece_at (board state) k) (piece_at picture k)
+    → ¬ (MovedAt picture state state.turn k)
+kept picture state side k sides keeps (differs, moved) = elim keeps [
+  | inl same ↦ differs same
+  | inr more ↦ elim more [
+    | inl theirs ↦ elim moved [
+      | inl own ↦ not_theirs state.turn own.0 theirs.0 (sym own.1 ∙ theirs.1
+          ∙ ap (λ (c : Colour). piece_of c theirs.0) sides)
+      | inr gone ↦ not_free side theirs.0 (sym theirs.1 ∙ gone.0)
+    ]
+    | inr left ↦ elim moved [
+      | inl own ↦ not_free state.turn own.0 (sym own.1 ∙ left.0)
+      | inr gone ↦ not_theirs state.turn gone.1.0 left.1.0 (sym gone.1.1 ∙ left.1.1
+          ∙ ap (λ (c : Colour). piece_of c left.1.0) sides)
+    ]
+  ]
+]
+
+pub kept_more : (picture : List Piece) (state : State) (side : Colour) (n at : ℕ)
+    (old new : Piece) → n ≡ at → slice_get picture n ≡ Some new
+    → slice_get (board state) n ≡ Some old → side ≡ other state.turn → Keeps side old new
+    → ((k : ℕ) → k < at → ¬ (MovedAt picture state state.turn k))
+    → (k : ℕ) → k < at + 1 → ¬ (MovedAt picture state state.turn k)
+kept_more picture state side n at old new same is was sides keeps before k small moved =
+    elim (cases_lt k at) [
+      | inl less ↦ before k less moved
+      | inr more ↦
+          let now : k ≡ at = omega (arith, small, more) in
+          let new_is : piece_at picture at ≡ new = get_or_from_slice_get picture at new Piece.Empty
+          (subst (λ (i : ℕ). slice_get picture i ≡ Some new) same is) in
+          let old_is : piece_at (board state) at ≡ old =
+          get_or_from_slice_get (board state) at old Piece.Empty
+          (subst (λ (i : ℕ). slice_get (board state) i ≡ Some old) same was) in
+          kept picture state side at sides
+          (subst (λ (p : Piece). Keeps side p (piece_at picture at)) (sym old_is)
+          (subst (λ (p : Piece). Keeps side old p) (sym new_is) keeps))
+          (subst (MovedAt picture state state.turn) now moved)
+    ]
+
+pub moved_here : (first second : Step) (seen shown : View) → first ≡ second → seen ≡ shown
+    → HasMoved (as_shown first.is_turned (pieces_of seen.shown)) first.state first.state.turn
+    → HasMoved (as_shown second.is_turned (pieces_of shown.shown)) second.state second.state.turn
+moved_here first second seen shown one same moved =
+    subst (λ (v : View). HasMoved (as_shown second.is_turned (pieces_of v.shown)) second.state
+    second.state.turn) same
+    (subst (λ (s : Step). HasMoved (as_shown s.is_turned (pieces_of seen.shown)) s.state
+    s.state.turn) one moved)
+
+pub none_some : (found : Option Node) → found ≡ None → ¬ (IsSome found)
+none_some None none some = let wrong : ⊥ = cc in wrong
+none_some (Some node) none some = let wrong : ⊥ = cc in wrong
+
+pub same_view : (found : Option View) (first second : View) → found ≡ Some first
+    → found ≡ Some second → second ≡ first
+same_view found first second one two = cc
+
+-- what holds of none before holds of none up to here
+pub none_more : (P : ℕ → Type 0) (at : ℕ) → ((k : ℕ) → 1 ≤ k → k < at → ¬ (P k)) → ¬ (P at)
+    → (k : ℕ) → 1 ≤ k → k < at + 1 → ¬ (P k)
+none_more P at before here k some small holds = elim (cases_lt k at) [
+  | inl less ↦ before k some less holds
+  | inr more ↦ let now : k ≡ at = omega (arith, small, more) in here (subst P now holds)
+]
+
+-- what follows a node does so if only what is known of when it was shown changes
+abbrev pub FollowsOne : List Node → List Piece → Type 0
+FollowsOne nodes picture =
+    (k : ℕ) × (node : Node) × (slice_get nodes k ≡ Some node)
+    × (node.origin ≢ Origin.Shadow) × HasLineFrom 1 node.step picture
+
+get_origin : (nodes : List Node) (k : ℕ) (node : Node) → slice_get nodes k ≡ Some node
+    → slice_get (origins nodes) k ≡ Some node.origin
+get_origin [] k node e = let wrong : ⊥ = cc in absurd wrong
+get_origin (first ∷ nodes) zero node e =
+    ap (λ (o : Option Node). Some (unwrap_or o first).origin) e
+get_origin (first ∷ nodes) (suc k) node e = get_origin nodes k node e
+
+pub seen_kept : (old new : List Node) (picture : List Piece) → steps new ≡ steps old
+    → origins new ≡ origins old → FollowsOne old picture → FollowsOne new picture
+seen_kept old new picture steps_same origins_same (k, node, is, known, line) =
+    let less : k < length new = omega (
+      arith,
+      slice_get_within old k node is,
+      ap length steps_same,
+      length-map new (λ (n : Node). n.step),
+      length-map old (λ (n : Node). n.step),
+    ) in
+    let other = slice_index_or new k node in
+    let found : slice_get new k ≡ Some other = slice_get-get_or new k node less in
+    let first : slice_get (steps new) k ≡ Some other.step = get_step new k other found in
+    let second : slice_get (steps old) k ≡ Some node.step = get_step old k node is in
+    let step : node.step ≡ other.step = cc in
+    let third : slice_get (origins new) k ≡ Some other.origin = get_origin new k other found in
+    let fourth : slice_get (origins old) k ≡ Some node.origin = get_origin old k node is in
+    let origin : node.origin ≡ other.origin = cc in (
+      k,
+      other,
+      found,
+      subst (λ (o : Origin). o ≢ Origin.Shadow) origin known,
+      subst (λ (s : Step). HasLineFrom 1 s picture) step line,
+    )
+
+get_more : (old more : List Node) (k : ℕ) (node : Node) → slice_get old k ≡ Some node
+    → slice_get (old ++ more) k ≡ Some node
+get_more [] more k node e = let wrong : ⊥ = cc in absurd wrong
+get_more (first ∷ old) more zero node e = e
+get_more (first ∷ old) more (suc k) node e = get_more old more k node e
+
+pub pushed : (old : List Node) (new : Node) (picture : List Piece) → FollowsOne old picture
+    → FollowsOne (old ++ new ∷ []) picture
+pushed old new picture (k, node, is, known, line) =
+    (k, node, get_more old (new ∷ []) k node is, known, line)

@@ -1,0 +1,406 @@
+-- What a picture is read as.
+use Rattle.std.proofs.Common.{◌≡◌, ◌∙◌, ◌<◌, ◌≤◌, ◌-◌, ◌⊎◌, inl, inr, arith, ap, sym, refl, subst, ℕ, zero, suc, Bool, true, false, ◌∷◌, List, length, Option, Some, None, slice_index_or}
+use Rattle.std.specs.Prelude.{◌≢◌, [], IfSome, slice_get}
+use Rattle.std.proofs.lemmas.Option.{slice_get_read, slice_get_within}
+use Rattle.std.proofs.lemmas.List.{get_or-reverse, length-map}
+use Rattle.std.proofs.lemmas.Bool.{cases_lt}
+use Rattle.std.proofs.Math.Logic.{∥∥₁_elim}
+use Rattle.dgt_values.specs.declared.pieces.Piece.{Piece}
+use Rattle.dgt_values.specs.Board.{pieces_of}
+use Rattle.dgt_chess.specs.declared.state.Move.{Move}
+use Rattle.dgt_chess.specs.declared.state.State.{State}
+use Rattle.dgt_chess.specs.declared.pieces.Colour.{Colour}
+use Rattle.dgt_chess.specs.declared.pieces.Man.{Man}
+use Rattle.dgt_chess.specs.Attacks.{piece_at, piece_of}
+use Rattle.dgt_chess.specs.Possible.{HasKings, HasOneKing}
+use Rattle.dgt_chess.specs.Rules.{board}
+use Rattle.dgt_game.specs.declared.memory.Memory.{Memory}
+use Rattle.dgt_game.specs.declared.node.Node.{Node}
+use Rattle.dgt_game.specs.declared.node.Place.{Place}
+use Rattle.dgt_game.specs.declared.node.Returned.{Returned}
+use Rattle.dgt_game.specs.declared.node.Step.{Step}
+use Rattle.dgt_game.specs.declared.reading.Reading.{Reading}
+use Rattle.dgt_game.specs.declared.recogniser.Over.{Over}
+use Rattle.dgt_game.specs.declared.recogniser.Recogniser.{Recogniser}
+use Rattle.dgt_game.specs.declared.view.View.{View}
+use Rattle.dgt_game.specs.Lines.{LeadsTo, NoLine, IsLine}
+use Rattle.dgt_game.specs.Told.{as_shown, told_pieces}
+use Rattle.dgt_game.specs.Memory.{steps, told_of}
+use Rattle.dgt_game.specs.Reading.{HasLine, HasLineFrom, IsExplained, IsLive, IsNear, MayGoOn, ReadsView, ShowsAt, SomeLine}
+use Rattle.dgt_game.specs.Reading.{EarlierAreKnown, ElseStartIsKnown, FollowsSeen, IsKnown, IsRead, MovesAreKnown, ShowsEarlier, StartIsKnown, TwoAreKnown}
+use Rattle.dgt_game.specs.Waiting.{last_of}
+use Rattle.dgt_game.proofs.Chains.{get_step}
+use Rattle.dgt_game.proofs.Links.{turned_back}
+
+pub read_at : (nodes : List Node) (k : ℕ) (node : Node) → k < length nodes
+    → node ≡ slice_index_or nodes k node → slice_get nodes k ≡ Some node
+read_at nodes k node small is = slice_get_read nodes (length nodes) k node refl small is
+
+pub one_node : (nodes : List Node) (k : ℕ) (one other : Node) → slice_get nodes k ≡ Some one
+    → slice_get nodes k ≡ Some other → one ≡ other
+one_node nodes k one other first second = cc
+
+-- a node that was read twice
+pub shown_at : (first second node : Node) (shown : List Piece) → first ≡ node → second ≡ node
+    → board first.step.state ≡ as_shown second.step.is_turned shown
+    → board node.step.state ≡ as_shown node.step.is_turned shown
+shown_at first second node shown one two same =
+    subst (λ (n : Node). board n.step.state ≡ as_shown node.step.is_turned shown) one
+    (subst (λ (n : Node). board first.step.state ≡ as_shown n.step.is_turned shown) two same)
+
+pub shown_back : (first second node : Node) (shown : List Piece) → node ≡ first → node ≡ second
+    → board node.step.state ≡ as_shown node.step.is_turned shown
+    → board first.step.state ≡ as_shown second.step.is_turned shown
+shown_back first second node shown one two same =
+    subst (λ (n : Node). board n.step.state ≡ as_shown second.step.is_turned shown) one
+    (subst (λ (n : Node). board node.step.state ≡ as_shown n.step.is_turned shown) two same)
+
+-- the node of a place has the pieces that are shown
+pub shows_line : (self : Memory) (view : View) (k : ℕ) (node : Node)
+    → slice_get self.line.items k ≡ Some node
+    → board node.step.state ≡ as_shown node.step.is_turned (pieces_of view.shown)
+    → ShowsAt self view (Place.Line k)
+shows_line self view k node at same = (
+  node.step,
+  get_step self.line.items k node at,
+  turned_back node.step.is_turned (board node.step.state) (pieces_of view.shown) same,
+)
+
+pub shows_seen : (self : Memory) (view : View) (k : ℕ) (node : Node)
+    → slice_get self.seen.items k ≡ Some node
+    → board node.step.state ≡ as_shown node.step.is_turned (pieces_of view.shown)
+    → ShowsAt self view (Place.Seen k)
+shows_seen self view k node at same = (
+  node.step,
+  get_step self.seen.items k node at,
+  turned_back node.step.is_turned (board node.step.state) (pieces_of view.shown) same,
+)
+
+pub reads_at : (self : Memory) (view : View) (place : Place) → ShowsAt self view place
+    → ReadsView self view (Reading.At place)
+reads_at self view (Place.Line k) at = at
+reads_at self view (Place.Seen k) at = at
+reads_at self view Place.Nowhere at = tt
+
+pub near_at : (self : Memory) (view : View) (place : Place) → ShowsAt self view place
+    → IsNear (Reading.At place)
+near_at self view (Place.Line k) (step, at, same) = tt
+near_at self view (Place.Seen k) (step, at, same) = tt
+near_at self view Place.Nowhere (step, at, same) = let wrong : ⊥ = cc in wrong
+
+pub near_read : (reading : Reading) → IsNear reading → IsRead reading
+near_read (Reading.At (Place.Line k)) near = tt
+near_read (Reading.At (Place.Seen k)) near = tt
+near_read (Reading.At Place.Nowhere) near = near
+near_read (Reading.New node) near = tt
+near_read (Reading.Held node) near = absurd near
+near_read (Reading.Two first second) near = absurd near
+
+pub no_line : (count : ℕ) (state : State) (pieces shown : List Piece) → NoLine count state pieces
+    → pieces ≡ shown → ¬ (SomeLine count state shown)
+unfolding NoLine
+no_line count state pieces shown none same (moves, long, leads) =
+    none moves long (subst (LeadsTo state moves) (sym same) leads)
+
+-- the step at a place is known
+pub from_here : (here : Option Step) (from : Step) (count : ℕ) (picture : List Piece)
+    → here ≡ Some from
+    → ((step : Step) × (here ≡ Some step) × HasLineFrom count step picture)
+    → HasLineFrom count from picture
+from_here here from count picture is (step, at, line) =
+    let same : step ≡ from = cc in subst (λ (s : Step). HasLineFrom count s picture) same line
+
+pub none_here : (here : Option Step) (count : ℕ) (picture : List Piece) → here ≡ None
+    → ¬ ((step : Step) × (here ≡ Some step) × HasLineFrom count step picture)
+none_here here count picture none (step, at, line) = let wrong : ⊥ = cc in wrong
+
+-- a test sees each king of the colour
+abbrev pub Sees : List Piece → Colour → Bool → Type 0
+Sees picture colour found =
+    (square : ℕ) → square < 64 → piece_at picture square ≡ piece_of colour Man.King
+    → found ≡ true
+
+-- a king of a state is on the board, from whichever side that is seen
+king_shown : (pieces picture : List Piece) (turned : Bool) (colour : Colour) (found : Bool)
+    → length picture ≡ 64 → pieces ≡ as_shown turned picture → HasOneKing pieces colour
+    → Sees picture colour found → found ≡ true
+unfolding HasOneKing
+king_shown pieces picture true colour found len same (square, small, here, only) sees =
+    let back : length picture - 1 - square ≡ 63 - square = omega arith in
+    sees (63 - square) (omega arith) (ap (piece_at picture) (sym back)
+    ∙ sym (get_or-reverse picture square Piece.Empty (omega arith))
+    ∙ ap (λ ps. piece_at ps square) (sym same) ∙ here)
+king_shown pieces picture false colour found len same (square, small, here, only) sees =
+    sees square small (ap (λ ps. piece_at ps square) (sym same) ∙ here)
+
+one_king : (pieces : List Piece) (colour : Colour) → HasKings pieces → HasOneKing pieces colour
+one_king pieces Colour.White kings = kings.0
+one_king pieces Colour.Black kings = kings.1
+
+-- so both kings are on its picture
+pub king_seen : (state : State) (turned : Bool) (picture : List Piece) (colour : Colour)
+    (found : Bool) → length picture ≡ 64 → board state ≡ as_shown turned picture
+    → Sees picture colour found → found ≡ true
+king_seen state turned picture colour true len same sees = refl
+king_seen state turned picture colour false len same sees =
+    absurd (∥∥₁_elim state.possible (λ x y. absurd x) (λ possible.
+    let wrong : false ≡ true = king_shown (board state) picture turned colour false len same
+    (one_king (board state) colour possible.kings) sees in
+    let none : ⊥ = cc in none))
+
+-- the state that is shown
+abbrev pub SomeState : List Piece → Type 0
+SomeState picture =
+    (state : State) × (turned : Bool) × (board state ≡ as_shown turned picture)
+
+turned_to : (turned : Bool) (pieces shown : List Piece) → as_shown turned pieces ≡ shown
+    → pieces ≡ as_shown turned shown
+turned_to turned pieces shown same = sym (turned_back turned shown pieces (sym same))
+
+led_from : (count : ℕ) (step : Step) (picture : List Piece) → HasLineFrom count step picture
+    → SomeState picture
+unfolding LeadsTo
+led_from count step picture (moves, long, (new, line, same)) = (new, step.is_turned, same)
+
+led_to : (count : ℕ) (self : Memory) (place : Place) (picture : List Piece)
+    → HasLine count self place picture → SomeState picture
+led_to count self place picture (step, at, line) = led_from count step picture line
+
+pub seen_state : (self : Memory) (picture : List Piece) → FollowsSeen self picture
+    → SomeState picture
+seen_state self picture (k, node, is, known, line) = led_from 1 node.step picture line
+
+shown_state : (self : Memory) (view : View) (place : Place) → ShowsAt self view place
+    → SomeState (pieces_of view.shown)
+shown_state self view place (step, at, same) = (
+  step.state,
+  step.is_turned,
+  turned_to step.is_turned (board step.state) (pieces_of view.shown) same,
+)
+
+pub state_of : (self : Recogniser) (view : View) → IsKnown self view
+    → SomeState (pieces_of view.shown)
+state_of self view known = elim known [
+  | inl start ↦ (start.0, start.1, start.3)
+  | inr more ↦ elim more [
+    | inl earlier ↦
+        let at = earlier.1.3 in (
+          at.0.state,
+          at.0.is_turned,
+          turned_to at.0.is_turned (board at.0.state) (pieces_of view.shown) at.2,
+        )
+    | inr more ↦ elim more [
+      | inl one ↦ led_to 1 self.memory (Place.Line 0) (pieces_of view.shown) one.1
+      | inr more ↦ elim more [
+        | inl two ↦ led_to 2 self.memory (Place.Line 0) (pieces_of view.shown) two.2
+        | inr last ↦ shown_state self.memory view (Place.Line 0) last.1
+      ]
+    ]
+  ]
+]
+
+-- the same is known if the line stays
+abbrev pub over_of : Recogniser → Over
+over_of self = self.over
+
+abbrev pub since_of : Recogniser → ℕ
+since_of self = self.since
+
+abbrev pub returned_of : Recogniser → Returned
+returned_of self = self.returned
+
+live_same : (old new : Recogniser) → new.memory.line ≡ old.memory.line
+    → over_of new ≡ over_of old → since_of new ≡ since_of old → IsLive old → IsLive new
+live_same old new line over since (some, may) = (
+  λ none. some (let same : old.memory.line.items ≡ [] = cc in same),
+  subst (λ (o : Over). MayGoOn o new.since) (sym over)
+      (subst (MayGoOn old.over) (sym since) may),
+)
+
+line_same : (old new : Memory) (count : ℕ) (picture : List Piece) → new.line ≡ old.line
+    → HasLine count old (Place.Line 0) picture → HasLine count new (Place.Line 0) picture
+line_same old new count picture same (step, at, line) =
+    (step, let got : slice_get (steps new.line.items) 0 ≡ Some step = cc in got, line)
+
+earlier_same : (old new : Memory) (view : View) → new.line ≡ old.line → ShowsEarlier old view
+    → ShowsEarlier new view
+earlier_same old new view same (k, some, few, (step, at, shows)) = (
+  k,
+  some,
+  few,
+  (step, let got : slice_get (steps new.line.items) k ≡ Some step = cc in got, shows),
+)
+
+last_same : (old new : Memory) (view : View) → new.line ≡ old.line
+    → ShowsAt old view (Place.Line 0) → ShowsAt new view (Place.Line 0)
+last_same old new view same (step, at, shows) =
+    (step, let got : slice_get (steps new.line.items) 0 ≡ Some step = cc in got, shows)
+
+pub known_same : (old new : Recogniser) (view : View) → new.memory.line ≡ old.memory.line
+    → over_of new ≡ over_of old → since_of new ≡ since_of old → returned_of new ≡ returned_of old
+    → IsKnown old view → IsKnown new view
+known_same old new view line over since returned known = elim known [
+  | inl start ↦ inl start
+  | inr more ↦ inr (elim more [
+    | inl earlier ↦ inl (
+      live_same old new line over since earlier.0,
+      earlier_same old.memory new.memory view line earlier.1,
+    )
+    | inr more ↦ inr (elim more [
+      | inl one ↦ inl (
+        live_same old new line over since one.0,
+        line_same old.memory new.memory 1 (pieces_of view.shown) line one.1,
+      )
+      | inr more ↦ inr (elim more [
+        | inl two ↦ inl (
+          live_same old new line over since two.0,
+          ap (λ (r : Returned). r.count) returned ∙ two.1,
+          line_same old.memory new.memory 2 (pieces_of view.shown) line two.2,
+        )
+        | inr last ↦ inr (over ∙ last.0, last_same old.memory new.memory view line last.1)
+      ])
+    ])
+  ])
+]
+
+-- if the line stays, and the picture has a place once it was looked at
+pub explains : (old new : Recogniser) (view : View) → new.view ≡ Some view
+    → new.memory.line ≡ old.memory.line → over_of new ≡ over_of old → since_of new ≡ since_of old
+    → (new.here ≢ Place.Nowhere) ⊎ (returned_of new ≡ returned_of old)
+    → (IsKnown old view → new.here ≢ Place.Nowhere) → IsExplained new
+explains old new view is line over since placed stands =
+    subst (λ (o : Option View). IfSome o (λ view. IsKnown new view → new.here ≢ Place.Nowhere))
+    (sym is) (λ known. elim placed [
+      | inl here ↦ here
+      | inr returned ↦ stands (known_same new old view (sym line) (sym over) (sym since)
+          (sym returned) known)
+    ])
+
+pub read_or_not : (reading : Reading) → IsRead reading ⊎ (reading ≡ Reading.At Place.Nowhere)
+read_or_not (Reading.At (Place.Line k)) = inl tt
+read_or_not (Reading.At (Place.Seen k)) = inl tt
+read_or_not (Reading.At Place.Nowhere) = inr refl
+read_or_not (Reading.New node) = inl tt
+read_or_not (Reading.Held node) = inl tt
+read_or_not (Reading.Two first second) = inl tt
+
+-- nothing before a place shows the picture, and it isn't there either
+pub not_shown : (self : Memory) (view : View) (k : ℕ) (node : Node)
+    → slice_get self.line.items k ≡ Some node
+    → ¬ (board node.step.state ≡ as_shown node.step.is_turned (pieces_of view.shown))
+    → ¬ (ShowsAt self view (Place.Line k))
+not_shown self view k node at differs (step, is, same) =
+    let got : slice_get (steps self.line.items) k ≡ Some node.step =
+    get_step self.line.items k node at in
+    let one : step ≡ node.step = cc in
+    differs (turned_to node.step.is_turned (board node.step.state) (pieces_of view.shown)
+    (subst (λ (s : Step). told_pieces (told_of s) ≡ pieces_of view.shown) one same))
+
+pub at_least : (P : ℕ → Type 0) (k j : ℕ) → ((i : ℕ) → 1 ≤ i → i < k → ¬ (P i)) → 1 ≤ j → P j
+    → k ≤ j
+at_least P k j none some here = elim (cases_lt j k) [
+  | inl less ↦ absurd (none j some less here)
+  | inr more ↦ more
+]
+
+pub shown_within : (self : Memory) (view : View) (k : ℕ) → ShowsAt self view (Place.Line k)
+    → k < length self.line.items
+shown_within self view k (step, at, same) =
+    omega (
+      arith,
+      slice_get_within (steps self.line.items) k step at,
+      length-map self.line.items (λ (n : Node). n.step),
+    )
+
+-- ---- Laws
+
+leads : (state : State) (moves : List Move) (new : State) (pieces : List Piece)
+    → IsLine state moves new → board new ≡ pieces → LeadsTo state moves pieces
+unfolding LeadsTo
+leads state moves new pieces line same = (new, line, same)
+
+has_last : (self : Recogniser) (step : Step) → last_of self.memory ≡ Some step
+    → self.memory.line.items ≢ []
+has_last self step last none =
+    let wrong : None ≡ Some step = subst (λ (nodes : List Node).
+    slice_get (steps nodes) 0 ≡ Some step) none last in let no : ⊥ = cc in no
+
+open_line : (self : Recogniser) → self.over ≡ Over.No → self.memory.line.items ≢ []
+    → IsLive self
+open_line self over some = (some, subst (λ (o : Over). MayGoOn o self.since) (sym over) tt)
+
+pub moves_known : MovesAreKnown
+moves_known self view step one new over last move same = inr (inr (inl (
+  open_line self over (has_last self step last),
+  (
+    step,
+    last,
+    (
+      one ∷ [],
+      refl,
+      leads step.state (one ∷ []) new _ (new, move, refl)
+          (turned_to step.is_turned (board new) (pieces_of view.shown) same),
+    ),
+  ),
+)))
+
+pub two_known : TwoAreKnown
+two_known self view step one answer mid new over none last move move' same = inr (inr (inr (inl (
+  open_line self over (has_last self step last),
+  none,
+  (
+    step,
+    last,
+    (
+      one ∷ answer ∷ [],
+      refl,
+      leads step.state (one ∷ answer ∷ []) new _ (mid, move, (new, move', refl))
+          (turned_to step.is_turned (board new) (pieces_of view.shown) same),
+    ),
+  ),
+))))
+
+pub earlier_known : EarlierAreKnown
+earlier_known self view step zero over some few at same =
+    inr (inr (inr (inr (over, (step, at, same)))))
+earlier_known self view step (suc k) over some few at same =
+    inr (inl (open_line self over some, (suc k, omega arith, few, (step, at, same))))
+
+pub start_known : StartIsKnown
+start_known self view state is_turned start same = inl (
+  state,
+  is_turned,
+  start,
+  turned_to is_turned (board state) (pieces_of view.shown) same,
+)
+
+no_line_live : (self : Recogniser) → (self.memory.line.items ≡ []) ⊎ (self.over ≡ Over.Kings)
+    → ¬ (IsLive self)
+no_line_live self (inl none) live = live.0 none
+no_line_live self (inr kings) live = subst (λ (o : Over). MayGoOn o self.since) kings live.1
+
+none_last : (self : Recogniser) (view : View)
+    → (self.memory.line.items ≡ []) ⊎ (self.over ≡ Over.Kings) → self.over ≡ Over.No
+    → ¬ (ShowsAt self.memory view (Place.Line 0))
+none_last self view (inl none) over (step, at, same) = has_last self step at none
+none_last self view (inr kings) over at = let wrong : ⊥ = cc in wrong
+
+pub else_start : ElseStartIsKnown
+else_start self view ended known = elim known [
+  | inl start ↦ (
+    start.0,
+    start.1,
+    start.2,
+    turned_back start.1 (board start.0) (pieces_of view.shown) start.3,
+  )
+  | inr more ↦ absurd (no_line_live self ended (elim more [
+    | inl earlier ↦ earlier.0
+    | inr more ↦ elim more [
+      | inl one ↦ one.0
+      | inr more ↦ elim more [
+        | inl two ↦ two.0
+        | inr last ↦ absurd (none_last self view ended last.0 last.1)
+      ]
+    ]
+  ]))
+]

@@ -1,0 +1,254 @@
+-- The board's place in what is known, and what it shows once all is reported.
+use Rattle.std.proofs.Common.{◌≡◌, ◌≢◌, ◌∙◌, ◌⊎◌, ◌≤◌, refl, sym, ap, subst, inl, inr, arith, ℕ, zero, suc, Bool, true, false, List, length, Option, Some, None, unwrap_or}
+use Rattle.std.proofs.Math.Bridge.{le_prop}
+use Rattle.std.specs.Prelude.{IfSome, MatchOption, slice_get}
+use Rattle.dgt_values.specs.declared.pieces.Piece.{Piece}
+use Rattle.dgt_values.specs.Board.{pieces_of}
+use Rattle.dgt_chess.specs.declared.state.State.{State}
+use Rattle.dgt_chess.specs.Attacks.{piece_at}
+use Rattle.dgt_chess.specs.Rules.{board}
+use Rattle.dgt_game.specs.declared.memory.Memory.{Memory}
+use Rattle.dgt_game.specs.declared.node.Node.{Node}
+use Rattle.dgt_game.specs.declared.node.Place.{Place}
+use Rattle.dgt_game.specs.declared.node.Returned.{Returned}
+use Rattle.dgt_game.specs.declared.node.Step.{Step}
+use Rattle.dgt_game.specs.declared.recogniser.Recogniser.{Recogniser}
+use Rattle.dgt_game.specs.declared.view.View.{View}
+use Rattle.dgt_game.specs.Memory.{IsBefore, IsTold, step_at, steps}
+use Rattle.dgt_game.specs.Planning.{LacksOnly}
+use Rattle.dgt_game.specs.Reading.{Shows}
+use Rattle.dgt_game.specs.Told.{IsHeld, as_shown}
+use Rattle.dgt_game.specs.Standing.{Counts, EndsHere, IsCalledFor, IsMeant, IsOpen, Lands, ShowsAs, ShowsBut, ShowsLast, Stands, StandsAt, TakesBack}
+use Rattle.dgt_game.specs.Waiting.{coming}
+use Rattle.dgt_game.proofs.Chains.{moved, some_below}
+use Rattle.dgt_game.proofs.Links.{turned_back}
+
+-- what is so of a value is so of one that is there
+pub some_of : {X : Type 0} (o : Option X) (P : X → Type 0) → MatchOption o ⊥ P → (x : X)
+    × (o ≡ Some x) × P x
+some_of None P h = absurd h
+some_of (Some x) P h = (x, refl, h)
+
+pub of_some : {X : Type 0} (o : Option X) (x : X) (P : X → Type 0) → o ≡ Some x → P x
+    → MatchOption o ⊥ P
+of_some o x P e h = rw e h
+
+-- a picture that shows a step shows all of it but pieces in hands
+pub shows_but : (view : View) (step : Step) → Shows view step → ShowsBut view step
+shows_but view step h = λ k l. inl (ap (λ (p : List Piece). piece_at p k) (turned_back
+    step.is_turned (pieces_of view.shown) (board step.state) (sym h)))
+
+-- whether pieces are in hands or not, no others lack
+pub but_as : (view : View) (node : Node) (held : Bool) → node.is_held ≡ held → ShowsAs view node
+    → ShowsBut view node.step
+but_as view node true e h = h.1 e
+but_as view node false e h = shows_but view node.step (h.0 e)
+
+pub shows_as : (view : View) (node : Node) → Shows view node.step → ShowsAs view node
+shows_as view node h = (λ e. h, λ e. shows_but view node.step h)
+
+-- the line's last state once all is reported is at its first place
+pub last_at_first : (memory : Memory) → IsTold memory
+    → coming memory ≡ step_at (steps memory.line.items) (steps memory.seen.items) (Place.Line 0)
+last_at_first memory told = rw (told.0, told.1) refl
+
+-- what is reported ends with what the board shows, or with what that answers
+pub tells : (view : View) (old new : Memory) (place : Place) (answer : Option Node)
+    → IsOpen old → ((step : Step) → step_at (steps old.line.items) (steps old.seen.items) place
+    ≡ Some step → coming new ≡ Some step) → ((step : Step) → step_at (steps old.line.items) (steps
+    old.seen.items) place ≡ Some step → (new.back ≤ 4) ⊎ (place ≡ Place.Line new.back))
+    → ((step : Step) → step_at (steps old.line.items) (steps old.seen.items) place ≡ Some step
+    → place ≢ Place.Line 0 → new.answer ≡ answer)
+    → (new.answer ≡ answer) ⊎ (new.answer ≡ None) → IsCalledFor old place answer view
+    → Lands view new × ((new.back ≤ 4) ⊎ ShowsLast view new)
+tells view old new place answer ready lands near answers either called =
+    let found = some_of (step_at (steps old.line.items) (steps old.seen.items) place) _ called.0 in
+    let step = found.0 in
+    let held : IfSome new.answer (λ node. Counts node → ShowsAs view node) = elim either [
+      | inl same ↦ subst (λ (o : Option Node). IfSome o (λ node. Counts node → ShowsAs view node))
+          (sym same) called.1
+      | inr none ↦ rw none tt
+    ] in
+    elim found.2 [
+      | inl shows ↦
+          let last : ShowsLast view new = of_some (coming new) step (Shows view) (lands step
+          found.1) shows in
+          ((inl last, held), inr last)
+      | inr (other, before, counts) ↦ (
+        (
+          inr (subst (λ (o : Option Node). MatchOption o ⊥ Counts) (sym (answers step found.1
+              other)) counts),
+          held,
+        ),
+        inl (elim (near step found.1) [
+          | inl few ↦ few
+          | inr at ↦ (subst (λ (p : Place). IsBefore (length (steps old.line.items)) (length (steps
+              old.seen.items)) p) at before).1
+        ]),
+      )
+    ]
+
+pub if_some : {X : Type 0} (o : Option X) (P Q : X → Type 0) → IfSome o P → ((x : X) → P x → Q x)
+    → IfSome o Q
+if_some None P Q h more = tt
+if_some (Some x) P Q h more = more x h
+
+pub returned_same : (count : ℕ) (near other : count ≤ 4) → ◌≡◌ {A = Returned} (record {
+  count = count;
+  near = near;
+}) (record { count = count; near = other })
+returned_same count near other = ap (λ (n : count ≤ 4). record { count = count; near = n }) (le_prop
+    near other)
+
+pub match_more : {X : Type 0} (o : Option X) (P Q : X → Type 0) → MatchOption o ⊥ P
+    → ((x : X) → P x → Q x) → MatchOption o ⊥ Q
+match_more None P Q h more = h
+match_more (Some x) P Q h more = more x h
+
+-- where the board stands is what it shows, if that is to be reported
+pub shows_at : (view : View) (place : Place) (self : Memory) (is_sure : Bool) → IsTold self
+    → self.answer ≡ None → StandsAt place self true is_sure view
+    → MatchOption (step_at (steps self.line.items) (steps self.seen.items) place) ⊥ (Shows view)
+shows_at view (Place.Line zero) self is_sure told none (inl last, held) =
+    subst (λ (o : Option Step). MatchOption o ⊥ (Shows view)) (last_at_first self told) last
+shows_at view (Place.Line zero) self is_sure told none (inr counts, held) =
+    absurd (subst (λ (o : Option Node). MatchOption o ⊥ Counts) none counts)
+shows_at view (Place.Line (suc k)) self is_sure told none (next, at) = at
+shows_at view (Place.Seen k) self is_sure told none at =
+    match_more (slice_get (steps self.seen.items) k) _ (Shows view) at (λ step on. on.0 refl)
+shows_at view Place.Nowhere self is_sure told none at = absurd (let wrong : ⊥ = cc in wrong)
+
+-- if nothing waits, all depends on where the board stands
+pub resting : {At Meant Back : Type 0} (memory : Memory) → IsTold memory → memory.answer ≡ None
+    → At → At × (IsTold memory → memory.answer ≡ None) × (IsTold memory ⊎ Meant)
+    × ((memory.back ≤ 4) ⊎ Back)
+resting memory told none at = (
+  at,
+  λ t. none,
+  inl told,
+  inl (let zero : memory.back ≡ 0 = told.0 in omega (arith, zero)),
+)
+
+pub some_view : (view : View) (seen : Option View) (P : View → Type 0) → seen ≡ Some view → P view
+    → IfSome seen P
+some_view view seen P e h = rw e h
+
+pub told_stays : (old new : Memory) → new.back ≡ old.back → new.unsaid.items ≡ old.unsaid.items
+    → IsTold old → IsTold new
+told_stays old new back unsaid told = (back ∙ told.0, unsaid ∙ told.1)
+
+pub at_other : (place : Place) (self : Memory) (is_sure : Bool) (view : View)
+    → ((k : ℕ) → place ≢ Place.Line k) → ((k : ℕ) → place ≢ Place.Seen k)
+    → StandsAt place self false is_sure view
+at_other (Place.Line k) self is_sure view line seen = absurd (line k refl)
+at_other (Place.Seen k) self is_sure view line seen = absurd (seen k refl)
+at_other Place.Nowhere self is_sure view line seen = refl
+
+pub back_of : {X : Type 0} (o : Option X) (back : ℕ) (P : X → Type 0)
+    → IfSome o (λ x. (back ≤ 4) ⊎ P x) → (back ≤ 4) ⊎ IfSome o P
+back_of None back P h = inr tt
+back_of (Some x) back P h = h
+
+pub at_some : {X : Type 0} (o : Option X) (x : X) (P : X → Type 0) → MatchOption o ⊥ P → o ≡ Some x
+    → P x
+at_some {X = X} o x P h e = subst (λ (p : Option X). MatchOption p ⊥ P) e h
+
+pub every_some : {X : Type 0} (o : Option X) (P : X → Type 0) → ((x : X) → P x) → IfSome o P
+every_some None P every = tt
+every_some (Some x) P every = every x
+
+pub same_some : {X : Type 0} (o : Option X) (a b : X) → o ≡ Some a → o ≡ Some b → a ≡ b
+same_some o a b e f = ap (λ (p : Option _). unwrap_or p a) (sym e ∙ f)
+
+-- a node is shown wherever it is kept
+pub shows_moved : (view : View) (node new : Node) (place : Place) → new.step ≡ moved node.step place
+    → new.is_held ≡ node.is_held → ShowsAs view node → ShowsAs view new
+shows_moved view node new place step held shown = (
+  λ e. subst (λ (s : Step). Shows view s) (sym step) (shown.0 (sym held ∙ e)),
+  λ e. subst (λ (s : Step). ShowsBut view s) (sym step) (shown.1 (sym held ∙ e)),
+)
+
+-- what may be followed is there
+pub found_of : (line seen : List Step) (place : Place)
+    → IsBefore (length line) (length seen) place → place ≢ Place.Nowhere → (step : Step)
+    × (step_at line seen place ≡ Some step)
+found_of line seen (Place.Line k) before some = some_below line k before.0
+found_of line seen (Place.Seen k) before some = some_below seen k before
+found_of line seen Place.Nowhere before some = absurd (some refl)
+
+pub but_moved : (view : View) (step other : Step) → other.is_turned ≡ step.is_turned
+    → board other.state ≡ board step.state → ShowsBut view step → ShowsBut view other
+but_moved view step other turned same shown = λ k l.
+    let pieces = pieces_of view.shown in
+    let here : (piece_at (as_shown other.is_turned pieces) k ≡ piece_at (board step.state) k)
+    ⊎ (piece_at (as_shown other.is_turned pieces) k ≡ Piece.Empty) = subst (λ (t : Bool). (piece_at
+    (as_shown t pieces) k ≡ piece_at (board step.state) k) ⊎ (piece_at (as_shown t pieces) k
+    ≡ Piece.Empty)) (sym turned) (shown k l) in
+    elim here [
+      | inl at ↦ inl (at ∙ ap (λ (b : List Piece). piece_at b k) (sym same))
+      | inr gone ↦ inr gone
+    ]
+
+-- pieces in hands lack
+pub held_lacks : (picture : List Piece) (state : State) → IsHeld picture state
+    → LacksOnly picture state
+held_lacks picture state held = λ k l. elim (held k l) [
+  | inl at ↦ inl at
+  | inr gone ↦ inr gone.0
+]
+
+-- what is reported later is meant, too
+pub meant_stands : (self : Recogniser) → IsMeant self → TakesBack 4 self
+    → (IsTold self.memory → self.memory.answer ≡ None) → Stands self
+meant_stands self meant back none = (
+  elim meant.1 [
+    | inl last ↦ subst (λ (p : Place). IfSome self.view (StandsAt p self.memory self.is_next
+        self.is_sure)) (sym last.0) last.1
+    | inr kings ↦ subst (λ (p : Place). IfSome self.view (StandsAt p self.memory self.is_next
+        self.is_sure)) (sym kings.0) (every_some self.view _ (λ view. kings.1))
+  ],
+  none,
+  inr meant,
+  back,
+)
+
+pub ends_of : (self : Recogniser) → IsMeant self → EndsHere self
+ends_of self meant = elim meant.1 [
+  | inl last ↦ inl last
+  | inr kings ↦ inr (kings.0, kings.1, kings.2)
+]
+
+-- what is meant stays so while it is reported
+lands_moved : (view : View) (old new : Memory) → coming new ≡ coming old → new.answer ≡ old.answer
+    → Lands view old → Lands view new
+lands_moved view old new same answer lands = (
+  elim lands.0 [
+    | inl last ↦ inl (subst (λ (o : Option Step). MatchOption o ⊥ (Shows view)) (sym same) last)
+    | inr counts ↦ inr (subst (λ (o : Option Node). MatchOption o ⊥ Counts) (sym answer) counts)
+  ],
+  subst (λ (o : Option Node). IfSome o (λ node. Counts node → ShowsAs view node)) (sym answer)
+      lands.1,
+)
+
+pub meant_moved : (self : Recogniser) (new : Memory) → coming new ≡ coming self.memory
+    → new.answer ≡ self.memory.answer → IsMeant self → IsMeant (record self { memory = new })
+meant_moved self new same answer meant = (
+  meant.0,
+  elim meant.1 [
+    | inl last ↦ inl (
+      last.0,
+      if_some self.view _ (λ view. Lands view new) last.1 (λ view lands.
+          lands_moved view self.memory new same answer lands),
+    )
+    | inr kings ↦ inr (kings.0, kings.1, answer ∙ kings.2, kings.3)
+  ],
+)
+
+pub back_moved : (self : Recogniser) (new : Memory) → coming new ≡ coming self.memory
+    → new.back ≤ self.memory.back → TakesBack 4 self → TakesBack 4 (record self { memory = new })
+back_moved self new same less back = elim back [
+  | inl few ↦ inl (omega (arith, few, less))
+  | inr shown ↦ inr (if_some self.view _ (λ view. ShowsLast view new) shown (λ view last. subst
+      (λ (o
+      : Option Step). MatchOption o ⊥ (Shows view)) (sym same) last))
+]

@@ -1,0 +1,17 @@
+use Rattle.dgt_game.proofs.Pictures.{earlier_known, else_start, moves_known, start_known, two_known}
+use Rattle.dgt_game.proofs.laws.what_is_known.Goals as goal
+
+pub returns-clause-moves : goal.returns-clause-moves
+returns-clause-moves c = moves_known
+
+pub returns-clause-two : goal.returns-clause-two
+returns-clause-two c = two_known
+
+pub returns-clause-earlier : goal.returns-clause-earlier
+returns-clause-earlier c = earlier_known
+
+pub returns-clause-start : goal.returns-clause-start
+returns-clause-start c = start_known
+
+pub returns-clause-others : goal.returns-clause-others
+returns-clause-others c = else_start

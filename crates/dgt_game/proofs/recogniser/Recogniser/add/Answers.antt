@@ -1,0 +1,96 @@
+use Rattle.std.proofs.Common.{◌≡◌, ◌∙◌, ap, inl, inr, arith, refl, sym, subst, length, Bool, false, Some}
+use Rattle.std.specs.Prelude.{IfSome, slice_get}
+use Rattle.dgt_game.specs.declared.node.Node.{Node}
+use Rattle.dgt_game.specs.declared.node.Place.{Place}
+use Rattle.dgt_game.specs.Memory.{IsBefore, IsRooted, IsTold, step_at, steps}
+use Rattle.dgt_game.specs.Standing.{IsCalledFor, ShowsAs, StandsAt, StandsOn}
+use Rattle.dgt_game.proofs.Chains.{before_later, below_some, get_step}
+use Rattle.dgt_game.proofs.Standing.{but_as, found_of, of_some, resting, same_some, shows_as, shows_but, shows_moved, some_view}
+use Rattle.dgt_game.proofs.recogniser.Recogniser.add.Goals as goal
+
+pub returns-then-is_answer-clause-stands : goal.returns-then-is_answer-clause-stands
+returns-then-is_answer-clause-stands c = λ view ready seen.
+    let m = c.push.new.self in
+    let lines = steps m.line.items in
+    let items = steps m.seen.items in
+    let k = c.in-Some.k in
+    let node = c.args.node in
+    let new = c.in-Some-seen_node.new in
+    let push = c.push.ensures in
+    let rooted : IsRooted (length lines) items = push.rooted ready.2 in
+    let here : slice_get m.seen.items k ≡ Some new = sym c.in-Some-seen_node.ensures in
+    let at : slice_get items k ≡ Some new.step = get_step m.seen.items k new here in
+    let kept = c.in-Some.ensures.seen in
+    let whole = c.in-Some.ensures.whole in
+    let step = same_some (slice_get items k) new.step _ at kept.1 in
+    let held : new.is_held ≡ node.is_held =
+    ap (λ (n : Node). n.is_held) (same_some (slice_get m.seen.items k) new whole.0 here whole.1)
+    ∙ whole.2 in
+    let answers = c.is_answer.ensures c.if-is_answer.true in
+    let before : IsBefore (length lines) (length items) new.step.parent =
+    before_later (length lines) k (length items) new.step.parent (let within = below_some items k
+    new.step at in omega (arith, within)) (rooted k new.step at) in
+    let found = found_of lines items new.step.parent before answers.1 in
+    let main : ShowsAs view node → _ = λ shown. c.tell.ensures.stands (
+      (push.back ∙ ready.0.0, push.unsaid ∙ ready.0.1),
+      push.answer ∙ ready.1,
+      rooted,
+    ) c.if-self.true (some_view view _ (IsCalledFor m new.step.parent (Some new)) seen (
+      of_some (step_at lines items new.step.parent) found.0 _ found.1 (inr (
+        answers.0,
+        before,
+        inl
+            answers.2,
+      )),
+      λ counts. shows_moved view node new kept.0 step held shown,
+    )) in
+    let next : c.tell.new.self.is_next ≡ false = c.tell.ensures.todo.2 in (
+      λ shows. main (shows_as view node shows),
+      λ shown. let all = main shown in (
+        subst (λ (b : Bool). IfSome c.tell.new.self.view (StandsAt c.tell.new.self.here
+            c.tell.new.self.memory b c.tell.new.self.is_sure)) next all.0,
+        all.1,
+        elim all.2 [
+          | inl told ↦ inl told
+          | inr meant ↦ inr (
+            meant.0,
+            elim meant.1 [
+              | inl last ↦ inl last
+              | inr kings ↦ inr (kings.0, refl, kings.2, kings.3)
+            ],
+          )
+        ],
+        all.3,
+      ),
+    )
+
+pub returns-then-is_answer-clause-holds : goal.returns-then-is_answer-clause-holds
+returns-then-is_answer-clause-holds c = λ shown line back unsaid reads h.
+    let m = c.push.new.self in
+    let new = c.in-Some-seen_node.new in
+    let held = c.push.ensures.holds shown line back unsaid reads.0 reads.1 h in
+    c.tell.ensures.holds shown line (c.push.ensures.back ∙ back) (c.push.ensures.unsaid ∙ unsaid)
+    (held.grows c.in-Some.k new.step (get_step m.seen.items c.in-Some.k new (sym
+    c.in-Some-seen_node.ensures))) held
+
+pub returns-else-self-clause-stands : goal.returns-else-self-clause-stands
+returns-else-self-clause-stands c = λ view ready seen.
+    let m = c.push.new.self in
+    let items = steps m.seen.items in
+    let is_sure = c.args.self.now.is_sure in
+    let node = c.args.node in
+    let push = c.push.ensures in
+    let kept = c.in-Some.ensures.seen in
+    let told : IsTold m = (push.back ∙ ready.0.0, push.unsaid ∙ ready.0.1) in
+    let none = push.answer ∙ ready.1 in (
+      λ shows. resting m told none (some_view view _ (StandsAt (Place.Seen c.in-Some.k) m is_sure
+          is_sure) seen (of_some (slice_get items c.in-Some.k) _ (StandsOn is_sure is_sure view)
+          kept.1 (λ e. shows, λ sure next. shows_but view node.step shows))),
+      λ shown. resting m told none (some_view view _ (StandsAt (Place.Seen c.in-Some.k) m false
+          is_sure) seen (of_some (slice_get items c.in-Some.k) _ (StandsOn false is_sure view)
+          kept.1 (
+            (λ e. absurd (let wrong : ⊥ = cc in wrong)),
+            λ sure next. but_as view node
+                node.is_held refl shown,
+          ))),
+    )

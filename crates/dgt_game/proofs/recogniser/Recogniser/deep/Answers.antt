@@ -1,0 +1,29 @@
+use Rattle.std.proofs.Common.{arith, ◌≡◌, ℕ, inl, inr, subst}
+use Rattle.std.proofs.lemmas.Bool.{cases_lt}
+use Rattle.dgt_values.specs.Board.{pieces_of}
+use Rattle.dgt_game.specs.declared.node.Place.{Place}
+use Rattle.dgt_game.specs.Reading.{HasLine}
+use Rattle.dgt_game.proofs.recogniser.Recogniser.deep.Goals as goal
+
+pub loop-halves-preserved : goal.loop-halves-preserved
+loop-halves-preserved c =
+    let halves = c.loop-halves.halves in
+    let pieces = pieces_of c.args.view.now.shown in (
+      c.or_unordered-other.ensures.linked pieces c.loop-halves.invariant.0
+          c.deep_by-found.ensures.linked,
+      λ count live behind some less line. elim (cases_lt count halves) [
+        | inl before ↦ c.or_unordered-other.ensures.first
+            (c.loop-halves.invariant.1 count live behind some before line)
+        | inr after ↦
+            let now : count ≡ halves = omega (arith, less, after) in
+            c.or_unordered-other.ensures.second (c.deep_by-found.ensures.reads live behind
+            (omega (arith, some, now)) (omega (arith, c.loop-halves-test.true))
+            (subst (λ (n : ℕ). HasLine n c.args.self.now.memory (Place.Line 0) pieces) now line))
+      ],
+      c.or_unordered-other.ensures.room c.loop-halves.invariant.2 c.deep_by-found.ensures.room,
+    )
+
+pub returns-clause-reads : goal.returns-clause-reads
+returns-clause-reads c = λ same live behind answered (count, some, few, line).
+    c.loop-halves.invariant.1 count live behind some (omega (arith, few, c.loop-halves-test.false))
+    line

@@ -1,0 +1,36 @@
+use Rattle.std.proofs.Common.{sym, subst, false}
+use Rattle.std.specs.Prelude.{slice_get}
+use Rattle.dgt_game.specs.declared.node.Place.{Place}
+use Rattle.dgt_game.specs.declared.recogniser.Recogniser.{Recogniser}
+use Rattle.dgt_game.specs.Memory.{steps}
+use Rattle.dgt_game.specs.Standing.{Stands, StandsAt, StandsOn}
+use Rattle.dgt_game.proofs.Standing.{but_moved, held_lacks, of_some, resting, some_view}
+use Rattle.dgt_game.proofs.recogniser.Recogniser.hold.Goals as goal
+use Rattle.dgt_game.proofs.recogniser.Recogniser.hold.Goals.{in-Some, in-None}
+
+pub returns-clause-stands : goal.returns-clause-stands
+returns-clause-stands c = λ view ready seen held.
+    let lacks = held_lacks _ c.args.node.step.state held in
+    elim c.match-same_node.branch [
+      | in-Some w ↦
+          let m = c.args.self.now.memory in
+          let is_sure = c.args.self.now.is_sure in
+          let k = w.in-Some.k in
+          let found = w.in-Some.ensures in
+          subst (λ (self : Recogniser). Stands (record self { is_next = false })) (sym w.self-is)
+          (resting m ready.0 ready.1 (some_view view _ (StandsAt
+          (Place.Seen k) m false is_sure) seen
+          (of_some (slice_get (steps m.seen.items) k) found.0
+          (StandsOn false is_sure view) found.1 (
+            (λ e. absurd (let wrong : ⊥ = cc in wrong)),
+            λ sure next. but_moved view
+                c.args.node.step found.0 found.2 found.3 lacks,
+          ))))
+      | in-None w ↦
+          subst (λ (self : Recogniser). Stands (record self { is_next = false })) (sym w.self-is)
+          ((w.add.ensures.stands view ready seen).1 (
+            (λ e. absurd (let wrong : ⊥ = cc in wrong)),
+            λ e.
+                lacks,
+          ))
+    ]

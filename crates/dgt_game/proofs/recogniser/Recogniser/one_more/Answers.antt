@@ -1,0 +1,72 @@
+use Rattle.std.proofs.Common.{rules, arith, ◌≡◌, ◌-◌, ◌+◌, ◌<◌, ℕ, inl, inr, sym, subst, true, false, length, Option, Some, IsSome, slice_index_or}
+use Rattle.std.specs.Prelude.{IfSome, slice_get}
+use Rattle.std.proofs.lemmas.Bool.{cases_lt}
+use Rattle.dgt_values.specs.Board.{pieces_of}
+use Rattle.dgt_game.specs.declared.node.Node.{Node}
+use Rattle.dgt_game.specs.declared.node.Origin.{Origin}
+use Rattle.dgt_game.specs.Memory.{Fits}
+use Rattle.dgt_game.specs.Reading.{IsRoomFor}
+use Rattle.dgt_game.proofs.Chains.{get_step}
+use Rattle.dgt_game.proofs.Links.{either}
+use Rattle.dgt_game.proofs.Pictures.{one_node, read_at}
+use Rattle.dgt_game.proofs.recogniser.Recogniser.one_more.Goals as goal
+use Rattle.dgt_game.proofs.recogniser.Recogniser.one_more.Goals.{then-not-is_shadow, else-not-is_shadow}
+
+pub loop-at-preserved : goal.loop-at-preserved
+loop-at-preserved c =
+    let memory = c.args.self.now.memory in
+    let pieces = pieces_of c.args.view.now.shown in
+    let seen = memory.seen.items in
+    let here = c.index-deref-len.result in
+    let len = c.len-len.result in
+    let now = len - 1 - c.loop-at.at in
+    let size : len ≡ length seen = search rules in
+    let less : now < length seen = omega (arith, size, c.loop-at-test.true) in
+    let read : here ≡ slice_index_or seen now here = search rules in
+    let found : slice_get seen now ≡ Some here = read_at seen now here less read in (
+      elim c.if-not-is_shadow.branch [
+        | then-not-is_shadow w ↦ subst (λ (o : Option Node). IfSome o (λ node. Fits memory pieces
+            node)) (sym w.best-is) (either (λ node. Fits memory pieces node) w.better-best.result
+            c.loop-at.best w.made.result w.better-best.ensures.linked c.loop-at.invariant.0
+            w.made.ensures.linked)
+        | else-not-is_shadow w ↦ subst (λ (o : Option Node). IfSome o (λ node. Fits memory pieces
+            node)) (sym w.best-is) c.loop-at.invariant.0
+      ],
+      elim c.if-not-is_shadow.branch [
+        | then-not-is_shadow w ↦ subst (λ (o : Option Node). IfSome o (IsRoomFor memory)) (sym
+            w.best-is) (either (IsRoomFor memory) w.better-best.result c.loop-at.best
+            w.made.result w.better-best.ensures.linked c.loop-at.invariant.1
+            (w.made.ensures.room (λ k e. absurd (let wrong : ⊥ = cc in wrong))))
+        | else-not-is_shadow w ↦ subst (λ (o : Option Node). IfSome o (IsRoomFor memory)) (sym
+            w.best-is) c.loop-at.invariant.1
+      ],
+      λ k node far is known line.
+          elim c.if-not-is_shadow.branch [
+            | then-not-is_shadow w ↦ subst (λ (o : Option Node). IsSome o) (sym w.best-is)
+                (elim (cases_lt (k + c.loop-at.at) len) [
+                  | inl less ↦
+                      let same : k ≡ now = omega (arith, less, far) in
+                      let got : slice_get seen now ≡ Some node =
+                      subst (λ (i : ℕ). slice_get seen i ≡ Some node) same is in
+                      w.better-best.ensures.second (w.made.ensures.reads (
+                        node.step,
+                        get_step seen now node got,
+                        line,
+                      ))
+                  | inr before ↦ w.better-best.ensures.first
+                      (c.loop-at.invariant.2 k node before is known line)
+                ])
+            | else-not-is_shadow w ↦ subst (λ (o : Option Node). IsSome o) (sym w.best-is)
+                (elim (cases_lt (k + c.loop-at.at) len) [
+                  | inl less ↦
+                      let same : k ≡ now = omega (arith, less, far) in
+                      let one : node ≡ here = one_node seen now node here
+                      (subst (λ (i : ℕ). slice_get seen i ≡ Some node) same is) found in
+                      let no : c.is_shadow.result ≡ false = c.is_shadow.ensures.reads
+                      (subst (λ (n : Node). ¬ (n.origin ≡ Origin.Shadow)) one known) in
+                      let yes : c.is_shadow.result ≡ true = search rules in
+                      let wrong : ⊥ = cc in absurd wrong
+                  | inr before ↦ c.loop-at.invariant.2 k node before is known line
+                ])
+          ],
+    )

@@ -1,0 +1,64 @@
+use Rattle.std.proofs.Common.{◌≡◌, ◌∙◌, ◌<◌, length, ap, subst, sym}
+use Rattle.dgt_game.specs.declared.memory.Memory.{Memory}
+use Rattle.dgt_game.specs.Standing.{IsOpen}
+use Rattle.dgt_values.specs.Board.{pieces_of}
+use Rattle.dgt_game.specs.declared.view.View.{View}
+use Rattle.dgt_game.specs.Reading.{FollowsSeen}
+use Rattle.dgt_game.proofs.Known.{memory_of}
+use Rattle.dgt_game.proofs.Moved.{same_view}
+use Rattle.dgt_game.proofs.Pictures.{explains}
+use Rattle.dgt_game.proofs.recogniser.Recogniser.show.Goals as goal
+use Rattle.dgt_game.proofs.recogniser.Recogniser.show.Goals.{in-Some-Some, in_default, in_default-2, then-not-is_same_picture, else-not-is_same_picture}
+
+pub returns-in-Some-clause-reads : goal.returns-in-Some-clause-reads
+returns-in-Some-clause-reads c = λ few.
+    let first : memory_of c.match-self.self ≡ memory_of c.args.self.now =
+    elim c.match-self.branch [
+      | in-Some-Some w ↦ ap memory_of w.self-is
+      | in_default w ↦ ap memory_of w.self-is
+      | in_default-2 w ↦ ap memory_of w.self-is
+    ] in
+    let same : memory_of c.if-not-is_same_picture.self ≡ memory_of c.args.self.now = elim
+    c.if-not-is_same_picture.branch [
+      | then-not-is_same_picture w ↦ ap memory_of w.self-is ∙ first
+      | else-not-is_same_picture w ↦ ap memory_of w.self-is ∙ first
+    ] in
+    let few' = subst (λ (m : Memory). length m.seen.items < 23) (sym same) few in
+    explains c.if-not-is_same_picture.self c.look.new.self c.in-Some.view
+    (c.look.ensures.view ∙ c.in-Some.is)
+    c.look.ensures.line c.look.ensures.keeps.1 c.look.ensures.keeps.5
+    (c.look.ensures.unread few') (c.look.ensures.reads few')
+
+pub returns-in-Some-clause-stands : goal.returns-in-Some-clause-stands
+returns-in-Some-clause-stands c = λ ready.
+    let first : memory_of c.match-self.self ≡ memory_of c.args.self.now =
+    elim c.match-self.branch [
+      | in-Some-Some w ↦ ap memory_of w.self-is
+      | in_default w ↦ ap memory_of w.self-is
+      | in_default-2 w ↦ ap memory_of w.self-is
+    ] in
+    let same : memory_of c.if-not-is_same_picture.self ≡ memory_of c.args.self.now = elim
+    c.if-not-is_same_picture.branch [
+      | then-not-is_same_picture w ↦ ap memory_of w.self-is ∙ first
+      | else-not-is_same_picture w ↦ ap memory_of w.self-is ∙ first
+    ] in
+    c.look.ensures.stands (subst IsOpen (sym same) ready) c.in-Some.is
+
+pub returns-in-Some-clause-seen : goal.returns-in-Some-clause-seen
+returns-in-Some-clause-seen c = λ shown is few seen.
+    let first : memory_of c.match-self.self ≡ memory_of c.args.self.now =
+    elim c.match-self.branch [
+      | in-Some-Some w ↦ ap memory_of w.self-is
+      | in_default w ↦ ap memory_of w.self-is
+      | in_default-2 w ↦ ap memory_of w.self-is
+    ] in
+    let same : memory_of c.if-not-is_same_picture.self ≡ memory_of c.args.self.now = elim
+    c.if-not-is_same_picture.branch [
+      | then-not-is_same_picture w ↦ ap memory_of w.self-is ∙ first
+      | else-not-is_same_picture w ↦ ap memory_of w.self-is ∙ first
+    ] in
+    let few' = subst (λ (m : Memory). length m.seen.items < 23) (sym same) few in
+    let one = same_view c.args.view c.in-Some.view shown c.in-Some.is is in
+    c.look.ensures.seen few' (subst (λ (v : View). FollowsSeen c.if-not-is_same_picture.self.memory
+    (pieces_of v.shown)) one (subst (λ (m : Memory). FollowsSeen m (pieces_of shown.shown))
+    (sym same) seen))

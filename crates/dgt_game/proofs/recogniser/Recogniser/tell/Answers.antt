@@ -1,0 +1,39 @@
+use Rattle.std.proofs.Common.{◌≡◌, ◌∙◌, ◌⊎◌, ◌≤◌, inl, inr, refl, sym, subst, true, Option, Some}
+use Rattle.std.specs.Prelude.{IfSome}
+use Rattle.dgt_game.specs.declared.memory.Memory.{Memory}
+use Rattle.dgt_game.specs.declared.view.View.{View}
+use Rattle.dgt_game.specs.Memory.{step_at, steps}
+use Rattle.dgt_game.specs.Standing.{IsCalledFor, IsOpen, Lands, ShowsLast}
+use Rattle.dgt_game.proofs.Standing.{back_of, if_some, tells}
+use Rattle.dgt_game.proofs.recogniser.Recogniser.tell.Goals as goal
+
+pub returns-clause-stands : goal.returns-clause-stands
+returns-clause-stands c = λ ready sure called.
+    let m = c.find.new.self.memory in
+    let new = c.tell.new.self in
+    let told = c.tell.ensures in
+    let same = sym c.find.ensures.memory in
+    let now : IsOpen m = subst IsOpen same ready in
+    let seen : IfSome c.find.new.self.view (IsCalledFor m c.args.place c.args.answer) =
+    subst (λ (v : Option View). IfSome v (IsCalledFor m c.args.place c.args.answer)) (sym
+    c.find.ensures.keeps.0) (subst (λ (n : Memory). IfSome c.args.self.now.view (IsCalledFor n
+    c.args.place c.args.answer)) same called) in
+    let all = if_some c.find.new.self.view _ (λ view. Lands view new × ((new.back ≤ 4)
+    ⊎ ShowsLast view new)) seen (λ view call. tells view m new c.args.place c.args.answer now
+    (λ step. told.lands step now.2) (λ step. told.near step now.2) (λ step. told.answer step now.2)
+    told.either call) in
+    let is_sure : c.find.new.self.is_sure ≡ true = c.find.ensures.keeps.6 ∙ sure in
+    let lands = if_some _ _ (λ view. Lands view new) all (λ view both. both.0) in (
+      lands,
+      told.idle,
+      inr (is_sure, inl (refl, lands)),
+      back_of c.find.new.self.view new.back (λ view. ShowsLast view new) (if_some _ _ (λ view.
+          (new.back ≤ 4) ⊎ ShowsLast view new) all (λ view both. both.1)),
+    )
+
+pub returns-clause-near : goal.returns-clause-near
+returns-clause-near c = λ step ready at.
+    let same = sym c.find.ensures.memory in
+    let now : IsOpen c.find.new.self.memory = subst IsOpen same ready in
+    c.tell.ensures.near step now.2 (subst (λ (n : Memory). step_at (steps n.line.items) (steps
+    n.seen.items) c.args.place ≡ Some step) same at)

@@ -1,0 +1,225 @@
+-- What is done next with what the board shows, or why nothing is.
+use Rattle.std.specs.Prelude.{⊤, ◌≡◌, ◌≢◌, ◌<◌, ◌≤◌, ◌⊎◌, ◌+◌, ℕ, Bool, true, false, List, [], Option, Some, None, slice_get}
+use Rattle.dgt_values.specs.declared.pieces.Piece.{Piece}
+use Rattle.dgt_values.specs.Board.{pieces_of}
+use Rattle.dgt_chess.specs.declared.state.State.{State}
+use Rattle.dgt_chess.specs.declared.pieces.Colour.{Colour}
+use Rattle.dgt_chess.specs.declared.pieces.Man.{Man}
+use Rattle.dgt_chess.specs.Attacks.{other, piece_at, piece_of}
+use Rattle.dgt_chess.specs.Rules.{board}
+use Rattle.dgt_game.specs.declared.event.GameResult.{GameResult}
+use Rattle.dgt_game.specs.declared.memory.Memory.{Memory}
+use Rattle.dgt_game.specs.declared.node.Place.{Place}
+use Rattle.dgt_game.specs.declared.node.Step.{Step}
+use Rattle.dgt_game.specs.declared.recogniser.Lost.{Lost}
+use Rattle.dgt_game.specs.declared.recogniser.Over.{Over}
+use Rattle.dgt_game.specs.declared.recogniser.Recogniser.{Recogniser}
+use Rattle.dgt_game.specs.declared.recogniser.Search.{Search}
+use Rattle.dgt_game.specs.declared.resting.Next.{Next}
+use Rattle.dgt_game.specs.declared.resting.Task.{Task}
+use Rattle.dgt_game.specs.declared.view.View.{View}
+use Rattle.dgt_game.specs.Told.{as_shown}
+use Rattle.dgt_game.specs.Memory.{IsTold, steps}
+use Rattle.dgt_game.specs.Waiting.{IsQuiet, Show, last_of}
+
+-- each square shows the state's piece, or is empty
+abbrev pub LacksOnly : List Piece → State → Type 0
+LacksOnly picture state =
+    (square : ℕ) → square < 64 → (piece_at picture square ≡ piece_at (board state) square)
+    ⊎ (piece_at picture square ≡ Piece.Empty)
+
+-- the line's last step, or one that was seen since
+abbrev pub IsKnown : Memory → Step → Type 0
+IsKnown self step =
+    (last_of self ≡ Some step) ⊎ ((k : ℕ) × (slice_get (steps self.seen.items) k ≡ Some step))
+
+-- what is shown lacks only pieces of one of these
+unfoldable pub Lacks : Option View → Memory → Type 0
+Lacks view memory =
+    (shown : View) × (view ≡ Some shown) × ((step : Step) × IsKnown memory step
+    × LacksOnly (as_shown step.is_turned (pieces_of shown.shown)) step.state)
+
+abbrev pub IsLifted : Recogniser → Type 0
+IsLifted self = Lacks self.view self.memory
+
+-- no line begins with what is shown, however long it rests: the one before has ended
+abbrev pub MayNotBegin : Recogniser → Type 0
+MayNotBegin self =
+    (self.memory.line.items ≢ []) × (self.over ≢ Over.No) × (self.is_set_up ≡ false)
+    × (self.is_behind ≡ false)
+
+-- what may be done with what is shown
+abbrev pub TaskFits : Recogniser → Task → Type 0
+TaskFits self Task.EndByKings = self.has_kings ≡ true
+TaskFits self Task.Search =
+    (self.here ≡ Place.Nowhere) × (self.search ≡ Search.Waiting) × (self.is_next ≡ false)
+TaskFits self Task.Tell = self.is_next ≡ true
+TaskFits self Task.Begin =
+    (self.here ≡ Place.Nowhere) × (self.search ≡ Search.Done) × (self.is_next ≡ false)
+
+-- There is nothing to report of the position: it was reported, nothing will come of it, or nothing
+-- leads to it and no line begins with it.
+abbrev pub IsSettled : Recogniser → Type 0
+IsSettled self =
+    (self.is_next ≡ false)
+    × ((self.here ≢ Place.Nowhere) ⊎ (self.search ≡ Search.Hopeless)
+    ⊎ ((self.search ≡ Search.Done) × (IsLifted self ⊎ MayNotBegin self)))
+
+-- nor do the kings give a result
+abbrev pub HasNothing : Recogniser → Type 0
+HasNothing self = (self.has_kings ≡ false) × IsSettled self
+
+-- what is done next. A search waits for a second at most.
+abbrev pub FitsNext : Recogniser → Next → Type 0
+FitsNext self next = TaskFits self next.task × (next.task ≡ Task.Search → next.wait ≤ 1000)
+
+abbrev pub Plans : Recogniser → Option Next → Type 0
+Plans self None = (self.is_confirmed ≡ false) ⊎ HasNothing self
+Plans self (Some next) = FitsNext self next
+
+-- what is done next is planned, or nothing is to be done
+abbrev pub IsPlanned : Recogniser → Type 0
+IsPlanned self = Plans self self.next
+
+-- that the line is lost was reported, or is to be
+abbrev pub SaysLost : Lost → Type 0
+SaysLost Lost.No = ⊥
+SaysLost (Lost.Now squares) = ⊤
+SaysLost Lost.Reported = ⊤
+SaysLost Lost.Found = ⊥
+
+-- the line is lost, has ended or hasn't begun, or pieces of it are lifted
+abbrev pub LosesLine : Recogniser → Type 0
+LosesLine self =
+    SaysLost self.lost ⊎ (self.over ≢ Over.No) ⊎ IsLifted self ⊎ (self.memory.line.items ≡ [])
+
+-- the same once several half-moves were looked for, and none lead to what is shown
+abbrev pub IsLostOr : Recogniser → Type 0
+IsLostOr self =
+    self.view ≢ None → self.here ≡ Place.Nowhere → self.search ≡ Search.Done
+    → IsTold self.memory × (self.ended ≡ None) × LosesLine self
+
+-- a king of the colour stands somewhere
+abbrev pub HasKing : List Piece → Colour → Type 0
+HasKing pieces colour =
+    (square : ℕ) × (square < 64) × (piece_at pieces square ≡ piece_of colour Man.King)
+
+-- no state has these pieces and this side to move
+abbrev pub IsRefused : List Piece → Colour → Type 0
+IsRefused pieces turn = (state : State) → board state ≡ pieces → state.turn ≢ turn
+
+-- a side isn't to move: the other one's clock runs, or no state is so
+abbrev pub CannotMove : Option Colour → Bool → View → Colour → Type 0
+CannotMove running is_turned view turn =
+    (running ≡ Some (other turn)) ⊎ IsRefused (as_shown is_turned (pieces_of view.shown)) turn
+
+-- no line could begin with what is shown, with the clock that ran then
+abbrev pub CannotBegin : View → Type 0
+CannotBegin view =
+    (running : Option Colour) × (is_turned : Bool)
+    × ((turn : Colour) → CannotMove running is_turned view turn)
+
+-- why nothing will come of what is shown: a king is missing, no line can begin with it, or the
+-- players show a result
+abbrev pub WhyHopeless : Recogniser → Type 0
+WhyHopeless self =
+    (view : View) → self.view ≡ Some view → self.here ≡ Place.Nowhere
+    → self.search ≡ Search.Hopeless
+    → ((colour : Colour) × ¬ (HasKing (pieces_of view.shown) colour)) ⊎ CannotBegin view
+    ⊎ ((step : Step) × ((result : GameResult) × Show self.view step result))
+
+-- ---- Laws
+
+-- Of what is done with the position, one thing fits at most.
+abbrev pub OneFits : Type 0
+OneFits =
+    (self : Recogniser) → ¬ (TaskFits self Task.Search × TaskFits self Task.Begin)
+    × ¬ (TaskFits self Task.Tell × (TaskFits self Task.Search ⊎ TaskFits self Task.Begin))
+
+-- If there is nothing to do, no task fits, or a line would begin that may not.
+abbrev pub NothingFits : Type 0
+NothingFits =
+    (self : Recogniser) (task : Task) → HasNothing self → TaskFits self task
+    → (task ≡ Task.Begin) × (IsLifted self ⊎ MayNotBegin self)
+
+-- Of a line that goes on, it is reported that nothing leads on from it.
+abbrev pub LostIsReported : Type 0
+LostIsReported =
+    (self : Recogniser) → IsLostOr self → self.view ≢ None → self.here ≡ Place.Nowhere
+    → self.search ≡ Search.Done → IsQuiet self → self.over ≡ Over.No
+    → self.memory.line.items ≢ [] → ¬ (IsLifted self) → self.lost ≡ Lost.Reported
+
+-- A position that is possible with each side to move is hopeless only if the kings say so.
+abbrev pub PossibleIsHopeful : Type 0
+PossibleIsHopeful =
+    (self : Recogniser) (view : View) → WhyHopeless self → self.view ≡ Some view
+    → self.here ≡ Place.Nowhere → self.search ≡ Search.Hopeless
+    → ((colour : Colour) → HasKing (pieces_of view.shown) colour)
+    → ((is_turned : Bool) (turn : Colour) → (state : State)
+    × (board state ≡ as_shown is_turned (pieces_of view.shown)) × (state.turn ≡ turn))
+    → (step : Step) × ((result : GameResult) × Show self.view step result)
+
+-- only for bodies
+
+-- the same of the position, without the kings
+abbrev pub PlansPosition : Recogniser → Option Next → Type 0
+PlansPosition self None = (self.is_confirmed ≡ false) ⊎ IsSettled self
+PlansPosition self (Some next) = FitsNext self next
+
+-- how many tasks may follow, at most
+abbrev pub of_kings : Bool → ℕ
+of_kings true = 1
+of_kings false = 0
+
+abbrev pub of_search : Search → ℕ
+of_search Search.Waiting = 1
+of_search Search.Done = 0
+of_search Search.Hopeless = 0
+
+abbrev pub of_place : Bool → Place → Search → ℕ
+of_place true here search = 1
+of_place false (Place.Line k) search = 0
+of_place false (Place.Seen k) search = 0
+of_place false Place.Nowhere Search.Waiting = 1
+of_place false Place.Nowhere Search.Done = 1
+of_place false Place.Nowhere Search.Hopeless = 0
+
+abbrev pub todo : Recogniser → ℕ
+todo self =
+    of_kings self.has_kings + of_search self.search + of_place self.is_next self.here self.search
+
+-- the same may follow
+abbrev pub IsAsBefore : Recogniser → Recogniser → Type 0
+IsAsBefore old new =
+    (new.has_kings ≡ old.has_kings) × (new.search ≡ old.search) × (new.is_next ≡ old.is_next)
+    × (new.here ≡ old.here)
+
+-- no search follows that didn't before, and no result by kings
+abbrev pub AddsNone : Recogniser → Recogniser → Type 0
+AddsNone old new =
+    (new.search ≡ old.search) × (new.has_kings ≡ true → old.has_kings ≡ true)
+
+-- if the board isn't anywhere after it, nothing was found or is to be reported
+abbrev pub PlacesOr : Recogniser → Recogniser → Type 0
+PlacesOr old new =
+    new.here ≡ Place.Nowhere → (old.lost ≢ Lost.Found → new.lost ≢ Lost.Found)
+    × (IsTold old.memory → IsTold new.memory)
+
+-- the board isn't anywhere only if it was so before
+abbrev pub StaysPlaced : Recogniser → Recogniser → Type 0
+StaysPlaced old new =
+    (new.view ≡ old.view) × (new.search ≡ old.search)
+    × (new.here ≡ Place.Nowhere → old.here ≡ Place.Nowhere)
+
+-- the board stands at the line's last state, and no more is reported of it
+abbrev pub IsAtLast : Recogniser → Recogniser → Type 0
+IsAtLast old new =
+    (new.has_kings ≡ false) × (new.search ≡ old.search) × (new.is_next ≡ false)
+    × (new.here ≡ Place.Line 0)
+
+-- nothing will come of the position, or a line has begun with it
+abbrev pub EndsSearch : Recogniser → Recogniser → Type 0
+EndsSearch old new =
+    ((new.search ≡ Search.Hopeless) × (new.has_kings ≡ old.has_kings)
+    × (new.is_next ≡ old.is_next))
+    ⊎ IsAtLast (record old { search = Search.Hopeless }) new
