@@ -251,9 +251,6 @@ def calls():
     ]
 
 
-# ---- Names of bytes
-
-
 # ---- Texts
 
 

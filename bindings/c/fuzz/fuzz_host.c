@@ -6,8 +6,6 @@
 
 static dgt_host *host;
 static model_host model;
-static dgt_event right;
-static uint8_t right_body[DGT_MAX_BODY];
 
 #define SEND(name, ...) dgt_host_##name(host, __VA_ARGS__)
 #define MODEL &model
@@ -16,38 +14,16 @@ static uint8_t right_body[DGT_MAX_BODY];
 
 /* ---- What it hears. */
 
-static size_t hear(const uint8_t *bytes, size_t n) {
-    size_t room = input_room(DGT_MAX_BODY);
-    uint8_t *body = guarded(BODY, room);
-    dgt_event *event = guarded(EVENTS, sizeof *event);
-    size_t used = model_hear(&model, bytes, n, &right, right_body);
-    CHECK(dgt_host_hear(host, bytes, n, event, body, room) == used);
-    CHECK_SAME(event, &right);
-    check_written(body, room, right_body, right.body_len);
-    return used;
-}
-
-static size_t hear_all(const uint8_t *bytes, size_t n) {
-    size_t room = input_room(DGT_MAX_BODY), capacity = input_room(20), count = 0, used = 0;
-    uint8_t *body = guarded(BODY, room);
-    dgt_event *events = guarded(EVENTS, capacity * sizeof *events);
-    dgt_told told = dgt_host_hear_many(host, bytes, n, events, capacity, body, room);
-    for (right.body_len = 0; used < n && count < capacity && right.body_len == 0;) {
-        used += model_hear(&model, bytes + used, n - used, &right, right_body);
-        if (right.kind == DGT_EVENT_NONE) break;
-        right.place = used; /* relative to the whole chunk */
-        CHECK_SAME(&events[count++], &right);
-    }
-    CHECK(told.used == used && told.count == count);
-    check_kept(events, count * sizeof *events, capacity * sizeof *events);
-    check_written(body, room, right_body, right.body_len);
-    return used;
-}
+#define IT host
+#define HEAR dgt_host_hear
+#define HEAR_MANY dgt_host_hear_many
+#define MODEL_HEAR model_hear
+#include "hears.h"
 
 static void hear_chunk(bool by_events) {
     chunk given = input_chunk();
     for (size_t at = 0, used = 1; used > 0; at += used)
-        used = (by_events ? hear : hear_all)(given.bytes + at, given.n - at);
+        used = (by_events ? hear : hear_many)(given.bytes + at, given.n - at);
     check_same_chunk(given);
 }
 

@@ -1,4 +1,5 @@
-// Tests the rules of chess, as chess.js hands them on, and the program of the package's page.
+// Tests the rules of chess, as chess.js hands them on, and the program of the package's page. What
+// tests/libraries/chess_rules compares with other languages isn't tried here.
 //
 // node chess.mjs MODULE    MODULE is in the folder of the package
 
@@ -13,20 +14,6 @@ const dgt = await load(readFileSync(process.argv[2]));
 const START = "rnbqkbnr/pppppppp/8/8/8/8/PPPPPPPP/RNBQKBNR", KINGS = "4k3/8/8/8/8/8/8/4K3";
 const BEGIN = State.start(dgt), parse = fen => State.parse(dgt, fen);
 
-// How many positions are reached by one move, by two, by three.
-const COUNTS = [
-  ["rnbqkbnr/pppppppp/8/8/8/8/PPPPPPPP/RNBQKBNR w KQkq - 0 1", [20, 400, 8902]],
-  ["r3k2r/p1ppqpb1/bn2pnp1/3PN3/1p2P3/2N2Q1p/PPPBBPPP/R3K2R w KQkq - 0 1", [48, 2039, 97862]],
-  ["8/2p5/3p4/KP5r/1R3p1k/8/4P1P1/8 w - - 0 1", [14, 191, 2812]],
-  ["r3k2r/Pppp1ppp/1b3nbN/nP6/BBP1P3/q4N2/Pp1P2PP/R2Q1RK1 w kq - 0 1", [6, 264, 9467]],
-  ["rnbq1k1r/pp1Pbppp/2p5/8/2B5/8/PPP1NnPP/RNBQK2R w KQ - 1 8", [44, 1486]],
-];
-const count = (state, depth) => depth === 1 ? state.moves().length :
-  state.moves().reduce((sum, move) => sum + count(state.play(move), depth - 1), 0);
-for (const [fen, counts] of COUNTS) {
-  counts.forEach((known, n) => assert.equal(count(parse(fen), n + 1), known, `${fen} ${n + 1}`));
-}
-
 // A state, a move, its text, and the state afterwards.
 const MOVES = [
   [`${START} w KQkq - 0 1`, "e2e4", "e4",
@@ -37,9 +24,6 @@ const MOVES = [
   ["4k3/8/8/8/3pP3/8/8/4K3 b - e3 0 3", "d4e3", "dxe3", "4k3/8/8/8/8/4p3/8/4K3 w - - 0 4"],
   ["8/P6k/8/8/8/8/8/K7 w - - 12 80", "a7a8n", "a8=N", "N7/7k/8/8/8/8/8/K7 b - - 0 80"],
   ["1r2k3/P7/8/8/8/8/8/K7 w - - 0 1", "a7b8q", "axb8=Q+", "1Q2k3/8/8/8/8/8/8/K7 b - - 0 1"],
-  ["2k5/8/8/8/8/4K3/8/R6R w - - 0 1", "a1d1", "Rad1", "2k5/8/8/8/8/4K3/8/3R3R b - - 1 1"],
-  ["2k5/8/8/R7/8/4K3/8/R7 w - - 0 1", "a1a3", "R1a3", "2k5/8/8/R7/8/R3K3/8/8 b - - 1 1"],
-  ["1k6/8/8/8/4Q2Q/8/8/1K5Q w - - 0 1", "h4e1", "Qh4e1", "1k6/8/8/8/4Q3/8/8/1K2Q2Q b - - 1 1"],
   ["rnbqkbnr/pppp1ppp/8/4p3/6P1/5P2/PPPPP2P/RNBQKBNR b KQkq - 0 2", "d8h4", "Qh4#",
    "rnb1kbnr/pppp1ppp/8/4p3/6Pq/5P2/PPPPP2P/RNBQKBNR w KQkq - 1 3"],
 ];
@@ -70,23 +54,7 @@ assert.deepEqual([parts(same), parts(right)], [parts(right), parts(same)]);
 assert.equal(new State(dgt, { position: dgt.parsePlacement(KINGS), turn: "white" }).fen,
              `${KINGS} w - - 0 1`);
 
-// What is so of a state: the letter of each question that has the answer yes.
-const QUESTIONS = { c: "isCheck", m: "canMove", M: "isMate", s: "isStalemate", d: "isDead",
-                    5: "isFiftyMoves", 7: "isSeventyFiveMoves" };
-const ANSWERS = [
-  [`${START} w KQkq - 0 1`, "m"], ["4k3/8/8/8/8/8/4r3/4K3 w - - 0 1", "cm"],
-  ["rnb1kbnr/pppp1ppp/8/4p3/6Pq/5P2/PPPPP2P/RNBQKBNR w KQkq - 1 3", "cM"],
-  ["7k/5Q2/6K1/8/8/8/8/8 b - - 0 1", "s"], [`${KINGS} w - - 0 1`, "md"],
-  ["4k3/8/8/8/8/8/8/4KN2 w - - 0 1", "md"], ["4k3/8/8/8/8/8/8/3BKB2 w - - 0 1", "md"],
-  ["4k3/8/8/8/8/8/8/2B1KB2 w - - 0 1", "m"],
-  ["4k3/7p/8/8/8/8/8/4K3 w - - 99 80", "m"], ["4k3/7p/8/8/8/8/8/4K3 w - - 100 80", "m5"],
-  ["4k3/7p/8/8/8/8/8/4K3 w - - 149 80", "m5"], ["4k3/7p/8/8/8/8/8/4K3 w - - 150 80", "m57"],
-];
-for (const [fen, known] of ANSWERS) {
-  const state = parse(fen);
-  const found = Object.entries(QUESTIONS).filter(([, name]) => state[name]).map(([it]) => it);
-  assert.deepEqual(found.sort(), [...known].sort(), fen);
-}
+// How often a position occurs.
 const history = [BEGIN];
 for (const move of "g1f3 g8f6 f3g1 f6g8 g1f3 g8f6 f3g1 f6g8".split(" ")) {
   history.push(history.at(-1).play(move));
@@ -96,12 +64,7 @@ assert.deepEqual([BEGIN.isRepeated(history[4]), BEGIN.isRepeated(history[1])], [
 
 // Texts that aren't FEN: the field that is wrong, and the place.
 const BAD_FENS = [
-  ["", "placement", 0], [START, "placement", 43],
-  ["rnbqkbnr/ppppppppp/8/8/8/8/PPPPPPPP/RNBQKBNR w KQkq - 0 1", "placement", 17],
-  [`${START} x KQkq - 0 1`, "turn", 44], [`${START} w KQqk - 0 1`, "rights", 49],
-  [`${START} w KQkq e9 0 1`, "passed", 52], [`${START} w KQkq \u2013 0 1`, "passed", 51],
-  [`${START} w KQkq - 00 1`, "halfMoves", 54], [`${START} w KQkq - 0`, "halfMoves", 54],
-  [`${START} w KQkq - 0 x`, "number", 55], [`${START} w KQkq - 0 \u0131`, "number", 55],
+  [`${START} w KQkq \u2013 0 1`, "passed", 51], [`${START} w KQkq - 0 \u0131`, "number", 55],
   [`${START} w KQkq - 0 1${" ".repeat(9999)}`, "number", 56],
 ];
 for (const [text, field, at] of BAD_FENS) {
@@ -109,15 +72,6 @@ for (const [text, field, at] of BAD_FENS) {
     error instanceof BadFen && error.field === field && error.at === at, text);
 }
 // States that no game reaches.
-const IMPOSSIBLE = [
-  ["8/8/8/8/8/8/8/4K3 w - - 0 1", "badKings"],
-  [`4k3/${dgt.pieceLetter(13)}7/8/8/8/8/8/4K3 w - - 0 1`, "extraPiece"],
-  ["P3k3/8/8/8/8/8/8/4K3 w - - 0 1", "badPawn"], ["4k3/4R3/8/8/8/8/8/4K3 w - - 0 1", "inCheck"],
-  [`${KINGS} w K - 0 1`, "badRights"], [`${KINGS} w - e6 0 1`, "badPassed"],
-];
-for (const [text, why] of IMPOSSIBLE) {
-  assert.throws(() => parse(text), error => error instanceof Impossible && error.why === why, text);
-}
 for (const [wrong, why] of [[{ number: 0 }, "badNumber"], [{ rights: "Kk" }, "badRights"],
                             [{ position: new Uint8Array(64) }, "badKings"],
                             [{ position: new Uint8Array(64).fill(16) }, "badMember"]]) {
@@ -126,28 +80,11 @@ for (const [wrong, why] of [[{ number: 0 }, "badNumber"], [{ rights: "Kk" }, "ba
     error instanceof Impossible && error.why === why, why);
 }
 
-// Texts of moves: by the state's own way of writing and in other ones, each a move or a reason.
-const TEXTS = [
-  [BEGIN.fen, "e4", "e2e4", "e2e4"], [BEGIN.fen, "e2e4", "noMove", "e2e4"],
-  [BEGIN.fen, "Ke2", "noMove", "noMove"], [BEGIN.fen, "hello", "badText", "badText"],
-  [BEGIN.fen, "", "badText", "badText"], [BEGIN.fen, "e\u0134", "badText", "badText"],
-  ["r3k2r/8/8/8/8/8/8/R3K2R w KQkq - 0 1", "0-0", "noMove", "e1g1"],
-  ["8/P6k/8/8/8/8/8/K7 w - - 0 1", "a8Q", "noMove", "a7a8q"],
-  ["2k5/8/8/8/8/4K3/8/R6R w - - 0 1", "Rd1", "noMove", "ambiguous"],
-  ["2k5/8/8/8/8/4K3/8/R6R w - - 0 1", "Ra1d1", "noMove", "a1d1"],
-  ["1r2k3/P7/8/8/8/8/8/K7 w - - 0 1", "axb8=Q", "noMove", "a7b8q"],
-];
-for (const [fen, text, ...known] of TEXTS) {
-  const found = [false, true].map(lenient => {
-    try {
-      return parse(fen).parseSan(text, { lenient });
-    } catch (error) {
-      assert(error instanceof BadSan, String(error));
-      return error.why;
-    }
-  });
-  assert.deepEqual(found, known, text);
+// Texts of moves.
+for (const [text, why] of [["Ke2", "noMove"], ["e\u0134", "badText"]]) {
+  assert.throws(() => BEGIN.parseSan(text), error => error instanceof BadSan && error.why === why);
 }
+assert.equal(BEGIN.parseSan("e2e4", { lenient: true }), "e2e4");
 
 for (const move of ["e2e5", "e7e5", "e2e4q", "a1a1", "e1g1", "e9e4", "e2e4k", "e4", null]) {
   assert.equal(BEGIN.isLegal(move), false);
