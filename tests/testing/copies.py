@@ -7,6 +7,7 @@ import pathlib
 import re
 from collections.abc import Iterable
 
+import altering
 import mutations
 from mutations import Mutant
 
@@ -106,7 +107,8 @@ class Crate:
         self.texts = {path.stem: mutations.without_comments(path.read_text())
                       for path in (root / "specs").glob("*.antt")}
         self.sources = {path.stem: path.read_text() for path in (root / "src").glob("*.rt")}
-        self.mutants = mutations.mutants(self.found, mutations.constructors(root.parent))
+        self.below = [root.parent / name for name in altering.needed([root.name])]
+        self.mutants = mutations.mutants(self.found, mutations.constructors(self.below))
         self.clauses = clauses_of(root)
         self.reads = {it.name: self.named(it.text, it.file) - {it.name}
                       for it in self.found.values()}

@@ -4,7 +4,7 @@ number, constructor, branch or field is left out or replaced. Comments are left 
 import dataclasses
 import pathlib
 import re
-from collections.abc import Iterator
+from collections.abc import Iterable, Iterator
 
 Node = str | list["Node"]  # a word with the space before it, or a bracket with what it contains
 Variants = Iterator[tuple[str, list[Node]]]  # what is done, and the new nodes
@@ -275,10 +275,10 @@ def unbound(part: str, left: str) -> set[str]:
 # ---- cases of their own
 
 
-def constructors(crates: pathlib.Path) -> Types:
-    """The data types in specs."""
+def constructors(crates: Iterable[pathlib.Path]) -> Types:
+    """The data types in specs of these crates."""
     found: Types = {}
-    for path in sorted(crates.glob("*/specs/*.antt")):
+    for path in sorted(path for crate in crates for path in crate.glob("specs/*.antt")):
         for block in BLOCK.findall(without_comments(path.read_text())):
             if (start := HEAD.match(block)) and start[1] == "data":
                 found[start[2]] = {

@@ -1,32 +1,48 @@
 """Which clauses refuse the first-order mutants of a crate. A clause refuses a mutant if the prover
 doesn't find the clause about it, although it knows the clause about the definition.
 
-crates/NAME/mutants.txt has a line for each definition: a sum of its mutants, and their numbers
-after the clause that refuses them. After `no definition` are those that have no sense. By hand you
-write `same:` and why nothing can refuse the others, or `held:` and what was seen to be refused with
-them: altered.edits has to show it of another mutant of this definition.
+crates/NAME/mutants.txt has a line for each definition: a sum of its mutants, their numbers after
+the clause that refuses them, and last a sum of all that was read when they were tried. After `no
+definition` are those that have no sense. By hand you write `same:` and why nothing can refuse the
+others, or `held:` and what was seen to be refused with them: altered.edits has to show it of
+another mutant of this definition.
+
+A definition whose line would stay the same is passed over. The last sum covers the logic, the
+definition, the contracts with these clauses, and all definitions and types that they read, also of
+the crates below. Bodies, proofs and other definitions may change. DGT_TRIED says whose lines count
+(tried.py).
 """
 
 import collections
 import dataclasses
+import functools
 import hashlib
+import os
 import pathlib
 import re
+import subprocess
+import tempfile
 
 import altering
-from altering import PROVED, Failure, check_with, refused_in
+from altering import PROVED, ROOT, Failure, check_with, refused_in
 from copies import Clause, Crate, function
 from mutations import Mutant
+from reads import Reads
 
 NAME = "mutants.txt"
 HEAD = "# Made by tests/mutants/mutants, but for what is after `same:` and `held:`.\n"
 BY_HAND = ("same:", "held:")
 AT_ONCE = 100  # copies in one check
-SENSELESS = "no definition"
+SENSELESS, TRIED = "no definition", "tried"
 BROKEN = re.compile(r"(?m)^\./specs/Copies(\w+)\.antt:(\d+):\d+: error: (?!\d+ declarations? that)")
 
 Labels = dict[str, dict[int, str]]  # of each definition what refuses its mutants
 Job = tuple[Mutant, Clause]
+
+
+def sum_of(*parts: str) -> str:
+    """A short sum of some texts."""
+    return hashlib.sha256("\n".join(parts).encode()).hexdigest()[:8]
 
 
 def by_definition(crate: Crate) -> dict[str, list[Mutant]]:
@@ -34,8 +50,7 @@ def by_definition(crate: Crate) -> dict[str, list[Mutant]]:
     found: dict[str, list[Mutant]] = collections.defaultdict(list)
     for mutant in crate.mutants:
         found[mutant.definition.name].append(mutant)
-    texts = {name: "".join(it.new for it in mutants) for name, mutants in found.items()}
-    return {f"{name} {hashlib.sha256(texts[name].encode()).hexdigest()[:8]}": mutants
+    return {f"{name} {sum_of(''.join(it.new for it in mutants))}": mutants
             for name, mutants in found.items()}
 
 
@@ -58,21 +73,54 @@ def read(path: pathlib.Path, crate: Crate) -> Labels:
     lines = [line.split(" | ") for line in path.read_text().splitlines()]
     for first, *groups in lines:
         for label, _, numbers in (group.rpartition(" ") for group in groups):
-            if first in by_definition(crate):
+            if first in by_definition(crate) and label != TRIED:
                 found[first.split()[0]] |= dict.fromkeys(numbers_in(numbers), label)
     return found
 
 
-def write(path: pathlib.Path, crate: Crate, known: Labels) -> None:
-    """Writes what is known."""
-    lines = []
-    for name in by_definition(crate):
+@functools.cache
+def logic() -> str:
+    """The logic of the toolchain."""
+    version = subprocess.run(["rt", "version"], check=True, capture_output=True, text=True).stdout
+    return version.partition(" logic ")[2]
+
+
+def lines_of(crate: Crate, known: Labels) -> dict[str, str]:
+    """The line of each definition, if all its mutants were tried."""
+    reads, lines = Reads(crate.below), {}
+    functions = {it.path: (it.file, it.function) for it in crate.clauses}
+    for first in by_definition(crate):
+        name = first.split()[0]
         labels: dict[str, list[int]] = collections.defaultdict(list)
-        for number, label in sorted(known[name.split()[0]].items()):
+        for number, label in sorted(known[name].items()):
             labels[label].append(number)
+        texts = [logic(), crate.found[name].text]
+        used = {functions[path] for path in labels.keys() & functions.keys()}
+        for one in (it for it in crate.clauses if (it.file, it.function) in used):
+            keys = reads.reached(crate.root.name, f"src/{one.file}", one.head + one.text)
+            texts += [one.head, one.text, *(reads.texts[key] for key in sorted(keys))]
         groups = [f" | {label} {ranges(numbers)}" for label, numbers in labels.items()]
-        lines.append(f"{name}{''.join(groups)}\n")
-    path.write_text(HEAD + "".join(lines))
+        lines[name] = f"{first}{''.join(groups)} | {TRIED} {sum_of(*texts)}"
+    return lines
+
+
+def write(path: pathlib.Path, crate: Crate, known: Labels, left: set[str]) -> None:
+    """Writes what is known. The mutants of these definitions aren't all tried."""
+    lines = lines_of(crate, known)
+    lines |= {name: lines[name].rpartition(" | ")[0] for name in left}
+    path.write_text(HEAD + "".join(f"{line}\n" for line in lines.values()))
+
+
+def untried(path: pathlib.Path, crate: Crate, known: Labels) -> set[str]:
+    """The definitions whose lines don't count."""
+    text = path.read_text()
+    if whose := os.environ.get("DGT_TRIED"):
+        words = ["git", "show", f"{whose}:{path.relative_to(ROOT)}"]
+        text = subprocess.run(words, cwd=ROOT, capture_output=True, text=True, check=False).stdout
+    numbers = {it.definition.name: it.number for it in crate.mutants}
+    lines = {*text.splitlines()}
+    return {name for name, line in lines_of(crate, known).items()
+            if len(known[name]) < numbers[name] or line not in lines}
 
 
 def try_jobs(crate: Crate, jobs: list[Job]) -> dict[Job, str]:
@@ -118,14 +166,14 @@ def words(name: str) -> set[str]:
 class Search:
     """What is left to try: of each mutant the clauses that read its definition."""
 
-    def __init__(self, crate: Crate, known: Labels) -> None:
+    def __init__(self, crate: Crate, known: Labels, names: set[str]) -> None:
         self.crate, self.known = crate, known
         self.distances = {clause: crate.reached(crate.named(clause.text, clause.file))
                           for clause in crate.clauses}
         self.seen: collections.Counter[tuple[str, Clause, str]] = collections.Counter()
         self.usable: dict[tuple[str, Clause], bool] = {}
         self.left: dict[Mutant, list[Clause]] = {}
-        for mutant in crate.mutants:
+        for mutant in (it for it in crate.mutants if it.definition.name in names):
             name = mutant.definition.name
             label = known[name].get(mutant.number, "")
             if label != SENSELESS and not label.startswith(BY_HAND):
@@ -179,18 +227,28 @@ def shown(root: pathlib.Path) -> set[tuple[str, str]]:
     return found
 
 
-def judge(root: pathlib.Path, path: pathlib.Path) -> str:
-    """Fails if nothing refuses a mutant of a crate. Returns the beginning of a line about them."""
-    crate = Crate(root)
-    known = read(path, crate)
-    search = Search(crate, known)
-    while search.try_some():
-        write(path, crate, known)
+def try_crate(root: pathlib.Path, path: pathlib.Path, known: Labels, names: set[str]) -> None:
+    """Tries the mutants of these definitions in a copy of a crate, and writes what refuses them.
+    Fails if nothing refuses one."""
+    with tempfile.TemporaryDirectory(prefix="mutants.") as place:
+        crate = Crate(altering.copy_to(pathlib.Path(place), root.name))
+        altering.check(crate.root)
+        search = Search(crate, known, names)
+        while search.try_some():
+            write(path, crate, known, {it.definition.name for it in search.left})
     for mutant in search.left:
         known[mutant.definition.name].pop(mutant.number, None)
-    write(path, crate, known)
+    write(path, crate, known, {it.definition.name for it in search.left})
     if texts := [f"{it.name} ({it.what}): {' '.join(it.new.split())}" for it in search.left]:
         raise Failure("\n".join([f"{root.name}: nothing refuses", *texts]))
+
+
+def judge(root: pathlib.Path) -> str:
+    """Fails if nothing refuses a mutant of a crate. Returns a line about them."""
+    path, crate = root / NAME, Crate(root)
+    known = read(path, crate)
+    if names := untried(path, crate, known):
+        try_crate(root, path, known, names)
     held = {(name, label[6:]) for name, labels in known.items() for label in labels.values()
             if label.startswith("held:")}
     if lacking := held - shown(root):
@@ -199,4 +257,4 @@ def judge(root: pathlib.Path, path: pathlib.Path) -> str:
     made = len(labels) - labels.count(SENSELESS)
     same, by_hand = labels.count("same"), labels.count("held")
     return f"{made} first-order mutants, {made - same - by_hand} refused, {by_hand} held, {same} " \
-           "the same; "
+           f"the same; of {len(names)} definitions tried now"
