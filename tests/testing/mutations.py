@@ -78,8 +78,9 @@ def without_comments(text: str) -> str:
 def definitions(crate: pathlib.Path) -> dict[str, Definition]:
     """The definitions of a crate, in the order in which its specs/Lib.antt lists them."""
     found: dict[str, Definition] = {}
-    cited, _, private = (crate / "specs/Lib.antt").read_text().partition("only for bodies")
-    for file in re.findall(r"pub mod (\w+)", cited + private):
+    listed = (crate / "specs/Lib.antt").read_text()
+    cited = re.split("(?i)only for bodies", listed)[0]
+    for file in re.findall(r"pub mod (\w+)", listed):
         last = ""
         for block in BLOCK.findall(without_comments((crate / f"specs/{file}.antt").read_text())):
             if start := HEAD.match(block):
