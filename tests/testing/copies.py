@@ -15,8 +15,9 @@ NAME = r"(?<![\w.'-])[\w'-]+"
 # What a mutant may need of the prelude.
 PRELUDE = {"≡": "◌≡◌", "≤": "◌≤◌", "<": "◌<◌", **{it: it for it in (
     "[]", "nat_le", "nat_lt", "None", "max", "min", "true", "false")}}
-FUNCTION = re.compile(r"(?m)^(?:impl (?P<owner>\w+) \{|(?P<indent> *)pub fn (?P<name>\w+)"
-                      r"\((?P<given>(?:[^()]|\([^()]*\))*)\)(?P<result> -> [^\n{]+)?\n)")
+FUNCTION = re.compile(r"(?m)^(?:impl(?:<'a>)? (?P<owner>\w+)(?P<lives><'a>)? \{"
+                      r"|(?P<indent> *)pub fn (?P<name>\w+)\((?P<given>(?:[^()]|\([^()]*\))*)\)"
+                      r"(?P<result> -> [^\n{]+)?\n)")
 CLAUSE = re.compile(r"\s+(ensures|requires)(\*?) ?(\w*) ?\{")
 
 
@@ -55,19 +56,19 @@ def clauses_of(crate: pathlib.Path) -> list[Clause]:
     handed = {*re.findall(r"\w+", " ".join(re.findall(r"(?m)^pub use ([^;]*);", front)))}
     public = {"lib", *re.findall(r"(?m)^pub mod (\w+);", front)}
     for path in sorted((crate / "src").glob("*.rt")):
-        text, owner = path.read_text(), ""
+        text, owner, lives = path.read_text(), "", ""
         for start in FUNCTION.finditer(text):
             if not start["name"] or not start["indent"]:
-                owner = start["owner"] or ""
+                owner, lives = start["owner"] or "", start["lives"] or ""
             if start["name"] and (path.stem in public or (owner or start["name"]) in handed):
                 place = crate / "proofs" / (path.stem if path.stem != "lib" else "")
                 answers = place / owner / start["name"] / "Answers.antt"
                 written = answers.read_text() if answers.exists() else ""
-                found += clauses_at(path.stem, text, owner, start, written)
+                found += clauses_at(path.stem, text, owner, lives, start, written)
     return found
 
 
-def clauses_at(file: str, text: str, owner: str, start: re.Match[str], written: str
+def clauses_at(file: str, text: str, owner: str, lives: str, start: re.Match[str], written: str
                ) -> list[Clause]:
     """The clauses of a function that starts here. Its copies call it, and what a law calls."""
     at, clauses, premises = start.end() - 1, [], ""
@@ -78,10 +79,12 @@ def clauses_at(file: str, text: str, owner: str, start: re.Match[str], written: 
         elif not clause[2]:
             clauses.append((clause[3], text[clause.end() : at - 1].strip()))
     place = "crate::" if file == "lib" else f"crate::{file}::"
+    if owner and not re.search(rf"(?m)^pub (?:struct|enum) {owner}\b", text):
+        place = ""  # this file imports the type
     name = f"{owner}::{start['name']}" if owner else start["name"]
-    head = re.sub(r"(&mut |&|)self\b", rf"it: \1{owner}", start["given"])
+    head = re.sub(r"(&mut |&|)self\b", rf"it: \1{owner}{lives}", start["given"])
     given = ", ".join(re.findall(r"(\w+): ", head))
-    result = re.sub(r"\bSelf\b", owner, start["result"] or "")
+    result = re.sub(r"\bSelf\b", owner + lives, start["result"] or "")
     body = f"{place}{name}({given})" + ";" * (not result)
     if not given:
         at = text.index("{", at) + 1
@@ -91,7 +94,8 @@ def clauses_at(file: str, text: str, owner: str, start: re.Match[str], written: 
         result = re.sub(r"&(?!')", "&'a ", result.replace("'_", "'a"))
         head = f"<'a>({head.replace('it: &', 'it: &' + chr(39) + 'a ')}){result}{premises}"
     else:
-        head = f"({head}){result}{premises}"
+        generic = "<'a>" if "'a" in head + result else ""
+        head = f"{generic}({head}){result}{premises}"
     head = re.sub(r"\bself\b", "it", head)
     return [Clause(file, name, label, re.sub(r"\bself\b", "it", said), head, body, not given
                    and not re.search(rf"(?m)^returns(-clause-{label}\b| c = )", written))
@@ -143,9 +147,10 @@ class Crate:
                 is_own = it == mutant.definition
                 text = it.text.replace(mutant.old, mutant.new, 1) if is_own else it.text
                 names = self.named(it.text, it.file) & between | {it.name}
-                specs[it.file][f"{it.name}__{mutant.name}"] = renamed(text, names, mutant)
+                text = re.sub("^unfoldable", "abbrev", renamed(text, names, mutant))
+                specs[it.file][f"{it.name}__{mutant.name}"] = text
             laws[clause.file].append(
-                f"pub fn {function(mutant, clause)}{clause.head}\n"
+                f"{self.opening(direct, between)}pub fn {function(mutant, clause)}{clause.head}\n"
                 f"    ensures {{ {renamed(clause.text, direct & between, mutant)} }}\n"
                 f"{{ {clause.body} }}\n")
         front = (self.root / "src/lib.rt").read_text()
@@ -158,6 +163,14 @@ class Crate:
             "specs/Lib.antt": (self.root / "specs/Lib.antt").read_text() + listed,
             **{f"specs/Copies{it}.antt": self.spec(it, specs) for it in specs},
             **{f"src/copies_{it}.rt": self.source(it, made, specs) for it, made in laws.items()}}
+
+    def opening(self, direct: set[str], between: set[str]) -> str:
+        """An attribute that opens the unfoldable definitions, if one of them is copied."""
+        if all(self.found[it].kind != "unfoldable" for it in between):
+            return ""
+        paths = sorted(f"crate::specs::{self.found[it].file}::{it}" for it in self.reached(direct)
+                       if self.found[it].kind == "unfoldable")
+        return f"#[tactic(auto, unfolding({', '.join(paths)}))]\n"
 
     def imports(self, text: str, specs: dict[str, dict[str, str]], file: str) -> list[str]:
         """What imports the copies that a text names, of other files."""
@@ -182,9 +195,13 @@ class Crate:
 
     def source(self, file: str, made: list[str], specs: dict[str, dict[str, str]]) -> str:
         """A module with copies of the clauses of another one."""
-        uses = re.findall(r"(?m)^(?:ghost )?use [^;]*;", self.sources[file])
+        uses = re.findall(r"(?m)^(?:use [^;]*|ghost use [^;{}]*);", self.sources[file])
+        ghosts: dict[str, dict[str, None]] = {}
+        for place, names in re.findall(r"ghost use (\S+)\.\{([^}]*)\};", self.sources[file]):
+            ghosts.setdefault(place, {}).update(dict.fromkeys(names.split(", ")))
+        uses += [f"ghost use {it}.{{{', '.join(names)}}};" for it, names in ghosts.items()]
         uses += [f"ghost {it};" for it in self.imports("\n".join(made), specs, "")]
-        if own := re.findall(r"(?m)^pub (?:struct|enum|const) (\w+)", self.sources[file]):
+        if own := re.findall(r"(?m)^pub (?:struct|enum|const|type) (\w+)", self.sources[file]):
             place = "" if file == "lib" else f"{file}::"
             uses.append(f"use crate::{place}{{{', '.join(own)}}};")
         return "//! Copies.\n\n" + "\n".join([*uses, "", *made])

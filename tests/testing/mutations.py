@@ -12,7 +12,7 @@ Types = dict[str, dict[str, int]]  # of each type its constructors, and how many
 WORD = re.compile(r"""\s*(?:"[^"]*"|'[^\s']'|\+\+|&&|\|\||==|\[\]"""
                   r"|[^\s(){}\[\],;∷×⊎→↔≡≢≤<+*/&|:=λ¬]+|\S)")
 BLOCK = re.compile(r"(?m)^(?!use )\S.*(?:\n(?:[ \t]+.*|\}))*")
-HEAD = re.compile(r"(?s)(?:pub )?(abbrev|record|data)(?: pub)? ([^\s:]+)(.*)")
+HEAD = re.compile(r"(?s)(?:pub )?(abbrev|unfoldable|record|data)(?: pub)? ([^\s:]+)(.*)")
 FIELD = re.compile(r"(?m)^  (?:pub )?\S+ : .*(?:\n   .*)*")
 BOUND = re.compile(r"\((\w+)[\w ]* : (ℕ|Bool|List [^()]*|List \(.*?\))\)")
 QUALIFIED = re.compile(r"\b([A-Z]\w+|command|act|faulty)\.([A-Z]\w+)\b")
@@ -26,7 +26,7 @@ SIMPLEST = {"Type": ("⊥", "Unit {0}"), "Bool": ("true", "false"), "ℕ": ("0",
 
 @dataclasses.dataclass(frozen=True)
 class Definition:
-    """An `abbrev` with its equations, or a `record` with its fields."""
+    """An `abbrev` or `unfoldable` with its equations, or a `record` with its fields."""
 
     file: str
     kind: str
@@ -234,7 +234,7 @@ def mutants(found: dict[str, Definition], data: Types) -> list[Mutant]:
     every = []
     for one in found.values():
         numbered: dict[tuple[str, str], tuple[str, str]] = {}
-        if one.is_cited and one.kind != "data" and not one.is_statement:
+        if one.is_cited and one.kind in ("abbrev", "record") and not one.is_statement:
             for what, old, new in of_definition(one, siblings, data):
                 if new.split() != old.split():
                     numbered.setdefault((old, " ".join(new.split())), (what, new))
