@@ -71,8 +71,9 @@ class Mutant:
 
 
 def without_comments(text: str) -> str:
-    """The text of a file without its comments."""
-    return re.sub(r"(?m)(^|[ \t]+)-- .*$", "", text)
+    """The text of a file without its comments. A line of a comment goes as a whole, since an empty
+    one would end a record."""
+    return re.sub(r"(?m)^[ \t]*-- .*\n|[ \t]+-- .*$", "", text)
 
 
 def definitions(crate: pathlib.Path) -> dict[str, Definition]:
