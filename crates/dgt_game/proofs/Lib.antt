@@ -21,3 +21,4 @@ pub mod Timing
 pub mod Standing
 pub mod Planning
 pub mod Rests
+pub mod Settling

@@ -15,11 +15,14 @@ use Rattle.dgt_chess.specs.Attacks.{IsInCheck, other, piece_at}
 use Rattle.dgt_chess.specs.Possible.{HasKings, HasNoExtra, HasNoStray, HasPassed, HasRights, IsPossible, Refuses}
 use Rattle.dgt_chess.specs.Rules.{board}
 use Rattle.dgt_game.specs.declared.event.Event.{Event}
+use Rattle.dgt_game.specs.declared.event.GameResult.{GameResult}
 use Rattle.dgt_game.specs.declared.memory.Memory.{Memory}
 use Rattle.dgt_game.specs.declared.node.Node.{Node}
+use Rattle.dgt_game.specs.declared.node.Origin.{Origin}
 use Rattle.dgt_game.specs.declared.node.Place.{Place}
 use Rattle.dgt_game.specs.declared.node.Step.{Step}
 use Rattle.dgt_game.specs.declared.recogniser.Lost.{Lost}
+use Rattle.dgt_game.specs.declared.recogniser.Over.{Over}
 use Rattle.dgt_game.specs.declared.recogniser.Recogniser.{Recogniser}
 use Rattle.dgt_game.specs.declared.recogniser.Search.{Search}
 use Rattle.dgt_game.specs.declared.resting.Next.{Next}
@@ -30,7 +33,7 @@ use Rattle.dgt_game.specs.Memory.{steps}
 use Rattle.dgt_game.specs.Waiting.{Show, has_notice, last_of}
 use Rattle.dgt_game.specs.Planning.{AddsNone, EndsSearch, HasNothing, IsAtLast, IsPlanned, IsRefused, IsSettled, Lacks, LacksOnly}
 use Rattle.dgt_game.specs.Planning.{LostIsReported, NothingFits, OneFits, PossibleIsHopeful, SaysLost}
-use Rattle.dgt_game.specs.Planning.{Plans, PlansPosition, StaysPlaced, TaskFits, WhyHopeless, of_kings, of_place, of_search, todo}
+use Rattle.dgt_game.specs.Planning.{Plans, PlansPosition, RestsAt, RestsBefore, RestsBy, StaysPlaced, TaskFits, WhyHopeless, of_kings, of_place, of_search, todo}
 use Rattle.dgt_game.proofs.Chains.{get_step}
 
 -- ---- Pieces that are gone
@@ -163,33 +166,28 @@ hopeless_stays old new (view, search, here) h = λ shown e nowhere hopeless.
 
 -- ---- What is planned
 
-fits_with : (self : Recogniser) (next : Option Next) (task : Task) → TaskFits self task
-    → TaskFits (record self { next = next }) task
-fits_with self next Task.EndByKings h = h
-fits_with self next Task.Search h = h
-fits_with self next Task.Tell h = h
-fits_with self next Task.Begin h = h
+-- what is done next depends neither on what was planned nor on a result that waits
+fits_with : (self : Recogniser) (next : Option Next) (ended : Option (GameResult × Over))
+    (task : Task) (wait : ℕ) → TaskFits self task × RestsBefore self task wait
+    → TaskFits (record self { next = next; ended = ended }) task
+    × RestsBefore (record self { next = next; ended = ended }) task wait
+fits_with self next ended Task.EndByKings wait h = h
+fits_with self next ended Task.Search wait h = h
+fits_with self next ended Task.Tell wait h = h
+fits_with self next ended Task.Begin wait h = h
+
+plans_same : (self : Recogniser) (next plan : Option Next) (ended : Option (GameResult × Over))
+    → Plans self plan → Plans (record self { next = next; ended = ended }) plan
+plans_same self next None ended h = h
+plans_same self next (Some plan) ended h = fits_with self next ended plan.task plan.wait h
 
 pub plans_with : (self : Recogniser) (next plan : Option Next) → Plans self plan
     → Plans (record self { next = next }) plan
-plans_with self next None h = h
-plans_with self next (Some plan) h = (fits_with self next plan.task h.0, h.1)
-
-fits_ended : (self : Recogniser) (task : Task) → TaskFits self task
-    → TaskFits (record self { ended = None }) task
-fits_ended self Task.EndByKings h = h
-fits_ended self Task.Search h = h
-fits_ended self Task.Tell h = h
-fits_ended self Task.Begin h = h
-
-plans_ended : (self : Recogniser) (plan : Option Next) → Plans self plan
-    → Plans (record self { ended = None }) plan
-plans_ended self None h = h
-plans_ended self (Some plan) h = (fits_ended self plan.task h.0, h.1)
+plans_with self next plan h = plans_same self next plan self.ended h
 
 pub planned_quiet : (self new : Recogniser) → new ≡ record self { ended = None } → IsPlanned self
     → IsPlanned new
-planned_quiet self new e h = subst IsPlanned (sym e) (plans_ended self self.next h)
+planned_quiet self new e h = subst IsPlanned (sym e) (plans_same self self.next self.next None h)
 
 pub planned_then : (self new : Recogniser) (report : Option Event)
     → MatchOption report (new ≡ record self { ended = None }) (λ event. IsPlanned new)
@@ -204,6 +202,14 @@ plans_of self None h kings = elim h [
   | inr settled ↦ elim (kings refl) [ inl none ↦ inr (none, settled) | inr doubt ↦ inl doubt ]
 ]
 plans_of self (Some plan) h kings = h
+
+pub rests_here : (memory : Memory) (read : List Node) (place : Place) (returned wait k : ℕ)
+    (node : Node) (origin : Origin) → place ≡ Place.Seen k → read ≡ memory.seen.items
+    → k < length read → node ≡ slice_index_or read k node → node.origin ≡ origin
+    → RestsBy origin node.depth returned wait → RestsAt place memory returned wait
+rests_here memory read place returned wait k node origin here same less is by h =
+    rw (here, subst (λ (ns : List Node). slice_get ns k ≡ Some node) same (slice_get_read read
+    (length read) k node refl less is), by) h
 
 -- ---- How much is left to do
 

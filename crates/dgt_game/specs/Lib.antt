@@ -11,6 +11,7 @@ pub mod Timing
 pub mod Planning
 pub mod Reading
 pub mod Standing
+pub mod Settling
 -- Only for bodies.
 pub mod Ways
 pub mod Arrivals

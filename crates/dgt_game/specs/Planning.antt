@@ -1,5 +1,5 @@
 -- What is done next with what the board shows, or why nothing is.
-use Rattle.std.specs.Prelude.{⊤, ◌≡◌, ◌≢◌, ◌<◌, ◌≤◌, ◌⊎◌, ◌+◌, ℕ, Bool, true, false, List, [], Option, Some, None, slice_get}
+use Rattle.std.specs.Prelude.{⊤, ◌≡◌, ◌≢◌, ◌<◌, ◌≤◌, ◌⊎◌, ◌+◌, ℕ, Bool, true, false, List, [], MatchOption, Option, Some, None, slice_get}
 use Rattle.dgt_values.specs.declared.pieces.Piece.{Piece}
 use Rattle.dgt_values.specs.Board.{pieces_of}
 use Rattle.dgt_chess.specs.declared.state.State.{State}
@@ -9,6 +9,7 @@ use Rattle.dgt_chess.specs.Attacks.{other, piece_at, piece_of}
 use Rattle.dgt_chess.specs.Rules.{board}
 use Rattle.dgt_game.specs.declared.event.GameResult.{GameResult}
 use Rattle.dgt_game.specs.declared.memory.Memory.{Memory}
+use Rattle.dgt_game.specs.declared.node.Origin.{Origin}
 use Rattle.dgt_game.specs.declared.node.Place.{Place}
 use Rattle.dgt_game.specs.declared.node.Step.{Step}
 use Rattle.dgt_game.specs.declared.recogniser.Lost.{Lost}
@@ -69,9 +70,41 @@ IsSettled self =
 abbrev pub HasNothing : Recogniser → Type 0
 HasNothing self = (self.has_kings ≡ false) × IsSettled self
 
--- what is done next. A search waits for a second at most.
+-- how long it takes until several half-moves are looked for, in a doubt and without
+abbrev pub search_wait : Bool → ℕ
+search_wait true = 320
+search_wait false = 1000
+
+-- How long half-moves that follow a state of the line rest before they are reported: 3 s if they
+-- replace others than the last one, unless the board has gone back over these.
+abbrev pub RestsAfter : ℕ → ℕ → ℕ → Type 0
+RestsAfter base returned wait =
+    (300 ≤ wait) × (wait ≤ 10000) × (2 ≤ base → base ≢ returned → 3000 ≤ wait)
+
+-- the same of other half-moves, too. The start of a game needs no rest.
+abbrev pub RestsBy : Origin → ℕ → ℕ → ℕ → Type 0
+RestsBy (Origin.Line base) depth returned wait = RestsAfter base returned wait
+RestsBy Origin.Start depth returned wait = (depth ≡ 1) ⊎ (300 ≤ wait)
+RestsBy Origin.Shadow depth returned wait = 300 ≤ wait
+
+-- the same of what is at a place
+abbrev pub RestsAt : Place → Memory → ℕ → ℕ → Type 0
+RestsAt (Place.Seen k) memory returned wait =
+    MatchOption (slice_get memory.seen.items k) (300 ≤ wait)
+    (λ node. RestsBy node.origin node.depth returned wait)
+RestsAt place memory returned wait = 300 ≤ wait
+
+-- how long what is shown rests before something is done
+abbrev pub RestsBefore : Recogniser → Task → ℕ → Type 0
+RestsBefore self Task.EndByKings wait = wait ≡ 1000
+RestsBefore self Task.Search wait = wait ≡ search_wait self.is_behind
+RestsBefore self Task.Tell wait = RestsAt self.here self.memory self.returned.count wait
+RestsBefore self Task.Begin wait =
+    (1000 ≤ wait) × (self.memory.line.items ≢ [] → 5000 ≤ wait)
+
+-- what is done next, and when
 abbrev pub FitsNext : Recogniser → Next → Type 0
-FitsNext self next = TaskFits self next.task × (next.task ≡ Task.Search → next.wait ≤ 1000)
+FitsNext self next = TaskFits self next.task × RestsBefore self next.task next.wait
 
 abbrev pub Plans : Recogniser → Option Next → Type 0
 Plans self None = (self.is_confirmed ≡ false) ⊎ HasNothing self

@@ -6,6 +6,7 @@ ghost use Rattle.dgt_game.specs.Reading.{EarlierAreKnown, ElseStartIsKnown, Move
 ghost use Rattle.dgt_game.specs.Recogniser.{new_recogniser};
 ghost use Rattle.dgt_game.specs.Results.{LostInTurn, OneByKings, OneByRules, OneOther, OneResult};
 ghost use Rattle.dgt_game.specs.Runs.{CallsAreRuns, IsLegalAndShown};
+ghost use Rattle.dgt_game.specs.Settling.{ReplacingHasRested, ReportedHasRested, ReportedHasSettled};
 ghost use Rattle.dgt_game.specs.Standing.{OnlyShownIsReported, RestIsReported, Stands};
 ghost use Rattle.dgt_game.specs.Timing.{NoCallMatters};
 ghost use Rattle.dgt_game.specs.Waiting.{CallsFollowOn, RightIfAway, RunsInTurn, Waits};
@@ -72,6 +73,13 @@ pub fn what_plans_say()
 pub fn what_rests_is_reported()
     ensures rest { RestIsReported }
     ensures only { OnlyShownIsReported }
+{}
+
+/// What is reported has rested before.
+pub fn what_is_reported_has_rested()
+    ensures rested { ReportedHasRested }
+    ensures settled { ReportedHasSettled }
+    ensures replacing { ReplacingHasRested }
 {}
 
 /// It doesn't matter how often `due` is called before.

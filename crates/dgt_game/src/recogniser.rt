@@ -96,6 +96,7 @@ impl Recogniser {
     ghost use Rattle.dgt_game.specs.Reading.{HasLine, IsExplained, HasRoom, IsLive, IsRoomFor, ReadsView, FollowsSeen, IsKnown, IsRead};
     ghost use Rattle.dgt_game.specs.Recogniser.{GoesOn, Knows, Sees, new_recogniser, picture_of, pictured};
     ghost use Rattle.dgt_game.specs.Reading.{ReadsView, Shows};
+    ghost use Rattle.dgt_game.specs.Settling.{IsAnswered};
     ghost use Rattle.dgt_game.specs.Standing.{IsOpen, ShowsAs, Stands};
     ghost use Rattle.dgt_game.specs.Timing.{IsIdle};
     ghost use Rattle.dgt_game.specs.Waiting.{Follows, IsQuiet, Keeps, LostWaits, Waits, has_notice, has_result, is_lost, is_sure_sight};
@@ -148,6 +149,8 @@ impl Recogniser {
             → self.new.since ≡ observation.now.at }
         ensures stands { (shown : List (List Piece)) (line : List Told)
             → Knows shown line self.old → Stands self.old → Stands self.new }
+        ensures answers { IsOk result → (shown : List (List Piece)) (line : List Told)
+            → Knows shown line self.old → Stands self.old → IsAnswered self.new.memory }
         ensures plans { IsOk result → IsPlanned self.new }
         ensures planned { IsPlanned self.old → IsPlanned self.new }
         ensures reads { length self.old.memory.seen.items < 21 → IsExplained self.old
@@ -276,6 +279,7 @@ impl Recogniser {
         ensures changed { pictured view ≢ pictured self.old.view → self.new.since ≡ now }
         ensures stands { IsOpen self.old.memory → Stands self.new }
         ensures reads { length self.old.memory.seen.items < 23 → IsExplained self.new }
+        ensures answers { IsOpen self.old.memory → IsAnswered self.new.memory }
         ensures search { self.new.search ≢ Search.Done }
         ensures hopeless { WhyHopeless self.new }
         ensures shown { self.new.view ≡ view }
@@ -308,6 +312,7 @@ impl Recogniser {
             → Holds shown line self.old.memory → Holds shown line self.new.memory }
         ensures view { self.new.view ≡ self.old.view }
         ensures keeps { Keeps self.old self.new }
+        ensures answers { IsOpen self.old.memory → IsAnswered self.new.memory }
         ensures doubt { self.old.is_sure ≡ false → IsQuiet self.old → IsQuiet self.new }
         ensures stands { IsOpen self.old.memory → self.old.view ≡ Some view.now → Stands self.new }
         ensures line { self.new.memory.line ≡ self.old.memory.line }
@@ -360,6 +365,7 @@ impl Recogniser {
             → Holds shown line self.old.memory → Holds shown line self.new.memory }
         ensures view { self.new.view ≡ self.old.view }
         ensures keeps { Keeps self.old self.new }
+        ensures answers { IsOpen self.old.memory → IsAnswered self.new.memory }
         ensures doubt { self.old.is_sure ≡ false → IsQuiet self.old → IsQuiet self.new }
         ensures stands { (view : View) → IsOpen self.old.memory → self.old.view ≡ Some view
             → ReadsView self.old.memory view reading
@@ -397,6 +403,7 @@ impl Recogniser {
             → Holds shown line self.old.memory → Holds shown line self.new.memory }
         ensures view { self.new.view ≡ self.old.view }
         ensures keeps { Keeps self.old self.new }
+        ensures answers { IsOpen self.old.memory → IsAnswered self.new.memory }
         ensures doubt { self.old.is_sure ≡ false → IsQuiet self.old → IsQuiet self.new }
         ensures stands { (view : View) → IsOpen self.old.memory → self.old.view ≡ Some view
             → MatchOption (slice_get (steps self.old.memory.line.items) k) ⊥ (Shows view)
@@ -428,6 +435,7 @@ impl Recogniser {
             → Holds shown line self.old.memory → Holds shown line self.new.memory }
         ensures view { self.new.view ≡ self.old.view }
         ensures keeps { Keeps self.old self.new }
+        ensures answers { IsOpen self.old.memory → IsAnswered self.new.memory }
         ensures doubt { self.old.is_sure ≡ false → IsQuiet self.old → IsQuiet self.new }
         ensures stands { (view : View) → IsOpen self.old.memory → self.old.view ≡ Some view
             → ((k : ℕ) → place ≢ Place.Line k)
@@ -456,6 +464,7 @@ impl Recogniser {
             → Holds shown line self.old.memory → Holds shown line self.new.memory }
         ensures view { self.new.view ≡ self.old.view }
         ensures keeps { Keeps self.old self.new }
+        ensures answers { IsOpen self.old.memory → IsAnswered self.new.memory }
         ensures doubt { self.old.is_sure ≡ false → IsQuiet self.old → IsQuiet self.new }
         ensures stands { (view : View) → IsOpen self.old.memory → self.old.view ≡ Some view
             → ReadsView self.old.memory view (Reading.Held node)
@@ -497,6 +506,7 @@ impl Recogniser {
             → Holds shown line self.old.memory → Holds shown line self.new.memory }
         ensures view { self.new.view ≡ self.old.view }
         ensures keeps { Keeps self.old self.new }
+        ensures answers { IsOpen self.old.memory → IsAnswered self.new.memory }
         ensures doubt { self.old.is_sure ≡ false → IsQuiet self.old → IsQuiet self.new }
         ensures stands { (view : View) → IsOpen self.old.memory → self.old.view ≡ Some view
             → ReadsView self.old.memory view (Reading.Two first second)
@@ -525,6 +535,7 @@ impl Recogniser {
             → Holds shown line self.old.memory → Holds shown line self.new.memory }
         ensures view { self.new.view ≡ self.old.view }
         ensures keeps { Keeps self.old self.new }
+        ensures answers { IsOpen self.old.memory → IsAnswered self.new.memory }
         ensures doubt { self.old.is_sure ≡ false → IsQuiet self.old → IsQuiet self.new }
         ensures stands { (view : View) → IsOpen self.old.memory → self.old.view ≡ Some view
             → (Shows view node.step → Stands self.new)

@@ -3,6 +3,7 @@
 ghost use Rattle.std.specs.Prelude.{◌≡◌, ◌↔◌, ◌<◌, ◌≤◌, ◌+◌, ℕ, false, true, length, None, Some, IfSome, MatchOption, List, [], option_map, ◌⊎◌};
 ghost use Rattle.dgt_values.specs.declared.pieces.Piece.{Piece};
 ghost use Rattle.dgt_game.specs.Told.{Told};
+ghost use Rattle.dgt_game.specs.declared.resting.Task.{Task};
 
 use crate::event::Event;
 use crate::node::{Node, Origin, Place, Way};
@@ -31,7 +32,7 @@ pub(crate) struct Next {
 impl Recogniser {
     ghost use Rattle.dgt_game.specs.Memory.{Holds, IsRooted, IsTold, steps};
     ghost use Rattle.dgt_game.specs.Recogniser.{Knows, Reports, Stays};
-    ghost use Rattle.dgt_game.specs.Planning.{TaskFits, IsAtLast, IsPlanned, MayNotBegin, Plans, PlansPosition, todo, HasNothing, IsLostOr, StaysPlaced, WhyHopeless};
+    ghost use Rattle.dgt_game.specs.Planning.{RestsAfter, RestsBefore, TaskFits, IsAtLast, IsPlanned, MayNotBegin, Plans, PlansPosition, todo, HasNothing, IsLostOr, StaysPlaced, WhyHopeless};
     ghost use Rattle.dgt_game.specs.Standing.{ShowsHere, Stands};
     ghost use Rattle.dgt_game.specs.Timing.{Acts, Due, IsIdle, Tells, next_time};
     ghost use Rattle.dgt_game.specs.Waiting.{Follows, IsQuiet, IsRight, Keeps, Waits};
@@ -236,6 +237,7 @@ impl Recogniser {
     fn new_wait(&self) -> Option<u64>
         ensures soon { IfSome result (λ wait. wait ≤ NEW_STILL) }
         ensures plans { result ≡ None → MayNotBegin self.now }
+        ensures least { IfSome result (λ wait. RestsBefore self.now Task.Begin wait) }
     {
         if self.memory.line.is_empty() {
             Some(FIRST)
@@ -250,7 +252,8 @@ impl Recogniser {
 
     // How long the position that is shown rests before it is reported.
     fn rest(&self) -> u64
-        ensures { result ≤ NEW_STILL }
+        ensures most { result ≤ NEW_STILL }
+        ensures least { RestsBefore self.now Task.Tell result }
     {
         let Place::Seen(k) = self.here else {
             return SETTLE;
@@ -274,7 +277,7 @@ impl Recogniser {
 
     // The same, of half-moves that follow a state of the line.
     fn rest_after(&self, node: &Node, base: usize) -> u64
-        ensures { result ≤ AT_ONCE }
+        ensures { RestsAfter base self.now.returned.count result }
     {
         let mut wait = SETTLE;
         if self.is_quick_path(node) || node.jumps_far && !self.is_behind {

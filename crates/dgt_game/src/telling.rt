@@ -1,6 +1,6 @@
 //! What is reported, one event at a time.
 
-ghost use Rattle.std.specs.Prelude.{◌≡◌, ◌≤◌, ◌↔◌, ◌⊎◌, List, [], None, Some, IfSome, false, true};
+ghost use Rattle.std.specs.Prelude.{◌≡◌, ◌≢◌, ◌≤◌, ◌↔◌, ◌⊎◌, List, [], None, Some, IfSome, false, true};
 ghost use Rattle.dgt_chess.specs.Rules.{CanMove};
 ghost use Rattle.dgt_values.specs.declared.pieces.Piece.{Piece};
 ghost use Rattle.dgt_game.specs.Told.{Told};
@@ -54,6 +54,9 @@ impl Recogniser {
             → step_at (steps self.old.memory.line.items) (steps self.old.memory.seen.items) place
             ≡ Some step
             → (self.new.memory.back ≤ 4) ⊎ (place ≡ Place.Line self.new.memory.back) }
+        ensures answers { (step : Step) → IsOpen self.old.memory
+            → step_at (steps self.old.memory.line.items) (steps self.old.memory.seen.items) place
+            ≡ Some step → place ≢ Place.Line 0 → self.new.memory.answer ≡ answer }
         ensures idle { IsTold self.new.memory → self.new.memory.answer ≡ None }
         ensures either { (self.new.memory.answer ≡ answer) ⊎ (self.new.memory.answer ≡ None) }
     {

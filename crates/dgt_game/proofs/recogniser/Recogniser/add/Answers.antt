@@ -1,7 +1,8 @@
 use Rattle.std.proofs.Common.{◌≡◌, ◌∙◌, ap, inl, inr, arith, refl, sym, subst, length, Bool, false, Some}
-use Rattle.std.specs.Prelude.{IfSome, slice_get}
+use Rattle.std.specs.Prelude.{◌≢◌, IfSome, slice_get}
 use Rattle.dgt_game.specs.declared.node.Node.{Node}
 use Rattle.dgt_game.specs.declared.node.Place.{Place}
+use Rattle.dgt_game.specs.declared.node.Way.{Way}
 use Rattle.dgt_game.specs.Memory.{IsBefore, IsRooted, IsTold, step_at, steps}
 use Rattle.dgt_game.specs.Standing.{IsCalledFor, ShowsAs, StandsAt, StandsOn}
 use Rattle.dgt_game.proofs.Chains.{before_later, below_some, get_step}
@@ -63,6 +64,27 @@ returns-then-is_answer-clause-stands c = λ view ready seen.
         all.3,
       ),
     )
+
+pub returns-then-is_answer-clause-answers : goal.returns-then-is_answer-clause-answers
+returns-then-is_answer-clause-answers c = λ ready.
+    let m = c.push.new.self in
+    let items = steps m.seen.items in
+    let k = c.in-Some.k in
+    let new = c.in-Some-seen_node.new in
+    let push = c.push.ensures in
+    let rooted : IsRooted (length (steps m.line.items)) items = push.rooted ready.2 in
+    let at : slice_get items k ≡ Some new.step = get_step m.seen.items k new (sym
+    c.in-Some-seen_node.ensures) in
+    let answers = c.is_answer.ensures c.if-is_answer.true in
+    let before = before_later (length (steps m.line.items)) k (length items) new.step.parent
+    (let within = below_some items k new.step at in omega (arith, within)) (rooted k new.step at) in
+    let found = found_of (steps m.line.items) items new.step.parent before answers.1 in
+    inr (of_some c.tell.new.self.memory.answer new (λ (n : Node). n.step.way ≢ Way.Begun)
+    (c.tell.ensures.answers found.0 (
+      (push.back ∙ ready.0.0, push.unsaid ∙ ready.0.1),
+      push.answer ∙ ready.1,
+      rooted,
+    ) found.1 answers.0) answers.2)
 
 pub returns-then-is_answer-clause-holds : goal.returns-then-is_answer-clause-holds
 returns-then-is_answer-clause-holds c = λ shown line back unsaid reads h.

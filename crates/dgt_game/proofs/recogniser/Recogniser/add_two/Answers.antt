@@ -51,3 +51,12 @@ returns-clause-here c = λ few room.
 pub returns-clause-lost : goal.returns-clause-lost
 returns-clause-lost c = λ nowhere. let (found, told) = c.add.ensures.lost nowhere in
     (found, λ t. told (c.push.ensures.back ∙ t.0, c.push.ensures.unsaid ∙ t.1))
+
+pub returns-clause-answers : goal.returns-clause-answers
+returns-clause-answers c = λ ready.
+    let push = c.push.ensures in
+    c.add.ensures.answers (
+      (push.back ∙ ready.0.0, push.unsaid ∙ ready.0.1),
+      push.answer ∙ ready.1,
+      push.rooted ready.2,
+    )

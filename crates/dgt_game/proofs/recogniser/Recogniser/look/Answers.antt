@@ -115,3 +115,12 @@ returns-clause-stands c = λ ready seen.
     c.take.ensures.stands c.args.view.now (subst IsOpen (sym (kings.same ∙ same.0)) ready)
     (kings.view ∙ same.1 ∙ seen) (subst (λ (m : Memory). ReadsView m c.args.view.now
     c.read_by_kings-reading.result) (sym kings.same) c.read_by_kings-reading.ensures.at)
+
+pub returns-clause-answers : goal.returns-clause-answers
+returns-clause-answers c = λ ready.
+    let same : memory_of c.if-has_white.self ≡ memory_of c.args.self.now =
+    elim c.if-has_white.branch [
+      | then-has_white+then-has_black w ↦ ap memory_of w.self-is
+      | else-has_white w ↦ ap memory_of w.self-is
+    ] in
+    c.take.ensures.answers (subst IsOpen (sym (c.look_at_kings.ensures.same ∙ same)) ready)

@@ -1,4 +1,4 @@
-use Rattle.std.proofs.Common.{◌≡◌, ◌∙◌, ◌<◌, None, false, length, sym, ap, subst}
+use Rattle.std.proofs.Common.{◌≡◌, ◌∙◌, ◌<◌, inl, None, false, length, sym, ap, subst}
 use Rattle.std.specs.Prelude.{◌≢◌}
 use Rattle.dgt_values.specs.Board.{pieces_of}
 use Rattle.dgt_game.specs.declared.node.Place.{Place}
@@ -10,6 +10,7 @@ use Rattle.dgt_game.specs.Planning.{WhyHopeless}
 use Rattle.dgt_game.specs.Recogniser.{Knows, shown_after}
 use Rattle.dgt_game.proofs.Known.{holds_more, knows_more, knows_same, memory_of, view_of, within_after}
 use Rattle.dgt_game.specs.declared.recogniser.Lost.{Lost}
+use Rattle.dgt_game.specs.Settling.{IsAnswered}
 use Rattle.dgt_game.specs.Standing.{IsOpen, Stands}
 use Rattle.dgt_game.specs.Waiting.{Waits, has_notice}
 use Rattle.dgt_game.proofs.Waiting.{ended_of, lost_of}
@@ -127,3 +128,26 @@ returns-clause-since_seen c = λ few view is changed seen.
           subst (λ (r : Recogniser). r.here ≢ Place.Nowhere) (sym w.self-is) stands
       | else-not-is_same_picture+else-is_sure-self w ↦ absurd (changed (ap view_of w.self-is))
     ]
+
+pub returns-clause-answers : goal.returns-clause-answers
+returns-clause-answers c = λ done shown line knows stands.
+    let (back, unsaid) = (c.is_due.ensures.0 c.if-is_due.false).0.0 in
+    let new : IsAnswered c.if-not-is_same_picture.self.memory = elim
+    c.if-not-is_same_picture.branch [
+      | then-not-is_same_picture w ↦
+          let same : memory_of w.if-not-self.self ≡ w.leave.new.self.memory =
+          elim w.if-not-self.branch [
+            | then-not-self w' ↦ ap memory_of w'.self-is
+            | else-not-self w' ↦ ap memory_of w'.self-is
+          ] in
+          let held = w.leave.ensures.holds shown line back unsaid knows.seen knows.held in
+          subst IsAnswered (sym (ap memory_of w.self-is)) (w.show.ensures.answers
+          (subst IsOpen (sym same) (
+            (w.leave.ensures.back ∙ back, w.leave.ensures.unsaid ∙ unsaid),
+            w.leave.ensures.answer ∙ stands.1 (back, unsaid),
+            held.rooted,
+          )))
+      | else-not-is_same_picture+else-is_sure-self w ↦ subst IsAnswered (sym (ap memory_of
+          w.self-is)) (inl (back, unsaid))
+    ] in
+    new

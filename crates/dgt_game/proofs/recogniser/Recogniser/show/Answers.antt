@@ -62,3 +62,18 @@ returns-in-Some-clause-seen c = λ shown is few seen.
     c.look.ensures.seen few' (subst (λ (v : View). FollowsSeen c.if-not-is_same_picture.self.memory
     (pieces_of v.shown)) one (subst (λ (m : Memory). FollowsSeen m (pieces_of shown.shown))
     (sym same) seen))
+
+pub returns-in-Some-clause-answers : goal.returns-in-Some-clause-answers
+returns-in-Some-clause-answers c = λ ready.
+    let first : memory_of c.match-self.self ≡ memory_of c.args.self.now =
+    elim c.match-self.branch [
+      | in-Some-Some w ↦ ap memory_of w.self-is
+      | in_default w ↦ ap memory_of w.self-is
+      | in_default-2 w ↦ ap memory_of w.self-is
+    ] in
+    let same : memory_of c.if-not-is_same_picture.self ≡ memory_of c.args.self.now = elim
+    c.if-not-is_same_picture.branch [
+      | then-not-is_same_picture w ↦ ap memory_of w.self-is ∙ first
+      | else-not-is_same_picture w ↦ ap memory_of w.self-is ∙ first
+    ] in
+    c.look.ensures.answers (subst IsOpen (sym same) ready)

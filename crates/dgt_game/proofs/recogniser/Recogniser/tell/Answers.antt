@@ -37,3 +37,10 @@ returns-clause-near c = λ step ready at.
     let now : IsOpen c.find.new.self.memory = subst IsOpen same ready in
     c.tell.ensures.near step now.2 (subst (λ (n : Memory). step_at (steps n.line.items) (steps
     n.seen.items) c.args.place ≡ Some step) same at)
+
+pub returns-clause-answers : goal.returns-clause-answers
+returns-clause-answers c = λ step ready at other.
+    let same = sym c.find.ensures.memory in
+    let now : IsOpen c.find.new.self.memory = subst IsOpen same ready in
+    c.tell.ensures.answer step now.2 (subst (λ (n : Memory). step_at (steps n.line.items) (steps
+    n.seen.items) c.args.place ≡ Some step) same at) other

@@ -1,0 +1,97 @@
+-- What is reported has rested.
+use Rattle.std.proofs.Common.{◌≡◌, ◌∙◌, ◌≤◌, ◌+◌, ◌-◌, ◌^◌, ◌⊎◌, inl, inr, refl, sym, subst, arith, min, ℕ, Bool, true, false, [], ◌∷◌, Option, Some, None}
+use Rattle.std.specs.Prelude.{MatchOption, if◌then◌else◌, option_map, slice_get}
+use Rattle.std.proofs.lemmas.Option.{none-some}
+use Rattle.dgt_game.specs.declared.memory.Memory.{Memory}
+use Rattle.dgt_game.specs.declared.node.Node.{Node}
+use Rattle.dgt_game.specs.declared.node.Origin.{Origin}
+use Rattle.dgt_game.specs.declared.node.Place.{Place}
+use Rattle.dgt_game.specs.declared.recogniser.Recogniser.{Recogniser}
+use Rattle.dgt_game.specs.declared.resting.Next.{Next}
+use Rattle.dgt_game.specs.declared.resting.Task.{Task}
+use Rattle.dgt_game.specs.Planning.{Plans, RestsAfter, RestsAt, RestsBefore, RestsBy, TaskFits, search_wait}
+use Rattle.dgt_game.specs.Settling.{IsAt, IsAtStart, ReplacingHasRested, ReportedHasRested, ReportedHasSettled, ReportsNow}
+use Rattle.dgt_game.specs.Timing.{HasTask}
+
+-- what is done next is planned if it is due
+timed : (sure : Bool) (next : Option Next) (since now : ℕ) → MatchOption (if sure
+    then option_map (λ (n : Next). min (since + n.wait) (2 ^ 64 - 1)) next else None) ⊥ (λ at.
+    at ≤ now) → (sure ≡ true) × ((plan : Next) × (next ≡ Some plan)
+    × (min (since + plan.wait) (2 ^ 64 - 1) ≤ now))
+timed true (Some plan) since now h = (refl, (plan, refl, h))
+timed true None since now h = absurd h
+timed false next since now h = absurd h
+
+pub reported_has_rested : ReportedHasRested
+reported_has_rested self new event now (planned, quiet, small, ([], tells)) =
+    absurd (none-some event (sym (tells.0.4 quiet).0))
+reported_has_rested self new event now (planned, quiet, small, (next ∷ done, h)) =
+    let (sure, (plan, is, late)) = timed self.is_sure self.next self.since now
+    (subst (HasTask now) (h.1.4 quiet).1 h.2) in
+    let fits = subst (Plans self) is planned in
+    (sure, (plan.task, plan.wait, fits.0, fits.1, omega (arith, late, small)))
+
+searched_later : (behind : Bool) → 300 ≤ search_wait behind
+searched_later true = omega arith
+searched_later false = omega arith
+
+node_settles : (self : Recogniser) (wait : ℕ) (node : Node) (origin : Origin) → IsAt self node
+    → node.origin ≡ origin → RestsBy origin node.depth self.returned.count wait
+    → (300 ≤ wait) ⊎ IsAtStart self
+node_settles self wait node (Origin.Line base) at is h = inl h.0
+node_settles self wait node Origin.Start at is (inl first) = inr (node, at, is, first)
+node_settles self wait node Origin.Start at is (inr rests) = inl rests
+node_settles self wait node Origin.Shadow at is h = inl h
+
+found_settles : (self : Recogniser) (k wait : ℕ) (found : Option Node)
+    → slice_get self.memory.seen.items k ≡ found → self.here ≡ Place.Seen k
+    → MatchOption found (300 ≤ wait) (λ n. RestsBy n.origin n.depth self.returned.count wait)
+    → (300 ≤ wait) ⊎ IsAtStart self
+found_settles self k wait None is here h = inl h
+found_settles self k wait (Some node) is here h =
+    node_settles self wait node node.origin (k, here, is) refl h
+
+place_settles : (self : Recogniser) (place : Place) (wait : ℕ) → self.here ≡ place
+    → RestsAt place self.memory self.returned.count wait → (300 ≤ wait) ⊎ IsAtStart self
+place_settles self (Place.Line k) wait here h = inl h
+place_settles self (Place.Seen k) wait here h =
+    found_settles self k wait (slice_get self.memory.seen.items k) refl here h
+place_settles self Place.Nowhere wait here h = inl h
+
+task_settles : (self : Recogniser) (task : Task) (wait : ℕ) → RestsBefore self task wait
+    → (300 ≤ wait) ⊎ IsAtStart self
+task_settles self Task.EndByKings wait h = inl (omega (arith, h))
+task_settles self Task.Search wait h = inl (omega (arith, h, searched_later self.is_behind))
+task_settles self Task.Tell wait h = place_settles self self.here wait refl h
+task_settles self Task.Begin wait h = inl (omega (arith, h.0))
+
+pub reported_has_settled : ReportedHasSettled
+reported_has_settled self new event now reports =
+    let (sure, (task, wait, fits, rests, late)) = reported_has_rested self new event now reports in
+    elim (task_settles self task wait rests) [
+      | inl some ↦ inl (omega (arith, late, some))
+      | inr start ↦ inr start
+    ]
+
+-- what the board stands at is neither looked for nor begins a line
+task_replaces : (self : Recogniser) (task : Task) (wait base : ℕ) (node : Node)
+    → self.has_kings ≡ false → IsAt self node → node.origin ≡ Origin.Line base
+    → TaskFits self task → RestsBefore self task wait
+    → RestsAfter base self.returned.count wait
+task_replaces self Task.EndByKings wait base node kings at is fits rests =
+    absurd (let wrong : ⊥ = cc in wrong)
+task_replaces self Task.Search wait base node kings (k, here, at) is fits rests =
+    absurd (let e = fits.0 in let wrong : ⊥ = cc in wrong)
+task_replaces self Task.Begin wait base node kings (k, here, at) is fits rests =
+    absurd (let e = fits.0 in let wrong : ⊥ = cc in wrong)
+task_replaces self Task.Tell wait base node kings (k, here, at) is fits rests =
+    let placed : RestsAt (Place.Seen k) self.memory self.returned.count wait =
+    subst (λ (p : Place). RestsAt p self.memory self.returned.count wait) here rests in
+    let found = subst (λ (o : Option Node). MatchOption o (300 ≤ wait) (λ n. RestsBy n.origin
+    n.depth self.returned.count wait)) at placed in
+    subst (λ (o : Origin). RestsBy o node.depth self.returned.count wait) is found
+
+pub replacing_has_rested : ReplacingHasRested
+replacing_has_rested self new event now base node reports kings at is far other =
+    let (sure, (task, wait, fits, rests, late)) = reported_has_rested self new event now reports in
+    omega (arith, late, (task_replaces self task wait base node kings at is fits rests).2 far other)

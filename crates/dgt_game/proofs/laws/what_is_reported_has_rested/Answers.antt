@@ -1,0 +1,9 @@
+use Rattle.dgt_game.proofs.Settling.{replacing_has_rested, reported_has_rested, reported_has_settled}
+use Rattle.dgt_game.proofs.laws.what_is_reported_has_rested.Goals as goal
+
+pub returns : goal.returns
+returns c = record {
+  rested = reported_has_rested;
+  settled = reported_has_settled;
+  replacing = replacing_has_rested;
+}

@@ -1,0 +1,21 @@
+use Rattle.std.proofs.Common.{rules, ◌≡◌, refl, sym, ap}
+use Rattle.dgt_game.specs.Planning.{RestsBefore, TaskFits, search_wait}
+use Rattle.dgt_game.specs.declared.resting.Task.{Task}
+use Rattle.dgt_game.proofs.recogniser.Recogniser.next_of_position.Goals as goal
+use Rattle.dgt_game.proofs.recogniser.Recogniser.next_of_position.Goals.{then-self, else-self+else-ne+in-Waiting, else-self+else-ne+in-Waiting-2, else-self+else-ne+in-Done-2+in_ok-new_wait-in-Done-2}
+
+pub returns : goal.returns
+returns c = record {
+  plans = elim c.if-self.branch [
+    | then-self w ↦ rw w.wait-is (search rules)
+    | else-self+else-ne+in-Waiting w ↦ rw w.wait-is (
+      search rules,
+      sym (ap (λ b. search_wait b) w.if-self-2.true),
+    )
+    | else-self+else-ne+in-Waiting-2 w ↦ rw w.wait-is (
+      search rules,
+      sym (ap (λ b. search_wait b) w.if-self-2.false),
+    )
+    | else-self+else-ne+in-Done-2+in_ok-new_wait-in-Done-2 w ↦ rw w.wait-is (search rules)
+  ];
+}

@@ -1,0 +1,57 @@
+-- What is reported has rested, or what is seen next answers it.
+use Rattle.std.specs.Prelude.{◌≡◌, ◌≢◌, ◌<◌, ◌≤◌, ◌⊎◌, ◌+◌, ◌-◌, ◌^◌, ℕ, true, false, Some, MatchOption, slice_get}
+use Rattle.dgt_game.specs.declared.event.Event.{Event}
+use Rattle.dgt_game.specs.declared.memory.Memory.{Memory}
+use Rattle.dgt_game.specs.declared.node.Node.{Node}
+use Rattle.dgt_game.specs.declared.node.Origin.{Origin}
+use Rattle.dgt_game.specs.declared.node.Place.{Place}
+use Rattle.dgt_game.specs.declared.node.Way.{Way}
+use Rattle.dgt_game.specs.declared.recogniser.Recogniser.{Recogniser}
+use Rattle.dgt_game.specs.declared.resting.Task.{Task}
+use Rattle.dgt_game.specs.Memory.{IsTold}
+use Rattle.dgt_game.specs.Planning.{IsPlanned, RestsBefore, TaskFits}
+use Rattle.dgt_game.specs.Timing.{Due}
+use Rattle.dgt_game.specs.Waiting.{IsQuiet}
+
+-- nothing waits to be reported, or a half-move answers it
+abbrev pub IsAnswered : Memory → Type 0
+IsAnswered self = IsTold self ⊎ MatchOption self.answer ⊥ (λ node. node.step.way ≢ Way.Begun)
+
+-- the board stands at a node, and its path begins there
+abbrev pub IsAt : Recogniser → Node → Type 0
+IsAt self node =
+    (k : ℕ) × (self.here ≡ Place.Seen k) × (slice_get self.memory.seen.items k ≡ Some node)
+
+-- the board stands at the start of a game
+abbrev pub IsAtStart : Recogniser → Type 0
+IsAtStart self =
+    (node : Node) × IsAt self node × (node.origin ≡ Origin.Start) × (node.depth ≡ 1)
+
+-- ---- Laws
+
+-- nothing waits and what is next is planned, but this call of `due` reports something
+abbrev pub ReportsNow : ℕ → Recogniser → Event → Recogniser → Type 0
+ReportsNow now self event new =
+    IsPlanned self × IsQuiet self × (now < 2 ^ 64 - 1) × Due now self (Some event) new
+
+-- **What is reported has rested.** The board shows it for sure, and for as long as is planned.
+abbrev pub ReportedHasRested : Type 0
+ReportedHasRested =
+    (self new : Recogniser) (event : Event) (now : ℕ) → ReportsNow now self event new
+    → (self.is_sure ≡ true) × ((task : Task) × (wait : ℕ) × TaskFits self task
+    × RestsBefore self task wait × (self.since + wait ≤ now))
+
+-- That is for 300 ms at least, but for the start of a game.
+abbrev pub ReportedHasSettled : Type 0
+ReportedHasSettled =
+    (self new : Recogniser) (event : Event) (now : ℕ) → ReportsNow now self event new
+    → (self.since + 300 ≤ now) ⊎ IsAtStart self
+
+-- Half-moves that replace others than the last one have rested for three seconds, unless the board
+-- has gone back over these, or the kings give a result.
+abbrev pub ReplacingHasRested : Type 0
+ReplacingHasRested =
+    (self new : Recogniser) (event : Event) (now base : ℕ) (node : Node)
+    → ReportsNow now self event new → self.has_kings ≡ false → IsAt self node
+    → node.origin ≡ Origin.Line base → 2 ≤ base → base ≢ self.returned.count
+    → self.since + 3000 ≤ now
