@@ -22,3 +22,4 @@ pub mod Standing
 pub mod Planning
 pub mod Rests
 pub mod Settling
+pub mod Finding

@@ -76,6 +76,37 @@ kept_more picture state side n at old new same is was sides keeps before k small
           (subst (MovedAt picture state state.turn) now moved)
     ]
 
+-- a man of the side has arrived or has left
+abbrev pub Moves : Colour → Piece → Piece → Type 0
+Moves side old new =
+    (new ≢ old) × (((man : Man) × (new ≡ piece_of side man))
+    ⊎ ((new ≡ Piece.Empty) × ((man : Man) × (old ≡ piece_of side man))))
+
+pub no_man : (found : Option Man) (side : Colour) (piece : Piece)
+    → MatchOption found ((man : Man) → piece ≢ piece_of side man) (λ man. piece ≡ piece_of side man)
+    → found ≡ None → ¬ ((man : Man) × (piece ≡ piece_of side man))
+no_man None side piece is none (man, e) = is man e
+no_man (Some man) side piece is none h = let wrong : ⊥ = cc in wrong
+
+pub stays_more : (picture : List Piece) (state : State) (side : Colour) (n at : ℕ)
+    (old new : Piece) → n ≡ at → slice_get picture n ≡ Some new
+    → slice_get (board state) n ≡ Some old → ¬ (Moves side old new)
+    → ((k : ℕ) → k < at → ¬ (MovedAt picture state side k))
+    → (k : ℕ) → k < at + 1 → ¬ (MovedAt picture state side k)
+stays_more picture state side n at old new same is was stays before k small moved =
+    elim (cases_lt k at) [
+      | inl less ↦ before k less moved
+      | inr more ↦
+          let now : k ≡ at = omega (arith, small, more) in
+          let new_is : piece_at picture at ≡ new = get_or_from_slice_get picture at new Piece.Empty
+          (subst (λ (i : ℕ). slice_get picture i ≡ Some new) same is) in
+          let old_is : piece_at (board state) at ≡ old =
+          get_or_from_slice_get (board state) at old Piece.Empty
+          (subst (λ (i : ℕ). slice_get (board state) i ≡ Some old) same was) in
+          stays (subst (λ (p : Piece). Moves side p new) old_is (subst (λ (p : Piece). Moves side
+          (piece_at (board state) at) p) new_is (subst (MovedAt picture state side) now moved)))
+    ]
+
 pub moved_here : (first second : Step) (seen shown : View) → first ≡ second → seen ≡ shown
     → HasMoved (as_shown first.is_turned (pieces_of seen.shown)) first.state first.state.turn
     → HasMoved (as_shown second.is_turned (pieces_of shown.shown)) second.state second.state.turn

@@ -162,7 +162,7 @@ led_from : (count : ℕ) (step : Step) (picture : List Piece) → HasLineFrom co
 unfolding LeadsTo
 led_from count step picture (moves, long, (new, line, same)) = (new, step.is_turned, same)
 
-led_to : (count : ℕ) (self : Memory) (place : Place) (picture : List Piece)
+pub led_to : (count : ℕ) (self : Memory) (place : Place) (picture : List Piece)
     → HasLine count self place picture → SomeState picture
 led_to count self place picture (step, at, line) = led_from count step picture line
 

@@ -42,7 +42,7 @@ stood (Place.Seen k) self view told none at some =
     inr (view, refl, (found.0, inr (k, found.1), found.2.1 refl refl))
 stood Place.Nowhere self view told none at some = absurd (some refl)
 
-place_or : (place : Place) → (place ≢ Place.Nowhere) ⊎ (place ≡ Place.Nowhere)
+pub place_or : (place : Place) → (place ≢ Place.Nowhere) ⊎ (place ≡ Place.Nowhere)
 place_or (Place.Line k) = inl (λ e. let wrong : ⊥ = cc in wrong)
 place_or (Place.Seen k) = inl (λ e. let wrong : ⊥ = cc in wrong)
 place_or Place.Nowhere = inr refl

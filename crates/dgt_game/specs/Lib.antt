@@ -12,6 +12,7 @@ pub mod Planning
 pub mod Reading
 pub mod Standing
 pub mod Settling
+pub mod Finding
 -- Only for bodies.
 pub mod Ways
 pub mod Arrivals

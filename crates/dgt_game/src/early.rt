@@ -3,6 +3,7 @@
 ghost use Rattle.std.specs.Prelude.{◌≡◌, Some, true, false};
 ghost use Rattle.dgt_values.specs.Board.{pieces_of};
 ghost use Rattle.dgt_game.specs.declared.view.View.{View};
+ghost use Rattle.dgt_game.specs.Finding.{AllHaveAnswered};
 ghost use Rattle.dgt_game.specs.Reading.{HasAnswered, HasMoved};
 
 use crate::recogniser::Recogniser;
@@ -15,6 +16,8 @@ impl Recogniser {
     pub(crate) fn is_early(&self) -> bool
         ensures reads { (view : View) → self.now.view ≡ Some view → self.now.is_behind ≡ true
             → HasAnswered self.now.memory (pieces_of view.shown) → result ≡ false }
+        ensures all { (view : View) → self.now.view ≡ Some view
+            → AllHaveAnswered self.now.memory (pieces_of view.shown) → result ≡ false }
     {
         let Some(view) = &self.view else {
             return false;

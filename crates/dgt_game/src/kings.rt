@@ -20,6 +20,7 @@ use dgt_values::{Piece, Position, Square};
 impl Recogniser {
     ghost use Rattle.dgt_game.specs.Memory.{Holds, IsRooted, IsTold};
     ghost use Rattle.dgt_game.specs.Standing.{IsOpen, Stands};
+    ghost use Rattle.dgt_game.specs.Finding.{FindsLater};
     ghost use Rattle.dgt_game.specs.Planning.{AddsNone, todo, IsLostOr, WhyHopeless};
     ghost use Rattle.dgt_game.specs.Waiting.{Follows, IsQuiet, Keeps, Waits, coming};
 
@@ -96,6 +97,7 @@ impl Recogniser {
         ensures todo { self.old.has_kings ≡ true → todo self.new < todo self.old }
         ensures lost { IsLostOr self.old → IsLostOr self.new }
         ensures hopeless { WhyHopeless self.old → WhyHopeless self.new }
+        ensures found { FindsLater self.old → FindsLater self.new }
     {
         self.has_kings = false;
         let Some(view) = self.view else {

@@ -1,5 +1,6 @@
 //! Laws of a recogniser. Each function does nothing at run time: its contract states the facts.
 
+ghost use Rattle.dgt_game.specs.Finding.{IsFound, WhatFollowsIsFound};
 ghost use Rattle.dgt_game.specs.Laws.{BackIsCounted, JoinedIsOne, LegalIsJoined, NoneAndOne, OneIsShown, OneLine, OthersAreHeld, SeveralAreShown, ShownIsHeld, StartIsShown, UnseenIsOnly};
 ghost use Rattle.dgt_game.specs.Planning.{IsLostOr, IsPlanned, LostIsReported, NothingFits, OneFits, PossibleIsHopeful, WhyHopeless};
 ghost use Rattle.dgt_game.specs.Reading.{EarlierAreKnown, ElseStartIsKnown, MovesAreKnown, StartIsKnown, TwoAreKnown, IsExplained};
@@ -24,6 +25,7 @@ pub fn nothing_waits_at_first()
     ensures lost { IsLostOr new_recogniser }
     ensures hopeless { WhyHopeless new_recogniser }
     ensures stands { Stands new_recogniser }
+    ensures found { IsFound new_recogniser }
 {}
 
 /// What events say of the line.
@@ -80,6 +82,11 @@ pub fn what_is_reported_has_rested()
     ensures rested { ReportedHasRested }
     ensures settled { ReportedHasSettled }
     ensures replacing { ReplacingHasRested }
+{}
+
+/// What several half-moves lead to is found.
+pub fn what_follows_is_found()
+    ensures { WhatFollowsIsFound }
 {}
 
 /// It doesn't matter how often `due` is called before.

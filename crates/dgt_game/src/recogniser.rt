@@ -92,6 +92,7 @@ pub struct Recogniser {
 
 impl Recogniser {
     ghost use Rattle.dgt_game.specs.Memory.{Holds, IsTold, Reads, steps};
+    ghost use Rattle.dgt_game.specs.Finding.{IsFound};
     ghost use Rattle.dgt_game.specs.Planning.{AddsNone, IsLifted, IsPlanned, HasKing, IsLostOr, PlacesOr, WhyHopeless};
     ghost use Rattle.dgt_game.specs.Reading.{HasLine, IsExplained, HasRoom, IsLive, IsRoomFor, ReadsView, FollowsSeen, IsKnown, IsRead};
     ghost use Rattle.dgt_game.specs.Recogniser.{GoesOn, Knows, Sees, new_recogniser, picture_of, pictured};
@@ -151,6 +152,7 @@ impl Recogniser {
             → Knows shown line self.old → Stands self.old → Stands self.new }
         ensures answers { IsOk result → (shown : List (List Piece)) (line : List Told)
             → Knows shown line self.old → Stands self.old → IsAnswered self.new.memory }
+        ensures found { IsFound self.old → IsFound self.new }
         ensures plans { IsOk result → IsPlanned self.new }
         ensures planned { IsPlanned self.old → IsPlanned self.new }
         ensures reads { length self.old.memory.seen.items < 21 → IsExplained self.old
@@ -201,6 +203,7 @@ impl Recogniser {
         ensures planned { IsPlanned self.new }
         ensures lost { IsLostOr self.new }
         ensures hopeless { WhyHopeless self.new }
+        ensures found { IsFound self.new }
         ensures reads { IsExplained self.new }
     {
         *self = Recogniser::new();

@@ -32,6 +32,7 @@ pub(crate) struct Next {
 impl Recogniser {
     ghost use Rattle.dgt_game.specs.Memory.{Holds, IsRooted, IsTold, steps};
     ghost use Rattle.dgt_game.specs.Recogniser.{Knows, Reports, Stays};
+    ghost use Rattle.dgt_game.specs.Finding.{FindsLater, IsFound};
     ghost use Rattle.dgt_game.specs.Planning.{RestsAfter, RestsBefore, TaskFits, IsAtLast, IsPlanned, MayNotBegin, Plans, PlansPosition, todo, HasNothing, IsLostOr, StaysPlaced, WhyHopeless};
     ghost use Rattle.dgt_game.specs.Standing.{ShowsHere, Stands};
     ghost use Rattle.dgt_game.specs.Timing.{Acts, Due, IsIdle, Tells, next_time};
@@ -69,6 +70,8 @@ impl Recogniser {
         ensures planned { IsPlanned self.old → IsPlanned self.new }
         ensures lost { IsLostOr self.old → IsLostOr self.new }
         ensures hopeless { WhyHopeless self.old → WhyHopeless self.new }
+        ensures found { length self.old.memory.seen.items < 23 → IsPlanned self.old
+            → IsLostOr self.old → IsFound self.old → IsFound self.new }
         ensures stands { (shown : List (List Piece)) (line : List Told)
             → Knows shown line self.old → IsPlanned self.old → Stands self.old → Stands self.new }
     {
@@ -95,6 +98,7 @@ impl Recogniser {
         ensures lost { IsLostOr self.old → IsLostOr self.new }
         ensures place { StaysPlaced self.old self.new }
         ensures stands { Stands self.old → Stands self.new }
+        ensures found { IsLostOr self.old → IsFound self.old → IsFound self.new }
     {
         let event = self.next_event()?;
         self.next = self.plan();
@@ -178,6 +182,7 @@ impl Recogniser {
         ensures todo { TaskFits self.old task → todo self.new < todo self.old }
         ensures lost { IsQuiet self.old → IsLostOr self.old → IsLostOr self.new }
         ensures hopeless { WhyHopeless self.old → WhyHopeless self.new }
+        ensures found { TaskFits self.old task → FindsLater self.old → FindsLater self.new }
     {
         match task {
             Task::EndByKings => self.end_by_kings(),

@@ -7,6 +7,7 @@ ghost use Rattle.dgt_chess.specs.Attacks.{piece_at};
 ghost use Rattle.dgt_chess.specs.Possible.{IsAtHome};
 ghost use Rattle.dgt_chess.specs.Rules.{board};
 ghost use Rattle.dgt_game.specs.Planning.{IsRefused};
+ghost use Rattle.dgt_game.specs.Reading.{HasMoved};
 ghost use Rattle.dgt_game.specs.declared.reading.Reading.{Reading};
 ghost use Rattle.dgt_game.specs.declared.recogniser.Lost.{Lost};
 ghost use Rattle.dgt_game.specs.declared.recogniser.Search.{Search};
@@ -25,7 +26,8 @@ use dgt_values::{Piece, Position, Square};
 
 impl Recogniser {
     ghost use Rattle.dgt_game.specs.Memory.{Fits, FitsBy, Holds, IsRoot, IsRooted, IsTold, Reads, steps};
-    ghost use Rattle.dgt_game.specs.Reading.{IsRoomFor, ReadsView, Shows, FollowsSeen, HasAnswered, HasLine, HasSomeLines, IsLive};
+    ghost use Rattle.dgt_game.specs.Reading.{IsRoomFor, ReadsView, Shows, FollowsSeen, HasLine, HasSomeLines, IsLive};
+    ghost use Rattle.dgt_game.specs.Finding.{IsSearched, MayJump};
     ghost use Rattle.dgt_game.specs.Standing.{IsOpen, Stands};
     ghost use Rattle.dgt_game.specs.declared.resting.Task.{Task};
     ghost use Rattle.dgt_game.specs.Planning.{TaskFits, AddsNone, IsAsBefore, IsAtLast, CannotBegin, CannotMove, EndsSearch, IsLostOr, LosesLine, PlacesOr, WhyHopeless};
@@ -46,10 +48,12 @@ impl Recogniser {
         ensures todo { AddsNone (record self.old { search = Search.Done }) self.new }
         ensures lost { IsQuiet self.old → IsLostOr self.new }
         ensures reads { (view : View) → length self.old.memory.seen.items < 24
-            → self.old.view ≡ Some view → IsLive self.old → self.old.is_behind ≡ true
-            → HasAnswered self.old.memory (pieces_of view.shown)
+            → self.old.view ≡ Some view → IsLive self.old
+            → IsSearched self.old (pieces_of view.shown)
             → HasSomeLines self.old.memory (pieces_of view.shown)
             → self.new.here ≢ Place.Nowhere }
+        ensures still { length self.old.memory.seen.items < 23 → (self.new.here ≢ Place.Nowhere)
+            ⊎ (self.new ≡ record self.old { search = Search.Done; lost = self.new.lost }) }
     {
         self.search = Search::Done;
         let Some(view) = self.view else {
@@ -102,7 +106,7 @@ impl Recogniser {
         ensures linked { IfSome result
             (λ node. FitsBy self.now.memory (pieces_of view.now.shown) node) }
         ensures reads { self.now.view ≡ Some view.now → IsLive self.now
-            → self.now.is_behind ≡ true → HasAnswered self.now.memory (pieces_of view.now.shown)
+            → IsSearched self.now (pieces_of view.now.shown)
             → HasSomeLines self.now.memory (pieces_of view.now.shown) → IsSome result }
         ensures room { IfSome result (IsRoomFor self.now.memory) }
     {
@@ -126,7 +130,8 @@ impl Recogniser {
     fn deep_by(&self, view: &View, halves: u8) -> Option<Node>
         ensures linked { IfSome result
             (λ node. FitsBy self.now.memory (pieces_of view.now.shown) node) }
-        ensures reads { IsLive self.now → self.now.is_behind ≡ true → 1 ≤ halves → halves ≤ 4
+        ensures reads { IsLive self.now → MayJump self.now (pieces_of view.now.shown)
+            → 1 ≤ halves → halves ≤ 4
             → HasLine halves self.now.memory (Place.Line 0) (pieces_of view.now.shown)
             → IsSome result }
         ensures room { IfSome result (IsRoomFor self.now.memory) }
@@ -164,8 +169,8 @@ impl Recogniser {
     fn jumped_far(&self, place: Place, view: &View, halves: u8) -> Option<Node>
         ensures linked { IfSome result
             (λ node. FitsBy self.now.memory (pieces_of view.now.shown) node) }
-        ensures reads { place ≡ Place.Line 0 → IsLive self.now → self.now.is_behind ≡ true
-            → 1 ≤ halves → halves ≤ 4
+        ensures reads { place ≡ Place.Line 0 → IsLive self.now
+            → MayJump self.now (pieces_of view.now.shown) → 1 ≤ halves → halves ≤ 4
             → HasLine halves self.now.memory (Place.Line 0) (pieces_of view.now.shown)
             → IsSome result }
         ensures room { ((k : ℕ) → place ≡ Place.Line k → k ≤ 4)
@@ -180,7 +185,7 @@ impl Recogniser {
     // Whether as many half-moves are looked for from there. If a side has no man on another square,
     // it has gone out and back: rather the other one has moved twice, but in a doubt.
     fn may_jump_far(&self, place: Place, view: &View, halves: u8) -> bool
-        ensures reads { place ≡ Place.Line 0 → self.now.is_behind ≡ true
+        ensures reads { place ≡ Place.Line 0 → MayJump self.now (pieces_of view.now.shown)
             → last_of self.now.memory ≢ None → result ≡ true }
     {
         let Some(node) = self.memory.node(place) else {
@@ -255,6 +260,8 @@ impl Recogniser {
             → Stands self.new }
         ensures todo { AddsNone self.old self.new }
         ensures lost { PlacesOr self.old self.new }
+        ensures still { length self.old.memory.seen.items < 23
+            → (self.new.here ≢ Place.Nowhere) ⊎ (self.new ≡ self.old) }
     {
         if !self.may_start() {
             return;
@@ -271,6 +278,7 @@ impl Recogniser {
             → IfSome result (λ two. Reads shown self.now.memory (Reading.Two two.0 two.1)) }
         ensures at { IfSome result
             (λ two. ReadsView self.now.memory view.now (Reading.Two two.0 two.1)) }
+        ensures room { IfSome result (λ two. IsRoomFor self.now.memory two.0) }
     {
         for halves in 1..GAP as u8 + 1 {
             for is_turned in [false, true] {
@@ -287,6 +295,7 @@ impl Recogniser {
             → IfSome result (λ two. Reads shown self.now.memory (Reading.Two two.0 two.1)) }
         ensures at { IfSome result
             (λ two. ReadsView self.now.memory view.now (Reading.Two two.0 two.1)) }
+        ensures room { IfSome result (λ two. IsRoomFor self.now.memory two.0) }
     {
         let mut root = Node::root(State::start(), is_turned, Origin::Start, self.since);
         root.is_sure = true;
@@ -303,6 +312,7 @@ impl Recogniser {
         ensures todo { IsAsBefore self.old self.new }
         ensures lost { self.old.lost ≢ Lost.Found
             → (self.new.lost ≢ Lost.Found) × LosesLine self.new }
+        ensures only { self.new ≡ record self.old { lost = self.new.lost } }
     {
         if self.over != Over::No || self.lost != Lost::No || self.is_lifted() {
             return;
@@ -457,7 +467,9 @@ impl Recogniser {
 }
 
 // Whether men of a side have arrived on squares, or left some that are empty now.
-fn has_moved(shown: &Position, state: &State, side: Colour) -> bool {
+fn has_moved(shown: &Position, state: &State, side: Colour) -> bool
+    ensures { HasMoved (pieces_of shown.now) state.now side → result ≡ true }
+{
     for at in 0..64u8 {
         let square = Square::from_small(at);
         let old = state.position().get(square);

@@ -16,6 +16,7 @@ use crate::recogniser::{Lost, Over, Recogniser};
 use dgt_chess::{Colour, State};
 
 impl Recogniser {
+    ghost use Rattle.dgt_game.specs.Finding.{IsFound};
     ghost use Rattle.dgt_game.specs.Planning.{IsAsBefore, IsAtLast, IsLostOr, StaysPlaced};
     ghost use Rattle.dgt_game.specs.Results.{HasResult};
     ghost use Rattle.dgt_game.specs.Standing.{EndsHere, IsCalledFor, IsMeant, IsOpen, Stands, TakesBack};
@@ -87,6 +88,7 @@ impl Recogniser {
         ensures nothing { result ≡ None → self.new ≡ record self.old { ended = None } }
         ensures lost { IsLostOr self.old → IsLostOr self.new }
         ensures place { StaysPlaced self.old self.new }
+        ensures found { IsLostOr self.old → IsFound self.old → IsFound self.new }
     {
         if let Some(event) = self.next_notice() {
             return Some(event);
@@ -122,6 +124,7 @@ impl Recogniser {
         ensures stands { Stands self.old → Stands self.new }
         ensures lost { IsLostOr self.old → IsLostOr self.new }
         ensures place { StaysPlaced self.old self.new }
+        ensures found { IsFound self.old → IsFound self.new }
     {
         match self.lost {
             Lost::Now(squares) => {

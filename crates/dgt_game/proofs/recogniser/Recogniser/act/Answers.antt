@@ -1,8 +1,11 @@
-use Rattle.std.proofs.Common.{rules, ◌≡◌, subst, Bool, true}
+use Rattle.std.proofs.Common.{rules, arith, ◌≡◌, subst, Bool, true}
 use Rattle.std.specs.Prelude.{IfSome, MatchOption}
+use Rattle.dgt_game.specs.declared.resting.Task.{Task}
 use Rattle.dgt_game.specs.Memory.{step_at, steps}
+use Rattle.dgt_game.specs.Planning.{TaskFits}
 use Rattle.dgt_game.specs.Reading.{Shows}
 use Rattle.dgt_game.specs.Standing.{StandsAt}
+use Rattle.dgt_game.proofs.Finding.{found_by_search, found_ended, found_placed}
 use Rattle.dgt_game.proofs.Standing.{if_some, shows_at}
 use Rattle.dgt_game.proofs.recogniser.Recogniser.act.Goals as goal
 
@@ -16,3 +19,23 @@ returns-in-Tell-clause-stands c = λ rooted told sure fits stands.
     (steps self.memory.seen.items) self.here) ⊥ (Shows view)) at (λ view h. shows_at view self.here
     self.memory self.is_sure told (stands.1 told) h) in
     c.tell_here.ensures.stands rooted told sure here (stands.1 told)
+
+pub returns-in-EndByKings-clause-found : goal.returns-in-EndByKings-clause-found
+returns-in-EndByKings-clause-found c = λ fits h. c.end_by_kings.ensures.found h
+
+pub returns-in-Search-clause-found : goal.returns-in-Search-clause-found
+returns-in-Search-clause-found c = λ fits h.
+    let self = c.args.self.now in
+    let search : TaskFits self Task.Search = subst (TaskFits self) c.in-Search.is fits in
+    let few = h.1 search.0 search.1 in
+    found_by_search self c.look_deep.new.self (λ view is live searched lines.
+    c.look_deep.ensures.reads view (omega (arith, few)) is live searched lines)
+    (c.look_deep.ensures.still few) c.look_deep.ensures.todo.0
+
+pub returns-in-Tell-clause-found : goal.returns-in-Tell-clause-found
+returns-in-Tell-clause-found c = λ fits h.
+    found_placed c.tell_here.new.self c.tell_here.ensures.todo.3
+
+pub returns-in-Begin-clause-found : goal.returns-in-Begin-clause-found
+returns-in-Begin-clause-found c = λ fits h.
+    found_ended c.args.self.now c.begin.new.self c.begin.ensures.todo

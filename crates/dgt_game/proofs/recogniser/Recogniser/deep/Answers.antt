@@ -2,6 +2,7 @@ use Rattle.std.proofs.Common.{arith, ◌≡◌, ℕ, inl, inr, subst}
 use Rattle.std.proofs.lemmas.Bool.{cases_lt}
 use Rattle.dgt_values.specs.Board.{pieces_of}
 use Rattle.dgt_game.specs.declared.node.Place.{Place}
+use Rattle.dgt_game.specs.Finding.{MayJump}
 use Rattle.dgt_game.specs.Reading.{HasLine}
 use Rattle.dgt_game.proofs.recogniser.Recogniser.deep.Goals as goal
 
@@ -24,6 +25,10 @@ loop-halves-preserved c =
     )
 
 pub returns-clause-reads : goal.returns-clause-reads
-returns-clause-reads c = λ same live behind answered (count, some, few, line).
-    c.loop-halves.invariant.1 count live behind some (omega (arith, few, c.loop-halves-test.false))
+returns-clause-reads c = λ same live searched (count, some, few, line).
+    let may : MayJump c.args.self.now (pieces_of c.args.view.now.shown) = elim searched [
+      | inl doubt ↦ inl doubt.0
+      | inr both ↦ inr both.0
+    ] in
+    c.loop-halves.invariant.1 count live may some (omega (arith, few, c.loop-halves-test.false))
     line

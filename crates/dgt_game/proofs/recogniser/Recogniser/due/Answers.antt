@@ -3,6 +3,7 @@ use Rattle.std.specs.Prelude.{IfSome}
 use Rattle.dgt_game.specs.declared.event.Event.{Event}
 use Rattle.dgt_game.specs.declared.recogniser.Recogniser.{Recogniser}
 use Rattle.dgt_game.specs.declared.resting.Next.{Next}
+use Rattle.dgt_game.specs.Finding.{FindsLater}
 use Rattle.dgt_game.specs.Planning.{IsPlanned, todo}
 use Rattle.dgt_game.specs.Timing.{Due, HasTask, next_time}
 use Rattle.dgt_game.proofs.Planning.{hopeless_stays, nothing_left, planned_quiet, planned_then, plans_with, todo_most}
@@ -46,6 +47,7 @@ loop-done-init c = record {
   last = λ e. absurd (omega (arith, e));
   planned = λ h. (h, omega (arith, todo_most c.args.self.now));
   lost = λ h. h;
+  found = λ few plans lost h. (h, λ nowhere waits. few);
   hopeless = λ h. h;
   stands = λ shown line knows plans h. h;
 }
@@ -92,6 +94,12 @@ loop-done-preserved c =
           ] in
           (next, omega (arith, less, before, most));
       lost = λ h. act.lost is (c.in_default.ensures.lost (c.loop-done.invariant.lost h));
+      found = λ few plans lost h.
+          let same = c.in_default.ensures.planned in
+          let fits = c.in_ok-at.ensures.fits (planned_quiet self quiet same
+          (c.loop-done.invariant.planned plans).0) in
+          let then = act.found fits (subst FindsLater (sym same)
+          (c.loop-done.invariant.found few plans lost h)) in (then.0, then.1);
       hopeless = λ h. act.hopeless (hopeless_stays self quiet c.in_default.ensures.place
           (c.loop-done.invariant.hopeless h));
       stands = λ shown line knows plans h.
@@ -178,3 +186,23 @@ returns-then-at-now-clause-stands c = λ shown line knows plans h.
 pub returns-clause-stands : goal.returns-clause-stands
 returns-clause-stands c = λ shown line knows plans h.
     c.report-2.ensures.stands (c.loop-done.invariant.stands shown line knows plans h)
+
+pub returns-in-Some-clause-found : goal.returns-in-Some-clause-found
+returns-in-Some-clause-found c = λ few plans lost h.
+    c.in-Some.ensures.found (c.loop-done.invariant.lost lost)
+    (c.loop-done.invariant.found few plans lost h).0
+
+pub returns-in_err-at-clause-found : goal.returns-in_err-at-clause-found
+returns-in_err-at-clause-found c = λ few plans lost h.
+    c.in_default.ensures.found (c.loop-done.invariant.lost lost)
+    (c.loop-done.invariant.found few plans lost h).0
+
+pub returns-then-at-now-clause-found : goal.returns-then-at-now-clause-found
+returns-then-at-now-clause-found c = λ few plans lost h.
+    c.in_default.ensures.found (c.loop-done.invariant.lost lost)
+    (c.loop-done.invariant.found few plans lost h).0
+
+pub returns-clause-found : goal.returns-clause-found
+returns-clause-found c = λ few plans lost h.
+    c.report-2.ensures.found (c.loop-done.invariant.lost lost)
+    (c.loop-done.invariant.found few plans lost h).0

@@ -1,8 +1,9 @@
-use Rattle.std.proofs.Common.{◌≡◌, ◌≤◌, ◌+◌, List, Option, None}
+use Rattle.std.proofs.Common.{◌≡◌, ◌≤◌, ◌<◌, ◌+◌, length, List, Option, None}
 use Rattle.dgt_values.specs.declared.pieces.Piece.{Piece}
 use Rattle.dgt_game.specs.Told.{Told}
 use Rattle.dgt_game.specs.declared.event.Event.{Event}
 use Rattle.dgt_game.specs.declared.recogniser.Recogniser.{Recogniser}
+use Rattle.dgt_game.specs.Finding.{FindsLater, IsFound}
 use Rattle.dgt_game.specs.Planning.{IsLostOr, IsPlanned, WhyHopeless, todo}
 use Rattle.dgt_game.specs.Recogniser.{Knows}
 use Rattle.dgt_game.specs.Standing.{Stands}
@@ -20,6 +21,8 @@ invariant-loop-done l = record {
   last : l.done ≡ 3 → next_time l.self ≡ None;
   planned : IsPlanned l.fn.self → IsPlanned l.self × (todo l.self + l.done ≤ 3);
   lost : IsLostOr l.fn.self → IsLostOr l.self;
+  found : length l.fn.self.memory.seen.items < 23 → IsPlanned l.fn.self → IsLostOr l.fn.self
+      → IsFound l.fn.self → FindsLater l.self;
   hopeless : WhyHopeless l.fn.self → WhyHopeless l.self;
   stands : (shown : List (List Piece)) (line : List Told) → Knows shown line l.fn.self
       → IsPlanned l.fn.self → Stands l.fn.self → Stands l.self;

@@ -1,4 +1,4 @@
-use Rattle.std.proofs.Common.{rules, ◌≡◌, ◌≢◌, subst, sym}
+use Rattle.std.proofs.Common.{rules, arith, ◌≡◌, ◌≢◌, ◌∙◌, ap, inl, inr, subst, sym}
 use Rattle.std.specs.Prelude.{⊤, Contains}
 use Rattle.std.proofs.lemmas.Option.{MatchOption-at_some}
 use Rattle.dgt_values.specs.Board.{pieces_of}
@@ -7,7 +7,9 @@ use Rattle.dgt_game.specs.declared.node.Place.{Place}
 use Rattle.dgt_game.specs.declared.recogniser.Recogniser.{Recogniser}
 use Rattle.dgt_game.specs.Memory.{Holds}
 use Rattle.dgt_game.specs.declared.view.View.{View}
-use Rattle.dgt_game.specs.Reading.{HasAnswered, HasSomeLines}
+use Rattle.dgt_game.specs.declared.recogniser.Search.{Search}
+use Rattle.dgt_game.specs.Finding.{IsSearched}
+use Rattle.dgt_game.specs.Reading.{HasSomeLines}
 use Rattle.dgt_game.proofs.Links.{reads}
 use Rattle.dgt_game.proofs.Moved.{none_some, same_view}
 use Rattle.dgt_game.proofs.recogniser.Recogniser.look_deep.Goals as goal
@@ -46,19 +48,37 @@ returns-else-eq-clause-holds c = λ shown line back unsaid seen holds.
     new
 
 pub returns-then-eq-clause-reads : goal.returns-then-eq-clause-reads
-returns-then-eq-clause-reads c = λ view few seen live behind answered lines.
+returns-then-eq-clause-reads c = λ view few seen live searched lines.
     let self = c.args.self.now in
     let same = same_view self.view c.in-Some.view view c.in-Some.is seen in
     let here : c.match-deep.self.here ≢ Place.Nowhere = elim c.match-deep.branch [
       | in-Some-deep w ↦ subst (λ (r : Recogniser). r.here ≢ Place.Nowhere) (sym w.self-is)
           (w.add_jump.ensures.here few w.in-Some-deep.ensures.room)
       | in-None w ↦ absurd (none_some c.deep.result w.in-None.is (c.deep.ensures.reads c.in-Some.is
-          live behind
-          (subst (λ (v : View). HasAnswered self.memory (pieces_of v.shown)) same answered)
+          live
+          (subst (λ (v : View). IsSearched self (pieces_of v.shown)) same searched)
           (subst (λ (v : View). HasSomeLines self.memory (pieces_of v.shown)) same lines)))
     ] in
     let wrong : c.match-deep.self.here ≡ Place.Nowhere = search rules in
     absurd (here wrong)
 
 pub returns-else-eq-clause-reads : goal.returns-else-eq-clause-reads
-returns-else-eq-clause-reads c = λ view few seen live behind answered lines. search rules
+returns-else-eq-clause-reads c = λ view few seen live searched lines. search rules
+
+pub returns-then-eq-clause-still : goal.returns-then-eq-clause-still
+returns-then-eq-clause-still c = λ few.
+    let old : Recogniser = record c.args.self.now { search = Search.Done } in
+    let nowhere : c.match-deep.self.here ≡ Place.Nowhere = search rules in
+    let same : c.match-deep.self ≡ old = elim c.match-deep.branch [
+      | in-Some-deep w ↦ absurd (w.add_jump.ensures.here (omega (arith, few))
+          w.in-Some-deep.ensures.room (ap (λ (r : Recogniser). r.here) (sym w.self-is) ∙ nowhere))
+      | in-None w ↦ elim (w.start_deep.ensures.still few) [
+        | inl here ↦ absurd (here (ap (λ (r : Recogniser). r.here) (sym w.self-is) ∙ nowhere))
+        | inr still ↦ w.self-is ∙ still
+      ]
+    ] in
+    inr (subst (λ (r : Recogniser). c.lose.new.self ≡ record r { lost = c.lose.new.self.lost }) same
+    c.lose.ensures.only)
+
+pub returns-else-eq-clause-still : goal.returns-else-eq-clause-still
+returns-else-eq-clause-still c = λ few. inl (search rules)

@@ -2,11 +2,14 @@ use Rattle.std.proofs.Common.{rules, ◌≡◌, ◌∙◌, Some, Option, false, 
 use Rattle.std.specs.Prelude.{⊤, IfSome}
 use Rattle.std.proofs.lemmas.Option.{MatchOption-at_some, none-some}
 use Rattle.dgt_game.specs.declared.event.GameResult.{GameResult}
+use Rattle.dgt_game.specs.declared.memory.Memory.{Memory}
 use Rattle.dgt_game.specs.declared.node.Step.{Step}
 use Rattle.dgt_game.specs.declared.recogniser.Lost.{Lost}
 use Rattle.dgt_game.specs.declared.recogniser.Over.{Over}
 use Rattle.dgt_game.specs.Waiting.{EndsBy, coming, has_notice, has_result}
+use Rattle.dgt_game.specs.Finding.{IsFound}
 use Rattle.dgt_game.specs.Standing.{IsMeant}
+use Rattle.dgt_game.proofs.Finding.{found_later}
 use Rattle.dgt_game.proofs.Standing.{back_moved, meant_moved}
 use Rattle.dgt_game.proofs.Waiting.{ended_right, last_comes, right_of_line, silent}
 use Rattle.dgt_game.proofs.recogniser.Recogniser.next_event.Goals as goal
@@ -84,3 +87,26 @@ returns-in-Some-next_event-clause-stands c = λ stands.
     c.follow_up.ensures.stands (meant_moved self new event.coming event.answer meant)
     (back_moved self
     new event.coming event.less was.3)
+
+pub returns-in-Some-next_event-clause-found : goal.returns-in-Some-next_event-clause-found
+returns-in-Some-next_event-clause-found c = λ lost h.
+    found_later c.next_notice.new.self c.follow_up.new.self c.follow_up.ensures.place
+    (c.in_default.ensures.lost lost) (λ quiet. none-some c.in-Some-next_event.event
+    (sym (c.next_event.ensures.still quiet.0) ∙ c.in-Some-next_event.is))
+
+pub returns-clause-found : goal.returns-clause-found
+returns-clause-found c = λ lost h.
+    let self = c.next_notice.new.self in
+    let was : self.ended ≡ Some (c.in_ok-result.result, c.in_ok-result.over) = search rules in
+    found_later self (record self {
+      memory = c.next_event.new.self;
+      over = c.in_ok-result.over;
+      ended = c.take.new.self;
+    }) (refl, refl, λ nowhere. nowhere) (c.in_default.ensures.lost lost) (λ quiet. none-some
+    (c.in_ok-result.result, c.in_ok-result.over) (sym quiet.1 ∙ was))
+
+pub returns-in_err-result-clause-found : goal.returns-in_err-result-clause-found
+returns-in_err-result-clause-found c = λ lost h.
+    let self = c.next_notice.new.self in
+    subst (λ (m : Memory). IsFound (record self { memory = m; ended = c.take.new.self }))
+    (sym (c.in_default-next_event.ensures.nothing refl)) (c.in_default.ensures.found h)

@@ -20,3 +20,6 @@ returns-clause-tells c =
 pub returns-clause-planned : goal.returns-clause-planned
 returns-clause-planned c =
     plans_with c.next_event.new.self c.plan-self.result c.plan-self.result c.plan-self.ensures.plans
+
+pub returns-clause-found : goal.returns-clause-found
+returns-clause-found c = λ lost h. c.in_ok-event.ensures.found lost h

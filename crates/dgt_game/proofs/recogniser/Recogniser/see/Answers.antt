@@ -10,6 +10,7 @@ use Rattle.dgt_game.specs.Planning.{WhyHopeless}
 use Rattle.dgt_game.specs.Recogniser.{Knows, shown_after}
 use Rattle.dgt_game.proofs.Known.{holds_more, knows_more, knows_same, memory_of, view_of, within_after}
 use Rattle.dgt_game.specs.declared.recogniser.Lost.{Lost}
+use Rattle.dgt_game.specs.Finding.{IsFound}
 use Rattle.dgt_game.specs.Settling.{IsAnswered}
 use Rattle.dgt_game.specs.Standing.{IsOpen, Stands}
 use Rattle.dgt_game.specs.Waiting.{Waits, has_notice}
@@ -151,3 +152,11 @@ returns-clause-answers c = λ done shown line knows stands.
           w.self-is)) (inl (back, unsaid))
     ] in
     new
+
+pub returns-clause-found : goal.returns-clause-found
+returns-clause-found c = λ h.
+    let new : IsFound c.if-not-is_same_picture.self = elim c.if-not-is_same_picture.branch [
+      | then-not-is_same_picture w ↦ subst IsFound (sym w.self-is) (λ view is nowhere done live
+          fits lines. w.show.ensures.search done)
+      | else-not-is_same_picture+else-is_sure-self w ↦ subst IsFound (sym w.self-is) h
+    ] in new

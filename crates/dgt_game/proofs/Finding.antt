@@ -1,0 +1,145 @@
+-- What several half-moves lead to is found.
+use Rattle.std.proofs.Common.{◌≡◌, ◌≢◌, ◌∙◌, ◌<◌, ◌≤◌, ◌+◌, ◌-◌, ◌^◌, ◌⊎◌, inl, inr, refl, sym, ap, subst, arith, length, min, ℕ, Bool, true, false, Option, Some, None}
+use Rattle.std.proofs.lemmas.Bool.{false≢true}
+use Rattle.std.specs.Prelude.{IfSome, if◌then◌else◌, option_map}
+use Rattle.dgt_values.specs.Board.{pieces_of}
+use Rattle.dgt_chess.specs.declared.pieces.Colour.{Colour}
+use Rattle.dgt_chess.specs.declared.state.State.{State}
+use Rattle.dgt_chess.specs.Rules.{board}
+use Rattle.dgt_game.specs.declared.node.Place.{Place}
+use Rattle.dgt_game.specs.declared.recogniser.Recogniser.{Recogniser}
+use Rattle.dgt_game.specs.declared.recogniser.Search.{Search}
+use Rattle.dgt_game.specs.declared.resting.Next.{Next}
+use Rattle.dgt_game.specs.declared.resting.Task.{Task}
+use Rattle.dgt_game.specs.declared.view.View.{View}
+use Rattle.dgt_game.specs.Told.{as_shown}
+use Rattle.dgt_game.specs.Finding.{FindsLater, IsFound, IsSearched, SearchIsDue, WhatFollowsIsFound}
+use Rattle.dgt_game.specs.Memory.{IsTold}
+use Rattle.dgt_game.specs.Planning.{EndsSearch, HasKing, IsLostOr, Plans, RestsBefore, StaysPlaced, TaskFits, search_wait}
+use Rattle.dgt_game.specs.Reading.{HasSomeLines, IsLive}
+use Rattle.dgt_game.specs.Standing.{StandsAt}
+use Rattle.dgt_game.specs.Timing.{IsIdle}
+use Rattle.dgt_game.proofs.Pictures.{king_seen, led_to}
+use Rattle.dgt_game.proofs.Rests.{place_or}
+
+-- what is looked for is found, if nothing else has changed
+pub found_by_search : (old new : Recogniser) → ((view : View) → old.view ≡ Some view → IsLive old
+    → IsSearched old (pieces_of view.shown) → HasSomeLines old.memory (pieces_of view.shown)
+    → new.here ≢ Place.Nowhere) → (new.here ≢ Place.Nowhere)
+    ⊎ (new ≡ record old { search = Search.Done; lost = new.lost })
+    → new.search ≡ Search.Done → FindsLater new
+found_by_search old new reads still done = (
+  λ view is nowhere searched live fits lines. elim still [
+    | inl here ↦ here nowhere
+    | inr same ↦
+        let before = subst (λ (r : Recogniser). (r.view ≡ Some view) × IsLive r
+        × IsSearched r (pieces_of view.shown) × HasSomeLines r.memory (pieces_of view.shown)) same
+        (is, live, fits, lines) in
+        reads view before.0 before.1 before.2 before.3 nowhere
+  ],
+  λ nowhere waits. absurd (let wrong : ⊥ = cc in wrong),
+)
+
+-- once the board stands somewhere or nothing will come of it, there is nothing to find
+pub found_placed : (new : Recogniser) → new.here ≡ Place.Line 0 → FindsLater new
+found_placed new here = (
+  λ view is nowhere searched live fits lines. let wrong : ⊥ = cc in wrong,
+  λ nowhere waits. absurd (let wrong : ⊥ = cc in wrong),
+)
+
+pub found_hopeless : (new : Recogniser) → new.search ≡ Search.Hopeless → FindsLater new
+found_hopeless new search = (
+  λ view is nowhere searched live fits lines. let wrong : ⊥ = cc in wrong,
+  λ nowhere waits. absurd (let wrong : ⊥ = cc in wrong),
+)
+
+pub found_ended : (old new : Recogniser) → EndsSearch old new → FindsLater new
+found_ended old new (inl ends) = found_hopeless new ends.0
+found_ended old new (inr last) = found_hopeless new last.1
+
+-- while nothing was found, nothing but a notice waits
+pub found_later : (old new : Recogniser) → StaysPlaced old new → IsLostOr old
+    → ¬ (IsTold old.memory × (old.ended ≡ None)) → IsFound new
+found_later old new (view, search, here) lost waits = λ shown is nowhere searched live fits lines.
+    let some : old.view ≢ None = (λ none. let wrong : ⊥ = cc in wrong) in
+    let nothing = lost some (here nowhere) (sym search ∙ searched) in
+    waits (nothing.0, nothing.1)
+
+-- ---- Laws
+
+no_king : (view : View) (state : State) (turned : Bool) (colour : Colour)
+    → board state ≡ as_shown turned (pieces_of view.shown)
+    → ¬ (¬ (HasKing (pieces_of view.shown) colour))
+no_king view state turned colour same none = false≢true (king_seen state turned (pieces_of
+    view.shown) colour false view.shown.all same (λ square small e. absurd (none (square, small,
+    e))))
+
+-- what is done next isn't due yet
+not_yet : (next : Option Next) (since now : ℕ)
+    → IfSome (option_map (λ (n : Next). min (since + n.wait) (2 ^ 64 - 1)) next) (λ at. now < at)
+    → (plan : Next) → next ≡ Some plan → now < since + plan.wait
+not_yet next since now idle plan e =
+    let soon : now < min (since + plan.wait) (2 ^ 64 - 1) = subst (λ (o : Option Next). IfSome
+    (option_map (λ (n : Next). min (since + n.wait) (2 ^ 64 - 1)) o) (λ at. now < at)) e idle in
+    omega (arith, soon)
+
+searched_by : (behind : Bool) → search_wait behind ≤ 1000
+searched_by true = omega arith
+searched_by false = omega arith
+
+-- so it isn't a search, and nothing else is done with a position that has no place
+undone : (self : Recogniser) (now : ℕ) (task : Task) (wait : ℕ) → self.here ≡ Place.Nowhere
+    → self.is_next ≡ false → ¬ (self.search ≡ Search.Done) → SearchIsDue now self
+    → now < self.since + wait → TaskFits self task → RestsBefore self task wait → ⊥
+undone self now Task.EndByKings wait nowhere next done (inl late) soon fits rests =
+    omega (arith, late, soon, rests)
+undone self now Task.EndByKings wait nowhere next done (inr (behind, kings, late)) soon fits rests =
+    false≢true (sym kings ∙ fits)
+undone self now Task.Search wait nowhere next done (inl late) soon fits rests =
+    omega (arith, late, soon, rests, searched_by self.is_behind)
+undone self now Task.Search wait nowhere next done (inr (behind, kings, late)) soon fits rests =
+    let short : search_wait self.is_behind ≡ 320 = ap (λ (b : Bool). search_wait b) behind in
+    omega (arith, late, soon, rests, short)
+undone self now Task.Tell wait nowhere next done due soon fits rests = false≢true (sym next ∙ fits)
+undone self now Task.Begin wait nowhere next done due soon fits rests = done fits.1
+
+no_plan : (self : Recogniser) (now : ℕ) (next : Option Next) → self.next ≡ next
+    → self.is_sure ≡ true → IsIdle now self → Plans self next → self.here ≡ Place.Nowhere
+    → self.is_next ≡ false → ¬ (self.search ≡ Search.Done) → SearchIsDue now self → next ≡ None
+no_plan self now None is sure idle plans nowhere next done due = refl
+no_plan self now (Some plan) is sure idle plans nowhere next done due =
+    let idles = subst (λ (b : Bool). IfSome (if b then option_map (λ (n : Next). min
+    (self.since + n.wait) (2 ^ 64 - 1)) self.next else None) (λ at. now < at)) sure idle.1 in
+    absurd (undone self now plan.task plan.wait nowhere next done due (not_yet self.next self.since
+    now idles plan is) plans.0 plans.1)
+
+pub what_follows_is_found : WhatFollowsIsFound
+what_follows_is_found self view now stands planned why found seen sure confirmed idle due live fits
+    lines = elim (place_or self.here) [
+      | inl some ↦ inl some
+      | inr nowhere ↦
+          let undone : ¬ (self.search ≡ Search.Done) = (λ done. found view seen nowhere done live
+          fits lines) in
+          let at = subst (λ (o : Option View). IfSome o (StandsAt self.here self.memory self.is_next
+          self.is_sure)) seen stands.0 in
+          let next : self.is_next ≡ false = subst (λ (p : Place). StandsAt p self.memory
+          self.is_next self.is_sure view) nowhere at in
+          let none = no_plan self now self.next refl sure idle planned nowhere next undone due in
+          elim (subst (Plans self) none planned) [
+            | inl doubt ↦ absurd (false≢true (sym doubt ∙ confirmed))
+            | inr nothing ↦ elim nothing.1.1 [
+              | inl some ↦ absurd (some nowhere)
+              | inr more ↦ elim more [
+                | inl hopeless ↦ elim (why view seen nowhere hopeless) [
+                  | inl (colour, none) ↦
+                      let (count, least, most, line) = lines in
+                      let (state, turned, same) = led_to count self.memory (Place.Line 0) (pieces_of
+                      view.shown) line in
+                      absurd (no_king view state turned colour same none)
+                  | inr other ↦ inr other
+                ]
+                | inr done ↦ absurd (undone done.0)
+              ]
+            ]
+          ]
+    ]

@@ -1,0 +1,46 @@
+use Rattle.std.proofs.Common.{◌≡◌, ◌∙◌, List, arith, false, Some, inl, inr, subst, sym}
+use Rattle.std.proofs.lemmas.Bool.{false≢true}
+use Rattle.std.proofs.lemmas.Bool.Decides.{nat_tests}
+use Rattle.dgt_values.specs.declared.pieces.Piece.{Piece}
+use Rattle.dgt_values.specs.Board.{pieces_of}
+use Rattle.dgt_chess.specs.declared.pieces.Colour.{Colour}
+use Rattle.dgt_game.specs.declared.node.Place.{Place}
+use Rattle.dgt_game.specs.declared.node.Step.{Step}
+use Rattle.dgt_game.specs.Memory.{step_at, steps}
+use Rattle.dgt_game.specs.Reading.{HasMoved}
+use Rattle.dgt_game.specs.Told.{as_shown}
+use Rattle.dgt_game.specs.Waiting.{last_of}
+use Rattle.dgt_game.proofs.Planning.{same_got}
+use Rattle.dgt_game.proofs.recogniser.Recogniser.may_jump_far.Goals as goal
+use Rattle.dgt_game.proofs.recogniser.Recogniser.may_jump_far.Goals.{then-has_moved, else-has_moved, then-halves-lt3, else-halves-lt3}
+
+pub returns-else-have_moved-3 : goal.returns-else-have_moved-3
+returns-else-have_moved-3 c = record {
+  reads = λ place may some. elim may [
+    | inl behind ↦ behind
+    | inr (step, last, moved) ↦
+        let self = c.args.self.now in
+        let node = c.in-Some.node in
+        let at : last_of self.memory ≡ Some node.step = subst (λ (p : Place). step_at (steps
+        self.memory.line.items) (steps self.memory.seen.items) p ≡ Some node.step) place
+        c.in-Some.ensures in
+        let same : step ≡ node.step = same_got (steps self.memory.line.items) 0 step node.step last
+        at in
+        let here = λ (colour : Colour). subst (λ (ps : List Piece). HasMoved ps node.step.state
+        colour) (sym c.from-shown.ensures) (subst (λ (s : Step). HasMoved (as_shown s.is_turned
+        (pieces_of c.args.view.now.shown)) s.state colour) same (moved colour)) in
+        let no : c.if-has_moved.have_moved ≡ false = elim c.if-halves-lt3.branch [
+          | then-halves-lt3 w ↦
+              let less = w.if-halves-lt3.true in
+              let test = sym c.if-have_moved-3.false ∙ w.value-is in
+              absurd (grind (arith, nat_tests))
+          | else-halves-lt3 w ↦ sym w.value-is ∙ c.if-have_moved-3.false
+        ] in
+        absurd (elim c.if-has_moved.branch [
+          | then-has_moved w ↦ false≢true (sym no ∙ w.have_moved-is
+              ∙ w.has_moved-have_moved.ensures (here Colour.Black))
+          | else-has_moved w ↦ false≢true (sym w.if-has_moved.false
+              ∙ c.has_moved.ensures (here Colour.White))
+        ])
+  ];
+}
