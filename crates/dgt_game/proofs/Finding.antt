@@ -17,6 +17,7 @@ use Rattle.dgt_game.specs.Finding.{FindsLater, IsFound, IsSearched, SearchIsDue,
 use Rattle.dgt_game.specs.Memory.{IsTold}
 use Rattle.dgt_game.specs.Planning.{EndsSearch, HasKing, IsLostOr, Plans, RestsBefore, StaysPlaced, TaskFits, search_wait}
 use Rattle.dgt_game.specs.Reading.{HasSomeLines, IsLive}
+use Rattle.dgt_game.specs.Settling.{StaysShown}
 use Rattle.dgt_game.specs.Standing.{StandsAt}
 use Rattle.dgt_game.specs.Timing.{IsIdle}
 use Rattle.dgt_game.proofs.Pictures.{king_seen, led_to}
@@ -39,6 +40,9 @@ found_by_search old new reads still done = (
   ],
   λ nowhere waits. absurd (let wrong : ⊥ = cc in wrong),
 )
+
+pub shown_then : (a b c : Recogniser) → StaysShown a b → StaysShown b c → StaysShown a c
+shown_then a b c f g = (g.0 ∙ f.0, g.1 ∙ f.1, g.2 ∙ f.2)
 
 -- once the board stands somewhere or nothing will come of it, there is nothing to find
 pub found_placed : (new : Recogniser) → new.here ≡ Place.Line 0 → FindsLater new
@@ -75,7 +79,7 @@ no_king view state turned colour same none = false≢true (king_seen state turne
     e))))
 
 -- what is done next isn't due yet
-not_yet : (next : Option Next) (since now : ℕ)
+pub not_yet : (next : Option Next) (since now : ℕ)
     → IfSome (option_map (λ (n : Next). min (since + n.wait) (2 ^ 64 - 1)) next) (λ at. now < at)
     → (plan : Next) → next ≡ Some plan → now < since + plan.wait
 not_yet next since now idle plan e =

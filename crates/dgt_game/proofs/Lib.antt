@@ -21,5 +21,5 @@ pub mod Timing
 pub mod Standing
 pub mod Planning
 pub mod Rests
-pub mod Settling
 pub mod Finding
+pub mod Settling

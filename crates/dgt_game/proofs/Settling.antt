@@ -1,6 +1,7 @@
 -- What is reported has rested.
-use Rattle.std.proofs.Common.{◌≡◌, ◌∙◌, ◌≤◌, ◌+◌, ◌-◌, ◌^◌, ◌⊎◌, inl, inr, refl, sym, subst, arith, min, ℕ, Bool, true, false, [], ◌∷◌, Option, Some, None}
-use Rattle.std.specs.Prelude.{MatchOption, if◌then◌else◌, option_map, slice_get}
+use Rattle.std.proofs.Common.{◌≡◌, ◌∙◌, ◌<◌, ◌≤◌, ◌+◌, ◌-◌, ◌^◌, ◌⊎◌, inl, inr, refl, sym, subst, arith, min, ℕ, Bool, true, false, [], ◌∷◌, Option, Some, None}
+use Rattle.std.specs.Prelude.{IfSome, MatchOption, if◌then◌else◌, option_map, slice_get}
+use Rattle.std.proofs.lemmas.Bool.{false≢true}
 use Rattle.std.proofs.lemmas.Option.{none-some}
 use Rattle.dgt_game.specs.declared.memory.Memory.{Memory}
 use Rattle.dgt_game.specs.declared.node.Node.{Node}
@@ -9,9 +10,14 @@ use Rattle.dgt_game.specs.declared.node.Place.{Place}
 use Rattle.dgt_game.specs.declared.recogniser.Recogniser.{Recogniser}
 use Rattle.dgt_game.specs.declared.resting.Next.{Next}
 use Rattle.dgt_game.specs.declared.resting.Task.{Task}
-use Rattle.dgt_game.specs.Planning.{Plans, RestsAfter, RestsAt, RestsBefore, RestsBy, TaskFits, search_wait}
-use Rattle.dgt_game.specs.Settling.{IsAt, IsAtStart, ReplacingHasRested, ReportedHasRested, ReportedHasSettled, ReportsNow}
-use Rattle.dgt_game.specs.Timing.{HasTask}
+use Rattle.dgt_game.specs.declared.view.View.{View}
+use Rattle.dgt_game.specs.Memory.{steps}
+use Rattle.dgt_game.specs.Planning.{Lacks, Plans, RestsAfter, RestsAt, RestsBefore, RestsBy, TaskFits, search_wait}
+use Rattle.dgt_game.specs.Settling.{IsAt, IsAtStart, NothingWaitsLong, ReplacingHasRested, ReportedHasRested, ReportedHasSettled, ReportsNow}
+use Rattle.dgt_game.specs.Standing.{StandsAt}
+use Rattle.dgt_game.specs.Timing.{HasTask, IsIdle}
+use Rattle.dgt_game.proofs.Finding.{not_yet}
+use Rattle.dgt_game.proofs.Standing.{some_of}
 
 -- what is done next is planned if it is due
 timed : (sure : Bool) (next : Option Next) (since now : ℕ) → MatchOption (if sure
@@ -74,24 +80,55 @@ reported_has_settled self new event now reports =
     ]
 
 -- what the board stands at is neither looked for nor begins a line
-task_replaces : (self : Recogniser) (task : Task) (wait base : ℕ) (node : Node)
-    → self.has_kings ≡ false → IsAt self node → node.origin ≡ Origin.Line base
-    → TaskFits self task → RestsBefore self task wait
-    → RestsAfter base self.returned.count wait
-task_replaces self Task.EndByKings wait base node kings at is fits rests =
-    absurd (let wrong : ⊥ = cc in wrong)
-task_replaces self Task.Search wait base node kings (k, here, at) is fits rests =
+task_replaces : (self : Recogniser) (task : Task) (wait base : ℕ) (node : Node) → IsAt self node
+    → node.origin ≡ Origin.Line base → TaskFits self task → RestsBefore self task wait
+    → ((self.has_kings ≡ true) × (wait ≡ 1000)) ⊎ RestsAfter base self.returned.count wait
+task_replaces self Task.EndByKings wait base node at is fits rests = inl (fits, rests)
+task_replaces self Task.Search wait base node (k, here, at) is fits rests =
     absurd (let e = fits.0 in let wrong : ⊥ = cc in wrong)
-task_replaces self Task.Begin wait base node kings (k, here, at) is fits rests =
+task_replaces self Task.Begin wait base node (k, here, at) is fits rests =
     absurd (let e = fits.0 in let wrong : ⊥ = cc in wrong)
-task_replaces self Task.Tell wait base node kings (k, here, at) is fits rests =
+task_replaces self Task.Tell wait base node (k, here, at) is fits rests =
     let placed : RestsAt (Place.Seen k) self.memory self.returned.count wait =
     subst (λ (p : Place). RestsAt p self.memory self.returned.count wait) here rests in
     let found = subst (λ (o : Option Node). MatchOption o (300 ≤ wait) (λ n. RestsBy n.origin
     n.depth self.returned.count wait)) at placed in
-    subst (λ (o : Origin). RestsBy o node.depth self.returned.count wait) is found
+    inr (subst (λ (o : Origin). RestsBy o node.depth self.returned.count wait) is found)
 
 pub replacing_has_rested : ReplacingHasRested
 replacing_has_rested self new event now base node reports kings at is far other =
     let (sure, (task, wait, fits, rests, late)) = reported_has_rested self new event now reports in
-    omega (arith, late, (task_replaces self task wait base node kings at is fits rests).2 far other)
+    elim (task_replaces self task wait base node at is fits rests) [
+      | inl ends ↦ absurd (false≢true (sym kings ∙ ends.0))
+      | inr after ↦ omega (arith, late, after.2 far other)
+    ]
+
+no_next : (self : Recogniser) (now base : ℕ) (node : Node) (next : Option Next)
+    → self.next ≡ next → Plans self next → self.is_sure ≡ true → IsIdle now self
+    → self.since + 10000 ≤ now → IsAt self node → node.origin ≡ Origin.Line base → next ≡ None
+no_next self now base node None same plans sure idle late at is = refl
+no_next self now base node (Some plan) same plans sure idle late at is =
+    let idles = subst (λ (b : Bool). IfSome (if b then option_map (λ (n : Next). min
+    (self.since + n.wait) (2 ^ 64 - 1)) self.next else None) (λ at. now < at)) sure idle.1 in
+    let soon = not_yet self.next self.since now idles plan same in
+    absurd (elim (task_replaces self plan.task plan.wait base node at is plans.0 plans.1) [
+      | inl ends ↦ omega (arith, soon, late, ends.1)
+      | inr after ↦ omega (arith, soon, late, after.1)
+    ])
+
+pub nothing_waits_long : NothingWaitsLong
+unfolding Lacks
+nothing_waits_long self view now base node stands planned seen sure confirmed idle late at is =
+    let none = no_next self now base node self.next refl planned sure idle late at is in
+    elim (subst (Plans self) none planned) [
+      | inl doubt ↦ absurd (false≢true (sym doubt ∙ confirmed))
+      | inr nothing ↦
+          let (k, here, got) = at in
+          let on = subst (λ (o : Option View). IfSome o (StandsAt (Place.Seen k) self.memory false
+          true)) seen (subst (λ (b : Bool). IfSome self.view (StandsAt (Place.Seen k) self.memory
+          false b)) sure (subst (λ (b : Bool). IfSome self.view (StandsAt (Place.Seen k) self.memory
+          b self.is_sure)) nothing.1.0 (subst (λ (p : Place). IfSome self.view (StandsAt p
+          self.memory self.is_next self.is_sure)) here stands.0))) in
+          let found = some_of (slice_get (steps self.memory.seen.items) k) _ on in
+          (view, seen, (found.0, inr (k, found.1), found.2.1 refl refl))
+    ]

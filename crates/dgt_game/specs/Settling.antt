@@ -9,15 +9,17 @@ use Rattle.dgt_game.specs.declared.node.Way.{Way}
 use Rattle.dgt_game.specs.declared.recogniser.Recogniser.{Recogniser}
 use Rattle.dgt_game.specs.declared.resting.Task.{Task}
 use Rattle.dgt_game.specs.Memory.{IsTold}
-use Rattle.dgt_game.specs.Planning.{IsPlanned, RestsBefore, TaskFits}
-use Rattle.dgt_game.specs.Timing.{Due}
+use Rattle.dgt_game.specs.declared.view.View.{View}
+use Rattle.dgt_game.specs.Planning.{IsLifted, IsPlanned, RestsBefore, TaskFits}
+use Rattle.dgt_game.specs.Standing.{Stands}
+use Rattle.dgt_game.specs.Timing.{Due, IsIdle}
 use Rattle.dgt_game.specs.Waiting.{IsQuiet}
 
 -- nothing waits to be reported, or a half-move answers it
 abbrev pub IsAnswered : Memory → Type 0
 IsAnswered self = IsTold self ⊎ MatchOption self.answer ⊥ (λ node. node.step.way ≢ Way.Begun)
 
--- the board stands at a node, and its path begins there
+-- the board stands at a node that was shown since
 abbrev pub IsAt : Recogniser → Node → Type 0
 IsAt self node =
     (k : ℕ) × (self.here ≡ Place.Seen k) × (slice_get self.memory.seen.items k ≡ Some node)
@@ -26,6 +28,11 @@ IsAt self node =
 abbrev pub IsAtStart : Recogniser → Type 0
 IsAtStart self =
     (node : Node) × IsAt self node × (node.origin ≡ Origin.Start) × (node.depth ≡ 1)
+
+-- what is shown, for sure or not, and since when
+abbrev pub StaysShown : Recogniser → Recogniser → Type 0
+StaysShown self new =
+    (new.view ≡ self.view) × (new.since ≡ self.since) × (new.is_sure ≡ self.is_sure)
 
 -- ---- Laws
 
@@ -55,3 +62,11 @@ ReplacingHasRested =
     → ReportsNow now self event new → self.has_kings ≡ false → IsAt self node
     → node.origin ≡ Origin.Line base → 2 ≤ base → base ≢ self.returned.count
     → self.since + 3000 ≤ now
+
+-- **Nothing waits for long.** What the board stands at after the line's last states is reported
+-- within ten seconds, sure and confirmed, unless pieces are lifted.
+abbrev pub NothingWaitsLong : Type 0
+NothingWaitsLong =
+    (self : Recogniser) (view : View) (now base : ℕ) (node : Node) → Stands self → IsPlanned self
+    → self.view ≡ Some view → self.is_sure ≡ true → self.is_confirmed ≡ true → IsIdle now self
+    → self.since + 10000 ≤ now → IsAt self node → node.origin ≡ Origin.Line base → IsLifted self

@@ -19,6 +19,7 @@ use dgt_values::{Piece, Position, Square};
 
 impl Recogniser {
     ghost use Rattle.dgt_game.specs.Memory.{Holds, IsRooted, IsTold};
+    ghost use Rattle.dgt_game.specs.Settling.{StaysShown};
     ghost use Rattle.dgt_game.specs.Standing.{IsOpen, Stands};
     ghost use Rattle.dgt_game.specs.Finding.{FindsLater};
     ghost use Rattle.dgt_game.specs.Planning.{AddsNone, todo, IsLostOr, WhyHopeless};
@@ -98,6 +99,7 @@ impl Recogniser {
         ensures lost { IsLostOr self.old → IsLostOr self.new }
         ensures hopeless { WhyHopeless self.old → WhyHopeless self.new }
         ensures found { FindsLater self.old → FindsLater self.new }
+        ensures shown { StaysShown self.old self.new }
     {
         self.has_kings = false;
         let Some(view) = self.view else {

@@ -34,6 +34,7 @@ impl Recogniser {
     ghost use Rattle.dgt_game.specs.Recogniser.{Knows, Reports, Stays};
     ghost use Rattle.dgt_game.specs.Finding.{FindsLater, IsFound};
     ghost use Rattle.dgt_game.specs.Planning.{RestsAfter, RestsBefore, TaskFits, IsAtLast, IsPlanned, MayNotBegin, Plans, PlansPosition, todo, HasNothing, IsLostOr, StaysPlaced, WhyHopeless};
+    ghost use Rattle.dgt_game.specs.Settling.{StaysShown};
     ghost use Rattle.dgt_game.specs.Standing.{ShowsHere, Stands};
     ghost use Rattle.dgt_game.specs.Timing.{Acts, Due, IsIdle, Tells, next_time};
     ghost use Rattle.dgt_game.specs.Waiting.{Follows, IsQuiet, IsRight, Keeps, Waits};
@@ -74,6 +75,7 @@ impl Recogniser {
             → IsLostOr self.old → IsFound self.old → IsFound self.new }
         ensures stands { (shown : List (List Piece)) (line : List Told)
             → Knows shown line self.old → IsPlanned self.old → Stands self.old → Stands self.new }
+        ensures shown { StaysShown self.old self.new }
     {
         for done in 0..3u8 {
             if let Some(event) = self.report() {
@@ -99,6 +101,7 @@ impl Recogniser {
         ensures place { StaysPlaced self.old self.new }
         ensures stands { Stands self.old → Stands self.new }
         ensures found { IsLostOr self.old → IsFound self.old → IsFound self.new }
+        ensures shown { StaysShown self.old self.new }
     {
         let event = self.next_event()?;
         self.next = self.plan();
@@ -183,6 +186,7 @@ impl Recogniser {
         ensures lost { IsQuiet self.old → IsLostOr self.old → IsLostOr self.new }
         ensures hopeless { WhyHopeless self.old → WhyHopeless self.new }
         ensures found { TaskFits self.old task → FindsLater self.old → FindsLater self.new }
+        ensures shown { StaysShown self.old self.new }
     {
         match task {
             Task::EndByKings => self.end_by_kings(),

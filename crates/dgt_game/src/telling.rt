@@ -19,6 +19,7 @@ impl Recogniser {
     ghost use Rattle.dgt_game.specs.Finding.{IsFound};
     ghost use Rattle.dgt_game.specs.Planning.{IsAsBefore, IsAtLast, IsLostOr, StaysPlaced};
     ghost use Rattle.dgt_game.specs.Results.{HasResult};
+    ghost use Rattle.dgt_game.specs.Settling.{StaysShown};
     ghost use Rattle.dgt_game.specs.Standing.{EndsHere, IsCalledFor, IsMeant, IsOpen, Stands, TakesBack};
     ghost use Rattle.dgt_game.specs.Timing.{next_time};
     ghost use Rattle.dgt_game.specs.Waiting.{EndWaits, EndsBy, Follows, IsOfLine, IsQuiet, IsRight, Keeps, Waits, coming, has_notice, has_result, last_of};
@@ -89,6 +90,7 @@ impl Recogniser {
         ensures lost { IsLostOr self.old → IsLostOr self.new }
         ensures place { StaysPlaced self.old self.new }
         ensures found { IsLostOr self.old → IsFound self.old → IsFound self.new }
+        ensures shown { StaysShown self.old self.new }
     {
         if let Some(event) = self.next_notice() {
             return Some(event);
@@ -125,6 +127,7 @@ impl Recogniser {
         ensures lost { IsLostOr self.old → IsLostOr self.new }
         ensures place { StaysPlaced self.old self.new }
         ensures found { IsFound self.old → IsFound self.new }
+        ensures shown { StaysShown self.old self.new }
     {
         match self.lost {
             Lost::Now(squares) => {
@@ -164,6 +167,7 @@ impl Recogniser {
         ensures lost { self.new.lost ≡ self.old.lost }
         ensures stands { IsMeant self.old → TakesBack 4 self.old → Stands self.new }
         ensures place { StaysPlaced self.old self.new }
+        ensures shown { StaysShown self.old self.new }
     {
         match event {
             Event::Begun(_, _) | Event::Back(_) => self.over = Over::No,

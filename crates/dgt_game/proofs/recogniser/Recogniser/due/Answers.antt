@@ -7,6 +7,7 @@ use Rattle.dgt_game.specs.Finding.{FindsLater}
 use Rattle.dgt_game.specs.Planning.{IsPlanned, todo}
 use Rattle.dgt_game.specs.Timing.{Due, HasTask, next_time}
 use Rattle.dgt_game.proofs.Planning.{hopeless_stays, nothing_left, planned_quiet, planned_then, plans_with, todo_most}
+use Rattle.dgt_game.proofs.Finding.{shown_then}
 use Rattle.dgt_game.proofs.Timing.{acts_with, follows_then, idle_in_doubt, idle_stays, no_time, one_more, quiet_now, told_now}
 use Rattle.dgt_game.proofs.recogniser.Recogniser.due.Goals as goal
 use Rattle.dgt_game.proofs.recogniser.Recogniser.due.Goals.{then-done-lt2, else-done-lt2}
@@ -46,6 +47,7 @@ loop-done-init c = record {
   due = λ report new due. due;
   last = λ e. absurd (omega (arith, e));
   planned = λ h. (h, omega (arith, todo_most c.args.self.now));
+  shown = (refl, refl, refl);
   lost = λ h. h;
   found = λ few plans lost h. (h, λ nowhere waits. few);
   hopeless = λ h. h;
@@ -93,6 +95,8 @@ loop-done-preserved c =
                 (omega (arith, less, before, most, w.if-done-lt2.false))))
           ] in
           (next, omega (arith, less, before, most));
+      shown = shown_then c.args.self.now quiet new (shown_then c.args.self.now self quiet
+          c.loop-done.invariant.shown c.in_default.ensures.shown) act.shown;
       lost = λ h. act.lost is (c.in_default.ensures.lost (c.loop-done.invariant.lost h));
       found = λ few plans lost h.
           let same = c.in_default.ensures.planned in
@@ -206,3 +210,19 @@ pub returns-clause-found : goal.returns-clause-found
 returns-clause-found c = λ few plans lost h.
     c.report-2.ensures.found (c.loop-done.invariant.lost lost)
     (c.loop-done.invariant.found few plans lost h).0
+
+pub returns-in-Some-clause-shown : goal.returns-in-Some-clause-shown
+returns-in-Some-clause-shown c = shown_then c.args.self.now c.loop-done.self c.report.new.self
+    c.loop-done.invariant.shown c.in-Some.ensures.shown
+
+pub returns-in_err-at-clause-shown : goal.returns-in_err-at-clause-shown
+returns-in_err-at-clause-shown c = shown_then c.args.self.now c.loop-done.self c.report.new.self
+    c.loop-done.invariant.shown c.in_default.ensures.shown
+
+pub returns-then-at-now-clause-shown : goal.returns-then-at-now-clause-shown
+returns-then-at-now-clause-shown c = shown_then c.args.self.now c.loop-done.self c.report.new.self
+    c.loop-done.invariant.shown c.in_default.ensures.shown
+
+pub returns-clause-shown : goal.returns-clause-shown
+returns-clause-shown c = shown_then c.args.self.now c.loop-done.self c.report-2.new.self
+    c.loop-done.invariant.shown c.report-2.ensures.shown

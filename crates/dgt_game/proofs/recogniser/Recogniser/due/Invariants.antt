@@ -6,6 +6,7 @@ use Rattle.dgt_game.specs.declared.recogniser.Recogniser.{Recogniser}
 use Rattle.dgt_game.specs.Finding.{FindsLater, IsFound}
 use Rattle.dgt_game.specs.Planning.{IsLostOr, IsPlanned, WhyHopeless, todo}
 use Rattle.dgt_game.specs.Recogniser.{Knows}
+use Rattle.dgt_game.specs.Settling.{StaysShown}
 use Rattle.dgt_game.specs.Standing.{Stands}
 use Rattle.dgt_game.specs.Timing.{Due, next_time}
 use Rattle.dgt_game.specs.Waiting.{Follows, Waits}
@@ -20,6 +21,7 @@ invariant-loop-done l = record {
       → Due l.fn.now l.fn.self report new;
   last : l.done ≡ 3 → next_time l.self ≡ None;
   planned : IsPlanned l.fn.self → IsPlanned l.self × (todo l.self + l.done ≤ 3);
+  shown : StaysShown l.fn.self l.self;
   lost : IsLostOr l.fn.self → IsLostOr l.self;
   found : length l.fn.self.memory.seen.items < 23 → IsPlanned l.fn.self → IsLostOr l.fn.self
       → IsFound l.fn.self → FindsLater l.self;
