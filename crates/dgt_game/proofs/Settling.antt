@@ -1,20 +1,21 @@
 -- What is reported has rested.
 use Rattle.std.proofs.Common.{◌≡◌, ◌∙◌, ◌<◌, ◌≤◌, ◌+◌, ◌-◌, ◌^◌, ◌⊎◌, inl, inr, refl, sym, subst, arith, min, ℕ, Bool, true, false, [], ◌∷◌, Option, Some, None}
-use Rattle.std.specs.Prelude.{IfSome, MatchOption, if◌then◌else◌, option_map, slice_get}
+use Rattle.std.specs.Prelude.{◌≢◌, IfSome, MatchOption, if◌then◌else◌, option_map, slice_get}
 use Rattle.std.proofs.lemmas.Bool.{false≢true}
 use Rattle.std.proofs.lemmas.Option.{none-some}
 use Rattle.dgt_game.specs.declared.memory.Memory.{Memory}
 use Rattle.dgt_game.specs.declared.node.Node.{Node}
 use Rattle.dgt_game.specs.declared.node.Origin.{Origin}
 use Rattle.dgt_game.specs.declared.node.Place.{Place}
+use Rattle.dgt_game.specs.declared.node.Way.{Way}
 use Rattle.dgt_game.specs.declared.recogniser.Recogniser.{Recogniser}
 use Rattle.dgt_game.specs.declared.resting.Next.{Next}
 use Rattle.dgt_game.specs.declared.resting.Task.{Task}
 use Rattle.dgt_game.specs.declared.view.View.{View}
 use Rattle.dgt_game.specs.Memory.{steps}
 use Rattle.dgt_game.specs.Planning.{Lacks, Plans, RestsAfter, RestsAt, RestsBefore, RestsBy, TaskFits, search_wait}
-use Rattle.dgt_game.specs.Settling.{IsAt, IsAtStart, NothingWaitsLong, ReplacingHasRested, ReportedHasRested, ReportedHasSettled, ReportsNow}
-use Rattle.dgt_game.specs.Standing.{StandsAt}
+use Rattle.dgt_game.specs.Settling.{IsAt, IsAtStart, NothingWaitsLong, ReplacingHasRested, ReportedHasRested, ReportedHasSettled, ReportsNow, SeenIsAnswered}
+use Rattle.dgt_game.specs.Standing.{Counts, Lands, ShowsAs, StandsAt}
 use Rattle.dgt_game.specs.Timing.{HasTask, IsIdle}
 use Rattle.dgt_game.proofs.Finding.{not_yet}
 use Rattle.dgt_game.proofs.Standing.{some_of}
@@ -132,3 +133,21 @@ nothing_waits_long self view now base node stands planned seen sure confirmed id
           let found = some_of (slice_get (steps self.memory.seen.items) k) _ on in
           (view, seen, (found.0, inr (k, found.1), found.2.1 refl refl))
     ]
+
+pub seen_is_answered : SeenIsAnswered
+seen_is_answered self view stands answered seen waits = elim answered [
+  | inl told ↦ absurd (waits told)
+  | inr answers ↦
+      let (node, is, by) = some_of self.memory.answer (λ n. n.step.way ≢ Way.Begun) answers in
+      elim stands.2 [
+        | inl told ↦ absurd (waits told)
+        | inr meant ↦ elim meant.1 [
+          | inl last ↦
+              let lands = subst (λ (o : Option View). IfSome o (λ v. Lands v self.memory)) seen
+              last.1 in
+              let shows = subst (λ (o : Option Node). IfSome o (λ n. Counts n → ShowsAs view n)) is
+              lands.1 in (node, is, by, shows (inl by))
+          | inr kings ↦ absurd (none-some node (sym kings.2 ∙ is))
+        ]
+      ]
+]

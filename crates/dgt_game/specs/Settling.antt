@@ -11,7 +11,7 @@ use Rattle.dgt_game.specs.declared.resting.Task.{Task}
 use Rattle.dgt_game.specs.Memory.{IsTold}
 use Rattle.dgt_game.specs.declared.view.View.{View}
 use Rattle.dgt_game.specs.Planning.{IsLifted, IsPlanned, RestsBefore, TaskFits}
-use Rattle.dgt_game.specs.Standing.{Stands}
+use Rattle.dgt_game.specs.Standing.{ShowsAs, Stands}
 use Rattle.dgt_game.specs.Timing.{Due, IsIdle}
 use Rattle.dgt_game.specs.Waiting.{IsQuiet}
 
@@ -70,3 +70,12 @@ NothingWaitsLong =
     (self : Recogniser) (view : View) (now base : ℕ) (node : Node) → Stands self → IsPlanned self
     → self.view ≡ Some view → self.is_sure ≡ true → self.is_confirmed ≡ true → IsIdle now self
     → self.since + 10000 ≤ now → IsAt self node → node.origin ≡ Origin.Line base → IsLifted self
+
+-- **What is seen answers.** While half-moves wait that seeing it had reported, the board shows a
+-- legal half-move more, but for pieces in hands.
+abbrev pub SeenIsAnswered : Type 0
+SeenIsAnswered =
+    (self : Recogniser) (view : View) → Stands self → IsAnswered self.memory
+    → self.view ≡ Some view → ¬ (IsTold self.memory)
+    → (node : Node) × (self.memory.answer ≡ Some node) × (node.step.way ≢ Way.Begun)
+    × ShowsAs view node

@@ -7,7 +7,7 @@ ghost use Rattle.dgt_game.specs.Reading.{EarlierAreKnown, ElseStartIsKnown, Move
 ghost use Rattle.dgt_game.specs.Recogniser.{new_recogniser};
 ghost use Rattle.dgt_game.specs.Results.{LostInTurn, OneByKings, OneByRules, OneOther, OneResult};
 ghost use Rattle.dgt_game.specs.Runs.{CallsAreRuns, IsLegalAndShown};
-ghost use Rattle.dgt_game.specs.Settling.{NothingWaitsLong, ReplacingHasRested, ReportedHasRested, ReportedHasSettled};
+ghost use Rattle.dgt_game.specs.Settling.{NothingWaitsLong, ReplacingHasRested, ReportedHasRested, ReportedHasSettled, SeenIsAnswered};
 ghost use Rattle.dgt_game.specs.Standing.{OnlyShownIsReported, RestIsReported, Stands};
 ghost use Rattle.dgt_game.specs.Timing.{NoCallMatters};
 ghost use Rattle.dgt_game.specs.Waiting.{CallsFollowOn, RightIfAway, RunsInTurn, Waits};
@@ -77,12 +77,13 @@ pub fn what_rests_is_reported()
     ensures only { OnlyShownIsReported }
 {}
 
-/// What is reported has rested before, and doesn't wait for long.
+/// What is reported has rested or was answered, and doesn't wait for long.
 pub fn what_is_reported_has_rested()
     ensures rested { ReportedHasRested }
     ensures settled { ReportedHasSettled }
     ensures replacing { ReplacingHasRested }
     ensures long { NothingWaitsLong }
+    ensures answered { SeenIsAnswered }
 {}
 
 /// What several half-moves lead to is found.

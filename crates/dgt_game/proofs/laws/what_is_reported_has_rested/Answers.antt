@@ -1,4 +1,4 @@
-use Rattle.dgt_game.proofs.Settling.{nothing_waits_long, replacing_has_rested, reported_has_rested, reported_has_settled}
+use Rattle.dgt_game.proofs.Settling.{nothing_waits_long, replacing_has_rested, reported_has_rested, reported_has_settled, seen_is_answered}
 use Rattle.dgt_game.proofs.laws.what_is_reported_has_rested.Goals as goal
 
 pub returns : goal.returns
@@ -7,4 +7,5 @@ returns c = record {
   settled = reported_has_settled;
   replacing = replacing_has_rested;
   long = nothing_waits_long;
+  answered = seen_is_answered;
 }
