@@ -75,8 +75,11 @@ no_king : (view : View) (state : State) (turned : Bool) (colour : Colour)
     → board state ≡ as_shown turned (pieces_of view.shown)
     → ¬ (¬ (HasKing (pieces_of view.shown) colour))
 no_king view state turned colour same none = false≢true (king_seen state turned (pieces_of
-    view.shown) colour false view.shown.all same (λ square small e. absurd (none (square, small,
-    e))))
+    view.shown) colour false view.shown.all same (λ square small e. absurd (none (
+      square,
+      small,
+      e,
+    ))))
 
 -- what is done next isn't due yet
 pub not_yet : (next : Option Next) (since now : ℕ)

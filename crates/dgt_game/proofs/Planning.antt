@@ -208,8 +208,12 @@ pub rests_here : (memory : Memory) (read : List Node) (place : Place) (returned 
     → k < length read → node ≡ slice_index_or read k node → node.origin ≡ origin
     → RestsBy origin node.depth returned wait → RestsAt place memory returned wait
 rests_here memory read place returned wait k node origin here same less is by h =
-    rw (here, subst (λ (ns : List Node). slice_get ns k ≡ Some node) same (slice_get_read read
-    (length read) k node refl less is), by) h
+    rw (
+      here,
+      subst (λ (ns : List Node). slice_get ns k ≡ Some node) same (slice_get_read read
+          (length read) k node refl less is),
+      by,
+    ) h
 
 -- ---- How much is left to do
 

@@ -14,7 +14,7 @@ use Rattle.dgt_game.specs.declared.resting.Task.{Task}
 use Rattle.dgt_game.specs.declared.view.View.{View}
 use Rattle.dgt_game.specs.Memory.{steps}
 use Rattle.dgt_game.specs.Planning.{Lacks, Plans, RestsAfter, RestsAt, RestsBefore, RestsBy, TaskFits, search_wait}
-use Rattle.dgt_game.specs.Settling.{IsAt, IsAtStart, NothingWaitsLong, ReplacingHasRested, ReportedHasRested, ReportedHasSettled, ReportsNow, SeenIsAnswered}
+use Rattle.dgt_game.specs.Settling.{IsAt, NothingWaitsLong, ReplacingHasRested, ReportedHasRested, ReportedHasSettled, ReportsNow, SeenIsAnswered}
 use Rattle.dgt_game.specs.Standing.{Counts, Lands, ShowsAs, StandsAt}
 use Rattle.dgt_game.specs.Timing.{HasTask, IsIdle}
 use Rattle.dgt_game.proofs.Finding.{not_yet}
@@ -37,6 +37,11 @@ reported_has_rested self new event now (planned, quiet, small, (next ∷ done, h
     (subst (HasTask now) (h.1.4 quiet).1 h.2) in
     let fits = subst (Plans self) is planned in
     (sure, (plan.task, plan.wait, fits.0, fits.1, omega (arith, late, small)))
+
+-- the board stands at the start of a game
+abbrev IsAtStart : Recogniser → Type 0
+IsAtStart self =
+    (node : Node) × IsAt self node × (node.origin ≡ Origin.Start) × (node.depth ≡ 1)
 
 searched_later : (behind : Bool) → 300 ≤ search_wait behind
 searched_later true = omega arith

@@ -24,16 +24,6 @@ abbrev pub IsAt : Recogniser → Node → Type 0
 IsAt self node =
     (k : ℕ) × (self.here ≡ Place.Seen k) × (slice_get self.memory.seen.items k ≡ Some node)
 
--- the board stands at the start of a game
-abbrev pub IsAtStart : Recogniser → Type 0
-IsAtStart self =
-    (node : Node) × IsAt self node × (node.origin ≡ Origin.Start) × (node.depth ≡ 1)
-
--- what is shown, for sure or not, and since when
-abbrev pub StaysShown : Recogniser → Recogniser → Type 0
-StaysShown self new =
-    (new.view ≡ self.view) × (new.since ≡ self.since) × (new.is_sure ≡ self.is_sure)
-
 -- ---- Laws
 
 -- nothing waits and what is next is planned, but this call of `due` reports something
@@ -52,7 +42,8 @@ ReportedHasRested =
 abbrev pub ReportedHasSettled : Type 0
 ReportedHasSettled =
     (self new : Recogniser) (event : Event) (now : ℕ) → ReportsNow now self event new
-    → (self.since + 300 ≤ now) ⊎ IsAtStart self
+    → (self.since + 300 ≤ now) ⊎ ((node : Node) × IsAt self node × (node.origin ≡ Origin.Start)
+    × (node.depth ≡ 1))
 
 -- Half-moves that replace others than the last one have rested for three seconds, unless the board
 -- has gone back over these, or the kings give a result.
@@ -79,3 +70,10 @@ SeenIsAnswered =
     → self.view ≡ Some view → ¬ (IsTold self.memory)
     → (node : Node) × (self.memory.answer ≡ Some node) × (node.step.way ≢ Way.Begun)
     × ShowsAs view node
+
+-- only for bodies
+
+-- what is shown stays, whether that is sure, and since when it is shown
+abbrev pub StaysShown : Recogniser → Recogniser → Type 0
+StaysShown self new =
+    (new.view ≡ self.view) × (new.since ≡ self.since) × (new.is_sure ≡ self.is_sure)

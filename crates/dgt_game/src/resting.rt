@@ -75,7 +75,8 @@ impl Recogniser {
             → IsLostOr self.old → IsFound self.old → IsFound self.new }
         ensures stands { (shown : List (List Piece)) (line : List Told)
             → Knows shown line self.old → IsPlanned self.old → Stands self.old → Stands self.new }
-        ensures shown { StaysShown self.old self.new }
+        ensures shown { (self.new.view ≡ self.old.view) × (self.new.since ≡ self.old.since)
+            × (self.new.is_sure ≡ self.old.is_sure) }
     {
         for done in 0..3u8 {
             if let Some(event) = self.report() {
