@@ -11,5 +11,6 @@ abbrev pub invariant-loop-halves : goal.invariant-loop-halves
 invariant-loop-halves l =
     IfSome l.other (λ node. FitsBy l.self.memory (pieces_of l.view.shown) node)
     × ((count : ℕ) → IsLive l.self → MayJump l.self (pieces_of l.view.shown) → 2 ≤ count
-    → count < l.halves → HasLine count l.self.memory (Place.Line 0) (pieces_of l.view.shown) → IsSome l.other)
+    → count < l.halves → HasLine count l.self.memory (Place.Line 0) (pieces_of l.view.shown)
+    → IsSome l.other)
     × IfSome l.other (IsRoomFor l.self.memory)
