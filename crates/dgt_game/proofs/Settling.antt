@@ -14,10 +14,11 @@ use Rattle.dgt_game.specs.declared.resting.Task.{Task}
 use Rattle.dgt_game.specs.declared.view.View.{View}
 use Rattle.dgt_game.specs.Memory.{steps}
 use Rattle.dgt_game.specs.Planning.{Lacks, Plans, RestsAfter, RestsAt, RestsBefore, RestsBy, TaskFits, search_wait}
-use Rattle.dgt_game.specs.Settling.{IsAt, NothingWaitsLong, ReplacingHasRested, ReportedHasRested, ReportedHasSettled, ReportsNow, SeenIsAnswered}
+use Rattle.dgt_game.specs.Settling.{IsAt, NothingWaitsLong, ReplacingHasRested, ReportedHasRested, ReportedHasSettled, ReportedIsShown, ReportsNow, SeenIsAnswered}
 use Rattle.dgt_game.specs.Standing.{Counts, Lands, ShowsAs, StandsAt}
 use Rattle.dgt_game.specs.Timing.{HasTask, IsIdle}
 use Rattle.dgt_game.proofs.Finding.{not_yet}
+use Rattle.dgt_game.proofs.Rests.{only_shown}
 use Rattle.dgt_game.proofs.Standing.{some_of}
 
 -- what is done next is planned if it is due
@@ -84,6 +85,11 @@ reported_has_settled self new event now reports =
       | inl some ↦ inl (omega (arith, late, some))
       | inr start ↦ inr start
     ]
+
+pub reported_is_shown : ReportedIsShown
+reported_is_shown self new view event now reports stands seen waits =
+    let (sure, lands, back) = only_shown new view stands seen waits in
+    (sure, lands, back, reported_has_settled self new event now reports)
 
 -- what the board stands at is neither looked for nor begins a line
 task_replaces : (self : Recogniser) (task : Task) (wait base : ℕ) (node : Node) → IsAt self node

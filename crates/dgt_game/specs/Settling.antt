@@ -11,7 +11,7 @@ use Rattle.dgt_game.specs.declared.resting.Task.{Task}
 use Rattle.dgt_game.specs.Memory.{IsTold}
 use Rattle.dgt_game.specs.declared.view.View.{View}
 use Rattle.dgt_game.specs.Planning.{IsLifted, IsPlanned, RestsBefore, TaskFits}
-use Rattle.dgt_game.specs.Standing.{ShowsAs, Stands}
+use Rattle.dgt_game.specs.Standing.{EndsByKings, Lands, ShowsAs, ShowsLast, Stands}
 use Rattle.dgt_game.specs.Timing.{Due, IsIdle}
 use Rattle.dgt_game.specs.Waiting.{IsQuiet}
 
@@ -44,6 +44,18 @@ ReportedHasSettled =
     (self new : Recogniser) (event : Event) (now : ℕ) → ReportsNow now self event new
     → (self.since + 300 ≤ now) ⊎ ((node : Node) × IsAt self node × (node.origin ≡ Origin.Start)
     × (node.depth ≡ 1))
+
+-- **Nothing is taken back at once.** While more waits, the board shows for sure, and has shown for
+-- as long, what it leads to, what answers that, or a result. More than four states are taken back
+-- only if it shows the one before them.
+abbrev pub ReportedIsShown : Type 0
+ReportedIsShown =
+    (self new : Recogniser) (view : View) (event : Event) (now : ℕ)
+    → ReportsNow now self event new → Stands new → new.view ≡ Some view → ¬ (IsTold new.memory)
+    → (new.is_sure ≡ true) × (Lands view new.memory ⊎ EndsByKings new)
+    × ((new.memory.back ≤ 4) ⊎ ShowsLast view new.memory)
+    × ((self.since + 300 ≤ now) ⊎ ((node : Node) × IsAt self node
+    × (node.origin ≡ Origin.Start) × (node.depth ≡ 1)))
 
 -- Half-moves that replace others than the last one have rested for three seconds, unless the board
 -- has gone back over these, or the kings give a result.

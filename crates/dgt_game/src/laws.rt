@@ -7,7 +7,7 @@ ghost use Rattle.dgt_game.specs.Reading.{EarlierAreKnown, ElseStartIsKnown, Move
 ghost use Rattle.dgt_game.specs.Recogniser.{new_recogniser};
 ghost use Rattle.dgt_game.specs.Results.{LostInTurn, OneByKings, OneByRules, OneOther, OneResult};
 ghost use Rattle.dgt_game.specs.Runs.{CallsAreRuns, IsLegalAndShown};
-ghost use Rattle.dgt_game.specs.Settling.{NothingWaitsLong, ReplacingHasRested, ReportedHasRested, ReportedHasSettled, SeenIsAnswered};
+ghost use Rattle.dgt_game.specs.Settling.{NothingWaitsLong, ReplacingHasRested, ReportedHasRested, ReportedHasSettled, ReportedIsShown, SeenIsAnswered};
 ghost use Rattle.dgt_game.specs.Standing.{OnlyShownIsReported, RestIsReported, Stands};
 ghost use Rattle.dgt_game.specs.Timing.{NoCallMatters};
 ghost use Rattle.dgt_game.specs.Waiting.{CallsFollowOn, RightIfAway, RunsInTurn, Waits};
@@ -81,6 +81,7 @@ pub fn what_rests_is_reported()
 pub fn what_is_reported_has_rested()
     ensures rested { ReportedHasRested }
     ensures settled { ReportedHasSettled }
+    ensures shown { ReportedIsShown }
     ensures replacing { ReplacingHasRested }
     ensures long { NothingWaitsLong }
     ensures answered { SeenIsAnswered }

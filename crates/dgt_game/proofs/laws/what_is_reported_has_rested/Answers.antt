@@ -1,10 +1,11 @@
-use Rattle.dgt_game.proofs.Settling.{nothing_waits_long, replacing_has_rested, reported_has_rested, reported_has_settled, seen_is_answered}
+use Rattle.dgt_game.proofs.Settling.{nothing_waits_long, replacing_has_rested, reported_has_rested, reported_has_settled, reported_is_shown, seen_is_answered}
 use Rattle.dgt_game.proofs.laws.what_is_reported_has_rested.Goals as goal
 
 pub returns : goal.returns
 returns c = record {
   rested = reported_has_rested;
   settled = reported_has_settled;
+  shown = reported_is_shown;
   replacing = replacing_has_rested;
   long = nothing_waits_long;
   answered = seen_is_answered;
