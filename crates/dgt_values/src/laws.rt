@@ -1,9 +1,9 @@
 //! Laws of values and of the texts of positions. Each function does nothing at run time: its
 //! contract states a fact.
 
-ghost use Rattle.std.specs.Prelude.{◌≡◌, ◌≤◌, ◌++◌, ◌∷◌, ℕ, Bool, IsBitSet, IsTrue, List, [], length, replicate, MatchResult, Result, Err, Ok};
-ghost use Rattle.dgt_values.specs.Board.{piece_code, pieces_of, square_number, DifferingSquares};
-ghost use Rattle.dgt_values.specs.Bytes.{body_bytes, number, Refuses, SevenBitOf, WritesPrefix};
+ghost use Rattle.std.specs.Prelude.{◌≡◌, ◌≢◌, ◌≤◌, ◌<◌, ◌==◌, ◌+◌, ◌%◌, ◌++◌, ◌∷◌, ◌↔◌, ℕ, Bool, IsBitSet, IsErr, IsTrue, List, [], codes, length, replicate, MatchResult, Result, Err, Ok};
+ghost use Rattle.dgt_values.specs.Board.{piece_code, piece_letter, pieces_of, square_number, start_pieces, DifferingSquares};
+ghost use Rattle.dgt_values.specs.Bytes.{body_bytes, number, AreSevenBit, Refuses, SevenBitOf, WritesPrefix};
 ghost use Rattle.dgt_values.specs.Equality.{CloneIsSame, EqualIsSame, EqualIsSameRead, EqualIsSameReadOf};
 ghost use Rattle.dgt_values.specs.declared.pieces.Piece.{Piece};
 ghost use Rattle.dgt_values.specs.declared.refusals.BadPlacement.{BadPlacement};
@@ -13,7 +13,7 @@ ghost use Rattle.dgt_values.specs.declared.refusals.NotSevenBit.{NotSevenBit};
 ghost use Rattle.dgt_values.specs.declared.refusals.TooMuch.{TooMuch};
 ghost use Rattle.dgt_values.specs.declared.bytes.SevenBit.{SevenBit};
 ghost use Rattle.dgt_values.specs.declared.positions.Position.{Position};
-ghost use Rattle.dgt_values.specs.Placement.{digit_count, placement_text, DigitsApart, IsPlacement, ParsesPlacement};
+ghost use Rattle.dgt_values.specs.Placement.{digit_count, placement_text, rank_text_after, AreRanks, BeginsPlacement, DigitsApart, IsPlacement, IsRank, MeansSquares, ParsesPlacement};
 
 use crate::bodies::{Body, MAX_BODY};
 use crate::bytes::SevenBit;
@@ -84,6 +84,7 @@ pub fn what_is_equal()
     ensures same_some { (read : ℕ → ℕ) (eq : ℕ → ℕ → Bool) (a b : ℕ)
         → EqualIsSameReadOf (λ n. n ≤ 9) read eq → a ≤ 9 → b ≤ 9 → read a ≡ read b
         → IsTrue (eq a b) }
+    ensures some { EqualIsSameReadOf (λ n. n ≤ 9) (λ n. n) (λ a b. a % 10 == b % 10) }
 {}
 
 /// What `clone_is_same` says: a clone is the value itself, and cloning never fails.
@@ -99,12 +100,16 @@ pub fn what_is_cloned()
 /// No byte up to 127 is refused, and no body of up to 16,380 of them.
 pub fn what_is_refused()
     ensures highest { (result : Result SevenBit NotSevenBit) → SevenBitOf 127 result
-        → MatchResult result (λ byte. number byte ≡ 127) (λ _. ⊥) }
+        ↔ MatchResult result (λ byte. number byte ≡ 127) (λ _. ⊥) }
+    ensures higher { (result : Result SevenBit NotSevenBit) → SevenBitOf 128 result
+        ↔ IsErr result }
+    ensures body_byte { (byte : ℕ) → AreSevenBit (byte ∷ []) ↔ byte < 128 }
     ensures too_many { (bytes : List ℕ) (error : TooMuch) → Refuses bytes (Length error)
-        → 16381 ≤ length bytes }
+        ↔ 16381 ≤ length bytes }
     ensures few_enough { (bytes : List ℕ) (error : NotSevenBit) → Refuses bytes (Byte error)
         → length bytes ≤ 16380 }
-    ensures high_byte { (error : NotSevenBit) → ¬ (Refuses (127 ∷ []) (Byte error)) }
+    ensures high_byte { (byte : ℕ) (error : NotSevenBit)
+        → Refuses (byte ∷ []) (Byte error) ↔ 128 ≤ byte }
 {}
 
 /// Bytes written into a slice: two into a longer one, two into one that they fill, and three into
@@ -112,13 +117,13 @@ pub fn what_is_refused()
 pub fn written_bytes()
     ensures longer { (new : List ℕ) (result : Result ℕ NoRoom)
         → WritesPrefix (1 ∷ 2 ∷ []) (7 ∷ 8 ∷ 9 ∷ []) new result
-        → (result ≡ Ok 2) × (new ≡ 1 ∷ 2 ∷ 9 ∷ []) }
+        ↔ (result ≡ Ok 2) × (new ≡ 1 ∷ 2 ∷ 9 ∷ []) }
     ensures filled { (new : List ℕ) (result : Result ℕ NoRoom)
         → WritesPrefix (1 ∷ 2 ∷ []) (7 ∷ 8 ∷ []) new result
-        → (result ≡ Ok 2) × (new ≡ 1 ∷ 2 ∷ []) }
+        ↔ (result ≡ Ok 2) × (new ≡ 1 ∷ 2 ∷ []) }
     ensures too_short { (new : List ℕ) (result : Result ℕ NoRoom)
         → WritesPrefix (1 ∷ 2 ∷ 3 ∷ []) (7 ∷ 8 ∷ []) new result
-        → (result ≡ Err (record { need = 3 })) × (new ≡ 7 ∷ 8 ∷ []) }
+        ↔ (result ≡ Err (record { need = 3 })) × (new ≡ 7 ∷ 8 ∷ []) }
 {}
 
 /// Two positions that differ only on the first and the last square.
@@ -132,6 +137,36 @@ pub fn squares_that_differ()
 /// A piece is determined by its code.
 pub fn one_piece_a_code()
     ensures { (first second : Piece) → piece_code first ≡ piece_code second → first ≡ second }
+{}
+
+/// A byte of a rank means the empty squares of a digit from 1 to 8, or the piece of a letter.
+pub fn bytes_of_a_rank()
+    ensures digit { (count : ℕ) → 1 ≤ count → count ≤ 8
+        → MeansSquares (0x30 + count) (replicate count Piece.Empty) }
+    ensures letter { (piece : Piece) → piece ≢ Piece.Empty
+        → MeansSquares (piece_letter piece) (piece ∷ []) }
+    ensures size { (byte : ℕ) (squares : List Piece) → MeansSquares byte squares
+        → (1 ≤ length squares) × (length squares ≤ 8) }
+    ensures no_dot { (squares : List Piece) → ¬ (MeansSquares 0x2e squares) }
+    ensures one_meaning { (byte : ℕ) (first second : List Piece)
+        → MeansSquares byte first → MeansSquares byte second → first ≡ second }
+{}
+
+/// A rank has the squares of its bytes in order, and ranks of eight squares are put together.
+pub fn ranks_and_their_squares()
+    ensures no_byte { (squares : List Piece) → IsRank [] squares ↔ (squares ≡ []) }
+    ensures one_byte { (byte : ℕ) (squares : List Piece)
+        → IsRank (byte ∷ []) squares ↔ MeansSquares byte squares }
+    ensures two_bytes { (byte other : ℕ) (first second : List Piece)
+        → MeansSquares byte first → MeansSquares other second
+        → IsRank (byte ∷ other ∷ []) (first ++ second) }
+    ensures one_rank { (rank : List ℕ) (pieces : List Piece)
+        → AreRanks (rank ∷ []) pieces ↔ (length pieces ≡ 8) × IsRank rank pieces }
+    ensures two_ranks { (rank other : List ℕ) (first second : List Piece)
+        → AreRanks (rank ∷ []) first → AreRanks (other ∷ []) second
+        → AreRanks (rank ∷ other ∷ []) (first ++ second) }
+    ensures begins { (text more : List ℕ) (pieces : List Piece)
+        → IsPlacement (text ++ more) pieces → BeginsPlacement text }
 {}
 
 /// An accepted text has a piece for each of the 64 squares.
@@ -169,6 +204,16 @@ pub fn written_text_is_accepted()
 pub fn written_text_reads_back()
     ensures { (position : Position) (read : Result Position BadPlacement)
         → ParsesPlacement (placement_text (pieces_of position)) read → read ≡ Ok position }
+{}
+
+/// The written texts of the initial position, and of a rank with a pawn between empty squares.
+#[tactic(auto, unfolding(crate::specs::Placement::placement_text))]
+pub fn written_examples()
+    ensures start { placement_text start_pieces
+        ≡ codes "rnbqkbnr/pppppppp/8/8/8/8/PPPPPPPP/RNBQKBNR" }
+    ensures rank { rank_text_after 0
+        (replicate 2 Piece.Empty ++ Piece.WhitePawn ∷ replicate 5 Piece.Empty) ≡ codes "2P5" }
+    ensures digits { digit_count (codes "2P5") ≡ 2 }
 {}
 
 /// In the written text, no two digits are adjacent.
