@@ -1,5 +1,5 @@
 -- A valid body of the right size means the message of its layout.
-use Rattle.std.proofs.{Common.{◌≡◌, ℕ, suc, ◌<◌, ◌+◌, Bool, true, false, cond, refl, sym, ap, ◌∙◌, List, [], ◌∷◌, length, map, arith, Option, Some, rules}, lemmas.Grind.{common_steps}}
+use Rattle.std.proofs.{Common.{◌≡◌, ℕ, suc, ◌<◌, ◌+◌, Bool, true, false, cond, refl, sym, ◌∙◌, List, [], ◌∷◌, length, map, arith, Option, Some, rules}, lemmas.Grind.{common_steps}}
 use Rattle.{std.{proofs.lemmas.List.{length-map}, specs.Prelude.{All, slice_index}}, dgt_values.specs.Board.{piece_code}, dgt_message.specs.Clock.{IsMarked, SaysNoClock, is_marked, says_no_clock}}
 use Rattle.dgt_message.specs.{Clock.{IsTime}, Code.{known_number, known_with}, Content.{IsCarried}, Encoding.{Fits}, Layout.{Layout, known_layout}, Reading.{Allows, piece_with_code, said_in, time_in}}
 use Rattle.dgt_message.{specs.{Layout.Column.{hours, sixty}, declared.known.KnownCode.{KnownCode}}, proofs.{Absence.{absence_fits}, CodeLemmas.{found_number}, MessageIn.{piece_code-piece_with_code}}}

@@ -1,11 +1,9 @@
 -- The derived `==` of lists, of clocks and of messages.
-use Rattle.std.proofs.{Common.{◌≡◌, ℕ, ◌+◌, nat_eq, refl, sym, ◌∙◌, ap, rules, arith, [], ◌∷◌, Bool, true, false, ◌&&◌, map}, lemmas.{Grind.{common_steps}, Slice.Eq.{slice_eq-Decides}}}
+use Rattle.std.proofs.{Common.{◌≡◌, ℕ, ◌+◌, nat_eq, refl, sym, ◌∙◌, ap, rules, arith, [], ◌∷◌, Bool, false, ◌&&◌, map}, lemmas.{Grind.{common_steps}, Slice.Eq.{slice_eq-Decides}}}
 use Rattle.{std.specs.Prelude.{◌↔◌, IsTrue}, dgt_values.specs.{Bytes.{number}, Equality.{EqualIsSameRead}}, dgt_message.specs.{Code.{HasCase}, Content.{Content, clock_seen, code_of, content}}}
 use Rattle.dgt_message.specs.{Content.{absence_seen, code_number, times_seen}, declared.{other.OtherCode.{OtherCode}, message.Message.TheVariants.{Dump, Field, Times, NoClock, Ack, Serial}}}
 use Rattle.dgt_message.specs.declared.message.Message.TheVariants.{Trademark, Version, Battery, LongSerial, Other}
 use lib.Pointwise.{pointwise}
-use Rattle.dgt_message.specs.declared.clock.Clock.TheVariants as clock_variants
-use Rattle.dgt_values.specs.contracts.bytes.SevenBitPartialEq.TheImpl as byte
 use Rattle.dgt_values.specs.contracts.pieces.PiecePartialEq.TheImpl as piece
 use Rattle.dgt_message.specs.contracts.clock.NoClockPartialEq.TheImpl as absence
 use Rattle.dgt_message.specs.contracts.clock.TimesPartialEq.TheImpl as times

@@ -1,5 +1,5 @@
 -- The first byte that isn't valid in its place, as it is computed, and its fault.
-use Rattle.std.proofs.{Common.{◌≡◌, ℕ, zero, suc, ◌<◌, Bool, true, false, cond, refl, ap, List, length, arith, Option, Some, None, below_more, rules}, lemmas.Bool.{and_cases, and_parts, eqb-false}}
+use Rattle.std.proofs.{Common.{◌≡◌, ℕ, zero, suc, ◌<◌, Bool, true, false, cond, refl, List, length, arith, Option, Some, None, below_more, rules}, lemmas.Bool.{and_cases, and_parts, eqb-false}}
 use Rattle.std.{proofs.lemmas.Bool.{eqb-true, leb-true, leb-false, ltb-true, ltb-false}, specs.{Option.{option_map_or, option_or}, Prelude.{◌==◌, IfSome, MatchOption, slice_index}}}
 use Rattle.dgt_message.specs.{Code.{HasSize}, Layout.{Column, column_at, layout_of}, Reading.{Allows, IsFaultOf, IsFirstBad, fault_of, first_bad_place, first_failure, is_allowed}}
 use Rattle.dgt_message.proofs.{AtMostOne.{times_fault}, Sizes.{AllowsBefore}}

@@ -1,5 +1,5 @@
 -- The message of a code and a body, computed: any message that fits them is this one.
-use Rattle.std.proofs.{Common.{◌≡◌, ℕ, ◌<◌, ◌≤◌, ◌+◌, ◌-◌, ◌*◌, ◌/◌, ◌%◌, false, refl, ap, List, [], ◌∷◌, ◌++◌, length, map, take, drop, arith, rules}, lemmas.Bool.{ne_eqb, false_from_ne_true}}
+use Rattle.std.proofs.{Common.{◌≡◌, ℕ, ◌<◌, ◌≤◌, ◌+◌, ◌-◌, ◌*◌, ◌/◌, ◌%◌, refl, ap, List, [], ◌∷◌, ◌++◌, length, map, take, drop, arith, rules}, lemmas.Bool.{ne_eqb, false_from_ne_true}}
 use Rattle.{std.{proofs.lemmas.Grind.{common_steps}, specs.Prelude.{slice_index}}, dgt_values.specs.{Board.{piece_code}, declared.pieces.Piece.{Piece}}, dgt_message.specs.Clock.{IsAbsence}}
 use Rattle.dgt_message.specs.{Clock.{absence_of}, Content.{Content, code_of, IsMessage}, Encoding.{BodyEncodes, Fits, Encodes, packed_decimal}, Layout.{Layout, clock_layout, layout_of}}
 use Rattle.dgt_message.specs.{Reading.{piece_with_code, said_in}, Content.Content.{dump, field, times, no_clock, ack, carried}}

@@ -1,8 +1,8 @@
 -- The reading of a code and a body is the message that fits them, or the fault of the body.
-use Rattle.std.proofs.{Common.{◌≡◌, ℕ, ◌<◌, ◌-◌, ◌⊎◌, inl, inr, true, cond, refl, ap, List, [], ◌∷◌, length, drop, Option, Some, None, Result, Ok, Err, rules}, lemmas.List.{length-drop}}
+use Rattle.std.proofs.{Common.{◌≡◌, ℕ, ◌<◌, ◌-◌, ◌⊎◌, inl, inr, refl, List, [], ◌∷◌, length, drop, Option, Some, None, Result, Ok, Err, rules}, lemmas.List.{length-drop}}
 use Rattle.std.{proofs.lemmas.List.Elements.{All-drop}, specs.{Option.{option_map_or}, Prelude.{◌↔◌, All, MatchOption, MatchResult, slice_index}, Result.{result_map_both}}}
 use Rattle.dgt_message.specs.{Code.{HasSize, known_with}, Content.{Content, content, IsCarried}, Encoding.{Fits, Encodes}, Layout.{column_at, layout_of}, Reading.{IsFaultOf, IsFirstBad, Views}}
-use Rattle.dgt_message.{specs.{Reading.{fault_of, first_bad_place, reading, said_in}, declared.{message.Message.{Message}, viewing.BodyFault.{BodyFault}}}, proofs.AtMostOne.{one_message, one_fault}}
+use Rattle.dgt_message.{specs.{Reading.{fault_of, reading, said_in}, declared.{message.Message.{Message}, viewing.BodyFault.{BodyFault}}}, proofs.AtMostOne.{one_message, one_fault}}
 use Rattle.dgt_message.proofs.{AtMostOne.{not_both}, BodyFits.{body_fits}, EncodingEncodes.{small_code}, FirstBad.{first_bad_place-reports, place_fault, right_size, wrong_size}, Sizes.{AllowsBefore}}
 
 -- the result is true of the code and the body
