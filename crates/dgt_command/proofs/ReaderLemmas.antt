@@ -1,7 +1,7 @@
 -- Reading byte by byte.
 use Rattle.std.proofs.{Common.{◌≡◌, ℕ, ◌-◌, ◌<◌, ◌≤◌, List, [], ◌∷◌, ◌++◌, length, take, drop, sym, ap, subst, ◌∙◌, inl, inr, arith, rules}, lemmas.{Bool.{cases_lt}, List.{append-nil, take_at}}}
 use Rattle.{std.{proofs.lemmas.{List.{take_all, take-append-drop, take-take}, Bool.Decides.{nat_tests}}, specs.Prelude.{Bool, true, false}}, dgt_command.specs.Encoding.{AreBytes}}
-use Rattle.dgt_command.{specs.{Laws.{WordsAreShort}, Lengths.{word_length}, Words.{IsWholeWord, IsPartial}}, proofs.DivisionLemmas.{some_word, not_both, short_from_IsPartial, IsPartial-from_short}}
+use Rattle.dgt_command.{specs.{Laws.{WordsAreShort}, Lengths.{IsWholeWord, word_length}, Words.{IsPartial}}, proofs.DivisionLemmas.{some_word, not_both, short_from_IsPartial, IsPartial-from_short}}
 use Rattle.dgt_command.proofs.{DivisionLemmas.{bytes_left}, WordLemmas.{form_length, begins}}
 
 -- bytes as long as their frame begin with it

@@ -1,6 +1,11 @@
 -- How long frames are, and reading up to the end of one.
 use Rattle.std.specs.Prelude.{◌≡◌, ℕ, ◌+◌, ◌<◌, ◌≤◌, ◌==◌, List, ◌++◌, length, take, slice_index as nth, nat_lt, Bool, false, IsTrue, if◌then◌else◌}
-use Rattle.dgt_command.specs.Words.{IsPartial, IsWholeWord}
+use Rattle.dgt_command.specs.Content.{EventContent}
+use Rattle.dgt_command.specs.Words.{IsPartial, IsWord}
+
+-- some event has this frame
+abbrev pub IsWholeWord : List ℕ → Type 0
+IsWholeWord word = (event : EventContent) × IsWord event word
 
 -- The length of the frame that begins with these bytes, as far as the first three determine it. A
 -- missing byte counts as 0: the length is then more than the number of bytes.

@@ -24,10 +24,6 @@ pub record IsWord (event : EventContent) (word : List ℕ) : Type 0 where
   pub form : HasForm event word
   pub are_bytes : AreBytes word
 
--- some event has this frame
-abbrev pub IsWholeWord : List ℕ → Type 0
-IsWholeWord word = (event : EventContent) × IsWord event word
-
 -- a proper prefix of some frame
 pub record IsPartial (rest : List ℕ) : Type 0 where
   pub event : EventContent

@@ -5,8 +5,8 @@ ghost use Rattle.std.specs.Prelude.{IsTrue, IfSome, IfNone, MatchOption, OnSome,
 ghost use Rattle.dgt_command.specs.Content.{CommandContent, Read, command_content, command_event_content};
 ghost use Rattle.dgt_command.specs.Encoding.{IsEncoding, EncodesCommand, command_in};
 ghost use Rattle.dgt_command.specs.Framing.{word_found_in, rest_after, rest_of};
-ghost use Rattle.dgt_command.specs.Lengths.{Adds};
-ghost use Rattle.dgt_command.specs.Words.{IsPartial, IsWholeWord, IsWord};
+ghost use Rattle.dgt_command.specs.Lengths.{Adds, IsWholeWord};
+ghost use Rattle.dgt_command.specs.Words.{IsPartial, IsWord};
 
 use crate::codes::{CLOCK_MESSAGE, END, command_of_byte};
 use crate::command::{Command, CommandEvent};

@@ -1,8 +1,8 @@
 //! How long the frames of the line are.
 
 ghost use Rattle.std.specs.Prelude.{◌≡◌, ◌-◌, length, take, false, IsTrue};
-ghost use Rattle.dgt_command.specs.Lengths.{word_length};
-ghost use Rattle.dgt_command.specs.Words.{IsPartial, IsWholeWord};
+ghost use Rattle.dgt_command.specs.Lengths.{IsWholeWord, word_length};
+ghost use Rattle.dgt_command.specs.Words.{IsPartial};
 
 use crate::codes::{CLOCK_MESSAGE, LEDS, START};
 

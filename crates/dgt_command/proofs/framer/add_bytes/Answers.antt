@@ -1,4 +1,4 @@
-use Rattle.{std.proofs.{Common.{◌≡◌, ap, arith, min, take, ◌∙◌}, lemmas.Grind.{common_steps}}, dgt_command.{specs.{Encoding.{AreBytes}, Words.{IsWholeWord}}, proofs.ReaderLemmas.{whole_prefix}}}
+use Rattle.{std.proofs.{Common.{◌≡◌, ap, arith, min, take, ◌∙◌}, lemmas.Grind.{common_steps}}, dgt_command.{specs.{Encoding.{AreBytes}, Lengths.{IsWholeWord}}, proofs.ReaderLemmas.{whole_prefix}}}
 use Rattle.dgt_command.proofs.ReaderLemmas.{word_limit}
 use Rattle.dgt_command.proofs.framer.add_bytes.Goals as goal
 
