@@ -3,5 +3,5 @@ pub mod State
 pub mod Sending
 pub mod View
 pub mod Simulated
--- How memory represents a board, and what only bodies cite.
+-- Only for bodies: how memory represents a board.
 pub mod Kept

@@ -3,19 +3,23 @@
 
 ghost use Rattle.std.specs.Prelude.{◌≡◌, ◌↔◌, ◌≤◌, ◌<◌, ◌+◌, ◌∷◌, ◌++◌, ℕ, List, [], Option, Some, None, IfSome, false, length, map, option_map, true};
 ghost use Rattle.dgt_values.specs.Equality.{CloneIsSame, EqualIsSame, EqualIsSameReadOf};
-ghost use Rattle.dgt_message.specs.Content.{Content, IsMessage};
-ghost use Rattle.dgt_command.specs.Content.{CommandContent, EventContent, command_event_content};
+ghost use Rattle.dgt_message.specs.Content.{Content, IsMessage, clock_message};
+ghost use Rattle.dgt_command.specs.Content.{ClockContent, CommandContent, EventContent, command_event_content};
 ghost use Rattle.dgt_command.specs.Equality.{EventHasArrays};
-ghost use Rattle.dgt_command.specs.Words.{IsPartial};
+ghost use Rattle.dgt_command.specs.Words.{IsPartial, IsWord};
 ghost use Rattle.dgt_board.specs.declared.boards.Taken.{Taken};
 ghost use Rattle.dgt_board.specs.declared.modes.Mode.{Mode as BoardMode};
-ghost use Rattle.dgt_board.specs.State.{BoardState, IdentityContent, OwesByItsMode, after_hand_clock, after_line_lost, command_mode, effect, effects, follows_clock, new_board, updates, IsKeptBody, IsShortClock, IsShortIdentity};
-ghost use Rattle.dgt_message.specs.Clock.{Absence, ClockState};
+ghost use Rattle.dgt_board.specs.State.{BoardState, IdentityContent, OwesByItsMode, is_reported, owed_when_handed, replies_to, after_hand_clock, after_line_lost, command_mode, effect, effects, follows_clock, new_board, updates, IsKeptBody, IsShortClock, IsShortIdentity};
+ghost use Rattle.dgt_message.specs.Clock.{Absence, ClockState, Times};
 ghost use Rattle.dgt_values.specs.Bytes.{AreSevenBit};
 ghost use Rattle.dgt_values.specs.declared.pieces.Piece.{Piece};
-ghost use Rattle.dgt_board.specs.Sending.{after_sending, backlog, clock_news, left_to_send, next_message, piece_on, unreported_squares};
-ghost use Rattle.dgt_board.specs.View.{BoardView, HasTaken, IsBoard, Polls};
+ghost use Rattle.dgt_board.specs.Sending.{after_sending, backlog, clock_news, left_to_send, next_message, piece_on, reply_message, unreported_squares};
+ghost use Rattle.dgt_board.specs.declared.replies.Reply.{Reply as BoardReply};
+ghost use Rattle.dgt_values.specs.declared.kinds.Kind.{Kind};
+ghost use Rattle.dgt_board.specs.View.{BoardView, HasTaken, IsBoard, Polls, after_bytes};
 ghost use Rattle.dgt_board.specs.declared.sending.Polled.{Polled as Answer};
+
+ghost use Rattle.std.specs.Prelude.{Bool, IsTrue, drop, not, replicate, slice_set, ◌≢◌};
 
 use crate::{Busy, MAX_KEPT_BODY, MAX_OWED, MAX_SENT, Mode, Polled, Taken, TooLong};
 
@@ -29,6 +33,7 @@ pub fn limits()
         × (length identity.battery ≤ 64) × (length identity.long_serial ≤ 64) }
     ensures clock { (absence : Absence) → IsShortClock (ClockState.no_clock absence) →
         length absence.raw ≤ 63 }
+    ensures body { (body : List ℕ) → IsKeptBody body → (length body ≤ 64) × AreSevenBit body }
     ensures board { (board : BoardView) → IsBoard board → (length board.state.squares ≡ 64)
         × (length board.state.reported_squares ≡ 64) × (length board.state.owed ≤ 8)
         × IsPartial board.partial }
@@ -94,6 +99,17 @@ pub fn one_taking()
     dgt_command::laws::one_division();
 }
 
+/// What a board has taken after bytes that complete a frame, and after a part of one.
+pub fn what_is_taken()
+    ensures whole { (before : BoardView) (bytes : List ℕ) (event : EventContent)
+        → IsWord event (before.partial ++ bytes)
+        → HasTaken before bytes (after_bytes before bytes (Some event)) }
+    ensures part { (before : BoardView) (bytes : List ℕ) → IsPartial (before.partial ++ bytes)
+        → HasTaken before bytes (after_bytes before bytes None) }
+{
+    dgt_command::laws::parts_of_words();
+}
+
 /// A backlog counts the squares that differ in every mode. It is at most the replies, 64 squares
 /// and the clock. It falls with each message sent, and rises by at most one with each command
 /// taken.
@@ -129,6 +145,9 @@ pub fn modes()
         ∷ BoardMode.UpdateNice ∷ []) ≡ false ∷ true ∷ true ∷ true ∷ [] }
     ensures clock { map follows_clock (BoardMode.Idle ∷ BoardMode.Update ∷ BoardMode.UpdateBoard
         ∷ BoardMode.UpdateNice ∷ []) ≡ false ∷ true ∷ false ∷ true ∷ [] }
+    ensures handed { (reported : Bool) → map (λ mode. owed_when_handed mode reported)
+        (BoardMode.Idle ∷ BoardMode.Update ∷ BoardMode.UpdateBoard ∷ BoardMode.UpdateNice ∷ [])
+        ≡ false ∷ true ∷ false ∷ not reported ∷ [] }
 {}
 
 /// A board in the idle mode that owes no reply is silent, whatever has changed.
@@ -152,6 +171,7 @@ pub fn what_is_short()
         → length identity.long_serial ≤ 64 → IsShortIdentity identity }
     ensures clock { (absence : Absence) → length absence.raw ≤ 63
         → IsShortClock (ClockState.no_clock absence) }
+    ensures times { (readings : Times) → IsShortClock (ClockState.times readings) }
     ensures body { (body : List ℕ) → length body ≤ 64 → AreSevenBit body → IsKeptBody body }
 {}
 
@@ -174,4 +194,78 @@ pub fn what_is_polled()
     ensures nothing { (polled : Answer) (before after : BoardView) (old new : List ℕ)
         → Polls polled None before after old new
         → (polled ≡ Answer.Nothing) × (after ≡ before) × (new ≡ old) }
+{}
+
+/// What replies report: the state at the time of sending.
+pub fn what_is_replied()
+    ensures requested { (board : BoardState) →
+        map (λ kind. reply_message board (BoardReply.Of kind)) (Kind.Dump ∷ Kind.Serial
+        ∷ Kind.Trademark ∷ Kind.Version ∷ Kind.Battery ∷ Kind.LongSerial ∷ [])
+        ≡ Content.dump board.squares ∷ Content.carried 0x11 board.identity.serial
+        ∷ Content.carried 0x12 board.identity.trademark
+        ∷ Content.carried 0x13 (board.identity.main ∷ board.identity.sub ∷ [])
+        ∷ Content.carried 0x20 board.identity.battery
+        ∷ Content.carried 0x22 board.identity.long_serial ∷ [] }
+    ensures clock { (board : BoardState)
+        → reply_message board BoardReply.Clock ≡ clock_message board.clock }
+    ensures acknowledged { (board : BoardState) (id version : ℕ) →
+        reply_message board (BoardReply.Ack id version)
+        ≡ Content.ack (record { ack = 0x10 ∷ id ∷ version ∷ 0x00 ∷ []; status = 0x00 }) }
+{}
+
+/// The replies that a command adds to those owed, and when a mode makes the clock owed.
+pub fn what_commands_request()
+    ensures owed { (board : BoardState) (command : CommandContent) →
+        (effect board (EventContent.Read command)).owed ≡ board.owed ++ replies_to board command }
+    ensures requests { (board : BoardState) → map (replies_to board) (CommandContent.Dump
+        ∷ CommandContent.Serial ∷ CommandContent.Trademark ∷ CommandContent.Version
+        ∷ CommandContent.Battery ∷ CommandContent.LongSerial ∷ CommandContent.Clock ∷ [])
+        ≡ map (λ reply. reply ∷ []) (BoardReply.Of Kind.Dump ∷ BoardReply.Of Kind.Serial
+        ∷ BoardReply.Of Kind.Trademark ∷ BoardReply.Of Kind.Version ∷ BoardReply.Of Kind.Battery
+        ∷ BoardReply.Of Kind.LongSerial ∷ BoardReply.Clock ∷ []) }
+    ensures none { (board : BoardState) (leds : List ℕ) → map (replies_to board)
+        (CommandContent.Reset ∷ CommandContent.Update ∷ CommandContent.UpdateBoard
+        ∷ CommandContent.UpdateNice ∷ CommandContent.Leds leds ∷ []) ≡ replicate 5 [] }
+    ensures version { (board : BoardState) (readings : Times) (payload : List ℕ) →
+        replies_to (record board { clock = ClockState.times readings })
+        (CommandContent.ClockMessage (record { id = 0x09; payload = payload }))
+        ≡ BoardReply.Ack 0x09 board.identity.clock_version ∷ [] }
+    ensures acknowledged { (board : BoardState) (readings : Times) (message : ClockContent) →
+        message.id ≢ 0x09 → replies_to (record board { clock = ClockState.times readings })
+        (CommandContent.ClockMessage message) ≡ BoardReply.Ack message.id 0x00 ∷ [] }
+    ensures no_clock { (board : BoardState) (absence : Absence) (message : ClockContent) →
+        replies_to (record board { clock = ClockState.no_clock absence })
+        (CommandContent.ClockMessage message) ≡ [] }
+    ensures times { (board : BoardState) →
+        (effect board (EventContent.Read CommandContent.UpdateNice)).times_owed
+        ≡ not (is_reported board.reported_clock board.clock) }
+    ensures reported { (clock other : ClockState) → (is_reported None other ≡ false)
+        × (IsTrue (is_reported (Some clock) other) ↔ (clock ≡ other)) }
+    ensures in_a_row { (board : BoardState) (first second : EventContent) →
+        effects board (first ∷ second ∷ []) ≡ effect (effect board first) second }
+{}
+
+/// What a board counts as reported after each message.
+pub fn what_is_reported()
+    ensures dump { (board : BoardState) (pieces : List Piece) → after_sending board
+        (Content.dump pieces) ≡ record board {
+          reported_squares = board.squares;
+          owed = drop 1 board.owed;
+        } }
+    ensures field { (board : BoardState) (square : ℕ) (piece : Piece) → after_sending board
+        (Content.field square piece) ≡ record board {
+          reported_squares =
+              slice_set board.reported_squares square (piece_on board.squares square);
+          owed = drop 1 board.owed;
+        } }
+    ensures times { (board : BoardState) (readings : Times) → after_sending board
+        (Content.times readings) ≡ record board {
+          reported_clock = Some board.clock;
+          times_owed = false;
+          owed = drop 1 board.owed;
+        } }
+    ensures no_clock { (board : BoardState) (absence : Absence) (readings : Times) → after_sending
+        board (Content.no_clock absence) ≡ after_sending board (Content.times readings) }
+    ensures others { (board : BoardState) (code : ℕ) (body : List ℕ) → after_sending board
+        (Content.carried code body) ≡ record board { owed = drop 1 board.owed } }
 {}
