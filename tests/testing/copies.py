@@ -185,7 +185,7 @@ class Crate:
         uses = re.findall(r"(?m)^use .*", self.texts[file]) + self.imports(text, specs, file)
         uses.append(f"use {place}.{{{', '.join(it.name for it in own)}}}")
         for it in (it for it in own if it.kind == "data"):
-            names = re.findall(r"(?m)^  (\w+) : ", it.text)
+            names = " ".join(re.findall(r"(?m)^  ([\w ]+) : ", it.text)).split()
             uses.append(f"use {place}.{it.name}.{{{', '.join(names)}}}")
         have = re.findall(r"[^\s,{}]+", " ".join(re.findall(r"\.Prelude\.(.*)", "\n".join(uses))))
         words = {it.strip() for it in mutations.WORD.findall(text)}

@@ -284,9 +284,16 @@ def constructors(crates: Iterable[pathlib.Path]) -> Types:
         for block in BLOCK.findall(without_comments(path.read_text())):
             if (start := HEAD.match(block)) and start[1] == "data":
                 found[start[2]] = {
-                    name: sum(len(them.split()) for them in re.findall(r"\(([\w ]+) :", kind))
-                    for name, kind in re.findall(r"(?m)^  (\w+) : (.*(?:\n   .*)*)", block)}
+                    name: values(kind)
+                    for names, kind in re.findall(r"(?m)^  ([\w ]+) : (.*(?:\n   .*)*)", block)
+                    for name in names.split()}
     return found
+
+
+def values(kind: str) -> int:
+    """How many values a constructor of this type has."""
+    named = sum(len(them.split()) for them in re.findall(r"\(([\w ]+) :", kind))
+    return named + re.sub(r"\([\w ]+ :[^()]*\)\s*→?|\([\w ]+ : .*?\)+\s*→", "", kind).count("→")
 
 
 def patterns(left: str) -> list[Node]:
