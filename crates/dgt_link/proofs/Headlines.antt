@@ -116,7 +116,7 @@ pub asked_if_done : (acts : List Act) → AskForPicture acts
     → IsAskedBy (map act_content acts) (all_done acts)
 asked_if_done acts ask =
     let is = acts_more [] nothing_asked acts none_asked_for in
-    record { dump = is.dump ask.dump; mode = is.mode ∙ ask.updates }
+    record { dump = is.dump ask.0; mode = is.mode ∙ ask.1 }
 
 -- ---- and only such
 
@@ -177,12 +177,11 @@ acts_back commands asking (_ ∷ acts) back has = acts_back commands asking acts
 
 asked_back : (acts : List Act) → IsAskedBy (map act_content acts) (all_done acts)
     → AskForPicture acts
-asked_back acts asked =
-    record {
-      dump = acts_back [] nothing_asked acts (λ h. absurd (nothing_contained CommandContent.Dump h))
-          asked.dump;
-      updates = sym (acts_more [] nothing_asked acts none_asked_for).mode ∙ asked.mode;
-    }
+asked_back acts asked = (
+  acts_back [] nothing_asked acts (λ h. absurd (nothing_contained CommandContent.Dump h))
+      asked.dump,
+  sym (acts_more [] nothing_asked acts none_asked_for).mode ∙ asked.mode,
+)
 
 all_done-map : (acts : List Act) → all_done acts ≡ map (λ one. Outcome.Done) acts
 all_done-map [] = refl

@@ -61,9 +61,20 @@ move_sends x Move.Hear plain other = absurd (other refl)
 move_sends x Move.Break plain other = absurd (plain.0 refl)
 move_sends x (Move.HostBreak noise is_noise) plain other = absurd (plain.1 tt)
 
-pub sending_sends : (x : MachineState) (move : Move) → IsSending move
+one_sends : (x : MachineState) (move : Move) → IsSending move
     → (after_move x move).up ≡ x.up ++ sent_by x move
-sending_sends x move sends = search (rules, move_sends)
+one_sends x move sends = search (rules, move_sends)
+
+pub sending_sends : (x : MachineState) (moves : List Move) → AllByRecursion IsSending moves
+    → (after_moves x moves).up ≡ x.up ++ sent_by_all x moves
+sending_sends x [] all = sym (append-nil x.up)
+sending_sends x (move ∷ moves) (one, all) =
+    sending_sends (after_move x move) moves all
+    ∙ ap (λ (up : List Content). up ++ sent_by_all (after_move x move) moves) (one_sends x move one)
+    ∙ append_assoc x.up (sent_by x move) (sent_by_all (after_move x move) moves)
+
+pub silent_moves : (x : MachineState) (move : Move) → ¬ (IsSending move) → sent_by x move ≡ []
+silent_moves x move none = search rules
 
 pub reported_at_once : (x : MachineState) → WasReported x []
     → (x.up ≡ []) × IsUnknownOr x.picture (Some x.board.reported_squares)

@@ -3,7 +3,7 @@ use Rattle.std.proofs.{Common.{◌≡◌, refl, ap, ◌∙◌, List, [], ◌∷�
 use Rattle.{std.specs.{List.{cons_option}, Prelude.{filter_map, map, option_to_list}}, dgt_values.specs.declared.{kinds.Kind.{Kind}, pieces.Piece.{Piece}}, dgt_message.specs.Clock.{ClockState}}
 use Rattle.{dgt_message.specs.Content.{Content, clock_message, answered_kind}, dgt_command.specs.{Content.{CommandContent, EventContent, requested_kind}, Words.{IsNoiseList}}}
 use Rattle.{dgt_board.specs.{Sending.{differs, field_of, reply_message}, State.{IdentityContent, updates, effect}, declared.replies.Reply.{Reply}}, dgt_host.specs.Host.{awaited_after}}
-use Rattle.dgt_link.specs.{Machine.{IsHostBreak, Move, MachineState, commands_anew, new_state, state_of_board, after_move, after_reported, after_take, after_reply, after_hear}, Sound.{IsSound}}
+use Rattle.dgt_link.specs.{Machine.{IsHostBreak, IsSending, Move, MachineState, commands_anew, new_state, state_of_board, after_move, after_reported, after_take, after_reply, after_hear}, Sound.{IsSound}}
 use Rattle.dgt_link.{specs.Sound.{IsExact, IsSubsequence, coming_kinds, kind_of_event, kind_of_reply}, proofs.MessageReports.{ReportedIsHeard, field_reports, clock_reports, reply_reports}}
 use Rattle.dgt_link.proofs.MessageReports.{reply_message-kind, clock_message-kind, picture_reported, clock_reported_of, clock_after_all-append, followed_after, handed_or_reported}
 use Rattle.dgt_link.proofs.{Subsequences.{subsequence_at_end, subsequence_append, awaited_after-subsequence, awaited_exactly, one_more, moved_over}, Taking.{effect-kinds, effect_followed}}
@@ -110,6 +110,31 @@ asked_sound x down awaited sound coming = assumption
 -- what the host knows and what is under way is forgotten
 pub board_sound : (x : MachineState) → IsSound x → IsSound (state_of_board x.board)
 board_sound x sound = search rules
+
+pub taking-kinds : (x : MachineState) → coming_kinds (after_move x Move.Take) ≡ coming_kinds x
+taking-kinds x = go x.down refl
+  where
+    go : (down : List EventContent) → x.down ≡ down
+        → coming_kinds (after_take x down) ≡ coming_kinds x
+    go [] e = refl
+    go (event ∷ rest) e = take-kinds x event rest e
+
+replying-kinds : (x : MachineState) (owed : List Reply) → x.board.owed ≡ owed
+    → coming_kinds (after_reply x owed) ≡ coming_kinds x
+replying-kinds x owed e = search (rules, send-kinds, reply_reports, reply_message-kind)
+
+pub sending-kinds : (x : MachineState) (move : Move) → IsSending move
+    → coming_kinds (after_move x move) ≡ coming_kinds x
+sending-kinds x Move.Reply is = replying-kinds x x.board.owed refl
+sending-kinds x (Move.Report square) is =
+    cond_both (updates x.board.mode && differs x.board square)
+    (after_reported x (field_of x.board square)) x
+    (λ (y : MachineState). coming_kinds y ≡ coming_kinds x)
+    (λ h. send-kinds x x.board.owed (field_of x.board square) (field_reports x.board square) refl)
+    (λ h. refl)
+sending-kinds x Move.ReportClock is =
+    search (rules, cond_both, send-kinds, clock_reports, report_clock_first)
+sending-kinds x _ none = absurd none
 
 pub move_sound : (x : MachineState) (move : Move) → IsSound x → IsSound (after_move x move)
 move_sound x (Move.Change square piece) sound =

@@ -1,6 +1,6 @@
 -- Subsequences, and the kinds of a list with an added element.
 use Rattle.std.proofs.{Common.{◌≡◌, refl, ap, inl, inr, List, [], ◌∷◌, ◌++◌, Option, true, false, append_assoc, rules}, lemmas.{Bool.{cond_both, cond-true, false≢true}, List.{append-nil}}}
-use Rattle.{std.specs.{List.{cons_option}, Option.{option_to_list}}, dgt_values.specs.declared.kinds.Kind.{Kind}, dgt_host.specs.Host.{awaited_after, is_same_kind}}
+use Rattle.{std.specs.{List.{cons_option}, Option.{option_to_list}, Prelude.{◌↔◌}}, dgt_values.specs.declared.kinds.Kind.{Kind}, dgt_host.specs.Host.{awaited_after, is_same_kind}}
 use Rattle.dgt_link.specs.Sound.{IsSubsequence}
 
 -- the second list may have more in front
@@ -31,6 +31,25 @@ subsequence_tail : {X : Type 0} (x : X) (xs ys : List X) → IsSubsequence (x �
 subsequence_tail x xs [] h = absurd h
 subsequence_tail x xs (y ∷ ys) (inl h) = subsequence_later xs y ys h.1
 subsequence_tail x xs (y ∷ ys) (inr h) = subsequence_later xs y ys (subsequence_tail x xs ys h)
+
+-- the first element is somewhere, and the others are after it
+pub first_of_subsequence : {X : Type 0} (x : X) (xs ys : List X)
+    → IsSubsequence (x ∷ xs) ys
+    ↔ ((before : List X) × (later : List X) × (ys ≡ before ++ x ∷ later) × IsSubsequence xs later)
+first_of_subsequence {X = X} x xs ys = (split ys, λ (before, later, all, h). rw all (join before later h))
+  where
+    split : (ys : List X) → IsSubsequence (x ∷ xs) ys
+        → (before : List X) × (later : List X) × (ys ≡ before ++ x ∷ later)
+        × IsSubsequence xs later
+    split [] h = absurd h
+    split (y ∷ ys) (inl (same, h)) = ([], ys, cc, h)
+    split (y ∷ ys) (inr h) =
+        let (before, later, all, rest) = split ys h in (y ∷ before, later, cc, rest)
+
+    join : (before later : List X) → IsSubsequence xs later
+        → IsSubsequence (x ∷ xs) (before ++ x ∷ later)
+    join [] later h = inl (refl, h)
+    join (y ∷ before) later h = inr (join before later h)
 
 pub subsequence_of_nothing : {X : Type 0} (xs : List X) → IsSubsequence xs [] → xs ≡ []
 subsequence_of_nothing [] h = refl

@@ -1,18 +1,24 @@
 //! How the picture and the clock of a host become right again after faults of the lines and of the
 //! board's power. Each function does nothing at run time: its contract states the facts.
 
-ghost use Rattle.std.specs.Prelude.{◌≡◌, ◌≢◌, ◌⊎◌, ◌↔◌, ◌≤◌, ◌+◌, ℕ, List, [], ◌∷◌, ◌++◌, length, Some, None};
-ghost use Rattle.std.specs.Prelude.{Contains, IsSome, IsTrue, false, true};
+ghost use Rattle.std.specs.Prelude.{◌≡◌, ◌≢◌, ◌⊎◌, ◌↔◌, ◌≤◌, ◌+◌, ℕ, Bool, List, [], ◌∷◌, ◌++◌, length, Option, Some, None};
+ghost use Rattle.std.specs.Prelude.{Contains, IsSome, IsTrue, false, filter_map, flat_map, true};
+ghost use Rattle.dgt_values.specs.declared.kinds.Kind.{Kind};
+ghost use Rattle.dgt_values.specs.declared.pieces.Piece.{Piece};
 ghost use Rattle.std.specs.List.{AllByRecursion};
 ghost use Rattle.dgt_command.specs.Content.{CommandContent};
 ghost use Rattle.dgt_command.specs.Encoding.{AreBytes};
-ghost use Rattle.dgt_command.specs.Words.{IsPartial};
+ghost use Rattle.dgt_command.specs.Words.{Divides, IsPartial};
 ghost use Rattle.dgt_decode.specs.Grammar.{unfinished_message};
 ghost use Rattle.dgt_board.specs.State.{command_mode, follows_clock, updates};
 ghost use Rattle.dgt_board.specs.declared.modes.Mode.{Mode};
-ghost use Rattle.dgt_link.specs.Machine.{IsHostBreak, IsSending, MachineState, Move, after_move, after_moves};
-ghost use Rattle.dgt_link.specs.Reported.{IsReportedBy, WasReported, sent_by};
-ghost use Rattle.dgt_message.specs.Content.{Content};
+ghost use Rattle.dgt_link.specs.Machine.{IsHostBreak, IsSending, MachineState, Move, after_moves, state_of_board};
+ghost use Rattle.dgt_board.specs.View.{view_after_line_lost};
+ghost use Rattle.dgt_host.specs.Host.{host_awaiting, restart_bytes, without_awaited};
+ghost use Rattle.dgt_link.specs.Promise.{IsAsked, last_mode};
+ghost use Rattle.dgt_link.specs.Reported.{IsReportedBy, ReportedBefore, WasReported, sent_by, sent_by_all};
+ghost use Rattle.dgt_message.specs.Content.{Content, IsMessage};
+ghost use Rattle.dgt_message.specs.Encoding.{encoding};
 ghost use Rattle.dgt_message.specs.Picture.{picture_after_all};
 ghost use Rattle.dgt_board.specs.Sending.{next_message};
 ghost use Rattle.dgt_link.specs.History.{IsInOrderOf, RunsThrough, shown_in, shown_on, stood_in, stood_on};
@@ -20,14 +26,14 @@ ghost use Rattle.dgt_link.specs.Act.{ActContent};
 ghost use Rattle.dgt_link.specs.Sound.{IsSound, IsUnknownOr};
 ghost use Rattle.dgt_link.specs.Stands.{AreMovesOfRun, IsWorld};
 ghost use Rattle.dgt_link.specs.declared.acts.Outcome.{Outcome};
-ghost use Rattle.dgt_link.specs.Step.{Runs, Step};
+ghost use Rattle.dgt_link.specs.Step.{IfDone, Runs, Step};
 ghost use Rattle.dgt_link.specs.Settling.{SettlesIn};
-ghost use Rattle.dgt_link.specs.View.{IsQuietWorld, WorldView};
+ghost use Rattle.dgt_link.specs.View.{IsQuietWorld, WorldView, line_holding, world_of};
 ghost use Rattle.dgt_link.specs.Clocks.{AreClockCalm, IsClockFollowing, IsClockPromisedWorld, stops_clock};
-ghost use Rattle.dgt_link.specs.Faults.{AreCalm, AreFaultless, FaultyContent, FaultyRuns, FaultyStep, begins_anew, is_break, is_fault, loses_step, sends, stops};
-ghost use Rattle.dgt_link.specs.Healing.{AfterFaults, IsClockHealing, IsFaultyWorld, IsFollowing, IsHealing, IsInStep, IsInStepBy, IsInTurn, IsInTurnWorld, IsPromisedWorld, IsRestedWorld, IsSane, StandsBehind, StandsBehindAfter, counted_by};
+ghost use Rattle.dgt_link.specs.Faults.{AreCalm, AreFaultless, FaultyBecomes, FaultyContent, FaultyRuns, FaultyStep, begins_anew, faulty_outcome, is_break, is_fault, loses_step, sends, stops};
+ghost use Rattle.dgt_link.specs.Healing.{AfterFaults, Counted, IsClockHealing, IsFaultyWorld, IsFollowing, IsHealing, IsInStep, IsInStepBy, IsInTurn, IsInTurnWorld, IsPromisedWorld, IsRestedWorld, IsSane, StandsBehind, StandsBehindAfter, StandsWith, counted_by};
 
-use crate::laws;
+use crate::{MIN_DOWN, MIN_UP, laws};
 use dgt_host::RESTART_LENGTH;
 
 /// Consider any act but a break in a world that stands, after some garbage, for a state. The world
@@ -247,34 +253,28 @@ pub fn pictures_were_reported()
     acts_behind_garbage();
 }
 
-/// The meaning of a reported picture: of the first and the last state, of what each square shows,
-/// and of a state after no move. A move that sends something puts it under way.
+/// The meaning of a reported picture: a state that knows nothing and has nothing under way, and the
+/// moves from there. Moves that send something put it under way, and others send nothing.
 pub fn what_was_reported()
-    ensures begins { (acts : List ActContent) (answers : List Outcome) (world after : WorldView)
-        (report : IsReportedBy acts answers world after)
-        → report.start.board ≡ world.board.state }
-    ensures unknown { (acts : List ActContent) (answers : List Outcome) (world after : WorldView)
-        (report : IsReportedBy acts answers world after) → report.start.picture ≡ None }
-    ensures silent { (acts : List ActContent) (answers : List Outcome) (world after : WorldView)
-        (report : IsReportedBy acts answers world after) → report.start.up ≡ [] }
-    ensures moves { (acts : List ActContent) (answers : List Outcome) (world after : WorldView)
-        (report : IsReportedBy acts answers world after)
-        → AreMovesOfRun acts answers report.moves }
-    ensures ends { (acts : List ActContent) (answers : List Outcome) (world after : WorldView)
-        (report : IsReportedBy acts answers world after)
-        → (after_moves report.start report.moves).board ≡ after.board.state }
-    ensures picture { (acts : List ActContent) (answers : List Outcome) (world after : WorldView)
-        (report : IsReportedBy acts answers world after)
-        → WasReported report.start report.moves }
-    ensures shown { (acts : List ActContent) (answers : List Outcome) (world after : WorldView)
-        (square : ℕ) (report : IsReportedBy acts answers world after)
-        → IsInOrderOf (shown_on square report.start report.moves)
-        (stood_on square report.start report.moves) }
+    ensures reported { (acts : List ActContent) (answers : List Outcome)
+        (world after : WorldView) → IsReportedBy acts answers world after
+        ↔ ((start : MachineState) × (garbage : List ℕ) × (moves : List Move)
+        × StandsBehind (world.host.unread ++ world.up.bytes) world start
+        × (start.picture ≡ None) × (start.up ≡ []) × AreMovesOfRun acts answers moves
+        × StandsBehind garbage after (after_moves start moves) × WasReported start moves
+        × ((square : ℕ) →
+        IsInOrderOf (shown_on square start moves) (stood_on square start moves))) }
+    ensures before { (x : MachineState) (moves : List Move) (seen : Option (List Piece))
+        (left : List Content) → ReportedBefore x moves seen left
+        ↔ ((earlier : List Move) × (later : List Move) × (moves ≡ earlier ++ later)
+        × (sent_by_all (after_moves x earlier) later ≡ left)
+        × IsUnknownOr seen (Some (after_moves x earlier).board.reported_squares)) }
     ensures at_once { (x : MachineState) → WasReported x []
         → IsUnknownOr x.picture (Some x.board.reported_squares) }
     ensures heard { (x : MachineState) → WasReported x [] → x.up ≡ [] }
-    ensures sent { (x : MachineState) (move : Move) → IsSending move
-        → (after_move x move).up ≡ x.up ++ sent_by x move }
+    ensures sent { (x : MachineState) (moves : List Move) → AllByRecursion IsSending moves
+        → (after_moves x moves).up ≡ x.up ++ sent_by_all x moves }
+    ensures silent { (x : MachineState) (move : Move) → ¬ (IsSending move) → sent_by x move ≡ [] }
 {}
 
 /// After faults, in a world in step, let the board send a dump, and let no fault, restart or break
@@ -379,4 +379,70 @@ pub fn kinds_of_acts()
         → (is_fault act ≡ false) × (stops_clock act ≡ false)) → AreClockCalm acts }
     ensures faultless { (acts : List FaultyContent) → ((act : FaultyContent) → Contains acts act
         → is_fault act ≡ false) → AreFaultless acts }
+{}
+
+/// The outcome and the effect of each fault: this board, this host, this up line and this down
+/// line. The others are `NoRoom`.
+pub fn what_faults_do()
+    ensures step { (act : FaultyContent) (world after : WorldView) (answer : Outcome) →
+        FaultyStep act world answer after ↔ ((answer ≡ faulty_outcome act world)
+        × IfDone answer (FaultyBecomes act world after) (after ≡ world)) }
+    ensures plain { (act : ActContent) (world after : WorldView) (answer : Outcome) →
+        FaultyStep (FaultyContent.Plain act) world answer after ↔ Step act world answer after }
+    ensures up_done { (bytes : List ℕ) (world : WorldView) →
+        (faulty_outcome (FaultyContent.GarbleUp bytes) world ≡ Outcome.Done)
+        ↔ (length bytes ≤ world.up.capacity) }
+    ensures up { (bytes : List ℕ) (world after : WorldView) →
+        FaultyBecomes (FaultyContent.GarbleUp bytes) world after
+        ↔ (after ≡ world_of world.board world.host (line_holding bytes world.up.capacity)
+        world.down) }
+    ensures down_done { (bytes : List ℕ) (world : WorldView) →
+        (faulty_outcome (FaultyContent.GarbleDown bytes) world ≡ Outcome.Done)
+        ↔ (length bytes ≤ world.down.capacity) }
+    ensures down { (bytes : List ℕ) (world after : WorldView) →
+        FaultyBecomes (FaultyContent.GarbleDown bytes) world after
+        ↔ (AreBytes bytes × (after ≡ world_of world.board world.host world.up
+        (line_holding bytes world.down.capacity))) }
+    ensures lost { (world after : WorldView) (answer : Outcome) →
+        FaultyStep FaultyContent.BoardLost world answer after ↔ ((answer ≡ Outcome.Done)
+        × (after ≡ world_of (view_after_line_lost world.board) world.host world.up world.down)) }
+    ensures restart_done { (world : WorldView) →
+        (faulty_outcome FaultyContent.Restart world ≡ Outcome.Done)
+        ↔ (length world.down.bytes + length restart_bytes ≤ world.down.capacity) }
+    ensures restart { (world after : WorldView) → FaultyBecomes FaultyContent.Restart world after
+        ↔ (after ≡ world_of world.board
+        (host_awaiting (without_awaited world.host) (Some Kind.Dump)) world.up
+        (line_holding (world.down.bytes ++ restart_bytes) world.down.capacity)) }
+    ensures give_up { (world after : WorldView) (answer : Outcome) →
+        FaultyStep FaultyContent.GiveUp world answer after ↔ ((answer ≡ Outcome.Done)
+        × (after ≡ world_of world.board (without_awaited world.host) world.up world.down)) }
+    ensures no_room { (act : FaultyContent) (world : WorldView) →
+        ((plain : ActContent) → act ≢ FaultyContent.Plain plain) →
+        faulty_outcome act world ≢ Outcome.Done → faulty_outcome act world ≡ Outcome.NoRoom }
+{}
+
+/// Which acts that count are enough for what heals, and what sane worlds are. The world stands for
+/// a state after some garbage.
+pub fn what_heals()
+    ensures healing { (c : Counted) → IsHealing c ↔ (IsTrue c.in_step × IsAsked c.asked) }
+    ensures clock_healing { (c : Counted) → IsClockHealing c ↔ (IsTrue c.in_step
+        × Contains c.asked CommandContent.Clock
+        × IsTrue (follows_clock (last_mode Mode.Idle (filter_map command_mode c.asked)))) }
+    ensures in_turn { (c : Counted) → IsInTurn c ↔ (IsTrue c.in_step × IsTrue c.in_turn) }
+    ensures sane { (world : WorldView) → IsSane world ↔ (IsSound (state_of_board world.board.state)
+        × IsPartial world.board.partial × AreBytes world.down.bytes) }
+    ensures faulty { (world : WorldView) → IsFaultyWorld world ↔ (IsSane world
+        × (MIN_UP ≤ world.up.capacity) × (MIN_DOWN ≤ world.down.capacity)) }
+    ensures behind { (garbage : List ℕ) (world : WorldView) (x : MachineState) →
+        StandsBehind garbage world x ↔ (IsSound x × (world.board.state ≡ x.board)
+        × IsUnknownOr x.picture world.host.picture × IsUnknownOr x.host_clock world.host.clock
+        × ((garbage ≡ []) ⊎ ((x.picture ≡ None) × (x.host_clock ≡ None)))
+        × AllByRecursion IsMessage x.up
+        × (world.host.unread ++ world.up.bytes ≡ garbage ++ flat_map encoding x.up)
+        × Divides (world.board.partial ++ world.down.bytes) x.down []
+        × IsPartial world.board.partial) }
+    ensures with { (holds : MachineState → Bool) (world : WorldView) →
+        StandsWith (λ x. IsTrue (holds x)) world
+        ↔ ((garbage : List ℕ) × (x : MachineState) × StandsBehind garbage world x
+        × IsTrue (holds x)) }
 {}

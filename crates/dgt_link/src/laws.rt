@@ -1,40 +1,45 @@
 //! Laws of the machine of a board and its host, and of the worlds that stand for its states. Each
 //! function does nothing at run time: its contract states the facts.
 
-ghost use Rattle.std.specs.Prelude.{◌≡◌, ◌≢◌, ◌↔◌, ◌⊎◌, ◌≤◌, ◌<◌, ℕ, suc, Bool, List, [], ◌∷◌, ◌++◌, All, Contains};
-ghost use Rattle.std.specs.Prelude.{Some, None, flat_map, length, map, replicate, IsTrue, IsSome};
+ghost use Rattle.std.specs.Prelude.{◌≡◌, ◌≢◌, ◌↔◌, ◌⊎◌, ◌≤◌, ◌<◌, ◌+◌, ◌*◌, ℕ, suc, Bool, false, List, [], ◌∷◌, ◌++◌, All, Contains};
+ghost use Rattle.std.specs.Prelude.{Some, None, drop, filter_map, flat_map, length, map, option_to_list, replicate, take, IsTrue, IsSome};
 ghost use Rattle.std.specs.List.{AllByRecursion};
 ghost use Rattle.dgt_values.specs.declared.pieces.Piece.{Piece};
 ghost use Rattle.dgt_values.specs.Equality.{CloneIsSame, EqualIsSame, EqualIsSameReadOf};
 ghost use Rattle.dgt_values.specs.declared.kinds.Kind.{Kind};
-ghost use Rattle.dgt_message.specs.Content.{Content, answered_kind};
+ghost use Rattle.dgt_message.specs.Content.{Content, IsMessage, answered_kind};
+ghost use Rattle.dgt_message.specs.Encoding.{Encodes, encoding};
 ghost use Rattle.dgt_message.specs.Clock.{ClockState};
-ghost use Rattle.dgt_command.specs.Content.{CommandContent, EventContent};
-ghost use Rattle.dgt_command.specs.Words.{IsNoiseList, IsPartial};
-ghost use Rattle.dgt_board.specs.View.{BoardView, HasTaken};
+ghost use Rattle.dgt_command.specs.Content.{CommandContent, EventContent, requested_kind};
+ghost use Rattle.dgt_command.specs.Encoding.{EncodesCommand, command_encoding};
+ghost use Rattle.dgt_command.specs.Equality.{CommandHasArrays};
+ghost use Rattle.dgt_command.specs.Words.{Divides, IsNoiseList, IsPartial};
+ghost use Rattle.dgt_board.specs.View.{BoardView, HasTaken, view_after_line_lost};
 ghost use Rattle.dgt_decode.specs.Grammar.{Event};
 ghost use Rattle.dgt_board.specs.declared.replies.Reply.{Reply};
-ghost use Rattle.dgt_board.specs.State.{IdentityContent, BoardState, IsShortClock, IsShortIdentity, follows_clock, updates, effects};
+ghost use Rattle.dgt_board.specs.State.{IdentityContent, BoardState, IsShortClock, IsShortIdentity, after_change, after_hand_clock, command_mode, follows_clock, updates, effects};
+ghost use Rattle.dgt_board.specs.declared.state.TheConstants.{MAX_OWED};
 ghost use Rattle.dgt_board.specs.declared.modes.Mode.{Mode};
 ghost use Rattle.dgt_board.specs.Sending.{after_sending, backlog, next_message, pending_messages, piece_on};
-ghost use Rattle.dgt_message.specs.Picture.{picture_after_all};
-ghost use Rattle.dgt_host.specs.Host.{IsUnasked};
+ghost use Rattle.dgt_message.specs.Picture.{clock_after_all, picture_after_all};
+ghost use Rattle.dgt_host.specs.Host.{IsUnasked, awaits_too_many, host_after, host_awaiting, new_host, restart_bytes};
 ghost use Rattle.dgt_link.specs.Machine.{IsHostBreak, IsSending, MachineState, Move, after_move, after_moves, commands_anew, new_state};
-ghost use Rattle.dgt_link.specs.Sound.{IsExact, IsSound, IsUnknownOr, coming_picture};
-ghost use Rattle.dgt_link.specs.Promise.{IsAsked, IsAskedBy, IsPromised, IsQuiet, IsRestarted, PictureIsComing, act_requests, coming_mode, commands_after, mode_after, requests};
+ghost use Rattle.dgt_link.specs.Sound.{IsExact, IsSound, IsSubsequence, IsUnknownOr, coming_kinds, coming_picture};
+ghost use Rattle.dgt_link.specs.Promise.{IsAsked, IsAskedBy, IsPromised, IsPromisedBy, IsQuiet, IsRestarted, PictureIsComing, act_requests, coming_mode, commands_after, last_mode, mode_after, requests};
 ghost use Rattle.dgt_link.specs.Act.{ActContent, act_content, ActHasArrays};
 ghost use Rattle.dgt_link.specs.Faults.{AreCalm, FaultyActHasArrays, FaultyContent, FaultyRuns, FaultyStep, IfRan, faulty_content};
 ghost use Rattle.dgt_command.specs.declared.command.Command.{Command as AnyCommand};
 ghost use Rattle.dgt_link.specs.declared.acts.Act.{Act as AnyAct};
+ghost use Rattle.dgt_link.specs.declared.faulty.FaultyAct.{FaultyAct as AnyFaultyAct};
 ghost use Rattle.dgt_link.specs.Headline.{AskForPicture, squares_after};
 ghost use Rattle.dgt_link.specs.Readers.{Grammars};
-ghost use Rattle.dgt_link.specs.Stands.{AreMovesOfAct, IsExactWorld, IsWorld, StandsAfterRun, StandsAfterStep, StandsFor};
+ghost use Rattle.dgt_link.specs.Stands.{AreEncoded, AreMovesOfAct, IsExactWorld, IsWorld, StandsAfterRun, StandsAfterStep, StandsFor};
 ghost use Rattle.dgt_link.specs.declared.acts.Outcome.{Outcome};
-ghost use Rattle.dgt_link.specs.Step.{Runs, Step, done_count};
+ghost use Rattle.dgt_link.specs.Step.{Becomes, IfDone, Runs, Step, done_count, is_full, outcome};
 ghost use Rattle.dgt_link.specs.Settling.{AreInOrder, HasRounds, IsNext, IsRound, IsSettling, SettlesIn, IsSettlingMove, SettlesBy, steps_left};
 ghost use Rattle.dgt_link.specs.History.{IsInOrderOf, RunsThrough, shown_in, shown_on, stood_in, stood_on};
 ghost use Rattle.dgt_link.specs.Healing.{AfterFaults, AwaitsWhatComes, IsRestedWorld, IsSane, StandsBehind, StandsBehindAfter};
-ghost use Rattle.dgt_link.specs.View.{IsQuietWorld, WorldView};
+ghost use Rattle.dgt_link.specs.View.{IsQuietWorld, WorldView, line_holding, world_of};
 
 use crate::{Act, FaultyAct, MIN_DOWN, MIN_UP, Outcome as ActOutcome, WorldFault};
 use dgt_command::Command;
@@ -70,6 +75,10 @@ pub fn equal_is_same()
     ensures act { EqualIsSameReadOf ActHasArrays act_content ⟦<Act<'static> as PartialEq>⟧.eq }
     ensures faulty_act { EqualIsSameReadOf FaultyActHasArrays faulty_content
         ⟦<FaultyAct<'static> as PartialEq>⟧.eq }
+    ensures arrays { (act : AnyAct) → ((command : AnyCommand) → act ≡ Act.Host command →
+        CommandHasArrays command) → ActHasArrays act }
+    ensures faulty_arrays { (act : AnyFaultyAct) → ((plain : AnyAct) →
+        act ≡ FaultyAct.Plain plain → ActHasArrays plain) → FaultyActHasArrays act }
 {
     dgt_message::laws::equal_is_same();
     dgt_command::laws::equal_is_same();
@@ -379,18 +388,20 @@ pub fn bounds_in_numbers()
     ensures done { done_count (Outcome.Done ∷ Outcome.Nothing ∷ Outcome.Done ∷ []) ≡ 2 }
 {}
 
-/// Sufficient conditions for a quiet world, a quiet state and a world at rest. Moves that settle a
-/// state make it quiet.
+/// Exactly what a quiet world, a quiet state and a world at rest are, and which moves settle a
+/// state.
 pub fn what_is_quiet()
-    ensures world { (world : WorldView) → world.up.bytes ≡ [] → world.down.bytes ≡ []
-        → world.host.unread ≡ [] → world.board.partial ≡ []
-        → next_message world.board.state ≡ None → IsQuietWorld world }
-    ensures state { (x : MachineState) → x.up ≡ [] → x.down ≡ [] → pending_messages x.board ≡ []
-        → IsQuiet x }
-    ensures rested { (world : WorldView) → world.up.bytes ≡ [] → world.down.bytes ≡ []
-        → next_message world.board.state ≡ None → IsRestedWorld world }
-    ensures settled { (x : MachineState) (moves : List Move) →
-        SettlesBy moves x → IsQuiet (after_moves x moves) }
+    ensures world { (world : WorldView) → IsQuietWorld world ↔ ((world.up.bytes ≡ [])
+        × (world.down.bytes ≡ []) × (world.host.unread ≡ []) × (world.board.partial ≡ [])
+        × (next_message world.board.state ≡ None)) }
+    ensures state { (x : MachineState) →
+        IsQuiet x ↔ ((x.up ≡ []) × (x.down ≡ []) × (pending_messages x.board ≡ [])) }
+    ensures rested { (world : WorldView) → IsRestedWorld world ↔ ((world.up.bytes ≡ [])
+        × (world.down.bytes ≡ []) × (next_message world.board.state ≡ None)) }
+    ensures settled { (moves : List Move) (x : MachineState) → SettlesBy moves x
+        ↔ (AllByRecursion IsSettlingMove moves
+        × (length moves ≤ length x.up + 2 * backlog x.board + 3 * length x.down)
+        × IsQuiet (after_moves x moves)) }
 {}
 
 /// Examples of what is shown in order: a pawn that was put on an empty square and removed again may
@@ -502,41 +513,43 @@ pub fn one_step_is_next()
 
 /// What acts in order are, and that a world settles by such.
 pub fn settling_is_in_order()
-    ensures settles { (count : ℕ) (world after : WorldView)
-        (settled : SettlesIn count world after) → AreInOrder settled.acts world after
-        × Runs settled.acts world (replicate count Outcome.Done) after
-        × AllByRecursion IsSettling settled.acts × (count ≡ length settled.acts) }
-    ensures none { (world after : WorldView) → AreInOrder [] world after → after ≡ world }
+    ensures settles { (count : ℕ) (world after : WorldView) → SettlesIn count world after
+        ↔ ((acts : List ActContent) × AllByRecursion IsSettling acts × (count ≡ length acts)
+        × Runs acts world (replicate count Outcome.Done) after × AreInOrder acts world after) }
+    ensures none { (world after : WorldView) → AreInOrder [] world after ↔ (after ≡ world) }
     ensures each { (act : ActContent) (acts : List ActContent) (world after : WorldView) →
-        AreInOrder (act ∷ acts) world after → IsNext world act × ((between : WorldView)
-        × Step act world Outcome.Done between × AreInOrder acts between after) }
-    ensures more { (act : ActContent) (acts : List ActContent) (world between after : WorldView) →
-        IsNext world act → Step act world Outcome.Done between → AreInOrder acts between after →
-        AreInOrder (act ∷ acts) world after }
+        AreInOrder (act ∷ acts) world after ↔ (IsNext world act × ((between : WorldView)
+        × Step act world Outcome.Done between × AreInOrder acts between after)) }
 {}
 
-/// Deliveries and sendings in any order and chunks are a round if the board sends, takes a byte and
-/// the host hears one. Rounds in a row, and any deliveries and sendings after them, are rounds.
+/// Deliveries and sendings in any order and chunks are a round exactly if the board sends, takes a
+/// byte and the host hears one. Rounds in a row, and any deliveries and sendings after them, are
+/// rounds.
 pub fn rounds_in_any_order()
-    ensures round { (acts : List ActContent) (taken heard : ℕ) → AllByRecursion IsSettling acts →
-        Contains acts ActContent.BoardSend → 0 < taken → Contains acts (ActContent.ToBoard taken) →
-        0 < heard → Contains acts (ActContent.ToHost heard) → IsRound acts }
-    ensures none { (acts : List ActContent) → AllByRecursion IsSettling acts → HasRounds 0 acts }
-    ensures more { (rounds : ℕ) (round later : List ActContent) → IsRound round →
-        HasRounds rounds later → HasRounds (suc rounds) (round ++ later) }
+    ensures round { (acts : List ActContent) → IsRound acts ↔ (AllByRecursion IsSettling acts
+        × Contains acts ActContent.BoardSend
+        × ((taken : ℕ) × (0 < taken) × Contains acts (ActContent.ToBoard taken))
+        × ((heard : ℕ) × (0 < heard) × Contains acts (ActContent.ToHost heard))) }
+    ensures none { (acts : List ActContent) → AllByRecursion IsSettling acts ↔ HasRounds 0 acts }
+    ensures more { (rounds : ℕ) (acts : List ActContent) → HasRounds (suc rounds) acts
+        ↔ ((round : List ActContent) × (later : List ActContent) × (acts ≡ round ++ later)
+        × IsRound round × HasRounds rounds later) }
     ensures settling { (taken heard : ℕ) → AllByRecursion IsSettling (ActContent.BoardSend
         ∷ ActContent.ToBoard taken ∷ ActContent.ToHost heard ∷ []) }
-    ensures least { (acts : List ActContent) → IsRound acts →
-        AllByRecursion IsSettling acts × Contains acts ActContent.BoardSend
-        × ((taken : ℕ) × (0 < taken) × Contains acts (ActContent.ToBoard taken))
-        × ((heard : ℕ) × (0 < heard) × Contains acts (ActContent.ToHost heard)) }
 {}
 
-/// A restarted state is promised: what the board receives before the requests is noise.
+/// What is requested, promised and restarted. A restarted state is promised: what the board
+/// receives before the requests is noise.
 pub fn restarts_are_promised()
+    ensures asked { (commands : List CommandContent) → IsAsked commands
+        ↔ (Contains commands CommandContent.Dump
+        × IsTrue (updates (last_mode Mode.Idle (filter_map command_mode commands)))) }
+    ensures by { (Comes : MachineState → Bool) (asks : Mode → Bool) (x : MachineState) →
+        IsPromisedBy (λ y. IsTrue (Comes y)) asks x
+        ↔ (IsTrue (Comes x) × IsTrue (asks (coming_mode x))) }
+    ensures noise { (x : MachineState) → IsRestarted x ↔ ((noise : List EventContent)
+        × IsNoiseList noise × (x.down ≡ noise ++ map EventContent.Read commands_anew)) }
     ensures promised { (x : MachineState) → IsRestarted x → IsPromised x }
-    ensures noise { (x : MachineState) (anew : IsRestarted x) → IsNoiseList anew.noise
-        × (x.down ≡ anew.noise ++ map EventContent.Read commands_anew) }
 {}
 
 /// The moves of an act that is done request what the act requests, and leave the squares that it
@@ -583,4 +596,149 @@ pub fn what_stands_after()
 pub fn asking_is_exact()
     ensures { (acts : List AnyAct) → AskForPicture acts
         ↔ IsAskedBy (map act_content acts) (map (λ act. Outcome.Done) acts) }
+{}
+
+/// The outcome of each act. Those that are not named here are always done.
+pub fn outcomes_of_acts()
+    ensures too_many { (command : CommandContent) (world : WorldView) →
+        (outcome (ActContent.Host command) world ≡ Outcome.TooMany)
+        ↔ IsTrue (awaits_too_many world.host (requested_kind command)) }
+    ensures commanded { (command : CommandContent) (world : WorldView) →
+        (outcome (ActContent.Host command) world ≡ Outcome.Done)
+        ↔ ((awaits_too_many world.host (requested_kind command) ≡ false)
+        × (length world.down.bytes + length (command_encoding command) ≤ world.down.capacity)) }
+    ensures no_room { (command : CommandContent) (world : WorldView) →
+        outcome (ActContent.Host command) world ≢ Outcome.TooMany →
+        outcome (ActContent.Host command) world ≢ Outcome.Done →
+        outcome (ActContent.Host command) world ≡ Outcome.NoRoom }
+    ensures nothing_sent { (world : WorldView) →
+        (outcome ActContent.BoardSend world ≡ Outcome.Nothing)
+        ↔ (next_message world.board.state ≡ None) }
+    ensures sent { (world : WorldView) (message : Content) →
+        next_message world.board.state ≡ Some message →
+        ((outcome ActContent.BoardSend world ≡ Outcome.Done)
+        ↔ (length world.up.bytes + length (encoding message) ≤ world.up.capacity)) }
+    ensures no_room_up { (world : WorldView) (message : Content) →
+        next_message world.board.state ≡ Some message →
+        ((outcome ActContent.BoardSend world ≡ Outcome.NoRoom)
+        ↔ (world.up.capacity < length world.up.bytes + length (encoding message))) }
+    ensures nothing_taken { (count : ℕ) (world : WorldView) →
+        (outcome (ActContent.ToBoard count) world ≡ Outcome.Nothing)
+        ↔ ((count ≡ 0) ⊎ (length world.down.bytes ≡ 0)) }
+    ensures taken { (count : ℕ) (world : WorldView) →
+        (outcome (ActContent.ToBoard count) world ≡ Outcome.Done)
+        ↔ ((0 < count) × (0 < length world.down.bytes)
+        × (length world.board.state.owed < MAX_OWED)) }
+    ensures busy { (count : ℕ) (world : WorldView) →
+        (outcome (ActContent.ToBoard count) world ≡ Outcome.Busy)
+        ↔ ((0 < count) × (0 < length world.down.bytes)
+        × (MAX_OWED ≤ length world.board.state.owed)) }
+    ensures nothing_heard { (count : ℕ) (world : WorldView) →
+        (outcome (ActContent.ToHost count) world ≡ Outcome.Nothing)
+        ↔ ((count ≡ 0) ⊎ (length world.up.bytes ≡ 0)) }
+    ensures heard { (count : ℕ) (world : WorldView) →
+        (outcome (ActContent.ToHost count) world ≡ Outcome.Done)
+        ↔ ((0 < count) × (0 < length world.up.bytes)) }
+    ensures always { (square : ℕ) (piece : Piece) (clock : ClockState) (world : WorldView) →
+        All (λ act. outcome act world ≡ Outcome.Done) (ActContent.Change square piece
+        ∷ ActContent.ClockRead clock ∷ ActContent.Break ∷ ActContent.HostBreak ∷ []) }
+{}
+
+/// The effect of each act that is done: its board, its host, its up line and its down line. An act
+/// that isn't done has none.
+pub fn what_acts_do()
+    ensures step { (act : ActContent) (world after : WorldView) (answer : Outcome) →
+        Step act world answer after ↔ ((answer ≡ outcome act world)
+        × IfDone answer (Becomes act world after) (after ≡ world)) }
+    ensures change { (square : ℕ) (piece : Piece) (world after : WorldView) →
+        Becomes (ActContent.Change square piece) world after
+        ↔ (after ≡ record world {
+          board = record world.board {
+            state = after_change world.board.state square piece;
+          };
+        }) }
+    ensures clock { (clock : ClockState) (world after : WorldView) →
+        Becomes (ActContent.ClockRead clock) world after
+        ↔ (after ≡ record world {
+          board = record world.board {
+            state = after_hand_clock world.board.state clock;
+          };
+        }) }
+    ensures host { (command : CommandContent) (world after : WorldView) →
+        Becomes (ActContent.Host command) world after
+        ↔ (EncodesCommand command (command_encoding command)
+        × (after ≡ world_of world.board (host_awaiting world.host (requested_kind command)) world.up
+        (line_holding (world.down.bytes ++ command_encoding command) world.down.capacity))) }
+    ensures send { (world after : WorldView) → Becomes ActContent.BoardSend world after
+        ↔ ((message : Content) × (next_message world.board.state ≡ Some message)
+        × Encodes message (encoding message)
+        × (after ≡ world_of (record world.board { state = after_sending world.board.state message })
+        world.host (line_holding (world.up.bytes ++ encoding message) world.up.capacity)
+        world.down)) }
+    ensures take { (count : ℕ) (world after : WorldView) →
+        Becomes (ActContent.ToBoard count) world after
+        ↔ ((moved : ℕ) × (board : BoardView) × (0 < moved) × (moved ≤ count)
+        × (moved ≤ length world.down.bytes)
+        × HasTaken world.board (take moved world.down.bytes) board
+        × ((fewer : ℕ) → 0 < fewer → fewer < moved →
+        (between : BoardView) × HasTaken world.board (take fewer world.down.bytes) between
+        × (is_full between.state ≡ false))
+        × ((moved ≡ count) ⊎ ((moved ≡ length world.down.bytes)
+        ⊎ IsTrue (is_full board.state)))
+        × (after ≡ world_of board world.host world.up
+        (line_holding (drop moved world.down.bytes) world.down.capacity))) }
+    ensures hear { (count : ℕ) (world after : WorldView) →
+        Becomes (ActContent.ToHost count) world after
+        ↔ (after ≡ world_of world.board (host_after world.host (take count world.up.bytes))
+        (line_holding (drop count world.up.bytes) world.up.capacity) world.down) }
+    ensures lost { (world after : WorldView) → Becomes ActContent.Break world after
+        ↔ (after ≡ world_of (view_after_line_lost world.board) new_host
+        (line_holding [] world.up.capacity) (line_holding [] world.down.capacity)) }
+    ensures host_lost { (world after : WorldView) → Becomes ActContent.HostBreak world after
+        ↔ (after ≡ world_of world.board (host_awaiting new_host (Some Kind.Dump))
+        (line_holding [] world.up.capacity) (line_holding restart_bytes world.down.capacity)) }
+{}
+
+/// What a sound and an exact state are, and the states for which a world stands.
+pub fn what_worlds_stand_for()
+    ensures sound { (x : MachineState) → IsSound x ↔ ((length x.board.squares ≡ 64)
+        × (length x.board.reported_squares ≡ 64)
+        × IsUnknownOr (picture_after_all x.picture x.up) (Some x.board.reported_squares)
+        × (IsTrue (follows_clock x.board.mode) → IsTrue x.board.times_owed
+        ⊎ (x.board.reported_clock ≡ Some x.board.clock))
+        × IsUnknownOr (clock_after_all x.host_clock x.up) x.board.reported_clock
+        × IsSubsequence x.awaited (coming_kinds x)) }
+    ensures exact { (x : MachineState) → IsExact x ↔ (IsSound x
+        × (clock_after_all x.host_clock x.up ≡ x.board.reported_clock)
+        × (x.awaited ≡ coming_kinds x)) }
+    ensures encoded { (said : List Content) (bytes : List ℕ) → AreEncoded said bytes
+        ↔ (AllByRecursion IsMessage said × (bytes ≡ flat_map encoding said)) }
+    ensures stands { (world : WorldView) (x : MachineState) → StandsFor world x ↔ (IsSound x
+        × (world.board.state ≡ x.board) × (world.host.picture ≡ x.picture)
+        × (world.host.clock ≡ x.host_clock) × (world.host.awaited ≡ x.awaited)
+        × AreEncoded x.up (world.host.unread ++ world.up.bytes)
+        × Divides (world.board.partial ++ world.down.bytes) x.down []
+        × IsPartial world.board.partial) }
+    ensures exact_world { (world : WorldView) →
+        IsExactWorld world ↔ ((x : MachineState) × StandsFor world x × IsExact x) }
+    ensures world { (world : WorldView) → IsWorld world ↔ (((x : MachineState) × StandsFor world x)
+        × (MIN_UP ≤ world.up.capacity) × (MIN_DOWN ≤ world.down.capacity)) }
+{}
+
+/// The kinds of messages to come. A request adds its own, hearing takes the first one away, and
+/// what the board takes and sends leaves them. The first kind of a list in its order is somewhere
+/// in the other list, and the others are after it.
+pub fn kinds_to_come()
+    ensures asked { (x : MachineState) (command : CommandContent) →
+        coming_kinds (after_move x (Move.Ask command))
+        ≡ coming_kinds x ++ option_to_list (requested_kind command) }
+    ensures heard { (x : MachineState) (message : Content) (later : List Content) →
+        x.up ≡ message ∷ later → coming_kinds x
+        ≡ option_to_list (answered_kind message) ++ coming_kinds (after_move x Move.Hear) }
+    ensures taken { (x : MachineState) → coming_kinds (after_move x Move.Take) ≡ coming_kinds x }
+    ensures sent { (x : MachineState) (move : Move) → IsSending move →
+        coming_kinds (after_move x move) ≡ coming_kinds x }
+    ensures in_order { (kind : Kind) (others kinds : List Kind) →
+        IsSubsequence (kind ∷ others) kinds ↔ ((before : List Kind) × (later : List Kind)
+        × (kinds ≡ before ++ kind ∷ later) × IsSubsequence others later) }
 {}

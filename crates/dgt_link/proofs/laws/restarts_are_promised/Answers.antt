@@ -3,6 +3,3 @@ use Rattle.dgt_link.proofs.laws.restarts_are_promised.Goals as goal
 
 pub returns-clause-promised : goal.returns-clause-promised
 returns-clause-promised c = restarted_is_promised
-
-pub returns-clause-noise : goal.returns-clause-noise
-returns-clause-noise c = λ x anew. (anew.is_noise, anew.down)
