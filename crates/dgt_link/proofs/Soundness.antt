@@ -3,8 +3,8 @@ use Rattle.std.proofs.{Common.{◌≡◌, refl, ap, ◌∙◌, List, [], ◌∷�
 use Rattle.{std.specs.{List.{cons_option}, Prelude.{filter_map, map, option_to_list}}, dgt_values.specs.declared.{kinds.Kind.{Kind}, pieces.Piece.{Piece}}, dgt_message.specs.Clock.{ClockState}}
 use Rattle.{dgt_message.specs.Content.{Content, clock_message, answered_kind}, dgt_command.specs.{Content.{CommandContent, EventContent, requested_kind}, Words.{IsNoiseList}}}
 use Rattle.{dgt_board.specs.{Sending.{differs, field_of, reply_message}, State.{IdentityContent, updates, effect}, declared.replies.Reply.{Reply}}, dgt_host.specs.Host.{awaited_after}}
-use Rattle.dgt_link.specs.{Machine.{IsHostBreak, IsSending, Move, MachineState, commands_anew, new_state, state_of_board, after_move, after_reported, after_take, after_reply, after_hear}, Sound.{IsSound}}
-use Rattle.dgt_link.{specs.Sound.{IsExact, IsSubsequence, coming_kinds, kind_of_event, kind_of_reply}, proofs.MessageReports.{ReportedIsHeard, field_reports, clock_reports, reply_reports}}
+use Rattle.dgt_link.specs.Machine.{IsHostBreak, IsSending, Move, MachineState, commands_anew, new_state, state_of_board, after_move, after_reported, after_take, after_reply, after_hear}
+use Rattle.dgt_link.{specs.Sound.{IsExact, IsSound, IsSubsequence, coming_kinds, kind_of_event, kind_of_reply}, proofs.MessageReports.{ReportedIsHeard, field_reports, clock_reports, reply_reports}}
 use Rattle.dgt_link.proofs.MessageReports.{reply_message-kind, clock_message-kind, picture_reported, clock_reported_of, clock_after_all-append, followed_after, handed_or_reported}
 use Rattle.dgt_link.proofs.{Subsequences.{subsequence_at_end, subsequence_append, awaited_after-subsequence, awaited_exactly, one_more, moved_over}, Taking.{effect-kinds, effect_followed}}
 use Rattle.dgt_link.proofs.Taking.{effect_leaves, nothing_of_noise}

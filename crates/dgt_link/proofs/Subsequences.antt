@@ -36,7 +36,8 @@ subsequence_tail x xs (y ∷ ys) (inr h) = subsequence_later xs y ys (subsequenc
 pub first_of_subsequence : {X : Type 0} (x : X) (xs ys : List X)
     → IsSubsequence (x ∷ xs) ys
     ↔ ((before : List X) × (later : List X) × (ys ≡ before ++ x ∷ later) × IsSubsequence xs later)
-first_of_subsequence {X = X} x xs ys = (split ys, λ (before, later, all, h). rw all (join before later h))
+first_of_subsequence {X = X} x xs ys =
+    (split ys, λ (before, later, all, h). rw all (join before later h))
   where
     split : (ys : List X) → IsSubsequence (x ∷ xs) ys
         → (before : List X) × (later : List X) × (ys ≡ before ++ x ∷ later)
