@@ -372,17 +372,13 @@ pub fn asking_counts()
         → AskForPicture (acts ++ Act.Host mode ∷ Act.Host Command.Dump ∷ later) }
 {}
 
-/// Two bounds in numbers. The up line has room for 67 bytes and contains 5, the board has 2
-/// messages to send, and the down line contains 3 bytes. That is 5, 68 times 2 and 69 times 3: 348
-/// steps. In the machine, one message and 3 commands are under way, and 2 messages are to be sent:
-/// 1, twice 2 and 3 times 3.
+/// A bound in numbers. The up line has room for 67 bytes and contains 5, the board has 2 messages to
+/// send, and the down line contains 3 bytes. That is 5, 68 times 2 and 69 times 3: 348 steps.
 ///
 /// A round is one sending and one byte in each direction.
 pub fn bounds_in_numbers()
     ensures steps { (world : WorldView) → world.up.capacity ≡ 67 → length world.up.bytes ≡ 5
         → backlog world.board.state ≡ 2 → length world.down.bytes ≡ 3 → steps_left world ≡ 348 }
-    ensures moves { (x : MachineState) (moves : List Move) → SettlesBy moves x → length x.up ≡ 1
-        → backlog x.board ≡ 2 → length x.down ≡ 3 → length moves ≤ 14 }
     ensures rounds { (rounds : ℕ) → HasRounds rounds (flat_map (λ round. round) (replicate rounds
         (ActContent.BoardSend ∷ ActContent.ToBoard 1 ∷ ActContent.ToHost 1 ∷ []))) }
     ensures done { done_count (Outcome.Done ∷ Outcome.Nothing ∷ Outcome.Done ∷ []) ≡ 2 }

@@ -20,9 +20,5 @@ returns-clause-rounds c = all_rounds
 pub returns-clause-steps : goal.returns-clause-steps
 returns-clause-steps c = λ world capacity up backlog down. rw (capacity, up, backlog, down) refl
 
-pub returns-clause-moves : goal.returns-clause-moves
-returns-clause-moves c =
-    λ x moves settles up backlog down. omega (arith, settles.few, up, backlog, down)
-
 pub returns-clause-done : goal.returns-clause-done
 returns-clause-done c = refl
