@@ -372,8 +372,8 @@ pub fn asking_counts()
         → AskForPicture (acts ++ Act.Host mode ∷ Act.Host Command.Dump ∷ later) }
 {}
 
-/// A bound in numbers. The up line has room for 67 bytes and contains 5, the board has 2 messages to
-/// send, and the down line contains 3 bytes. That is 5, 68 times 2 and 69 times 3: 348 steps.
+/// A bound in numbers. The up line has room for 67 bytes and contains 5, the board has 2 messages
+/// to send, and the down line contains 3 bytes. That is 5, 68 times 2 and 69 times 3: 348 steps.
 ///
 /// A round is one sending and one byte in each direction.
 pub fn bounds_in_numbers()
