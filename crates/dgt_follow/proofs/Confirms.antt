@@ -1,9 +1,9 @@
 -- What a follower records of the messages that it hears.
-use Rattle.{std.proofs.Common.{◌≡◌, Bool, true, not, ◌&&◌, refl, ℕ, List, [], ◌∷◌, ◌++◌, rules}, dgt_values.specs.declared.pieces.Piece.{Piece}, dgt_message.specs.Content.{Content}}
+use Rattle.{std.proofs.Common.{◌≡◌, Bool, true, ◌&&◌, refl, ℕ, List, [], ◌∷◌, ◌++◌, rules}, dgt_message.specs.Content.{Content}}
 use Rattle.{dgt_message.specs.{Picture.{picture_after, picture_after_all}, declared.viewing.BodyFault.TheVariants.{WrongSize, BadPiece, BadSquare, BadReading}}, dgt_decode.specs.Grammar.{Event}}
 use Rattle.{dgt_decode.specs.Grammar.{Message, Refused, Cut, BadLength, Stray, Placed, events}, dgt_host.specs.Confirmed.{confirmed_after, confirmed_after_all, message_in, messages}}
 use Rattle.{dgt_host.proofs.ConfirmedLemmas.{confirms_more, first_of}, dgt_follow.specs.Follower.{AskingsConfirmNothing, ConfirmedAsHeard, FollowerView, follower_after_event, follower_after_events}}
-use Rattle.dgt_follow.specs.{Pace.{confirmed_by}, declared.asking.Asking.{Asking}}
+use Rattle.dgt_follow.specs.{Pace.{confirmed_by}}
 
 Heard : FollowerView → FollowerView → List Content → Type 0
 Heard before after said = (after.host.picture ≡ picture_after_all before.host.picture said)

@@ -1,9 +1,9 @@
 -- How a follower changes by the events of bytes in chunks.
-use Rattle.std.proofs.{Common.{◌≡◌, ◌+◌, Option, Bool, is_some, option_map, refl, sym, ap, ◌∙◌, ℕ, List, [], ◌∷◌, ◌++◌, append_assoc, append-nil, ◌-◌, take, drop, rules}, Math.Seq.{take-add}}
+use Rattle.std.proofs.{Common.{◌≡◌, ◌+◌, Option, Bool, is_some, option_map, refl, sym, ap, ◌∙◌, ℕ, List, [], ◌∷◌, ◌++◌, append_assoc, append-nil, take, drop, rules}, Math.Seq.{take-add}}
 use Rattle.{std.proofs.lemmas.List.{take_all}, dgt_decode.specs.{Feeding.{FirstEvent}, Grammar.{Event, Placed, events, shifted, unfinished_message}, Laws.{EventsAppend, UnfinishedAppend}}}
 use Rattle.{dgt_values.specs.declared.{kinds.Kind.{Kind}, pieces.Piece.{Piece}}, dgt_host.specs.Host.{HostView, host_after, host_after_events}, dgt_follow.specs.Follower.{FollowedInChunks}}
 use Rattle.dgt_follow.specs.{Follower.{FollowerView, follower_after, follower_after_event, follower_after_events, follower_hearing, following, with_unfinished, with_unread}, Pace.{KeepsCount}}
-use Rattle.dgt_follow.specs.Pace.{PaceView, pace_after_event_if_any, unfinished_by}
+use Rattle.dgt_follow.specs.{Noting.{pace_after_event_if_any}, Pace.{PaceView, unfinished_by}}
 
 follower_after_events-append : (f : FollowerView) (now : ℕ) (xs ys : List Placed)
     → follower_after_events f now (xs ++ ys)

@@ -1,5 +1,5 @@
 -- How consecutive calls of a follower change its picture.
-use Rattle.{std.proofs.Common.{◌≡◌, Bool, true, Option, refl, ap, ℕ, List, [], ◌∷◌, ◌++◌, append_assoc, append-nil, ◌-◌, rules}, dgt_values.specs.declared.pieces.Piece.{Piece}}
+use Rattle.{std.proofs.Common.{◌≡◌, Bool, true, Option, refl, ℕ, List, [], ◌∷◌, ◌++◌, append_assoc, append-nil, rules}, dgt_values.specs.declared.pieces.Piece.{Piece}}
 use Rattle.{dgt_message.specs.{Content.{Content}, Picture.{picture_after, picture_after_all}}, dgt_decode.specs.{Grammar.{events, unfinished_message}, Laws.{EventsAppend, UnfinishedAppend}}}
 use Rattle.{dgt_decode.specs.Laws.{UnfinishedIsQuiet}, dgt_host.{specs.Confirmed.{confirmed_after, confirmed_after_all, messages}, proofs.ConfirmedLemmas.{confirms_more, pictures_append}}}
 use Rattle.{dgt_host.proofs.StretchLemmas.{messages_append, messages_behind}, dgt_follow.specs.Calls.{Hears, Asks, Sends, SetsMode, SetsConfirm, SetsIdentify, AsksNow, Disturbs, ConfirmedOverCalls}}

@@ -65,4 +65,4 @@ asking_stays_sure : (what : Asking) (pace : PaceView) (now : ℕ) → is_sure pa
 asking_stays_sure what pace now sure = grind arith
 
 pub stays_sure : SureStaysSure
-stays_sure pace now sure = search (rules, asking_stays_sure, sure_at, other)
+stays_sure = search (rules, asking_stays_sure, sure_at, other)

@@ -148,11 +148,13 @@ is_sure pace = not (pace.confirmed && pace.doubtful)
 
 abbrev pub SureStaysSure : Type 0
 SureStaysSure =
-    (pace : PaceView) (now : ℕ) → IsTrue (is_sure pace) →
+    ((period patience : ℕ) (mode : UpdateMode) (confirm identify : Bool) →
+    IsTrue (is_sure (new_pace period patience mode confirm identify)))
+    × ((pace : PaceView) (now : ℕ) → IsTrue (is_sure pace) →
     ((awaited : List Kind) (picture : Option (List Piece)) (event : Event) →
     IsTrue (is_sure (pace_after_event pace now awaited picture event)))
     × ((what : Asking) → IsTrue (is_sure (pace_after_asking what (pace_at pace now) now)))
-    × IsTrue (is_sure (pace_disturbed pace))
+    × IsTrue (is_sure (pace_disturbed pace)))
 
 -- ---- requests
 

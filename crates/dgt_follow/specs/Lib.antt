@@ -2,3 +2,5 @@
 pub mod Pace
 pub mod Follower
 pub mod Calls
+-- only for bodies
+pub mod Noting

@@ -167,12 +167,6 @@ pace_after_event pace now awaited picture event =
       unreadable = unreadable_by pace.unreadable event;
     }
 
-abbrev pub pace_after_event_if_any : PaceView → ℕ → List Kind → Option (List Piece) → Option Event
-    → PaceView
-pace_after_event_if_any pace now awaited picture None = pace
-pace_after_event_if_any pace now awaited picture (Some event) =
-    pace_after_event pace now awaited picture event
-
 -- the pace after a report that bytes were lost or altered
 abbrev pub pace_disturbed : PaceView → PaceView
 pace_disturbed pace = record pace { disturbed = true; doubtful = true; confirmed = false }

@@ -1,21 +1,24 @@
 //! Laws of a follower, for all bytes that it may receive. Each function does nothing at run time:
 //! its contract states the facts.
 
-ghost use Rattle.std.specs.Prelude.{◌≡◌, ◌≢◌, ◌+◌, ◌≤◌, ◌↔◌, ◌∷◌, ◌++◌, IsFalse, IsTrue, ℕ, Bool, List, [], Option, None, Ok, Some, length, replicate, false, true};
+ghost use Rattle.std.specs.Prelude.{◌≡◌, ◌≢◌, ◌+◌, ◌-◌, ◌≤◌, ◌↔◌, ◌∷◌, ◌++◌, IsFalse, IsTrue, ℕ, Bool, List, [], Option, None, Err, Ok, Some, length, replicate, false, true};
+ghost use Rattle.std.specs.List.{AllByRecursion};
+ghost use Rattle.dgt_values.specs.Bytes.{WritesPrefix};
 ghost use Rattle.dgt_values.specs.declared.kinds.Kind.{Kind};
 ghost use Rattle.dgt_values.specs.declared.pieces.Piece.{Piece};
+ghost use Rattle.dgt_values.specs.declared.refusals.NoRoom.{NoRoom};
 ghost use Rattle.dgt_message.specs.Clock.{Absence, Time, Times as BothTimes, time_of, times_of};
 ghost use Rattle.dgt_message.specs.Content.{Content};
 ghost use Rattle.dgt_message.specs.declared.viewing.BodyFault.{BodyFault};
 ghost use Rattle.dgt_command.specs.Content.{CommandContent};
 ghost use Rattle.dgt_command.specs.Encoding.{command_encoding};
-ghost use Rattle.dgt_decode.specs.Grammar.{Event};
+ghost use Rattle.dgt_decode.specs.Grammar.{Event, Placed, events, unfinished_message};
 ghost use Rattle.dgt_values.specs.Equality.{CloneIsSame, EqualIsSame};
 ghost use Rattle.dgt_host.specs.Host.{HostView, Request, Sends, host_after};
 ghost use Rattle.dgt_host.specs.Confirmed.{changes, repeats};
-ghost use Rattle.dgt_follow.specs.Calls.{Call, ConfirmedOverCalls, DueAtIsFirst, OneStretchIsSeen, bytes_heard, follower_after_call, follower_after_calls};
-ghost use Rattle.dgt_follow.specs.Follower.{Asks, AskingsConfirmNothing, ConfirmedAsHeard, DisturbedIsAskedAnew, DoubtIsAskedAgain, FollowedInChunks, FollowerView, HasReason, OverdueIsAskedAnew, OverdueIsDoubt, RequestsAreApart, SureStaysSure, TimedStaysTimed, asking_of, clock_known, follower_after, following};
-ghost use Rattle.dgt_follow.specs.Pace.{KeepsCount, PaceView, asking, asking_bytes, forgetting, is_blank, is_overdue, is_stuck, mode_command, new_pace, next_due, pace_after_asking, pace_after_event, pace_at, sent_bytes, unfinished_by};
+ghost use Rattle.dgt_follow.specs.Calls.{Call, ConfirmedOverCalls, DueAtIsFirst, OneStretchIsSeen, bytes_heard, follower_after_call, follower_after_calls, follower_asking};
+ghost use Rattle.dgt_follow.specs.Follower.{Asks, AskingsConfirmNothing, ConfirmedAsHeard, DisturbedIsAskedAnew, DoubtIsAskedAgain, FollowedInChunks, FollowerView, HasReason, OverdueIsAskedAnew, OverdueIsDoubt, RequestsAreApart, SureStaysSure, TimedStaysTimed, asking_of, clock_known, follower_after, follower_after_event, following, host_after_asking};
+ghost use Rattle.dgt_follow.specs.Pace.{KeepsCount, PaceView, asking, asking_bytes, forgetting, is_blank, is_overdue, is_stuck, mode_command, new_pace, next_due, pace_after_asking, pace_after_event, pace_at, pace_disturbed, sent_bytes, unfinished_by};
 ghost use Rattle.dgt_follow.specs.declared.asking.Asking.{Asking};
 ghost use Rattle.dgt_follow.specs.declared.asking.UpdateMode.{UpdateMode};
 
@@ -86,6 +89,14 @@ pub fn calls_leave()
     ensures asked { (before after : FollowerView) (now written : ℕ) (old new : List ℕ) →
         Asks (asking_of before now) now before after old new (Ok written) →
         after ≡ follower_after_call before (Call.Asks now) }
+    ensures writes { (what : Asking) (before after : FollowerView) (now written : ℕ)
+        (old new : List ℕ) → Asks what now before after old new (Ok written)
+        ↔ WritesPrefix (asking_bytes before.pace.mode what) old new (Ok written)
+        × (after ≡ follower_asking what before now) }
+    ensures refuses { (what : Asking) (before after : FollowerView) (now : ℕ) (fault : NoRoom)
+        (old new : List ℕ) → Asks what now before after old new (Err fault)
+        ↔ WritesPrefix (asking_bytes before.pace.mode what) old new (Err fault)
+        × (after ≡ before) }
     ensures sent { (before after : FollowerView) (request : Request) (written : ℕ)
         (old new : List ℕ) → Sends request before.host after.host old new (Ok written) →
         after.pace ≡ before.pace → after ≡ follower_after_call before (Call.Sends request.kind) }
@@ -175,12 +186,32 @@ pub fn confirmed_is_sure()
 {}
 
 /// What a follower hears changes its host as it changes any host. It doesn't change the time of the
-/// last request, the heartbeats left, the period, the patience or the mode.
+/// last request, the heartbeats left, the period, the patience or the mode. The event that the
+/// bytes complete is recorded, and so are the bytes of an unfinished message.
 pub fn hearing_is_the_hosts()
     ensures host { (follower : FollowerView) (now : ℕ) (bytes : List ℕ) →
         (follower_after follower now bytes).host ≡ host_after follower.host bytes }
     ensures pace { (follower : FollowerView) (now : ℕ) (bytes : List ℕ) →
         KeepsCount follower.pace (follower_after follower now bytes).pace }
+    ensures event { (follower : FollowerView) (now : ℕ) (bytes : List ℕ) (x : Placed) →
+        let all = follower.host.unread ++ bytes in events all ≡ x ∷ [] →
+        let heard = follower_after_event follower now x.event in
+        follower_after follower now bytes ≡ following
+        (record heard.host { unread = unfinished_message all }) (record heard.pace {
+          unfinished = unfinished_by follower.pace.unfinished now bytes (unfinished_message all);
+        }) }
+{}
+
+/// A request awaits its reply, besides those that are awaited. After a new start only a dump is
+/// awaited.
+pub fn what_is_awaited()
+    ensures nothing { (host : HostView) → host_after_asking Asking.Nothing host ≡ host }
+    ensures serial { (host : HostView) → host_after_asking Asking.Identify host
+        ≡ record host { awaited = host.awaited ++ Kind.Serial ∷ [] } }
+    ensures dump { (host : HostView) → host_after_asking Asking.Heartbeat host
+        ≡ record host { awaited = host.awaited ++ Kind.Dump ∷ [] } }
+    ensures anew { (host : HostView) → host_after_asking Asking.Anew host
+        ≡ record host { awaited = Kind.Dump ∷ [] } }
 {}
 
 /// When a follower sends a request, and which, with a period of 10,000 and a patience of 6. It
@@ -348,9 +379,22 @@ pub fn askings_out_of_turn()
         (after.tries ≡ 2) × (after.requested ≡ true) }
     ensures wanted { (pace : PaceView) (now : ℕ) →
         (pace_after_asking Asking.Identify pace now).wanted ≡ pace.wanted }
-    ensures again { (pace : PaceView) (now : ℕ) →
-        let after = pace_after_asking Asking.Heartbeat pace now in
-        (after.requested ≡ false) × (after.wanted ≡ false) × (after.pardons ≡ false) }
+    ensures again { (pace : PaceView) (now : ℕ) → pace.answered ≡ true →
+        pace_after_asking Asking.Heartbeat pace now ≡ record pace {
+          left = pace.left - 1;
+          asked = Some now;
+          requested = false;
+          wanted = false;
+          answered = false;
+          disturbed = false;
+          pardons = false;
+          timeout = OVERDUE;
+        } }
+    ensures doubtful { (pace : PaceView) (now time : ℕ) → pace.asked ≡ Some time →
+        pace.answered ≡ false → let after = pace_after_asking Asking.Heartbeat pace now in
+        (after.doubtful ≡ true) × (after.confirmed ≡ false) }
+    ensures nothing { (pace : PaceView) (now : ℕ) →
+        pace_after_asking Asking.Nothing pace now ≡ pace }
 {}
 
 /// When a follower with a period of 10,000 is due after a request at 1,000: at 11,000 if it was
@@ -402,6 +446,7 @@ pub fn askings_in_bytes()
         ≡ 0x4b ∷ 0x42 ∷ 0x41 ∷ [] }
     ensures anew { asking_bytes UpdateMode.UpdateNice Asking.Anew
         ≡ replicate 255 0 ++ 0x44 ∷ 0x42 ∷ 0x4b ∷ 0x41 ∷ [] }
+    ensures nothing { (mode : UpdateMode) → asking_bytes mode Asking.Nothing ≡ [] }
     ensures serial { (mode : UpdateMode) → asking_bytes mode Asking.Identify ≡ 0x45 ∷ [] }
     ensures heartbeat { (pace : PaceView) (now : ℕ) → pace.left ≡ 3
         → (pace_after_asking Asking.Heartbeat pace now).left ≡ 2 }
@@ -410,13 +455,22 @@ pub fn askings_in_bytes()
 {}
 
 /// What a follower records. Disturbances are any fault, a dump that isn't the known picture, and a
-/// message of a kind that isn't the first awaited, unless such messages are pardoned. A clock
-/// without digits isn't one. An awaited dump is an answer, and any message is recorded as heard.
+/// message of a kind that isn't the first awaited, unless such messages are pardoned. A fault is
+/// recorded as a report of lost bytes is, and ends the silence. A clock without digits isn't one.
+/// An awaited dump is an answer, and any message is recorded as heard.
 pub fn notes_of_events()
-    ensures fault { (pace : PaceView) (now : ℕ) (byte : ℕ) →
-        (pace_after_event pace now [] None (Event.Stray byte)).disturbed ≡ true }
-    ensures unasked { (pace : PaceView) (now : ℕ) (pieces : List Piece) → pace.pardons ≡ false →
-        (pace_after_event pace now [] None (Event.Message (Content.dump pieces))).disturbed ≡ true }
+    ensures faults { (pace : PaceView) (now have code byte at : ℕ) (awaited : List Kind)
+        (picture : Option (List Piece)) → AllByRecursion (λ event.
+        pace_after_event pace now awaited picture event
+        ≡ record (pace_disturbed pace) { timeout = OVERDUE })
+        (Event.Cut have ∷ Event.BadLength ∷ Event.Stray byte
+        ∷ Event.Refused code BodyFault.WrongSize ∷ Event.Refused code (BodyFault.BadPiece at)
+        ∷ Event.Refused code (BodyFault.BadSquare at) ∷ []) }
+    ensures unasked { (pace : PaceView) (now : ℕ) (pieces : List Piece) (later : List Kind) →
+        pace.pardons ≡ false → AllByRecursion (λ awaited.
+        let after = pace_after_event pace now awaited None (Event.Message (Content.dump pieces)) in
+        (after.disturbed ≡ true) × (after.answered ≡ pace.answered))
+        ([] ∷ (Kind.Serial ∷ later) ∷ []) }
     ensures pardoned { (pace : PaceView) (now main sub : ℕ) (picture : Option (List Piece)) →
         pace.pardons ≡ true → pace.disturbed ≡ false →
         (pace_after_event pace now [] picture
@@ -427,15 +481,9 @@ pub fn notes_of_events()
         (Event.Message (Content.dump pieces)) in
         (after.disturbed ≡ true) × (after.doubtful ≡ true) }
     ensures unreadable { (pace : PaceView) (now code at : ℕ) (awaited : List Kind)
-        (picture : Option (List Piece)) → pace.disturbed ≡ false →
-        let after = pace_after_event pace now awaited picture
-        (Event.Refused code (BodyFault.BadReading at)) in
-        (after.disturbed ≡ false) × (after.confirmed ≡ pace.confirmed)
-        × (after.unreadable ≡ true) }
-    ensures refused { (pace : PaceView) (now code at : ℕ) (awaited : List Kind)
         (picture : Option (List Piece)) →
-        (pace_after_event pace now awaited picture
-        (Event.Refused code (BodyFault.BadPiece at))).disturbed ≡ true }
+        pace_after_event pace now awaited picture (Event.Refused code (BodyFault.BadReading at))
+        ≡ record pace { timeout = OVERDUE; unreadable = true } }
     ensures sound { (pace : PaceView) (now square : ℕ) (piece : Piece) → pace.disturbed ≡ false →
         (pace_after_event pace now [] None (Event.Message (Content.field square piece))).disturbed
         ≡ false }
@@ -448,16 +496,6 @@ pub fn notes_of_events()
         (Event.Message (Content.carried 0x13 (main ∷ sub ∷ [])))).answered ≡ false }
     ensures heard { (pace : PaceView) (now square : ℕ) (piece : Piece) → (pace_after_event pace now
         [] None (Event.Message (Content.field square piece))).heard ≡ Some now }
-    ensures unheard { (pace : PaceView) (now byte : ℕ) →
-        (pace_after_event pace now [] None (Event.Stray byte)).heard ≡ pace.heard }
-    ensures faults { (pace : PaceView) (now have code : ℕ) (awaited : List Kind)
-        (picture : Option (List Piece)) →
-        let after = λ (event : Event). pace_after_event pace now awaited picture event in
-        ((after (Event.Cut have)).disturbed ≡ true) × ((after Event.BadLength).disturbed ≡ true)
-        × ((after (Event.Refused code BodyFault.WrongSize)).disturbed ≡ true) }
-    ensures not_whole { (pace : PaceView) (now code : ℕ) (fault : BodyFault) (awaited : List Kind)
-        (picture : Option (List Piece)) → (pace_after_event pace now awaited picture
-        (Event.Refused code fault)).heard ≡ pace.heard }
 {}
 
 /// What confirms a picture: an awaited dump that repeats it. The first dump after a new start
@@ -486,8 +524,6 @@ pub fn what_confirms()
     ensures sound { (pace : PaceView) (now square : ℕ) (piece : Piece) (known : List Piece) →
         pace.disturbed ≡ false → (pace_after_event pace now [] (Some known)
         (Event.Message (Content.field square piece))).disturbed ≡ false }
-    ensures unchanged { (pace : PaceView) (now byte : ℕ) (picture : Option (List Piece)) →
-        (pace_after_event pace now [] picture (Event.Stray byte)).changed ≡ pace.changed }
     ensures unknown { (pace : PaceView) (now : ℕ) (pieces : List Piece) (later : List Kind) →
         (pace_after_event pace now (Kind.Dump ∷ later) None
         (Event.Message (Content.dump pieces))).confirmed ≡ false }
@@ -497,9 +533,6 @@ pub fn what_confirms()
         (new_pace period patience mode confirm identify).settling ≡ false }
     ensures forgotten { (pace : PaceView) → forgetting pace ≡ new_pace pace.period pace.patience
         pace.mode pace.confirm pace.identify }
-    ensures waits { (pace : PaceView) (now byte : ℕ) (picture : Option (List Piece)) →
-        pace.settling ≡ true →
-        (pace_after_event pace now [] picture (Event.Stray byte)).settling ≡ true }
     ensures pardons { (pace : PaceView) (now : ℕ) → pace.answered ≡ true → pace.asked ≡ Some 0 →
         pace.disturbed ≡ false → (pace_after_asking Asking.Anew pace now).pardons ≡ true }
     ensures blames { (pace : PaceView) (now : ℕ) → pace.disturbed ≡ true →
@@ -528,8 +561,6 @@ pub fn what_is_known()
     ensures absent { (pace : PaceView) (now : ℕ) (absence : Absence) (awaited : List Kind)
         (picture : Option (List Piece)) → (pace_after_event pace now awaited picture
         (Event.Message (Content.no_clock absence))).unreadable ≡ false }
-    ensures stays { (pace : PaceView) (now byte : ℕ) (picture : Option (List Piece)) →
-        (pace_after_event pace now [] picture (Event.Stray byte)).unreadable ≡ pace.unreadable }
     ensures unknown { (host : HostView) (pace : PaceView) → pace.unreadable ≡ true →
         clock_known (following host pace) ≡ None }
     ensures clock { (host : HostView) (pace : PaceView) → pace.unreadable ≡ false →

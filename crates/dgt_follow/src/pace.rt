@@ -6,7 +6,8 @@ ghost use Rattle.dgt_values.specs.declared.pieces.Piece.{Piece};
 ghost use Rattle.dgt_decode.specs.Feeding.{event_content, event_content_if_any};
 ghost use Rattle.dgt_host.specs.Confirmed.{changes_by};
 ghost use Rattle.dgt_host.specs.Host.{IsUnasked};
-ghost use Rattle.dgt_follow.specs.Pace.{asking, asks_at_once, counted, doubt_time, due_time, forgetting, is_calm, is_due as is_due_at, is_overdue as is_overdue_at, is_stuck as is_stuck_at, is_unanswered, new_pace, next_due, next_timeout, pace_after_asking, pace_after_event, pace_after_event_if_any, pace_asked, pace_at, pace_disturbed, trusts, unfinished_by, wait, wants_confirming, wants_serial};
+ghost use Rattle.dgt_follow.specs.Pace.{asking, asks_at_once, counted, doubt_time, due_time, forgetting, is_calm, is_due as is_due_at, is_overdue as is_overdue_at, is_stuck as is_stuck_at, is_unanswered, new_pace, next_due, next_timeout, pace_after_asking, pace_after_event, pace_asked, pace_at, pace_disturbed, trusts, unfinished_by, wait, wants_confirming, wants_serial};
+ghost use Rattle.dgt_follow.specs.Noting.{pace_after_event_if_any};
 
 use crate::asking::{Asking, UpdateMode};
 use crate::notes::{
