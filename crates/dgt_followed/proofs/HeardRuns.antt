@@ -3,7 +3,7 @@ use Rattle.std.proofs.Common.{◌≡◌, ◌⊎◌, inl, inr, true, false, Optio
 use Rattle.{dgt_values.specs.declared.kinds.Kind.{Kind}, dgt_message.specs.{Content.{Content}, Picture.{picture_after_all}}, dgt_host.specs.{Confirmed.{confirmed_after_all}, Host.{HostView}}}
 use Rattle.{dgt_host.specs.Host.{host_awaiting}, dgt_follow.specs.{Calls.{Call, ConfirmedOverCalls, OneStretchIsSeen, bytes_heard, follower_after_call, follower_after_calls}, Follower.{FollowerView}}}
 use Rattle.{dgt_follow.specs.{Follower.{asking_of, following, host_after_asking}, Pace.{PaceView}, declared.asking.{Asking.{Asking}, UpdateMode.{UpdateMode}}}, dgt_link.specs.Faults.{FaultyContent}}
-use Rattle.{dgt_link.specs.{Faults.{FaultyStep, sends}, View.{WorldView}, declared.acts.Outcome.{Outcome}}, dgt_followed.specs.Followed.{FollowedRuns, FollowedView, RunsDone, asking_acts}}
+use Rattle.{dgt_link.specs.{Faults.{FaultyStep}, View.{WorldView}, declared.acts.Outcome.{Outcome}}, dgt_followed.specs.Followed.{FollowedRuns, FollowedView, RunsDone, asking_acts}}
 use Rattle.dgt_followed.specs.{Followed.{follower_of}, Heard.{ConfirmedAsDelivered, ConfirmedIsReportedInWorlds, HappeningsAreCalls, HeardRuns, HeardStep, OneStretchIsSeenInWorlds, SentIsReported}}
 use Rattle.dgt_followed.specs.Heard.{TimedHappening, bytes_by, happening_of, is_noticed, is_setting}
 

@@ -1,9 +1,9 @@
 -- What a board has reported is the picture after the messages that it has sent.
 use Rattle.std.{proofs.Common.{◌≡◌, Bool, Some, refl, sym, ap, ◌∙◌, List, [], ◌∷◌, if◌then◌else◌, rules, true, false, Option, None}, specs.List.{AllByRecursion}}
 use Rattle.{dgt_values.specs.declared.pieces.Piece.{Piece}, dgt_message.specs.{Content.{Content, clock_message}, Encoding.{encoding}, Picture.{picture_after, picture_after_all}}}
-use Rattle.{dgt_command.specs.Content.{EventContent}, dgt_board.specs.{Sending.{next_message, reported_squares_after}, State.{BoardState, effect, effects, updates}, declared.replies.Reply.{Reply}}}
+use Rattle.{dgt_command.specs.Content.{EventContent}, dgt_board.specs.{Sending.{next_message, reported_squares_after}, State.{BoardState, effect, effects}, declared.replies.Reply.{Reply}}}
 use Rattle.{dgt_host.proofs.ConfirmedLemmas.{pictures_append}, dgt_follow.specs.{Follower.{asking_of}, declared.asking.{Asking.{Asking}, UpdateMode.{UpdateMode}}}, dgt_link.specs.Act.{ActContent}}
-use Rattle.dgt_link.specs.{Faults.{FaultyBecomes, FaultyContent, FaultyStep, sends}, Machine.{IsSending, MachineState, Move, state_of_board}, Reported.{first_reply, sent_by as sent_by_move}}
+use Rattle.dgt_link.specs.{Faults.{FaultyBecomes, FaultyContent, FaultyStep}, Machine.{IsSending, MachineState, Move, state_of_board}, Reported.{first_reply, sent_by as sent_by_move}}
 use Rattle.dgt_link.{specs.{Step.{Becomes, IfDone, sending_outcome}, View.{WorldView, overflows}, declared.acts.Outcome.{Outcome}}, proofs.KnownPictures.{sending_sends}}
 use Rattle.{dgt_link.proofs.{MessageReports.{clock_reports, field_reports, reply_reports}, Sending.{next_is_sent}, Taking.{effect_leaves}}, dgt_followed.specs.Followed.{FollowedView, RunsDone}}
 use Rattle.dgt_followed.specs.{Followed.{asking_acts, follower_of}, Heard.{SentIsReported, sent_by, HeardStep, KeepsPower, TimedHappening, fitting, is_noticed}}

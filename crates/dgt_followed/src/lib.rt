@@ -29,6 +29,7 @@ ghost use Rattle.std.specs.Prelude.{◌≡◌, ◌≢◌, ◌⊎◌, ◌↔◌, 
 ghost use Rattle.std.specs.List.{AllByRecursion, flat_map};
 ghost use Rattle.dgt_values.specs.declared.kinds.Kind.{Kind};
 ghost use Rattle.dgt_values.specs.declared.pieces.Piece.{Piece};
+ghost use Rattle.dgt_message.specs.Clock.{ClockState};
 ghost use Rattle.dgt_message.specs.Content.{Content, IsMessage};
 ghost use Rattle.dgt_message.specs.Encoding.{encoding};
 ghost use Rattle.dgt_command.specs.Content.{CommandContent, requested_kind};
@@ -148,35 +149,60 @@ pub fn clocks_heal()
     dgt_link::healing::clocks_heal();
 }
 
-/// Facts about the terms of the other laws. Each request for a dump counts, and only a fault, a
-/// break or a reset restarts the count. A request in a mode with the clock counts for the clock,
-/// and only what unsettles the clock restarts that count. Any act may happen, with any of its
-/// outcomes, if patience and counts agree. Consecutive steps are runs.
+/// Facts about the terms of the other laws: the acts of each request, and what counts. Each request
+/// for a dump counts, and exactly a fault, a break or a reset restarts the count. A request in a
+/// mode with the clock counts for the clock, and a request in the other mode and what unsettles the
+/// clock restart that count. Any act may happen, with any of its outcomes, if patience and counts
+/// agree. A call of `ask` that isn't due changes only what time changes. Runs are consecutive steps.
 pub fn askings_count()
+    ensures squares { asking_acts UpdateMode.UpdateBoard Asking.Heartbeat
+        ≡ sends CommandContent.UpdateBoard ∷ sends CommandContent.Dump ∷ [] }
+    ensures clock { asking_acts UpdateMode.Update Asking.Heartbeat ≡ sends CommandContent.Update
+        ∷ sends CommandContent.Dump ∷ sends CommandContent.Clock ∷ [] }
+    ensures anew { asking_acts UpdateMode.UpdateNice Asking.Anew ≡ FaultyContent.Restart
+        ∷ sends CommandContent.UpdateNice ∷ sends CommandContent.Clock ∷ [] }
+    ensures serial { (mode : UpdateMode) →
+        asking_acts mode Asking.Identify ≡ sends CommandContent.Serial ∷ [] }
+    ensures nothing { (mode : UpdateMode) → asking_acts mode Asking.Nothing ≡ [] }
     ensures asking { (what : Asking) (since : ℕ) → what ≢ Asking.Nothing →
         what ≢ Asking.Identify → count_after_asking what since ≡ since + 1 }
-    ensures identify { (since : ℕ) → count_after_asking Asking.Identify since ≡ since }
-    ensures other { (act : FaultyContent) → unsettles act ≡ true →
-        (is_fault act ≡ true) ⊎ (stops act ≡ true) }
+    ensures identify { (since : ℕ) → (count_after_asking Asking.Nothing since ≡ since)
+        × (count_after_asking Asking.Identify since ≡ since) }
+    ensures unsettled { (act : FaultyContent) (since : ℕ) →
+        (is_fault act ≡ true) ⊎ (stops act ≡ true) → count_after act since ≡ 0 }
     ensures kept { (act : FaultyContent) (since : ℕ) → is_fault act ≡ false → stops act ≡ false →
         count_after act since ≡ since }
     ensures clock_asking { (mode : UpdateMode) (what : Asking) (since : ℕ) →
         what ≢ Asking.Nothing → what ≢ Asking.Identify → mode ≢ UpdateMode.UpdateBoard →
         clock_count_after_asking mode what since ≡ since + 1 }
+    ensures clock_identify { (mode : UpdateMode) (since : ℕ) →
+        (clock_count_after_asking mode Asking.Nothing since ≡ since)
+        × (clock_count_after_asking mode Asking.Identify since ≡ since) }
+    ensures clock_silent { (what : Asking) (since : ℕ) → what ≢ Asking.Nothing →
+        what ≢ Asking.Identify → clock_count_after_asking UpdateMode.UpdateBoard what since ≡ 0 }
+    ensures clock_unsettled { (act : FaultyContent) (since : ℕ) →
+        (is_fault act ≡ true) ⊎ (stops_clock act ≡ true) → clock_count_after act since ≡ 0 }
     ensures clock_kept { (act : FaultyContent) (since : ℕ) → is_fault act ≡ false →
         stops_clock act ≡ false → clock_count_after act since ≡ since }
     ensures room { (line : LineContents) (bytes : List ℕ) →
         length line.bytes + length bytes ≤ line.capacity → HasRoom line bytes }
-    ensures step { (act : FaultyContent) (answer : Outcome) (before after : FollowedView) →
-        FaultyStep act before.world answer after.world →
-        after.pace.patience ≡ before.pace.patience → after.pace.left ≡ before.pace.left →
-        after.since ≡ count_after act before.since →
-        after.clock_since ≡ clock_count_after act before.clock_since →
-        FollowedStep (Happening.Other act) before after }
-    ensures no_runs { (followed : FollowedView) → FollowedRuns [] followed followed }
+    ensures ask { (now : ℕ) (before after : FollowedView) →
+        FollowedStep (Happening.Ask now) before after →
+        asking_of (follower_of before) now ≡ Asking.Nothing →
+        (after.world ≡ before.world) × (after.pace ≡ pace_at before.pace now)
+        × (after.since ≡ before.since) × (after.clock_since ≡ before.clock_since) }
+    ensures step { (act : FaultyContent) (before after : FollowedView) →
+        FollowedStep (Happening.Other act) before after ↔ (answer : Outcome)
+        × FaultyStep act before.world answer after.world
+        × (after.pace.patience ≡ before.pace.patience) × (after.pace.left ≡ before.pace.left)
+        × (after.since ≡ count_after act before.since)
+        × (after.clock_since ≡ clock_count_after act before.clock_since) }
+    ensures no_runs { (before after : FollowedView) →
+        FollowedRuns [] before after ↔ after ≡ before }
     ensures runs { (happening : Happening) (later : List Happening)
-        (before between after : FollowedView) → FollowedStep happening before between →
-        FollowedRuns later between after → FollowedRuns (happening ∷ later) before after }
+        (before after : FollowedView) → FollowedRuns (happening ∷ later) before after
+        ↔ (between : FollowedView) × FollowedStep happening before between
+        × FollowedRuns later between after }
 {}
 
 /// Without faults no dump contradicts the picture, if no square has an unreported change when a
@@ -225,9 +251,9 @@ pub fn unreported_changes_are_doubts()
 pub fn dumps_restate()
     ensures unknown { (pieces : List Piece) →
         AllRestate None (Content.dump pieces ∷ Content.dump pieces ∷ []) }
-    ensures known { (pieces : List Piece) (square : ℕ) (piece : Piece) →
-        AllRestate (Some pieces) (Content.field square piece
-        ∷ Content.dump (slice_set pieces square piece) ∷ []) }
+    ensures known { (pieces others : List Piece) (square : ℕ) (piece : Piece) →
+        AllRestate (Some pieces) (Content.field square piece ∷ Content.dump others ∷ [])
+        ↔ slice_set pieces square piece ≡ others }
     ensures other { (pieces others : List Piece) →
         AllRestate None (Content.dump pieces ∷ Content.dump others ∷ []) → pieces ≡ others }
     ensures rests { (board : BoardState) (later : List Reply) →
@@ -236,16 +262,15 @@ pub fn dumps_restate()
         board.squares ≡ board.reported_squares → IsAtRest board (Reply.Of Kind.Dump ∷ later) }
     ensures others { (board : BoardState) (later : List Reply) →
         IsAtRest board (Reply.Of Kind.Serial ∷ Reply.Of Kind.Dump ∷ later) }
-    ensures reply { (x : MachineState) → SendsAtRest x Move.Reply → IsAtRest x.board x.board.owed }
+    ensures reply { (x : MachineState) →
+        SendsAtRest x Move.Reply ↔ IsAtRest x.board x.board.owed }
     ensures report { (x : MachineState) (square : ℕ) → SendsAtRest x (Move.Report square) }
     ensures each { (x : MachineState) (move : Move) → DumpsAtRest x (Move.Take ∷ move ∷ []) →
         SendsAtRest (after_move x Move.Take) move }
     ensures all { (x : MachineState) (move : Move) → SendsAtRest (after_move x Move.Take) move →
         DumpsAtRest x (Move.Take ∷ move ∷ []) }
-    ensures calm { (pace : PaceView) → pace.doubtful ≡ false → pace.disturbed ≡ false →
-        HasNoDoubt pace }
-    ensures no_doubt { (pace : PaceView) → HasNoDoubt pace →
-        (pace.doubtful ≡ false) × (pace.disturbed ≡ false) }
+    ensures no_doubt { (pace : PaceView) →
+        HasNoDoubt pace ↔ (pace.doubtful ≡ false) × (pace.disturbed ≡ false) }
     ensures just_made { (period patience : ℕ) (mode : UpdateMode) →
         HasNoDoubt (new_follower period patience mode).pace }
 {}
@@ -290,20 +315,19 @@ pub fn sound_worlds_raise_no_doubt()
 pub fn happenings_are_sound()
     ensures world { (world : WorldView) (is : IsRestatedWorld world) →
         StandsFor world is.state × IsExact is.state × AllRestate is.state.picture is.state.up }
-    ensures sends { (world : WorldView) → ActsAtRest ActContent.BoardSend world →
-        IsAtRest world.board.state world.board.state.owed }
-    ensures moves { (world : WorldView) (count : ℕ) → ActsAtRest (ActContent.ToHost count) world }
+    ensures sends { (world : WorldView) → ActsAtRest ActContent.BoardSend world
+        ↔ IsAtRest world.board.state world.board.state.owed }
+    ensures moves { (world : WorldView) (count square : ℕ) (piece : Piece) (clock : ClockState)
+        (command : CommandContent) → AllByRecursion (λ act. ActsAtRest act world)
+        (ActContent.ToHost count ∷ ActContent.ToBoard count ∷ ActContent.Change square piece
+        ∷ ActContent.ClockRead clock ∷ ActContent.Host command ∷ ActContent.Break
+        ∷ ActContent.HostBreak ∷ []) }
     ensures step { (act : ActContent) (world after : WorldView) (answer : Outcome) →
-        Step act world answer after → ActsAtRest act world →
-        RunsAtRest (act ∷ []) world (answer ∷ []) after }
-    ensures rests { (act : ActContent) (world after : WorldView) (answer : Outcome) →
-        RunsAtRest (act ∷ []) world (answer ∷ []) after → ActsAtRest act world }
+        RunsAtRest (act ∷ []) world (answer ∷ []) after
+        ↔ Step act world answer after × ActsAtRest act world }
     ensures in_time { (now : ℕ) (before : FollowedView) → is_unanswered before.pace ≡ false →
         is_stuck before.pace now ≡ false → before.world.host.awaited ≡ [] →
         IsSoundHappening (TimedHappening.Asks now) before }
-    ensures early { (now : ℕ) (before : FollowedView) →
-        IsSoundHappening (TimedHappening.Asks now) before →
-        (is_overdue before.pace now ≡ false) × (is_stuck before.pace now ≡ false) }
     ensures hears { (now count : ℕ) (before : FollowedView) →
         IsSoundHappening (TimedHappening.Hears now count) before }
     ensures sets { (mode : UpdateMode) (flag : Bool) (before : FollowedView) →
@@ -313,17 +337,16 @@ pub fn happenings_are_sound()
         × IsSoundHappening (TimedHappening.Sets Call.AsksNow) before }
     ensures reported { (before : FollowedView) →
         ¬ (IsSoundHappening (TimedHappening.Sets Call.Disturbs) before) }
-    ensures acts { (act : ActContent) (before : FollowedView) → ActsAtRest act before.world →
-        IsSoundHappening (TimedHappening.Acts (FaultyContent.Plain act)) before }
+    ensures acts { (act : ActContent) (before : FollowedView) →
+        IsSoundHappening (TimedHappening.Acts (FaultyContent.Plain act)) before
+        ↔ ActsAtRest act before.world }
     ensures fault { (bytes : List ℕ) (before : FollowedView) →
         ¬ (IsSoundHappening (TimedHappening.Acts (FaultyContent.GarbleUp bytes)) before) }
-    ensures no_runs { (followed : FollowedView) → SoundRuns [] followed followed }
+    ensures no_runs { (before after : FollowedView) → SoundRuns [] before after ↔ after ≡ before }
     ensures runs { (happening : TimedHappening) (later : List TimedHappening)
-        (before between after : FollowedView) → HeardStep happening before between →
-        IsSoundHappening happening before → SoundRuns later between after →
-        SoundRuns (happening ∷ later) before after }
-    ensures each { (happening : TimedHappening) (before after : FollowedView) →
-        SoundRuns (happening ∷ []) before after → IsSoundHappening happening before }
+        (before after : FollowedView) → SoundRuns (happening ∷ later) before after
+        ↔ (between : FollowedView) × HeardStep happening before between
+        × IsSoundHappening happening before × SoundRuns later between after }
 {}
 
 /// In a world that may fail, a follower hears exactly what is delivered to it, whatever else
@@ -346,6 +369,14 @@ pub fn worlds_confirm_as_delivered()
         IsRight reported before.world.host.picture →
         IsOneStretch reported before (first ++ option_to_list meant ++ last)
         (flat_map encoding first ++ bytes ++ flat_map encoding last) }
+    ensures parts { (reported : List Piece) (before : FollowedView) (said : List Content)
+        (bytes : List ℕ) (is : IsOneStretch reported before said bytes) →
+        AllByRecursion IsMessage is.first × AllByRecursion IsMessage is.last
+        × (said ≡ is.first ++ option_to_list is.meant ++ is.last)
+        × (bytes ≡ flat_map encoding is.first ++ is.stretch ++ flat_map encoding is.last)
+        × (messages (events is.stretch) ≡ option_to_list is.heard)
+        × (before.world.host.unread ≡ []) × (before.pace.confirmed ≡ false)
+        × IsRight reported before.world.host.picture }
     ensures one_stretch { OneStretchIsSeenInWorlds }
     ensures sent { SentIsReported }
     ensures reported { ConfirmedIsReportedInWorlds }
@@ -411,27 +442,30 @@ pub fn happenings_are_heard()
     ensures powered { (now : ℕ) → KeepsPower (TimedHappening.Asks now) }
     ensures lost { ¬ (KeepsPower (TimedHappening.Acts FaultyContent.BoardLost)) }
     ensures hears { (now count : ℕ) (before after : FollowedView) →
-        FollowedStep (Happening.Other (FaultyContent.Plain (ActContent.ToHost count))) before
-        after → follower_of after
-        ≡ follower_after (follower_of before) now (take count before.world.up.bytes) →
-        HeardStep (TimedHappening.Hears now count) before after }
+        HeardStep (TimedHappening.Hears now count) before after
+        ↔ FollowedStep (Happening.Other (FaultyContent.Plain (ActContent.ToHost count))) before
+        after × (follower_of after
+        ≡ follower_after (follower_of before) now (take count before.world.up.bytes)) }
+    ensures set { (call : Call) (before after : FollowedView) →
+        HeardStep (TimedHappening.Sets call) before after
+        ↔ FollowedStep (Happening.Other (FaultyContent.Plain (ActContent.ToHost 0))) before after
+        × (is_setting call ≡ true)
+        × (follower_of after ≡ follower_after_call (follower_of before) call) }
     ensures acts { (act : FaultyContent) (before after : FollowedView) →
-        FollowedStep (Happening.Other act) before after → is_noticed act ≡ false →
-        after.pace ≡ before.pace → HeardStep (TimedHappening.Acts act) before after }
+        HeardStep (TimedHappening.Acts act) before after
+        ↔ FollowedStep (Happening.Other act) before after × (is_noticed act ≡ false)
+        × (after.pace ≡ before.pace) }
     ensures asks { (now : ℕ) (before after : FollowedView) →
-        FollowedStep (Happening.Ask now) before after →
-        HeardStep (TimedHappening.Asks now) before after }
-    ensures no_runs { (followed : FollowedView) → HeardRuns [] [] [] followed followed }
-    ensures nothing { (said : List Content) (bytes : List ℕ) (before after : FollowedView) →
-        HeardRuns [] said bytes before after → (said ≡ []) × (bytes ≡ []) }
-    ensures runs { (happening : TimedHappening) (later : List TimedHappening) (more : List Content)
-        (rest : List ℕ) (before between after : FollowedView) →
-        HeardStep happening before between → HeardRuns later more rest between after →
-        HeardRuns (happening ∷ later) (sent_by happening before ++ more)
-        (bytes_by happening before ++ rest) before after }
-    ensures one { (happening : TimedHappening) (said : List Content) (bytes : List ℕ)
-        (before after : FollowedView) → HeardRuns (happening ∷ []) said bytes before after →
-        (said ≡ sent_by happening before ++ []) × (bytes ≡ bytes_by happening before ++ []) }
+        HeardStep (TimedHappening.Asks now) before after
+        ↔ FollowedStep (Happening.Ask now) before after }
+    ensures no_runs { (said : List Content) (bytes : List ℕ) (before after : FollowedView) →
+        HeardRuns [] said bytes before after ↔ (said ≡ []) × (bytes ≡ []) × (after ≡ before) }
+    ensures runs { (happening : TimedHappening) (later : List TimedHappening)
+        (said : List Content) (bytes : List ℕ) (before after : FollowedView) →
+        HeardRuns (happening ∷ later) said bytes before after
+        ↔ (between : FollowedView) × (more : List Content) × (rest : List ℕ)
+        × HeardStep happening before between × HeardRuns later more rest between after
+        × (said ≡ sent_by happening before ++ more) × (bytes ≡ bytes_by happening before ++ rest) }
 {}
 
 /// `askings_heal` and `clocks_heal`, written out.
@@ -464,31 +498,26 @@ pub fn what_is_noticed()
         × (after.world.host.clock ≡ before.world.host.clock)
         × (after.world.host.unread ≡ before.world.host.unread) }
     ensures power { (happening : TimedHappening) →
-        happening ≢ TimedHappening.Acts FaultyContent.BoardLost → KeepsPower happening }
-    ensures lost { (happening : TimedHappening) → KeepsPower happening →
-        happening ≢ TimedHappening.Acts FaultyContent.BoardLost }
+        KeepsPower happening ↔ happening ≢ TimedHappening.Acts FaultyContent.BoardLost }
 {}
 
-/// What is enough for a sound happening: a follower asks in time, or a board is at rest when it
-/// sends a dump.
+/// When a happening is sound: a follower asks in time, or a board is at rest when it sends a dump.
 pub fn what_is_sound()
-    ensures asks { (now : ℕ) (before : FollowedView) → is_overdue before.pace now ≡ false →
-        is_stuck before.pace now ≡ false → let what = asking_of (follower_of before) now in
-        (what ≡ Asking.Nothing) ⊎ ((what ≡ Asking.Identify) ⊎ (is_unanswered before.pace ≡ false))
-        → (what ≡ Asking.Anew → before.world.host.awaited ≡ []) →
-        IsSoundHappening (TimedHappening.Asks now) before }
+    ensures asks { (now : ℕ) (before : FollowedView) →
+        let what = asking_of (follower_of before) now in
+        IsSoundHappening (TimedHappening.Asks now) before
+        ↔ (is_overdue before.pace now ≡ false) × (is_stuck before.pace now ≡ false)
+        × ((what ≡ Asking.Nothing) ⊎ ((what ≡ Asking.Identify)
+        ⊎ (is_unanswered before.pace ≡ false)))
+        × (what ≡ Asking.Anew → before.world.host.awaited ≡ []) }
     ensures acts { (act : ActContent) (world : WorldView) → act ≢ ActContent.BoardSend →
         ActsAtRest act world }
-    ensures sends { (world : WorldView) → IsAtRest world.board.state world.board.state.owed →
-        ActsAtRest ActContent.BoardSend world }
     ensures moves { (x : MachineState) (move : Move) → move ≢ Move.Reply → SendsAtRest x move }
     ensures reported { (board : BoardState) (owed : List Reply) →
         board.squares ≡ board.reported_squares → IsAtRest board owed }
     ensures others { (board : BoardState) (reply : Reply) (later : List Reply) →
         reply ≢ Reply.Of Kind.Dump → IsAtRest board (reply ∷ later) }
     ensures none { (board : BoardState) → IsAtRest board [] }
-    ensures dump { (board : BoardState) (later : List Reply) →
-        IsAtRest board (Reply.Of Kind.Dump ∷ later) → board.squares ≡ board.reported_squares }
 {}
 
 /// What holds after requests holds after each list of happenings that contains more of them than

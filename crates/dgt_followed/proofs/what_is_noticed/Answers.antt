@@ -6,9 +6,3 @@ returns-clause-acts c = noticed_is
 
 pub returns-clause-unheard : goal.returns-clause-unheard
 returns-clause-unheard c = unheard
-
-pub returns-clause-power : goal.returns-clause-power
-returns-clause-power c = λ happening other. other
-
-pub returns-clause-lost : goal.returns-clause-lost
-returns-clause-lost c = λ happening keeps. keeps
