@@ -84,7 +84,8 @@ pub fn one_stretch_is_seen()
 }
 
 /// The effect of a follower's calls is as `specs/Calls.antt` says: of `ask` if it wrote what was
-/// due, and of `send` if the command was written. The settings are kept.
+/// due, and of `send` if the command was written. The settings are kept. If the slice is too short,
+/// `ask` changes nothing.
 pub fn calls_leave()
     ensures asked { (before after : FollowerView) (now written : ℕ) (old new : List ℕ) →
         Asks (asking_of before now) now before after old new (Ok written) →

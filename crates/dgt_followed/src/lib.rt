@@ -153,7 +153,7 @@ pub fn clocks_heal()
 /// for a dump counts, and exactly a fault, a break or a reset restarts the count. A request in a
 /// mode with the clock counts for the clock, and a request in the other mode and what unsettles the
 /// clock restart that count. Any act may happen, with any of its outcomes, if patience and counts
-/// agree. A call of `ask` that isn't due changes only what time changes. Runs are consecutive steps.
+/// agree. A call of `ask` that isn't due changes only what time does. Runs are consecutive steps.
 pub fn askings_count()
     ensures squares { asking_acts UpdateMode.UpdateBoard Asking.Heartbeat
         ≡ sends CommandContent.UpdateBoard ∷ sends CommandContent.Dump ∷ [] }
