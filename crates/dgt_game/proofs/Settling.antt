@@ -3,7 +3,6 @@ use Rattle.std.proofs.Common.{◌≡◌, ◌∙◌, ◌<◌, ◌≤◌, ◌+◌,
 use Rattle.std.specs.Prelude.{◌≢◌, IfSome, MatchOption, if◌then◌else◌, option_map, slice_get}
 use Rattle.std.proofs.lemmas.Bool.{false≢true}
 use Rattle.std.proofs.lemmas.Option.{none-some}
-use Rattle.dgt_game.specs.declared.memory.Memory.{Memory}
 use Rattle.dgt_game.specs.declared.node.Node.{Node}
 use Rattle.dgt_game.specs.declared.node.Origin.{Origin}
 use Rattle.dgt_game.specs.declared.node.Place.{Place}
@@ -14,7 +13,7 @@ use Rattle.dgt_game.specs.declared.resting.Task.{Task}
 use Rattle.dgt_game.specs.declared.view.View.{View}
 use Rattle.dgt_game.specs.Memory.{steps}
 use Rattle.dgt_game.specs.Planning.{Lacks, Plans, RestsAfter, RestsAt, RestsBefore, RestsBy, TaskFits, search_wait}
-use Rattle.dgt_game.specs.Settling.{IsAt, NothingWaitsLong, ReplacingHasRested, ReportedHasRested, ReportedHasSettled, ReportedIsShown, ReportsNow, SeenIsAnswered}
+use Rattle.dgt_game.specs.Settling.{IsAt, NothingWaitsLong, ReplacingHasRested, ReportedHasRested, ReportedHasSettled, ReportedIsShown, SeenIsAnswered}
 use Rattle.dgt_game.specs.Standing.{Counts, Lands, ShowsAs, StandsAt}
 use Rattle.dgt_game.specs.Timing.{HasTask, IsIdle}
 use Rattle.dgt_game.proofs.Finding.{not_yet}

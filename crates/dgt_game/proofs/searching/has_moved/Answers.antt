@@ -1,5 +1,4 @@
 use Rattle.std.proofs.Common.{rules, arith, ◌≡◌, None, Some, inl, inr, subst, slice_get}
-use Rattle.dgt_values.specs.declared.pieces.Piece.{Piece}
 use Rattle.dgt_values.specs.declared.positions.Position.{Position}
 use Rattle.dgt_values.specs.Board.{pieces_of, square_number}
 use Rattle.dgt_game.proofs.Moved.{Moves, no_man, stays_more}

@@ -1,4 +1,4 @@
-use Rattle.std.proofs.Common.{◌≡◌, ◌≤◌, ◌<◌, ℕ, IsSome}
+use Rattle.std.proofs.Common.{◌≤◌, ◌<◌, ℕ, IsSome}
 use Rattle.std.specs.Prelude.{IfSome}
 use Rattle.dgt_values.specs.Board.{pieces_of}
 use Rattle.dgt_game.specs.declared.node.Place.{Place}

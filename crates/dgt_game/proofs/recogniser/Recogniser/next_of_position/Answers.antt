@@ -1,6 +1,5 @@
-use Rattle.std.proofs.Common.{rules, ◌≡◌, refl, sym, ap}
-use Rattle.dgt_game.specs.Planning.{RestsBefore, TaskFits, search_wait}
-use Rattle.dgt_game.specs.declared.resting.Task.{Task}
+use Rattle.std.proofs.Common.{rules, sym, ap}
+use Rattle.dgt_game.specs.Planning.{search_wait}
 use Rattle.dgt_game.proofs.recogniser.Recogniser.next_of_position.Goals as goal
 use Rattle.dgt_game.proofs.recogniser.Recogniser.next_of_position.Goals.{then-self, else-self+else-ne+in-Waiting, else-self+else-ne+in-Waiting-2, else-self+else-ne+in-Done-2+in_ok-new_wait-in-Done-2}
 
