@@ -175,8 +175,8 @@ pub fn views_are_readings()
         ↔ (reading code body ≡ result_map_both content (λ why. why) result) }
 {}
 
-/// After messages in a row, the picture of the board is that of the last dump with the field
-/// updates since, and the clock is the last one that was reported.
+/// A dump sets the picture of the board, a field update sets one square of it, and the clock is the
+/// last one that was reported. Other messages leave both as they are.
 pub fn what_messages_report()
     ensures picture { (before : Option (List Piece)) (pieces : List Piece) (square : ℕ)
         (piece : Piece) (absence : Absence) → picture_after_all before
@@ -228,7 +228,7 @@ pub fn bodies_read()
         ≡ Ok (Content.carried 0x23 (first ∷ second ∷ [])) }
 {}
 
-/// The bytes of each kind of message.
+/// The bytes of a message of each kind.
 pub fn encodings()
     ensures dump { encoding (Content.dump (replicate 63 Piece.Empty ++ Piece.ThirdExtra ∷ []))
         ≡ 0x86 ∷ 0 ∷ 67 ∷ replicate 63 0 ++ 15 ∷ [] }
@@ -275,7 +275,8 @@ pub fn what_fits()
         × (length carried ≤ 16380) × AreSevenBit carried × (body ≡ carried) }
 {}
 
-/// The faults of a body: a wrong size comes before every byte, and a byte before those after it.
+/// The faults of a field update's body, and of times with two wrong bytes: the first one counts. A
+/// body of a wrong size has no other fault.
 pub fn faults_of_bodies()
     ensures size { (body : List ℕ) → IsFaultOf 0x0e body BodyFault.WrongSize
         ↔ length body ≢ 2 }

@@ -97,7 +97,7 @@ pub fn what_is_cloned()
         → IsTrue (succeeds a) × (IsTrue (may_give a b) → b ≡ a) }
 {}
 
-/// No byte up to 127 is refused, and no body of up to 16,380 of them.
+/// Bytes up to 127 are accepted and others refused, and so are bodies of up to 16,380 of them.
 pub fn what_is_refused()
     ensures highest { (result : Result SevenBit NotSevenBit) → SevenBitOf 127 result
         ↔ MatchResult result (λ byte. number byte ≡ 127) (λ _. ⊥) }
@@ -152,7 +152,8 @@ pub fn bytes_of_a_rank()
         → MeansSquares byte first → MeansSquares byte second → first ≡ second }
 {}
 
-/// A rank has the squares of its bytes in order, and ranks of eight squares are put together.
+/// A rank has the squares of its bytes in order, and a placement those of its ranks, eight each.
+/// Each prefix of a placement begins one.
 pub fn ranks_and_their_squares()
     ensures no_byte { (squares : List Piece) → IsRank [] squares ↔ (squares ≡ []) }
     ensures one_byte { (byte : ℕ) (squares : List Piece)
