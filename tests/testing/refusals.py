@@ -34,7 +34,9 @@ HEAD = "# Made by tests/mutants/mutants, but for what is after `same:` and `held
 BY_HAND = ("same:", "held:")
 AT_ONCE = 100  # copies in one check
 SENSELESS, TRIED = "no definition", "tried"
-BROKEN = re.compile(r"(?m)^\./specs/Copies(\w+)\.antt:(\d+):\d+: error: (?!\d+ declarations? that)")
+BROKEN = re.compile(r"(?m)^\./specs/Copies(\w+)\.antt:(\d+):\d+: error: "
+                    r"(?!\d+ declarations? that)(.*)")
+NEXT = "found the start of a new declaration"  # an error of the one before
 
 Labels = dict[str, dict[int, str]]  # of each definition what refuses its mutants
 Job = tuple[Mutant, Clause]
@@ -138,7 +140,7 @@ def try_jobs(crate: Crate, jobs: list[Job]) -> dict[Job, str]:
         finally:
             for path in new:
                 path.unlink()
-        broken = {copy_at(files[f"specs/Copies{it[1]}.antt"], int(it[2]))
+        broken = {copy_at(files[f"specs/Copies{it[1]}.antt"], int(it[2]) - (NEXT in it[3]))
                   for it in BROKEN.finditer(output)}
         proved = {it.rpartition("::")[2] for it in PROVED.findall(output)}
         refused = {it.rpartition("::")[2] for it in refused_in(crate.root.name, output)}
