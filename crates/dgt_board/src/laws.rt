@@ -141,6 +141,11 @@ pub fn modes()
     ensures set { map command_mode (CommandContent.Reset ∷ CommandContent.Update
         ∷ CommandContent.UpdateBoard ∷ CommandContent.UpdateNice ∷ []) ≡ map Some
         (BoardMode.Idle ∷ BoardMode.Update ∷ BoardMode.UpdateBoard ∷ BoardMode.UpdateNice ∷ []) }
+    ensures others { (message : ClockContent) (leds : List ℕ) → map command_mode
+        (CommandContent.Clock ∷ CommandContent.Dump ∷ CommandContent.Serial
+        ∷ CommandContent.Trademark ∷ CommandContent.Version ∷ CommandContent.Battery
+        ∷ CommandContent.LongSerial ∷ CommandContent.ClockMessage message
+        ∷ CommandContent.Leds leds ∷ []) ≡ replicate 9 None }
     ensures squares { map updates (BoardMode.Idle ∷ BoardMode.Update ∷ BoardMode.UpdateBoard
         ∷ BoardMode.UpdateNice ∷ []) ≡ false ∷ true ∷ true ∷ true ∷ [] }
     ensures clock { map follows_clock (BoardMode.Idle ∷ BoardMode.Update ∷ BoardMode.UpdateBoard
