@@ -381,8 +381,8 @@ pub fn kinds_of_acts()
         → is_fault act ≡ false) → AreFaultless acts }
 {}
 
-/// The outcome and the effect of each fault: this board, this host, this up line and this down
-/// line. The others are `NoRoom`.
+/// The outcome and the effect of each fault: the board, the host and both lines after it. A fault
+/// that isn't done is `NoRoom`.
 pub fn what_faults_do()
     ensures step { (act : FaultyContent) (world after : WorldView) (answer : Outcome) →
         FaultyStep act world answer after ↔ ((answer ≡ faulty_outcome act world)
@@ -421,8 +421,8 @@ pub fn what_faults_do()
         faulty_outcome act world ≢ Outcome.Done → faulty_outcome act world ≡ Outcome.NoRoom }
 {}
 
-/// Which acts that count are enough for what heals, and what sane worlds are. The world stands for
-/// a state after some garbage.
+/// Exactly which counted commands heal, what a sane world is, and when a world stands, after some
+/// garbage, for a state.
 pub fn what_heals()
     ensures healing { (c : Counted) → IsHealing c ↔ (IsTrue c.in_step × IsAsked c.asked) }
     ensures clock_healing { (c : Counted) → IsClockHealing c ↔ (IsTrue c.in_step

@@ -594,7 +594,7 @@ pub fn asking_is_exact()
         ↔ IsAskedBy (map act_content acts) (map (λ act. Outcome.Done) acts) }
 {}
 
-/// The outcome of each act. Those that are not named here are always done.
+/// The outcome of each act, in the order in which `World::step` names them.
 pub fn outcomes_of_acts()
     ensures too_many { (command : CommandContent) (world : WorldView) →
         (outcome (ActContent.Host command) world ≡ Outcome.TooMany)
@@ -640,8 +640,8 @@ pub fn outcomes_of_acts()
         ∷ ActContent.ClockRead clock ∷ ActContent.Break ∷ ActContent.HostBreak ∷ []) }
 {}
 
-/// The effect of each act that is done: its board, its host, its up line and its down line. An act
-/// that isn't done has none.
+/// The effect of each act that is done: the board, the host and both lines after it. An act that
+/// isn't done has none.
 pub fn what_acts_do()
     ensures step { (act : ActContent) (world after : WorldView) (answer : Outcome) →
         Step act world answer after ↔ ((answer ≡ outcome act world)
@@ -722,8 +722,8 @@ pub fn what_worlds_stand_for()
 {}
 
 /// The kinds of messages to come. A request adds its own, hearing takes the first one away, and
-/// what the board takes and sends leaves them. The first kind of a list in its order is somewhere
-/// in the other list, and the others are after it.
+/// what the board takes and sends leaves them. Kinds are among others in their order if the first
+/// one is somewhere there, and the rest after it.
 pub fn kinds_to_come()
     ensures asked { (x : MachineState) (command : CommandContent) →
         coming_kinds (after_move x (Move.Ask command))
