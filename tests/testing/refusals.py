@@ -238,9 +238,9 @@ def try_crate(root: pathlib.Path, path: pathlib.Path, known: Labels, names: set[
         search = Search(crate, known, names)
         while search.try_some():
             write(path, crate, known, {it.definition.name for it in search.left})
-    for mutant in search.left:
-        known[mutant.definition.name].pop(mutant.number, None)
-    write(path, crate, known, {it.definition.name for it in search.left})
+        for mutant in search.left:
+            known[mutant.definition.name].pop(mutant.number, None)
+        write(path, crate, known, {it.definition.name for it in search.left})
     if texts := [f"{it.name} ({it.what}): {' '.join(it.new.split())}" for it in search.left]:
         raise Failure("\n".join([f"{root.name}: nothing refuses", *texts]))
 
