@@ -1,8 +1,6 @@
 """Reads bindings/c/include/dgt.h: its sections, and in each the comments and the declarations in
 order."""
 
-from __future__ import annotations
-
 import dataclasses
 import pathlib
 import re

@@ -4,8 +4,6 @@ A help consists of blocks, separated by empty lines: the usage, tables (commands
 options), and text. A block with a line that starts with two spaces and `$ ` is an example.
 """
 
-from __future__ import annotations
-
 import dataclasses
 import re
 import subprocess

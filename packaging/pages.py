@@ -1,7 +1,5 @@
 """Writes manual pages in a form that all their readers accept."""
 
-from __future__ import annotations
-
 import datetime
 import os
 import pathlib

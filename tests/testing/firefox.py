@@ -2,8 +2,6 @@
 
 It has the members of chromium.Chromium of tests/trials that tests/apps/web uses."""
 
-from __future__ import annotations
-
 import json
 import os
 import pathlib

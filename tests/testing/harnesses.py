@@ -1,7 +1,5 @@
 """The harnesses of bindings/c/fuzz/, and their runs without libFuzzer."""
 
-from __future__ import annotations
-
 import os
 import pathlib
 import re

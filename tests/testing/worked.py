@@ -1,7 +1,5 @@
 """Reads the worked rows of tests/testing/rows.txt. Its first lines describe the format."""
 
-from __future__ import annotations
-
 import ast
 import pathlib
 import re

@@ -1,7 +1,5 @@
 """Games that hands play on a board, square by square, with accidents. Times are in milliseconds."""
 
-from __future__ import annotations
-
 import functools
 import pathlib
 import random

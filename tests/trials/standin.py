@@ -1,8 +1,6 @@
 """A stand-in for the server of apps/broadcast/page: it serves the page, and sends given events. So
 the page is tried without a broker and without boards."""
 
-from __future__ import annotations
-
 import http.server
 import json
 import pathlib

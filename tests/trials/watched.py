@@ -1,7 +1,5 @@
 """What a follower says of a board that hands play on: a follower by rules, or a real one."""
 
-from __future__ import annotations
-
 import math
 import random
 from collections import deque

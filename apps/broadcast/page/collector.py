@@ -1,7 +1,5 @@
 """Makes games from the reports of boards, like `dgt-game`."""
 
-from __future__ import annotations
-
 import collections
 import contextlib
 import functools

@@ -1,7 +1,5 @@
 """Makes games from the boards' reports and the arbiter's corrections, both rows of the state."""
 
-from __future__ import annotations
-
 import functools
 import math
 import queue

@@ -1,7 +1,5 @@
 """The arbiter's corrections: the meaning of his rows of the state, and their effect on games."""
 
-from __future__ import annotations
-
 import itertools
 import os
 import pathlib

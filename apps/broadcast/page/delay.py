@@ -1,7 +1,5 @@
 """Delayed games and boards: all that spectators get."""
 
-from __future__ import annotations
-
 import collections
 import queue
 import threading

@@ -1,8 +1,6 @@
 """The arbiter's desk: a page at a separate address, which shows all boards without the delay and
 takes corrections."""
 
-from __future__ import annotations
-
 import base64
 import binascii
 import hashlib

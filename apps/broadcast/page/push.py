@@ -1,7 +1,5 @@
 """Sends the games of a round to an address with a token, and writes each round into a file."""
 
-from __future__ import annotations
-
 import contextlib
 import email.utils
 import http.client

@@ -1,7 +1,5 @@
 """The boards as a server shows them."""
 
-from __future__ import annotations
-
 import collections
 import contextlib
 import json

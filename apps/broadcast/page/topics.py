@@ -1,7 +1,5 @@
 """The messages of a board's topics, and the state of a board."""
 
-from __future__ import annotations
-
 import json
 import re
 import time

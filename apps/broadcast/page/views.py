@@ -1,7 +1,5 @@
 """Games as JSON for pages."""
 
-from __future__ import annotations
-
 import json
 from typing import Any
 
