@@ -21,7 +21,7 @@ NAME, CODE = "long_?serial", "0x22"
 # Laws, tests and altered lines that are about it, and documents.
 STAYS = re.compile(
     r"docs/.*|crates/\w+\.md|bindings/c/tests/test\.c"
-    r"|tests/(libraries/(divisions|altered_models\.txt)|testing/object_cases\.py)"
+    r"|tests/(libraries/altered_models\.txt|testing/object_cases\.py)"
     r"|.*(\.edits?|/laws.*|/fixtures\.rt)"
 )
 # A crate and a colon, a crate after `of`, words in backticks; a sentence or a list that begins.

@@ -14,7 +14,7 @@ import typing
 
 import cases
 import dgt
-import model
+import told
 import worked
 from dgt.recogniser import Recogniser
 from wrong import Wrong, wanted
@@ -253,21 +253,42 @@ def calls():
 
 # ---- Texts
 
+TABLES, _ = worked.read_tables()
 
-def messages():
-    """The bytes of each row, and the texts of their events."""
-    dump = model.spell(model.DUMP, model.read_placement(model.START)[0])
-    yield dump, [f"dump {model.START}"]
-    for row in worked.read_tables()[0]["Lines of show and monitor"]:
-        texts = [line.partition(" ")[2] for line in row.cells[1].split("; ")]
-        yield bytes.fromhex(row.cells[0]), [text for text in texts if text[:10] != "unfinished"]
+
+def rows(*names):
+    """The bytes of the rows of these tables, the texts of their events or words, and how many bytes
+    are unfinished at the end."""
+    for digits, lines in (row.cells for name in names for row in TABLES[name]):
+        texts = [line.partition(" ")[2] for line in
+                 worked.encode_lines(lines).decode().splitlines()]
+        *_, (first, _, rest) = [("", "", "")] + [text.partition(" ") for text in texts]
+        is_cut = first == "unfinished"
+        yield bytes.fromhex(digits), texts[:-1] if is_cut else texts, int(rest) if is_cut else 0
 
 
 class Texts(cases.Case):
-    def test_rows(self):
+    """The worked rows, in one chunk and byte by byte."""
+
+    def test_events(self):
         kinds = set()
-        for data, texts in messages():
-            events = dgt.Decoder().feed(data)
-            wanted(f"the texts of {data.hex(' ')}", [str(event) for event in events], texts)
+        for data, *right in rows("shown", "dumps", "Lines of show and monitor"):
+            decoder, host = dgt.Decoder(), dgt.Host()
+            events = decoder.feed(data)
+            heard = [event for byte in data for event in host.hear(bytes([byte]))]
+            for read, unread in (events, decoder.unread), (heard, host.unread):
+                wanted(f"the texts of {data.hex(' ')}", [[*map(str, read)], unread], right)
             kinds |= {type(event) for event in events}
         wanted("events without a text", set(typing.get_args(dgt.Event)) - kinds, set())
+
+    def test_words(self):
+        commands = [(bytes.fromhex(row.cells[1]), [row.cells[0]], 0) for row in TABLES["commands"]]
+        for data, *right in [*commands, *rows("a host's bytes", "Lines of commands")]:
+            reader, board, taken = dgt.CommandDecoder(), dgt.Board(), []
+            words = reader.feed(data)
+            for byte in data:
+                taken.append(board.take(bytes([byte]))[1])
+                list(board.messages())
+            for read, unread in (words, reader.unread), (filter(None, taken), board.unread):
+                texts = [told.word_text(word, dgt) for word in read]
+                wanted(f"the texts of {data.hex(' ')}", [texts, unread], right)
