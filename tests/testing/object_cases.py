@@ -43,31 +43,13 @@ class Known(cases.Case):
             ("absent", host.clock, absent),
             ("a part", (host.hear(version[:3]), host.unread), ([], 3)),
             ("picture", (host.picture, host.placement), (start, START)),
+            ("given up", (host.send(dgt.Ask.VERSION), host.give_up_awaited(), host.awaited,
+                          host.unread), (b"\x4d", 1, [], 3)),
             ("line lost", (host.send(dgt.Ask.BATTERY), host.line_lost()), (b"\x4c", None)),
             ("as new", (host.unread, host.awaited, host.clock, host.picture, host.placement),
              (0, [], None, None, None)),
         ]:
             wanted(f"host, {what}", got, right)
-
-    def test_lost_reply(self):
-        """After one lost reply each answer counts as unasked, and a host that gives up what it
-        awaits goes on: it keeps all that it knows."""
-        host, board, unasked = dgt.Host(), dgt.Board(), []
-        (times,) = host.hear(next(board.answers(host.send(dgt.Ask.CLOCK))))
-        wanted("the lost question", host.send(dgt.Ask.VERSION), b"\x4d")
-        for _ in range(15):
-            (dump,) = host.hear(next(board.answers(host.send(dgt.Ask.DUMP))))
-            unasked.append(dump.unasked)
-        wanted("answers after a lost one", unasked, 15 * [True])
-        self.assertRaises(dgt.TooManyAwaited, lambda: host.send(dgt.Ask.DUMP))
-        host.hear(b"\x93\x00")
-        before = host.picture, host.clock, host.unread
-        wanted("given up", (host.give_up_awaited(), host.awaited), (16, []))
-        wanted("kept", (host.picture, host.clock, host.unread), before)
-        wanted("before", before, (dgt.Position.start(), times, 2))
-        wanted("late", host.hear(b"\x05\x01\x03"), [dgt.Version(1, 3, True)])
-        (dump,) = host.hear(next(board.answers(host.send(dgt.Ask.DUMP))))
-        wanted("asked again", (dump.unasked, host.give_up_awaited()), (False, 0))
 
     def test_board(self):
         """A board has the identity, the squares and the clock that it was made with, and reports
@@ -101,25 +83,18 @@ class Known(cases.Case):
             wanted(f"board, {what}", got, right)
 
     def test_pending(self):
-        """`answers` sends what is pending before it takes a command, whatever the command is."""
-        lifted = model.spell(model.FIELD, [52, 0])
-        dump = model.spell(model.DUMP,
-                           dgt.Position.parse(START.replace("PPPPPPPP", "PPPP1PPP")).codes)
-        for asked, replies in [(b"", []), (b"\x00", []), (b"\x40", []), (b"\x42", [dump]),
-                               (b"\x40\x42", [dump])]:
-            board = dgt.Board()
-            wanted("pending, mode", list(board.answers(b"\x44")), [])
-            board.change("e2", ".")
-            wanted("pending", board.owes, True)
-            wanted(f"pending before {asked.hex()}", list(board.answers(asked)), [lifted, *replies])
-            wanted("pending no more", (board.owes, list(board.answers(b""))), (False, []))
-        board = dgt.Board()
-        board.take(b"\x42")
-        board.take(b"\x2b\x04")
+        """`answers` sends what is pending before it takes a command."""
+        lifted, board = model.spell(model.FIELD, [52, 0]), dgt.Board()
+        wanted("pending, mode", list(board.answers(b"\x44")), [])
+        for asked, codes in (b"", []), (b"\x40", []), (b"\x44\x4d\x42", [0x93, 0x86]):
+            board.change("e2", "." if board.position["e2"] == "P" else "P")
+            first, *others = board.answers(asked)
+            wanted(f"pending before {asked.hex()}", (first[:4], [each[0] for each in others]),
+                   (lifted[:4], codes))
+            board.take(b"\x44")  # the command 40 ends the reports
+        for part in (b"\x42", b"\x2b\x04"):
+            board.take(part)
         wanted("owed and partial", (board.owed_len, board.unread), (1, 2))
-        board = dgt.Board()
-        board.take(b"\x42")
-        wanted("pending reply", [each[0] for each in board.answers(b"\x4d")], [0x86, 0x93])
 
     def test_busy(self):
         """`answers` takes all bytes, however much a board owes, and has them when it is called."""
@@ -184,26 +159,6 @@ class Misused(cases.Case):
         follower.close()
         self.assertRaises(dgt.Closed, lambda: follower.ask(0))
         self.assertRaises(dgt.Closed, lambda: follower.hear_each(0, b""))
-
-    def test_follower_clock(self):
-        """In each mode that reports the clock, the line loses a reading without a trace, and the
-        next asking brings another. With squares alone no asking requests one."""
-        early, late = dgt.Times(dgt.Time(0, 5, 0)), dgt.Times(dgt.Time(0, 4, 59))
-        for mode, lost, before, after in [
-            (dgt.Mode.UPDATE, 1, early, late),
-            (dgt.Mode.UPDATE_NICE, 1, early, late),
-            (dgt.Mode.UPDATE_BOARD, 0, None, None),
-        ]:
-            follower, board = dgt.Follower(10, mode=mode), dgt.Board(clock=early)
-            for now in (0, 10):
-                for message in board.answers(follower.ask(now)):
-                    follower.hear(now, message)
-                if now == 0:
-                    board.hand_clock(late)
-                    wanted(f"{mode.name}, readings that are lost", len(list(board.messages())),
-                           lost)
-                    wanted(f"{mode.name}, the clock by then", follower.clock, before)
-            wanted(f"{mode.name}, the clock", (follower.clock, follower.in_doubt), (after, False))
 
     def test_misuse(self):
         host, board, decoder = dgt.Host(), dgt.Board(), dgt.Decoder()
