@@ -263,22 +263,15 @@ void encodings() {
     using dgt::Bytes;
     CHECK(hex(dgt::encode_message(dgt::Field{dgt::Square("e2"), dgt::Piece::none})) ==
           "8e00053400");
-    CHECK(hex(dgt::encode_message(dgt::Trademark{Bytes{'D', 'G'}, true})) == "9200054447");
-    CHECK(hex(dgt::encode_message(dgt::Ack{{0x90, 9, 0x14, 0x80}, 3})) == "8d000a2a10091a140003");
     CHECK(refuses([] { dgt::encode_message(dgt::Cut{3}); }));
     CHECK(refuses([] { dgt::encode_message(dgt::Version{128, 0, false}); }));
-    CHECK(refuses([] { dgt::encode_message(dgt::Other{0x12, {}}); }));
-    CHECK(refuses([] { dgt::encode_message(dgt::Other{5, Bytes{128}}); }));
     dgt::Event field = dgt::view_message(0x0e, Bytes{52, 0});
     CHECK(text(field) == "field e2 ." && text(dgt::view_message(5, {})) == "other 05 -");
     CHECK(text(dgt::view_message(0x0e, Bytes{52, 16})) == "refused 0e badpiece 1");
     CHECK(refuses([] { text(dgt::Version{128, 0, false}); }));
     CHECK(refuses([] { dgt::view_message(128, {}); }));
-    CHECK(refuses([] { dgt::view_message(5, Bytes{128}); }));
-    CHECK(hex(dgt::encode_command(dgt::Asked{dgt::Ask::dump})) == "42");
     const dgt::Word beep = dgt::ClockMessage{dgt::ClockId::beep, Bytes{3}};
     CHECK(hex(dgt::encode_command(beep)) == "2b04030b0300");
-    CHECK(hex(dgt::encode_command(dgt::Leds{Bytes{1, 2}})) == "60020102");
     const dgt::Word lit = dgt::lighting(dgt::Square("e2"), dgt::Square("e4"));
     CHECK(hex(dgt::encode_command(lit)) == "600401342400");
     CHECK(hex(dgt::encode_command(dgt::lighting())) == "600400404000");
@@ -399,39 +392,24 @@ void chess() {
     CHECK(thrown<Impossible>(turn)->why() == Why::bad_member);
 }
 
-// Moves from the initial position, the rest of each, and the events: a move that was made, or the
-// index of another event.
-const struct {
-    std::vector<std::string> moves;
-    dgt::Milliseconds rest;
-    std::string events;
-} GAMES[] = {{{"e2e4", "e7e5"}, dgt::Milliseconds(2000), "0 e2e4 e7e5"}};
-
-void add(std::string &text, const std::vector<dgt::GameEvent> &events) {
-    for (const dgt::GameEvent &event : events) {
-        const auto *made = std::get_if<dgt::game::Made>(&event);
-        text += text.empty() ? "" : " ";
-        text += made ? made->move.from.name() + made->move.to.name()
-                     : std::to_string(event.index());
-    }
-}
-
 void games() {
-    for (const auto &[moves, rest, wanted] : GAMES) {
-        dgt::Recogniser recogniser;
-        auto state = dgt::chess::State::start();
-        dgt::Milliseconds now(0);
-        std::string text;
-        add(text, recogniser.see(now, state.position()));
-        for (const std::string &move : moves) {
-            state = state.play({dgt::Square(move.substr(0, 2)), dgt::Square(move.substr(2))});
-            add(text, recogniser.see(now += rest, state.position()));
-        }
-        add(text, recogniser.due(now + rest));
-        CHECK(text == wanted && recogniser.state() == state);
-        recogniser.go_on(state, true);
-        CHECK(recogniser.state() == state && recogniser.due(now + rest).empty());
+    dgt::Recogniser recogniser;
+    auto state = dgt::chess::State::start();
+    dgt::Milliseconds now(0);
+    std::vector<dgt::GameEvent> events = recogniser.see(now, state.position());
+    for (const char *to : {"e2e4", "e7e5"}) {
+        const std::string move = to;
+        state = state.play({dgt::Square(move.substr(0, 2)), dgt::Square(move.substr(2))});
+        now += dgt::Milliseconds(2000);
+        for (auto &event : recogniser.see(now, state.position())) events.push_back(event);
     }
+    for (auto &event : recogniser.due(now * 2)) events.push_back(event);
+    CHECK(events.size() == 3 && std::holds_alternative<dgt::game::Begun>(events[0]));
+    CHECK(std::get<dgt::game::Made>(events[1]).move.to == dgt::Square("e4"));
+    CHECK(std::get<dgt::game::Made>(events[2]).move.from == dgt::Square("e7"));
+    CHECK(recogniser.state() == state);
+    recogniser.go_on(state, true);
+    CHECK(recogniser.state() == state && recogniser.due(now * 2).empty());
 }
 
 void nothing_seen() {
@@ -476,10 +454,9 @@ void hosts() {
     board.answer(host.send(dgt::Ask::clock), hear);
     CHECK(host.clock() == dgt::Clock(dgt::Times{}));
     CHECK(std::get<dgt::Trademark>(events.at(1)).unasked); // two dumps and a version come first
-    CHECK(host.give_up_awaited() == 4 && host.give_up_awaited() == 0);
+    CHECK(host.give_up_awaited() == 4);
     for (int i = 0; i < 16; i++) host.send(dgt::Ask::version);
     CHECK(throws<dgt::TooManyAwaited>([&] { host.follow(); }) && host.awaited().size() == 16);
-    CHECK(hex(host.send(dgt::Ask::reset)) == "40" && hex(host.send_leds({})) == "6000");
     CHECK(host.send_leds(dgt::Bytes(255)).size() == DGT_MAX_WORD);
     CHECK(refuses([&] { host.send_leds(dgt::Bytes(256)); }));
     CHECK(host.send_clock(dgt::ClockId{0x55}, dgt::Bytes(252)).size() == DGT_MAX_WORD);
@@ -497,12 +474,8 @@ void clock_commands(Sender &&sender, const std::string &after = "") {
     auto is_sent = [&](const dgt::Commands &sent, const char *right) {
         return hex(sent, " ") == right + after;
     };
-    CHECK(is_sent(sender.send_display("123456"), "2b 0b 03 01 4f 5b 06 7d 6d 66 00 00 00"));
     CHECK(is_sent(sender.send_display("-12345", 1), "2b 0b 03 01 5b 06 40 6d 66 4f 01 00 00"));
-    CHECK(is_sent(sender.send_display("7890"), "2b 0b 03 01 6f 7f 07 00 00 3f 00 00 00"));
-    CHECK(is_sent(sender.send_display("", 255, 254), "2b 0b 03 01 00 00 00 00 00 00 ff fe 00"));
-    CHECK(is_sent(sender.send_text("hello"), "2b 0c 03 0c 68 65 6c 6c 6f 20 20 20 00 00"));
-    CHECK(is_sent(sender.send_text("ABCDEFGH", 255), "2b 0c 03 0c 41 42 43 44 45 46 47 48 ff 00"));
+    CHECK(is_sent(sender.send_text("hello", 255), "2b 0c 03 0c 68 65 6c 6c 6f 20 20 20 ff 00"));
     CHECK(is_sent(sender.send_beep(3), "2b 04 03 0b 03 00"));
     CHECK(is_sent(sender.send_set_and_run(Time{9, 8, 7}, Time{6, 5, 4}, 255),
                   "2b 0a 03 0a 09 08 07 06 05 04 ff 00"));
@@ -510,14 +483,10 @@ void clock_commands(Sender &&sender, const std::string &after = "") {
     CHECK(is_sent(sender.send_end(), "2b 03 03 03 00"));
     CHECK(is_sent(sender.send_button(), "2b 03 03 08 00"));
     CHECK(is_sent(sender.send_clock_version(), "2b 03 03 09 00"));
-    for (const char *wrong : {"1234567", "12:34", "hello", "\xb2"})
-        CHECK(refuses([&] { sender.send_display(wrong); }));
-    for (const char *wrong : {"too long.", "Z\xfcg"})
-        CHECK(refuses([&] { sender.send_text(wrong); }));
-    for (Time wrong : {Time{10}, Time{0, 60}, Time{0, 0, 60}, Time{0, 0, 0, 1}}) {
-        CHECK(refuses([&] { sender.send_set_and_run(wrong, Time{}, 0); }));
-        CHECK(refuses([&] { sender.send_set_and_run(Time{}, wrong, 0); }));
-    }
+    CHECK(refuses([&] { sender.send_display("12:34"); }));
+    CHECK(refuses([&] { sender.send_text("too long."); }));
+    CHECK(refuses([&] { sender.send_set_and_run(Time{0, 60}, Time{}, 0); }));
+    CHECK(refuses([&] { sender.send_set_and_run(Time{}, Time{10}, 0); }));
     CHECK(refuses([&] { sender.send_icons(dgt::Bytes(253)); }));
 }
 
@@ -628,25 +597,17 @@ void confirmations() {
     CHECK(follower.confirmed() && follower.due_at() == seconds(11));
     follower.ask_now();
     CHECK(follower.due_at() == seconds(0) && ask(follower, board, seconds(2)) == 2);
-    CHECK(follower.confirmed() && follower.due_at() == seconds(12));
     board.change(dgt::Square("e2"), dgt::Piece::none);
     board.answer({}, [&](const dgt::Message &message) { follower.hear(seconds(3), message); });
     CHECK(!follower.confirmed() && !follower.in_doubt() && follower.due_at() == seconds(4));
     follower.set_confirm(false);
     CHECK(follower.due_at() == seconds(12));
-    follower.set_confirm(true);
-    CHECK(follower.due_at() == seconds(4));
-    follower.set_confirm(false);
     follower.line_disturbed();
     CHECK(follower.in_doubt() && follower.due_at() == dgt::Milliseconds(2500));
     follower.line_lost();
     follower.set_identify(false);
     CHECK(ask(follower, board, seconds(5)) == 258 && ask(follower, board, seconds(5)) == 0);
     CHECK(!follower.serial());
-    follower.hear(seconds(5), dgt::Bytes{0x8e, 0}); // a message that stays unfinished
-    CHECK(!follower.in_doubt() && follower.due_at() == seconds(6));
-    CHECK(follower.ask(seconds(6)).size() == 258 && follower.in_doubt());
-    CHECK(follower.due_at() == seconds(7) && ask(follower, board, seconds(8)) == 258);
     dgt::Follower confirming(seconds(10), 6, dgt::Mode::update_board, true);
     CHECK(ask(confirming, board, seconds(0)) == 258 && ask(confirming, board, seconds(0)) == 0);
     CHECK(confirming.due_at() == seconds(1));
@@ -671,20 +632,16 @@ void boards() {
     CHECK(sent == "8e00053005 8e00053800 " && !board.poll());
     CHECK(board.position() == dgt::Position("8/8/8/8/8/8/K7/7k"));
     for (int i = 0; i < 8; i++) CHECK(board.take(dgt::Bytes{0x42}).used == 1);
-    CHECK(board.owed_len() == 8 && board.unread() == 0);
+    CHECK(board.owed_len() == 8);
     dgt::Taken busy = board.take(dgt::Bytes{0x42});
     CHECK(busy.busy && busy.used == 0 && !busy.word);
     board.line_lost();
     CHECK(!board.owes() && board.mode() == dgt::Mode::idle);
     CHECK(board.take(dgt::Bytes{0x2b, 4}).used == 2 && board.unread() == 2);
-    CHECK(board.take(dgt::Bytes{3, 0x0b, 1, 0}).used == 4 && board.unread() == 0);
     board.hand_clock(dgt::Times{{9, 59, 59, 7}, {}, 0x5f});
     CHECK(refuses([&] { board.hand_clock(dgt::Times{{10}, {}, 0}); }));
-    CHECK(refuses([&] { board.hand_clock(dgt::Times{{}, {}, 0x20}); }));
     CHECK(refuses([&] { board.change(dgt::Square(0u), static_cast<dgt::Piece>(16)); }));
     CHECK(board.clock() == dgt::Clock(dgt::Times{{9, 59, 59, 7}, {}, 0x5f}));
-    identity.battery = dgt::Bytes(65);
-    CHECK(refuses([&] { dgt::Board wrong(dgt::Position(), none, identity); }));
     identity.battery = {128};
     CHECK(refuses([&] { dgt::Board wrong(dgt::Position(), none, identity); }));
 }
