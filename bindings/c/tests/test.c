@@ -485,12 +485,6 @@ static void chess(void) {
 
 /* ---- A recogniser. */
 
-/* Moves from the initial position, the rest of each in milliseconds, and the events: a move that
- * was made, or the kind of another event. */
-static const struct { const char *moves[8]; uint64_t rest; const char *events; } GAMES[] = {
-    {{"e2e4", "e7e5"}, 2000, "1 e2e4 e7e5"},
-};
-
 /* Arguments that are refused: the code on a8, the sight, the side, and the status. */
 static const struct { uint8_t piece, sight, side, status; } REFUSALS[] = {
     {16, DGT_SIGHT_SURE, DGT_NO_SUCH, DGT_SEE_BAD_PIECES},
@@ -501,59 +495,45 @@ static const struct { uint8_t piece, sight, side, status; } REFUSALS[] = {
     {255, DGT_SIGHT_AWAY, 254, DGT_SEE_BAD_SIDE},
 };
 
-/* Writes the events that are due after the text. */
-static void add_due(dgt_recogniser *recogniser, uint64_t now, char text[64]) {
+/* Has a recogniser see a state, in memory of exactly its size, and writes the events after a text:
+ * a move that was made, or the kind of another event. */
+static void see(dgt_recogniser *recogniser, uint64_t now, const dgt_chess_state *state,
+                char text[64]) {
     dgt_game_event *event = room(sizeof *event);
-    char from[3], to[3];
-    while (dgt_recogniser_due(recogniser, now, event)) {
-        size_t n = strlen(text);
-        CHECK(event->kind >= DGT_GAME_BEGUN && event->kind <= DGT_GAME_FOUND && n < 48);
-        for (size_t each = 0; each < sizeof event->reserved; each++) CHECK(!event->reserved[each]);
-        if (event->kind == DGT_GAME_MADE) {
-            CHECK(dgt_square_name(event->moves[0].from, from));
-            CHECK(dgt_square_name(event->moves[0].to, to) && event->count == 1);
-            snprintf(text + n, 64 - n, "%s%s%s", n ? " " : "", from, to);
-        } else {
-            snprintf(text + n, 64 - n, "%s%d", n ? " " : "", event->kind);
-        }
-        memset(event, 0xa5, sizeof *event);
-    }
+    uint8_t *given = copy(state->pieces, 64);
+    CHECK(!dgt_recogniser_due(recogniser, now, event));
     CHECK(event->kind == 0xa5 && event->squares == UINT64_C(0xa5a5a5a5a5a5a5a5));
-    free(event);
-}
-
-/* What is seen at a time, and the events until then. */
-static void see(dgt_recogniser *recogniser, uint64_t now, const uint8_t pieces[64], char text[64]) {
-    uint8_t *given = copy(pieces, 64);
-    add_due(recogniser, now, text);
     CHECK(dgt_recogniser_see(recogniser, now, given, DGT_SIGHT_SURE, true, DGT_NO_SUCH) ==
           DGT_SEEN);
-    add_due(recogniser, now, text);
-    free(given);
+    while (dgt_recogniser_due(recogniser, now + 1999, event)) {
+        size_t n = strlen(text);
+        uint8_t to = event->moves[0].to;
+        for (size_t each = 0; each < sizeof event->reserved; each++) CHECK(!event->reserved[each]);
+        if (event->kind == DGT_GAME_MADE)
+            CHECK(event->count == 1 && dgt_square_name(to, text + n));
+        else
+            snprintf(text + n, 64 - n, "%d ", event->kind);
+        memset(event, 0xa5, sizeof *event);
+    }
+    free(event), free(given);
 }
 
 static void games(void) {
     dgt_recogniser *recogniser = room(sizeof *recogniser);
     dgt_chess_state *state = room(sizeof *state), known;
-    for (size_t each = 0; each < sizeof GAMES / sizeof *GAMES; each++) {
-        char text[64] = "";
-        uint64_t now = 0;
-        CHECK(dgt_recogniser_init(recogniser));
-        dgt_chess_start(state);
-        see(recogniser, now, state->pieces, text);
-        for (const char *const *name = GAMES[each].moves; *name; name++) {
-            uint8_t from = dgt_square_number((uint8_t)(*name)[0], (uint8_t)(*name)[1]);
-            uint8_t to = dgt_square_number((uint8_t)(*name)[2], (uint8_t)(*name)[3]);
-            dgt_chess_move move = {from, to, 0, 0};
-            CHECK(dgt_chess_play(state, &move));
-            see(recogniser, now += GAMES[each].rest, state->pieces, text);
-        }
-        add_due(recogniser, now + GAMES[each].rest, text);
-        CHECK(!strcmp(text, GAMES[each].events));
-        CHECK(dgt_recogniser_state(recogniser, &known) && !memcmp(&known, state, sizeof known));
-        CHECK(dgt_recogniser_go_on(recogniser, state, true) == DGT_CHESS_DONE);
-        CHECK(dgt_recogniser_state(recogniser, &known) && !memcmp(&known, state, sizeof known));
+    const dgt_chess_move moves[] = {{52, 36, 0, 0}, {12, 28, 0, 0}};
+    char text[64] = "";
+    CHECK(dgt_recogniser_init(recogniser));
+    dgt_chess_start(state);
+    see(recogniser, 0, state, text);
+    for (uint64_t each = 0; each < 2; each++) {
+        CHECK(dgt_chess_play(state, &moves[each]));
+        see(recogniser, 2000 * (each + 1), state, text);
     }
+    CHECK(!strcmp(text, "1 e4e5"));
+    CHECK(dgt_recogniser_state(recogniser, &known) && !memcmp(&known, state, sizeof known));
+    CHECK(dgt_recogniser_go_on(recogniser, state, true) == DGT_CHESS_DONE);
+    CHECK(dgt_recogniser_state(recogniser, &known) && !memcmp(&known, state, sizeof known));
     free(recogniser), free(state);
 }
 
