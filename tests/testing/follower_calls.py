@@ -1,5 +1,5 @@
-"""Checks the calls of a follower of the package for Python that object_cases.py doesn't make. When it
-asks, doubts and confirms is proved, and compared with a model in C (bindings/c/fuzz)."""
+"""Checks the calls of a follower of the package for Python that object_cases.py doesn't make. When
+it asks, doubts and confirms is proved, and compared with a model in C (bindings/c/fuzz)."""
 
 import cases
 import dgt
