@@ -11,7 +11,6 @@
  *     confirming   the same, which confirms
  *     clock        a follower in the mode UPDATE_NICE, with a running clock on the board
  *     update       the same in the mode UPDATE
- *     old          a host by the former rules of followers: see ask_old
  *     heartbeats   a follower with restarts that are cut to the 2 bytes of a heartbeat
  *     at-faults    a host that restarts at each fault that it notices
  *     once         a host that asks once, at the start
@@ -133,9 +132,9 @@ static size_t carry(line *from, uint8_t out[2]) {
 
 /* ---- The world. */
 
-enum { FOLLOWER, CONFIRMING, CLOCK, UPDATE, HEARTBEATS, OLD, AT_FAULTS, ONCE, HOSTS };
-static const char *const host_names[HOSTS] = {"follower", "confirming", "clock", "update",
-                                              "heartbeats", "old", "at-faults", "once"};
+enum { FOLLOWER, CONFIRMING, CLOCK, UPDATE, HEARTBEATS, AT_FAULTS, ONCE, HOSTS };
+static const char *const host_names[HOSTS] = {"follower",   "confirming", "clock", "update",
+                                              "heartbeats", "at-faults",  "once"};
 
 /* The trouble of a row, in addition to the faults of its lines and its losses of power. */
 enum {
@@ -149,13 +148,6 @@ enum {
     LEDS,    /* the host sends an LED frame each 3 s */
     DISPLAYS /* the host sends a text with hyphens to the clock each 3 s */
 };
-
-/* What the host `old` counts and notes. */
-typedef struct old_pace {
-    bool has_asked, is_answered, is_disturbed, is_doubtful;
-    uint64_t asked; /* when, in milliseconds */
-    unsigned left;  /* how many heartbeats may still follow one another */
-} old_pace;
 
 static struct {
     int kind;
@@ -175,7 +167,6 @@ static struct {
 
     dgt_follower follower;
     dgt_host host;
-    old_pace old;
     bool has_to_ask; /* the host has noticed a fault, or has never asked */
     uint64_t askings;
 
@@ -198,15 +189,9 @@ static bool has_clock(void) { return world.kind == CLOCK || world.kind == UPDATE
 
 /* ---- The host. */
 
-static uint64_t old_due(void) {
-    uint64_t wait = world.old.is_disturbed ? PERIOD / 4 : PERIOD;
-    return world.old.has_asked ? (world.old.asked + wait) * MILLISECOND : 0;
-}
-
 /* When it asks next, or a follower notes what is late by then, if nothing else happens. */
 static uint64_t ask_due(void) {
     uint64_t due;
-    if (world.kind == OLD) return old_due();
     if (!is_follower()) return world.has_to_ask && world.down.count == 0 ? world.now : NEVER;
     return dgt_follower_due_at(&world.follower, &due) ? due * MILLISECOND : NEVER;
 }
@@ -234,55 +219,14 @@ static void ask_follower(void) {
     send_asking(out + cut, cut > 0 ? 2 : sent.bytes);
 }
 
-static void begin_anew(uint8_t *out, size_t room) {
-    dgt_host_give_up_awaited(&world.host);
-    dgt_sent sent = dgt_host_restart(&world.host, out, room);
-    check(sent.status == DGT_DONE && sent.bytes == DGT_RESTART_LENGTH, "a restart is refused");
-}
-
 /* A host that begins anew when it notices a fault. It waits until its last asking is sent. */
 static void ask_at_fault(void) {
     uint8_t out[DGT_RESTART_LENGTH];
-    begin_anew(out, sizeof out);
+    dgt_host_give_up_awaited(&world.host);
+    dgt_sent sent = dgt_host_restart(&world.host, out, sizeof out);
+    check(sent.status == DGT_DONE && sent.bytes == DGT_RESTART_LENGTH, "a restart is refused");
     send_asking(out, sizeof out);
     world.has_to_ask = false;
-}
-
-/* A follower's rules before it compared dumps, doubted late answers and confirmed. It asks once a
- * period, and a quarter after the last asking if something disturbed since. A heartbeat is enough
- * if the last asking was answered, nothing disturbed since, fewer than 16 replies are awaited and
- * the patience has not run out. */
-static void ask_old(void) {
-    uint8_t out[DGT_MAX_ASKING], codes[DGT_MAX_AWAITED];
-    old_pace *old = &world.old;
-    bool is_calm = old->is_answered && !old->is_disturbed && old->left > 0 &&
-                   dgt_host_awaited(&world.host, codes) < DGT_MAX_AWAITED;
-    size_t count = 2;
-    if (is_calm) {
-        check(dgt_host_follow(&world.host, out, sizeof out).bytes == count, "no heartbeat");
-        old->left--;
-    } else {
-        begin_anew(out, sizeof out);
-        count = DGT_RESTART_LENGTH;
-        out[count++] = DGT_SEND_UPDATE_BOARD;
-        old->left = PATIENCE;
-    }
-    if (old->has_asked && !old->is_answered) old->is_doubtful = true;
-    old->has_asked = true;
-    old->is_answered = old->is_disturbed = false;
-    old->asked = world.now / MILLISECOND;
-    send_asking(out, count);
-}
-
-/* It believes each dump. One that was awaited ends its doubt. */
-static void note_old(const dgt_event *event) {
-    old_pace *old = &world.old;
-    if (event->kind >= DGT_EVENT_REFUSED || event->unasked) {
-        old->is_disturbed = old->is_doubtful = true;
-    } else if (event->kind == DGT_EVENT_DUMP) {
-        old->is_answered = true;
-        old->is_doubtful = false;
-    }
 }
 
 static void ask(void) {
@@ -290,8 +234,6 @@ static void ask(void) {
         ask_follower();
     else if (ask_due() > world.now)
         return;
-    else if (world.kind == OLD)
-        ask_old();
     else
         ask_at_fault();
 }
@@ -306,7 +248,6 @@ static void hear(const uint8_t *bytes, size_t n) {
         at += dgt_host_hear(&world.host, bytes + at, n - at, &event, world.inbox, 0);
         bool is_fault = event.kind >= DGT_EVENT_REFUSED || event.unasked;
         if (is_fault && world.kind == AT_FAULTS) world.has_to_ask = true;
-        if (world.kind == OLD) note_old(&event);
     }
 }
 
@@ -554,8 +495,8 @@ static void judge(void) {
     bool is_same = is_known && !memcmp(shown, world.pieces, 64);
     bool is_late = is_known && world.now < world.changed + LATE &&
                    !memcmp(shown, world.earlier, 64);
-    world.is_doubtful = !is_known || world.old.is_doubtful ||
-                        (is_follower() && dgt_follower_in_doubt(&world.follower));
+    world.is_doubtful =
+        !is_known || (is_follower() && dgt_follower_in_doubt(&world.follower));
     world.is_confirmed = is_follower() && dgt_follower_confirmed(&world.follower);
     check(!world.is_doubtful || !world.is_confirmed, "a doubtful picture is confirmed");
     if (is_same || is_late) {
@@ -727,7 +668,7 @@ static void play_run(int kind, uint64_t seed, uint64_t number) {
 /* All became right, and after at most patience + 1 requests if it asks each period. */
 static bool is_healed(void) {
     if (world.is_unhealed) return false;
-    return world.kind > OLD || (world.askings > PATIENCE && world.needed <= PATIENCE + 1);
+    return !is_follower() || (world.askings > PATIENCE && world.needed <= PATIENCE + 1);
 }
 
 static void measure_runs(int kind, uint64_t seed, uint64_t runs) {
