@@ -16,16 +16,9 @@ const BEGIN = State.start(dgt), parse = fen => State.parse(dgt, fen);
 
 // A state, a move, its text, and the state afterwards.
 const MOVES = [
-  [`${START} w KQkq - 0 1`, "e2e4", "e4",
-   "rnbqkbnr/pppppppp/8/8/4P3/8/PPPP1PPP/RNBQKBNR b KQkq - 0 1"],
   ["r3k2r/8/8/8/8/8/8/R3K2R w KQkq - 0 1", "e1g1", "O-O", "r3k2r/8/8/8/8/8/8/R4RK1 b kq - 1 1"],
-  ["r3k2r/8/8/8/8/8/8/R3K2R b KQkq - 5 9", "e8c8", "O-O-O",
-   "2kr3r/8/8/8/8/8/8/R3K2R w KQ - 6 10"],
   ["4k3/8/8/8/3pP3/8/8/4K3 b - e3 0 3", "d4e3", "dxe3", "4k3/8/8/8/8/4p3/8/4K3 w - - 0 4"],
-  ["8/P6k/8/8/8/8/8/K7 w - - 12 80", "a7a8n", "a8=N", "N7/7k/8/8/8/8/8/K7 b - - 0 80"],
   ["1r2k3/P7/8/8/8/8/8/K7 w - - 0 1", "a7b8q", "axb8=Q+", "1Q2k3/8/8/8/8/8/8/K7 b - - 0 1"],
-  ["rnbqkbnr/pppp1ppp/8/4p3/6P1/5P2/PPPPP2P/RNBQKBNR b KQkq - 0 2", "d8h4", "Qh4#",
-   "rnb1kbnr/pppp1ppp/8/4p3/6Pq/5P2/PPPPP2P/RNBQKBNR w KQkq - 1 3"],
 ];
 for (const [fen, move, san, next] of MOVES) {
   const state = parse(fen), after = state.play(move);
@@ -53,14 +46,6 @@ position.fill(0);
 assert.deepEqual([parts(same), parts(right)], [parts(right), parts(same)]);
 assert.equal(new State(dgt, { position: dgt.parsePlacement(KINGS), turn: "white" }).fen,
              `${KINGS} w - - 0 1`);
-
-// How often a position occurs.
-const history = [BEGIN];
-for (const move of "g1f3 g8f6 f3g1 f6g8 g1f3 g8f6 f3g1 f6g8".split(" ")) {
-  history.push(history.at(-1).play(move));
-}
-assert.deepEqual(history.map(state => state.repetitions(history)), [3, 2, 2, 2, 3, 2, 2, 2, 3]);
-assert.deepEqual([BEGIN.isRepeated(history[4]), BEGIN.isRepeated(history[1])], [true, false]);
 
 // Texts that aren't FEN: the field that is wrong, and the place.
 const BAD_FENS = [

@@ -4,9 +4,6 @@ use dgt::Position;
 use dgt::chess::{Colour, State};
 use dgt::game::{Event, Observation, Recogniser, Sight, StillDue};
 
-/// Moves from the initial position, the rest of each in milliseconds, and the events.
-const GAMES: [(&[&str], u64, &[&str]); 1] = [(&["e4", "e5"], 2_000, &["begun", "e2e4", "e7e5"])];
-
 fn text(event: Event) -> String {
     match event {
         Event::Begun(state, false) if state == State::start() => "begun".to_string(),
@@ -15,35 +12,20 @@ fn text(event: Event) -> String {
     }
 }
 
-fn add_due(recogniser: &mut Recogniser, now: u64, texts: &mut Vec<String>) {
-    while let Some(event) = recogniser.due(now) {
-        texts.push(text(event));
-    }
-}
-
-fn see(recogniser: &mut Recogniser, at: u64, position: Position, texts: &mut Vec<String>) {
-    let sight = Sight::Sure(position);
-    let observation = Observation { at, sight, is_confirmed: true, running: None };
-    add_due(recogniser, at, texts);
-    assert_eq!(recogniser.see(&observation), Ok(()));
-    add_due(recogniser, at, texts);
-}
-
 #[test]
 fn games_are_recognised() {
-    for (moves, rest, events) in GAMES {
-        let mut recogniser = Recogniser::default();
-        let (mut state, mut now, mut texts) = (State::start(), 0, Vec::new());
-        see(&mut recogniser, now, *state.position(), &mut texts);
-        for san in moves {
+    let (mut recogniser, mut state, mut texts) = (Recogniser::default(), State::start(), vec![]);
+    for (number, san) in ["", "e4", "e5"].into_iter().enumerate() {
+        if number > 0 {
             state = state.play(state.parse_san(san).unwrap()).unwrap();
-            now += rest;
-            see(&mut recogniser, now, *state.position(), &mut texts);
         }
-        add_due(&mut recogniser, now + rest, &mut texts);
-        assert_eq!(texts, events);
-        assert_eq!(recogniser.state(), Some(state));
+        let (at, sight) = (2_000 * number as u64, Sight::Sure(*state.position()));
+        let observation = Observation { at, sight, is_confirmed: true, running: None };
+        assert_eq!(recogniser.see(&observation), Ok(()));
+        texts.extend(std::iter::from_fn(|| recogniser.due(at + 1_999).map(text)));
     }
+    assert_eq!(texts, ["begun", "e2e4", "e7e5"]);
+    assert_eq!(recogniser.state(), Some(state));
 }
 
 #[test]
