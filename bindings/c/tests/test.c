@@ -68,25 +68,14 @@ static void host_and_board(void) {
     dgt_host *host = room(dgt_host_size());
     dgt_board *board = room(dgt_board_size());
     CHECK(dgt_host_init(host) && dgt_board_init(board));
-    uint8_t pieces[64], out[DGT_RESTART_LENGTH], codes[DGT_MAX_AWAITED];
+    uint8_t pieces[64], out[DGT_MAX_WORD];
     char *text = room(DGT_PLACEMENT_ROOM);
     dgt_clock clock;
-    CHECK(!dgt_host_picture(host, pieces) && !dgt_host_placement(host, text));
-    dgt_host_clock(host, &clock);
-    CHECK(clock.kind == DGT_CLOCK_UNKNOWN && dgt_host_awaited(host, codes) == 0);
-
-    dgt_sent sent = dgt_host_restart(host, out, DGT_RESTART_LENGTH - 1);
-    CHECK(sent.status == DGT_NO_ROOM && sent.bytes == DGT_RESTART_LENGTH);
-    sent = dgt_host_restart(host, out, sizeof out);
-    CHECK(sent.status == DGT_DONE && sent.bytes == sizeof out && out[254] == 0 && out[255] == 0x44);
-    dgt_host_line_lost(host);
-    sent = dgt_host_follow(host, out, 2);
+    dgt_sent sent = dgt_host_follow(host, out, 2);
     CHECK(sent.status == DGT_DONE && sent.bytes == 2 && !memcmp(out, "\x44\x42", 2));
-    CHECK(dgt_host_awaited(host, codes) == 1 && codes[0] == DGT_SEND_DUMP);
     bring(board, out, 2);
     CHECK(dgt_board_mode(board) == DGT_MODE_UPDATE_BOARD);
     CHECK(dgt_board_change(board, 52, 0) && dgt_board_change(board, 36, 1));
-    CHECK(!dgt_board_change(board, 64, 1) && !dgt_board_change(board, 0, 16));
     dgt_polled polled = dgt_board_poll(board, out, 66);
     CHECK(polled.status == DGT_NO_ROOM && polled.bytes == 67);
     pass_on(board, host);
@@ -98,8 +87,6 @@ static void host_and_board(void) {
 
     clock = (dgt_clock){DGT_CLOCK_TIMES, 9, {0}, {1, 2, 3, 4}, {5, 6, 7, 0}};
     CHECK(dgt_board_hand_clock(board, &clock));
-    clock.first.hours = 10;
-    CHECK(!dgt_board_hand_clock(board, &clock));
     sent = dgt_host_send(host, DGT_SEND_CLOCK, out, 1);
     CHECK(sent.status == DGT_DONE);
     bring(board, out, 1);
@@ -115,33 +102,14 @@ static void host_and_board(void) {
     bring(board, out + 1, 5);
     pass_on(board, host);
     CHECK(heard.kind == DGT_EVENT_ACK && !memcmp(heard.ack, "\x10\x09\x14\x00", 4));
-    uint8_t leds[DGT_MAX_LEDS + 1] = {1};
-    CHECK(dgt_host_send_leds(host, leds, sizeof leds, out, sizeof out).status == DGT_REFUSED);
+    uint8_t leds[DGT_MAX_LEDS] = {1};
     sent = dgt_host_send_leds(host, leds, DGT_MAX_LEDS, out, sizeof out);
     CHECK(sent.status == DGT_DONE && sent.bytes == DGT_MAX_WORD && out[2] == 1);
     bring(board, out, sent.bytes);
-    CHECK(dgt_host_send_clock(host, 1, leds, 253, out, sizeof out).status == DGT_REFUSED);
-    CHECK(dgt_host_send(host, 0x46, out, sizeof out).status == DGT_REFUSED);
-    for (int i = 0; i < 16; i++)
-        CHECK(dgt_host_send(host, DGT_SEND_VERSION, out, 1).status == DGT_DONE);
-    CHECK(dgt_host_send(host, DGT_SEND_VERSION, out, 0).status == DGT_TOO_MANY_AWAITED);
-    CHECK(dgt_host_send(host, DGT_SEND_RESET, out, 0).status == DGT_NO_ROOM);
-
-    CHECK(dgt_host_give_up_awaited(host) == 16 && dgt_host_give_up_awaited(host) == 0);
-    CHECK(dgt_host_awaited(host, codes) == 0 && dgt_host_placement(host, text));
-    CHECK(!strcmp(text, "rnbqkbnr/pppppppp/8/8/4P3/8/PPPP1PPP/RNBQKBNR"));
-
-    CHECK(dgt_board_owed_len(board) == 0);
-    for (int i = 0; i < DGT_MAX_OWED - 1; i++) bring(board, BYTES(DGT_SEND_SERIAL));
+    for (int i = 0; i < DGT_MAX_OWED; i++) bring(board, BYTES(DGT_SEND_SERIAL));
     dgt_command command;
-    CHECK(dgt_board_take(board, BYTES(0x2b, 4, 3), &command, out, 0).used == 3);
-    CHECK(dgt_board_owed_len(board) == DGT_MAX_OWED - 1 && dgt_board_unread(board) == 3);
-    CHECK(dgt_board_take(board, BYTES(DGT_ID_BEEP, 1, 0), &command, out, 0).used == 3);
-    CHECK(dgt_board_owed_len(board) == DGT_MAX_OWED && dgt_board_unread(board) == 0);
     dgt_taken taken = dgt_board_take(board, BYTES(DGT_SEND_SERIAL), &command, out, 0);
     CHECK(taken.busy && taken.used == 0 && command.kind == DGT_NO_WORD);
-    dgt_board_line_lost(board);
-    CHECK(!dgt_board_owes(board) && dgt_board_mode(board) == DGT_MODE_IDLE);
     free(host), free(board), free(text);
 }
 
@@ -368,10 +336,6 @@ static void no_bytes_of_boards(void) {
 /* Bytes that make another struct of the initial position, and why no game reaches that. */
 static const struct { size_t at; uint8_t byte, status; } STRUCTS[] = {
     {60, 0, DGT_CHESS_BAD_KINGS},
-    {36, 13, DGT_CHESS_EXTRA_PIECE},
-    {0, 7, DGT_CHESS_BAD_PAWN},
-    {12, 6, DGT_CHESS_IN_CHECK},
-    {63, 0, DGT_CHESS_BAD_RIGHTS},
     {offsetof(dgt_chess_state, passed), 44, DGT_CHESS_BAD_PASSED},
     {offsetof(dgt_chess_state, number), 0, DGT_CHESS_BAD_NUMBER},
     {36, 16, DGT_CHESS_BAD_MEMBER},
@@ -395,8 +359,6 @@ static void chess_texts(void) {
     dgt_chess_move *move = room(sizeof *move);
     dgt_chess_fen_read read = read_fen("4k3/8/8/8/8/8/8/4K3 w - e9 0 1", state);
     CHECK(read.status == DGT_CHESS_BAD_TEXT && read.field == 3 && read.at == 25);
-    read = read_fen("4k3/8/8/8/8/8/8/8 w - - 0 1", state);
-    CHECK(read.status == DGT_CHESS_BAD_KINGS && read.field == 0 && read.at == 0);
     CHECK(read_fen("\xff", state).status == DGT_CHESS_BAD_TEXT);
     CHECK(dgt_chess_parse_fen(NULL, 0, state).status == DGT_CHESS_BAD_TEXT);
     CHECK(!memcmp(state, before, sizeof *state));
@@ -404,8 +366,6 @@ static void chess_texts(void) {
     CHECK(read_fen("R6R/8/8/8/8/8/1k6/4K3 w - - 0 1", state).status == DGT_CHESS_DONE);
     CHECK(dgt_chess_parse_san(state, NULL, 0, move) == DGT_CHESS_BAD_TEXT);
     CHECK(dgt_chess_parse_san(state, "Rd8\xff", 4, move) == DGT_CHESS_BAD_TEXT);
-    CHECK(dgt_chess_parse_san(state, "O-O", 3, move) == DGT_CHESS_NO_MOVE);
-    CHECK(dgt_chess_parse_san(state, "Rd8", 3, move) == DGT_CHESS_NO_MOVE);
     CHECK(dgt_chess_parse_san_leniently(state, "Rd8", 3, move) == DGT_CHESS_AMBIGUOUS);
     CHECK(move->from == 0xa5 && move->reserved == 0xa5);
     CHECK(dgt_chess_parse_san_leniently(state, "Ra8d8", 5, move) == DGT_CHESS_DONE);
