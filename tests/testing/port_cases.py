@@ -18,13 +18,12 @@ import time
 
 import cases
 import dgt
-from ports import (BOTH, DRAUGHTS, GONE, LATE, LIFTED, PUT, SECONDS, SILENT, START, expect,
-                   expect_at_last, see)
+from ports import (BOTH, DRAUGHTS, GONE, IN_USE, LATE, LIFTED, NO_PORT, PUT, SECONDS, SILENT, START,
+                   expect, expect_at_last, see)
 from simulated_board import a_line
 from wrong import Wrong, wanted
 
 CLOSED = "the line was closed"
-NO_PORT = "no such port (plug the board in; /dev/serial/by-id lists the ports)"
 TIOCGEXCL = 0x80045440  # of Linux: whether later openers are refused; termios doesn't name it
 
 
@@ -265,7 +264,7 @@ class Ports(OnALine):
             wanted("whether others are refused", is_exclusive(self.line.ends[1]), True)
             in_use = refused("a second reader", lambda: dgt.follow(self.line.path),
                              errno.EWOULDBLOCK)
-            wanted("it", in_use.strerror, "in use by another program (end that one first)")
+            wanted("it", in_use.strerror, IN_USE)
             with dgt.follow(self.line.path, wait_for_port=True) as board:
                 expect("a second one that waits", board, (None, True, in_use.strerror))
 
