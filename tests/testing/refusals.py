@@ -5,7 +5,7 @@ crates/NAME/mutants.txt has a line for each definition: a sum of its mutants, th
 the clause that refuses them, and last a sum of all that was read when they were tried. After `no
 definition` are those that have no sense. By hand you write `same:` and why nothing can refuse the
 others, or `held:` and what was seen to be refused with them: altered.edits has to show it of
-another mutant of this definition.
+another mutant of this definition. Those after `left` are still to be tried.
 
 A definition whose line would stay the same is passed over. The last sum covers the logic, the
 definition, the contracts with these clauses, and all definitions and types that they read, also of
@@ -31,7 +31,7 @@ from reads import Reads
 
 NAME = "mutants.txt"
 HEAD = "# Made by tests/mutants/mutants, but for what is after `same:` and `held:`.\n"
-BY_HAND = ("same:", "held:")
+BY_HAND = ("same:", "held:", "left")
 AT_ONCE = 100  # copies in one check
 SENSELESS, TRIED = "no definition", "tried"
 BROKEN = re.compile(r"(?m)^\./specs/Copies(\w+)\.antt:(\d+):\d+: error: "
@@ -257,6 +257,6 @@ def judge(root: pathlib.Path) -> str:
         raise Failure(f"{root.name}: altered.edits has no mutant of {sorted(lacking)}")
     labels = [it.partition(":")[0] for one in known.values() for it in one.values()]
     made = len(labels) - labels.count(SENSELESS)
-    same, by_hand = labels.count("same"), labels.count("held")
-    return f"{made} first-order mutants, {made - same - by_hand} refused, {by_hand} held, {same} " \
-           f"the same; of {len(names)} definitions tried now"
+    same, proved, left = (labels.count(it.rstrip(":")) for it in BY_HAND)
+    return f"{made} first-order mutants of {len(known)} definitions, {made - same - proved - left} " \
+           f"refused, {proved} held, {same} the same, {left} left; of {len(names)} tried now"
