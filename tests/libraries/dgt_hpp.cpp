@@ -281,52 +281,23 @@ void encodings() {
     CHECK(!dgt::view_command(Bytes{0x60, 1}) && !dgt::view_command({}));
 }
 
-/* What a board has stored, as a text. */
-std::string text(const dgt::Stored &stored) {
-    return std::visit(
-        Overloaded{
-            [](const dgt::StoredPiece &it) {
-                return it.square.name() + dgt::letter(it.piece) + (it.bit ? "+" : "");
-            },
-            [](const dgt::StoredTime &it) {
-                return to_string(it.time) + " " + std::to_string(it.time.flags);
-            },
-            [](dgt::Mark it) { return hex(static_cast<std::uint8_t>(it)); },
-            [](const dgt::UnknownByte &it) { return "?" + hex(it.byte); },
-        },
-        stored);
-}
-
-/* What an acknowledgement says, as a text. */
-std::string signal_text(const std::array<std::uint8_t, 4> &ack) {
-    std::optional<dgt::Signal> signal = dgt::signal_of(dgt::Ack{ack, 0});
-    if (!signal) return "unknown";
-    return std::visit(
-        Overloaded{
-            [](const dgt::Done &it) { return "done " + hex(static_cast<std::uint8_t>(it.id)); },
-            [](const dgt::ClockVersion &it) {
-                return std::to_string(it.main_number) + "." + std::to_string(it.sub_number);
-            },
-            [](const dgt::Pressed &it) { return hex(static_cast<std::uint8_t>(it.button)); },
-            [](const dgt::Off &) { return std::string("off"); },
-            [](const dgt::Ready &) { return std::string("ready"); },
-        },
-        *signal);
-}
-
 void names() {
     using dgt::Bytes;
-    std::string stored;
-    for (const auto &each : dgt::read_stored(Bytes{0x6f, 0x40, 0x34, 0x51, 0x24, 0x61, 0x30, 5,
-                                                   0x71, 0x29, 0, 0x6b, 0x41, 0x7d}))
-        stored += text(each) + ";";
-    CHECK(stored == "6f;e2.;e4P+;1:30:05 6;1:29:00 7;6b;?41;?7d;");
-    CHECK(dgt::read_stored({}).empty());
-    CHECK(signal_text({0x10, 0x88, 2, 0x33}) == "33" && signal_text({0x10, 8, 0, 0x31}) == "31");
-    CHECK(signal_text({0x10, 0x88, 0x45, 0x35}) == "off");
-    CHECK(signal_text({0x10, 8, 0, 0}) == "done 08" && signal_text({0x10, 9, 0x21, 0}) == "2.1");
-    CHECK(signal_text({0x10, 0x81, 0, 0}) == "ready");
-    CHECK(signal_text({0x11, 9, 0x21, 0}) == "unknown");
+    const auto stored = dgt::read_stored(Bytes{0x6f, 0x51, 0x24, 0x61, 0x30, 5, 0x41});
+    CHECK(stored.size() == 4 && std::get<dgt::Mark>(stored[0]) == dgt::Mark::begin);
+    const auto piece = std::get<dgt::StoredPiece>(stored[1]);
+    CHECK(piece.square == dgt::Square("e4") && piece.piece == dgt::Piece::white_pawn && piece.bit);
+    CHECK(std::get<dgt::StoredTime>(stored[2]).time == dgt::Time{1, 30, 5, 6});
+    CHECK(std::get<dgt::UnknownByte>(stored[3]).byte == 0x41 && dgt::read_stored({}).empty());
+    auto signal = [](const std::array<std::uint8_t, 4> &ack) {
+        return dgt::signal_of(dgt::Ack{ack, 0}).value();
+    };
+    CHECK(std::get<dgt::Pressed>(signal({0x10, 0x88, 2, 0x33})).button == dgt::Button::run);
+    CHECK(std::holds_alternative<dgt::Off>(signal({0x10, 0x88, 0x45, 0x35})));
+    CHECK(std::get<dgt::Done>(signal({0x10, 8, 0, 0})).id == dgt::ClockId::button);
+    CHECK(std::get<dgt::ClockVersion>(signal({0x10, 9, 0x21, 0})).main_number == 2);
+    CHECK(std::holds_alternative<dgt::Ready>(signal({0x10, 0x81, 0, 0})));
+    CHECK(!dgt::signal_of(dgt::Ack{{0x11, 9, 0x21, 0}, 0}));
     auto state = dgt::battery_of({Bytes{64, 127, 59, 1, 2, 3, 4, 5, 2}, false}).value();
     CHECK(state.percent == 64 && !state.hours_left && state.minutes_left == 59);
     CHECK(state.hours_on == 1 && state.minutes_on == 2 && state.days_resting == 3);
