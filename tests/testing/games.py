@@ -18,7 +18,6 @@ PERFT = [
     ("n1n5/PPPk4/8/8/8/8/4Kppp/5N1N b - - 0 1", [24, 496, 9483]),
 ]
 
-
 PACE = 0.1  # seconds after each square, as fast as hands are: a bump of the table is faster
 
 # ---- Hands
