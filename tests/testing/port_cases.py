@@ -153,14 +153,6 @@ class Ports(OnALine):
             self.line.plug()
         wanted("bytes asked", [len(each) for _, each in self.line.asked[:2]], [259, 3])
 
-    def test_noise(self):
-        """A wrong field, after bytes that are not a message."""
-        with dgt.follow(self.line.path, 1.0) as board:
-            expect("at first", board, (START, False, None))
-            self.line.send([b"\x00\x7f\x31", bytes.fromhex("8e00053400")])
-            expect("noise", board, (START, True, None), (LIFTED, True, None), (START, True, None),
-                   (START, False, None))
-
     def test_loses_an_end(self):
         """The line loses the end of a message, and nothing comes after it."""
         with dgt.follow(self.line.path, 4.0) as board:
