@@ -258,5 +258,6 @@ def judge(root: pathlib.Path) -> str:
     labels = [it.partition(":")[0] for one in known.values() for it in one.values()]
     made = len(labels) - labels.count(SENSELESS)
     same, proved, left = (labels.count(it.rstrip(":")) for it in BY_HAND)
-    return f"{made} first-order mutants of {len(known)} definitions, {made - same - proved - left} " \
-           f"refused, {proved} held, {same} the same, {left} left; of {len(names)} tried now"
+    refused = made - same - proved - left
+    return f"{made} first-order mutants of {len(known)} definitions, {refused} refused, " \
+           f"{proved} held, {same} the same, {left} left; of {len(names)} tried now"
