@@ -29,12 +29,9 @@ AllHaveAnswered self picture =
     (step : Step) → IsKnown self step
     → HasMoved (as_shown step.is_turned picture) step.state step.state.turn
 
--- there is something to look for from the line's last state
-abbrev pub MayJump : Recogniser → List Piece → Type 0
-MayJump self picture = (self.is_behind ≡ true) ⊎ BothHaveMoved self.memory picture
-
--- Several half-moves are looked for in a doubt once the side to move has answered. Without one, men
--- of both sides have moved, also since each state that was shown since, and no pieces are lifted.
+-- Several half-moves are looked for in a doubt once the side to move has answered. Without a doubt,
+-- men of both sides have moved, the side to move has since each state shown since, and no pieces
+-- are lifted.
 abbrev pub IsSearched : Recogniser → List Piece → Type 0
 IsSearched self picture =
     ((self.is_behind ≡ true) × HasAnswered self.memory picture)
@@ -68,6 +65,10 @@ WhatFollowsIsFound =
     ⊎ ((step : Step) × ((result : GameResult) × Show self.view step result))
 
 -- only for bodies
+
+-- there is something to look for from the line's last state
+abbrev pub MayJump : Recogniser → List Piece → Type 0
+MayJump self picture = (self.is_behind ≡ true) ⊎ BothHaveMoved self.memory picture
 
 -- the same, with room for what is still to be found
 abbrev pub FindsLater : Recogniser → Type 0
