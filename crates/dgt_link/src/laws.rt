@@ -2,7 +2,7 @@
 //! function does nothing at run time: its contract states the facts.
 
 ghost use Rattle.std.specs.Prelude.{◌≡◌, ◌≢◌, ◌↔◌, ◌⊎◌, ◌≤◌, ◌<◌, ◌+◌, ◌*◌, ℕ, suc, Bool, false, List, [], ◌∷◌, ◌++◌, All, Contains};
-ghost use Rattle.std.specs.Prelude.{Some, None, drop, filter_map, flat_map, length, map, option_to_list, replicate, take, IsTrue, IsSome};
+ghost use Rattle.std.specs.Prelude.{Option, Some, None, drop, filter_map, flat_map, length, map, option_to_list, replicate, take, IsTrue, IsSome};
 ghost use Rattle.std.specs.List.{AllByRecursion};
 ghost use Rattle.dgt_values.specs.declared.pieces.Piece.{Piece};
 ghost use Rattle.dgt_values.specs.Equality.{CloneIsSame, EqualIsSame, EqualIsSameReadOf};
@@ -148,7 +148,8 @@ pub fn promise_is_kept()
 
 /// If a sound state is quiet, nothing is awaited, and a known picture is the board's squares if the
 /// mode asks for updates. If the mode follows the clock, a clock that the host knows is the
-/// board's, and in an exact state it knows it. In a promised state the picture is known.
+/// board's, and in an exact state it knows it. In a promised state the picture is known. What is
+/// unknown or something else is that if it is known.
 pub fn at_quiet()
     ensures awaited { (x : MachineState) → IsSound x → IsQuiet x → x.awaited ≡ [] }
     ensures picture { (x : MachineState) → IsSound x → IsQuiet x → IsTrue (updates x.board.mode)
@@ -159,6 +160,8 @@ pub fn at_quiet()
         → IsTrue (follows_clock x.board.mode) → IsUnknownOr x.host_clock (Some x.board.clock) }
     ensures promised { (x : MachineState) → IsSound x → IsPromised x → IsQuiet x
         → x.picture ≡ Some x.board.squares }
+    ensures known { (picture reported : Option (List Piece)) → IsUnknownOr picture reported
+        → IsSome picture → picture ≡ reported }
 {}
 
 /// After any moves, a sound state is sound, and without a host break an exact one is exact. If the

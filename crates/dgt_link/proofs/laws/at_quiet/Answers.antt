@@ -1,3 +1,4 @@
+use Rattle.std.proofs.{Common.{rules}, lemmas.Bool.{false≢true}}
 use Rattle.dgt_link.proofs.Quiet.{quiet_awaited, quiet_clock, quiet_clock_reported, quiet_picture, promised_picture}
 use Rattle.dgt_link.proofs.laws.at_quiet.Goals as goal
 
@@ -8,4 +9,5 @@ returns c = record {
   clock = quiet_clock;
   clock_reported = quiet_clock_reported;
   promised = promised_picture;
+  known = λ picture reported one some. search (rules, false≢true);
 }
