@@ -1,5 +1,5 @@
 -- Facts after any moves.
-use Rattle.std.{proofs.Common.{◌≡◌, refl, ap, List, [], ◌∷◌, ◌++◌, Option, Some, None, rules}, specs.{List.{AllByRecursion}, Prelude.{flat_map, unwrap_or}}}
+use Rattle.std.{proofs.Common.{◌≡◌, refl, List, [], ◌∷◌, ◌++◌, Option, Some, None, rules}, specs.{List.{AllByRecursion}, Prelude.{flat_map, unwrap_or}}}
 use Rattle.{dgt_command.specs.Content.{CommandContent}, dgt_board.specs.{State.{command_mode}, declared.modes.Mode.{Mode}}, dgt_link.specs.Machine.{IsHostBreak, MachineState, Move, after_move}}
 use Rattle.dgt_link.{specs.{Machine.{after_moves}, Promise.{IsAsked, IsPromised, IsQuiet, coming_mode, commands_after, mode_after, requests}, Sound.{IsSound, IsExact}}, proofs.Promises.{IsComing}}
 use Rattle.dgt_link.proofs.{Promises.{coming_promise, move-mode, move_comes, nothing_asked}, Quiet.{promised_picture}, Soundness.{move_sound, move_exact}}

@@ -1,5 +1,5 @@
 -- What acts request of the board, how they change the promise, and which of their moves are breaks.
-use Rattle.std.{proofs.{Common.{◌≡◌, ◌≢◌, refl, ap, ℕ, zero, suc, List, [], ◌∷◌, replicate, arith, rules}, lemmas.Grind.{flat_map-append}}, specs.{List.{AllByRecursion}, Prelude.{Contains, flat_map}}}
+use Rattle.std.{proofs.{Common.{◌≡◌, ◌≢◌, refl, ℕ, zero, suc, List, [], ◌∷◌, replicate, arith, rules}, lemmas.Grind.{flat_map-append}}, specs.{List.{AllByRecursion}, Prelude.{Contains, flat_map}}}
 use Rattle.{dgt_command.specs.Content.{CommandContent}, dgt_link.specs.{Act.{ActContent}, Machine.{IsHostBreak, IsSending, MachineState, Move, after_move, after_moves}, Promise.{IsAskedBy}}}
 use Rattle.dgt_link.specs.{Promise.{IsPromised, IsRestarted, PictureIsComing, act_requests, coming_mode, mode_after, requests, run_requests}, Stands.{AreMovesOfAct, AreMovesOfRun, AreMovesOfStep}}
 use Rattle.dgt_link.{specs.declared.acts.Outcome.{Outcome}, proofs.{AfterMoves.{moves-mode, moves_promise}, Lists.{all_append, all_replicate}, Promises.{anew_is_promised, dump_asked}}}

@@ -3,7 +3,7 @@ use Rattle.std.proofs.Common.{◌≡◌, refl, sym, ap, ◌∙◌, ◌⊎◌, in
 use Rattle.{std.{proofs.lemmas.{Grind.{flat_map-append}, List.{append-nil}}, specs.List.{flat_map}}, dgt_values.specs.declared.{kinds.Kind.{Kind}, pieces.Piece.{Piece}}}
 use Rattle.dgt_message.specs.{Clock.{ClockState}, Content.{Content, IsMessage, answered_kind}, Encoding.{Encodes, encoding}, Picture.{clock_after, picture_after}}
 use Rattle.{dgt_command.specs.Content.{CommandContent}, dgt_board.specs.{Sending.{after_sending, next_message}, State.{BoardState, after_change, after_hand_clock}}, dgt_decode.specs.Grammar.{Event}}
-use Rattle.{dgt_decode.specs.{Grammar.{Message, Placed, events, shifted, unfinished_message}, Laws.{BeginsAnew}}, dgt_host.specs.Host.{HostView, awaited_after, host_after, host_after_event}}
+use Rattle.{dgt_decode.specs.{Grammar.{Placed, events, shifted, unfinished_message}, Laws.{BeginsAnew}}, dgt_host.specs.Host.{HostView, awaited_after, host_after, host_after_event}}
 use Rattle.{dgt_host.specs.Host.{host_after_events, host_after_message}, dgt_link.specs.{Act.{ActContent}, Faults.{is_break}, Healing.{AwaitsWhatComes, StandsBehind, StandsBehindAfter}}}
 use Rattle.dgt_link.specs.{Machine.{MachineState, Move, after_moves}, Readers.{Grammars}, Sound.{IsSound, IsSubsequence, IsUnknownOr, coming_kinds}, Step.{Becomes, Step, with_state}, View.{WorldView}}
 use Rattle.dgt_link.{specs.{View.{with_bytes, without_first}, declared.acts.Outcome.{Outcome}}, proofs.{AfterMoves.{moves_sound}, Dividing.{divides_command}, Hearing.{heard_of, heard_prefix}}}

@@ -1,7 +1,7 @@
 -- What keeps a clock coming, and that it is the board's when the world is quiet.
-use Rattle.std.proofs.{Common.{false, ◌≡◌, ◌≢◌, refl, ap, ◌∙◌, ◌⊎◌, inl, inr, List, [], ◌∷◌, ◌++◌, Option, Some, None, ◌&&◌, rules}, lemmas.Bool.{cond_both, false≢true}}
+use Rattle.std.proofs.{Common.{false, ◌≡◌, ◌≢◌, refl, ◌∙◌, ◌⊎◌, inl, inr, List, [], ◌∷◌, ◌++◌, Option, Some, None, ◌&&◌, rules}, lemmas.Bool.{cond_both, false≢true}}
 use Rattle.{std.{proofs.lemmas.List.Elements.{Contains-append_left, Contains-push}, specs.{List.{AllByRecursion}, Prelude.{IsSome, Contains}}}, dgt_message.specs.Clock.{ClockState}}
-use Rattle.{dgt_message.specs.{Content.{Content, clock_message}, Picture.{clock_after, clock_after_all}}, dgt_command.specs.Content.{CommandContent, EventContent}, dgt_board.specs.Sending.{differs}}
+use Rattle.{dgt_message.specs.{Content.{Content, clock_message}, Picture.{clock_after_all}}, dgt_command.specs.Content.{CommandContent, EventContent}, dgt_board.specs.Sending.{differs}}
 use Rattle.{dgt_board.specs.{Sending.{field_of, reply_message, reported_clock_after}, State.{BoardState, effect, updates}, declared.replies.Reply.{Reply}}, dgt_link.specs.Act.{ActContent}}
 use Rattle.dgt_link.specs.{Clocks.{ClockIsComing, IsClockPromised}, Faults.{is_break}, Machine.{IsHostBreak, Move, MachineState, after_move, after_moves, after_reported, after_take, after_reply}}
 use Rattle.dgt_link.{specs.{Machine.{after_hear}, Promise.{IsQuiet}, Sound.{IsSound, coming_clock}, Stands.{AreMovesOfStep}, declared.acts.Outcome.{Outcome}}, proofs.Asking.{act_is_no_break}}

@@ -1,6 +1,6 @@
 -- What a world at fault keeps, and how a host that starts over, or requests a dump, knows the board
 -- again.
-use Rattle.std.proofs.Common.{◌≡◌, ◌≢◌, ◌⊎◌, refl, sym, ap, subst, ◌∙◌, inl, inr, ℕ, zero, suc, List, [], ◌∷◌, ◌++◌, length, drop, replicate, map, Option, Some, false, true, Bool, append_assoc, arith}
+use Rattle.std.proofs.Common.{◌≡◌, ◌≢◌, ◌⊎◌, refl, sym, ap, subst, ◌∙◌, inl, inr, ℕ, List, [], ◌∷◌, ◌++◌, length, drop, replicate, map, Option, Some, false, true, Bool, append_assoc, arith}
 use Rattle.std.proofs.{Common.{rules}, lemmas.{Bool.{false≢true}, Grind.{common_steps}, List.{append-nil, Elements.{filter_map-append, Contains-append_right, Contains-push_cases}}}}
 use Rattle.{std.specs.{List.{cons_option, flat_map}, Prelude.{IsTrue, Contains, filter, filter_map}}, dgt_values.specs.declared.kinds.Kind.{Kind}, dgt_message.specs.Content.{Content}}
 use Rattle.{dgt_message.specs.Encoding.{encoding}, dgt_command.specs.{Content.{CommandContent, EventContent}, Encoding.{AreBytes, command_encoding}, Laws.{EachDividesOnce}, Words.{Divides}}}

@@ -1,5 +1,5 @@
 -- What a host hears of consecutive messages, in whatever parts.
-use Rattle.{std.{proofs.Common.{◌≡◌, refl, sym, ap, ◌∙◌, ◌⊎◌, inl, inr, ℕ, ◌+◌, ◌-◌, List, [], ◌∷◌, ◌++◌, length, rules}, specs.{List.{flat_map}, Prelude.{map}}}, dgt_message.specs.Content.{Content}}
+use Rattle.{std.{proofs.Common.{◌≡◌, refl, sym, ap, ◌∙◌, ◌⊎◌, inl, inr, ℕ, ◌+◌, List, [], ◌∷◌, ◌++◌, length, rules}, specs.{List.{flat_map}, Prelude.{map}}}, dgt_message.specs.Content.{Content}}
 use Rattle.{dgt_message.specs.{Content.{IsMessage}, Encoding.{encoding}}, dgt_decode.specs.Grammar.{Event, Message, Placed, at_place, events, shifted, unfinished_message}}
 use Rattle.{dgt_decode.proofs.Division.{nil_raised}, dgt_host.specs.Host.{HostView, host_after_events, host_after_message}, dgt_link.specs.{Readers.{Reads}, Stands.{AreEncoded}}}
 use Rattle.dgt_link.proofs.Lists.{IsShorter, Reaches, prefixes, left_empty, not_empty, right_empty}

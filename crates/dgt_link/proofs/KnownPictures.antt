@@ -1,5 +1,5 @@
 -- A known picture is what the board had reported when it sent the last message that was heard.
-use Rattle.std.proofs.Common.{◌≡◌, ◌≢◌, refl, sym, ap, subst, ◌∙◌, ◌⊎◌, inl, inr, rules, ℕ, List, [], ◌∷◌, ◌++◌, Bool, true, false, Option, Some, append_assoc, if◌then◌else◌}
+use Rattle.std.proofs.Common.{◌≡◌, ◌≢◌, refl, sym, ap, subst, ◌∙◌, ◌⊎◌, inl, inr, rules, ℕ, List, [], ◌∷◌, ◌++◌, Bool, false, Option, Some, append_assoc, if◌then◌else◌}
 use Rattle.{std.{proofs.lemmas.{Bool.{false≢true}, List.{append-nil}}, specs.{List.{AllByRecursion}, Prelude.{IsSome}}}, dgt_values.specs.declared.pieces.Piece.{Piece}}
 use Rattle.{dgt_message.specs.{Content.{Content}, Picture.{picture_after, picture_after_all}}, dgt_board.specs.declared.replies.Reply.{Reply}, dgt_link.specs.{Act.{ActContent}, Faults.{is_break}}}
 use Rattle.dgt_link.specs.{Healing.{IsInStep, StandsBehind}, Machine.{IsHostBreak, IsSending, MachineState, Move, after_hear, after_move, after_moves, after_reply, after_reported}}

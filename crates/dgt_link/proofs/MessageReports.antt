@@ -1,6 +1,6 @@
 -- What a message from the board reports of its squares and of its clock.
-use Rattle.std.proofs.{Common.{◌≡◌, refl, ap, ◌⊎◌, ℕ, List, [], ◌∷◌, ◌++◌, Option, Some, None, true, false, length, rules}, lemmas.{Bool.{and_parts, eqb-true, false≢true}, List.{length-set}}}
-use Rattle.{std.{proofs.lemmas.Slice.Eq.{bytes_eq-Decides}, specs.Prelude.{IsTrue, bytes_eq, not}}, dgt_values.specs.declared.pieces.Piece.{Piece}, dgt_message.specs.Clock.{ClockState}}
+use Rattle.std.proofs.{Common.{◌≡◌, refl, ◌⊎◌, ℕ, List, [], ◌∷◌, ◌++◌, Option, Some, None, length, rules}, lemmas.{Bool.{and_parts, eqb-true, false≢true}, List.{length-set}}}
+use Rattle.{std.{proofs.lemmas.Slice.Eq.{bytes_eq-Decides}, specs.Prelude.{IsTrue, not}}, dgt_values.specs.declared.pieces.Piece.{Piece}, dgt_message.specs.Clock.{ClockState}}
 use Rattle.{dgt_message.specs.{Content.{Content, clock_message, answered_kind}, Picture.{clock_after, clock_after_all, picture_after, picture_after_all}}, dgt_board.specs.Sending.{field_of}}
 use Rattle.dgt_board.specs.{Sending.{reply_message, reported_squares_after, reported_clock_after, times_owed_after}, State.{BoardState, is_reported, owed_when_handed, follows_clock}}
 use Rattle.{dgt_board.specs.declared.{modes.Mode.{Mode}, replies.Reply.{Reply}}, dgt_link.specs.Sound.{IsUnknownOr, kind_of_reply}}

@@ -1,5 +1,5 @@
 -- How an act changes the promise, for any states that the worlds before and after it stand for.
-use Rattle.{std.proofs.Common.{◌≡◌, ◌≢◌, rules}, dgt_command.specs.Content.{CommandContent}, dgt_link.specs.{Act.{ActContent}, Machine.{MachineState, after_move, after_moves, Move}}}
+use Rattle.{std.proofs.Common.{◌≡◌, ◌≢◌, rules}, dgt_command.specs.Content.{CommandContent}, dgt_link.specs.{Act.{ActContent}, Machine.{MachineState, after_moves}}}
 use Rattle.dgt_link.specs.{Promise.{act_requests, mode_after, IsPromised, IsRestarted, PictureIsComing, coming_mode}, Stands.{StandsAfterStep, StandsFor}, Step.{Step}, View.{WorldView}}
 use Rattle.dgt_link.{specs.declared.acts.Outcome.{Outcome}, proofs.{Asking.{break_moves, dump_is_coming, host_break_moves, mode-step, step_keeps_coming}, Promises.{break_ends}}}
 

@@ -1,5 +1,5 @@
 -- The two halves of the promise, and how each move changes them.
-use Rattle.std.proofs.{Common.{IsTrue, cond, false, true, Bool, ◌≡◌, ◌≢◌, refl, ap, ◌∙◌, ◌⊎◌, inl, inr, List, [], ◌∷◌, ◌++◌, Option, Some, ◌&&◌, arith, rules}, lemmas.Bool.{cond_both, false≢true}}
+use Rattle.std.proofs.{Common.{IsTrue, cond, Bool, ◌≡◌, ◌≢◌, refl, ap, ◌∙◌, ◌⊎◌, inl, inr, List, [], ◌∷◌, ◌++◌, Option, Some, ◌&&◌, arith, rules}, lemmas.Bool.{cond_both, false≢true}}
 use Rattle.std.{proofs.lemmas.{Grind.{common_steps}, List.Elements.{filter_map-append, Contains-append_left, Contains-append_cases, Contains-push}}, specs.{List.{cons_option}, Prelude.{IsSome}}}
 use Rattle.{std.specs.Prelude.{Contains, filter_map, map, unwrap_or}, dgt_values.specs.declared.{kinds.Kind.{Kind}, pieces.Piece.{Piece}}, dgt_message.specs.Content.{Content, clock_message}}
 use Rattle.{dgt_message.specs.Picture.{picture_after, picture_after_all}, dgt_command.specs.{Content.{CommandContent, EventContent}, Words.{IsNoiseList}}, dgt_board.specs.Sending.{differs, field_of}}

@@ -1,5 +1,5 @@
 -- A sound state with nothing under way and nothing to be sent.
-use Rattle.std.proofs.{Common.{◌≡◌, refl, sym, ap, ◌∙◌, ◌⊎◌, ℕ, zero, suc, ◌<◌, List, [], ◌∷◌, Option, Some, Bool, true, false, cond, length, get_or, arith, rules}, lemmas.Bool.{cond-true}}
+use Rattle.std.proofs.{Common.{◌≡◌, refl, sym, ◌∙◌, ◌⊎◌, ℕ, zero, suc, ◌<◌, List, [], ◌∷◌, Option, Some, Bool, false, cond, length, get_or, arith, rules}, lemmas.Bool.{cond-true}}
 use Rattle.std.{proofs.lemmas.{Bool.{false≢true, eqb-true, not-false}, Grind.{common_steps}, List.{get_or_default, same_lists, FromFn.{get_or-range_with_len}}}, specs.Prelude.{◌==◌, not, IsTrue}}
 use Rattle.{std.specs.Prelude.{IsSome, filter, map}, dgt_values.{specs.{Board.{piece_code}, declared.pieces.Piece.{Piece}}, proofs.PieceCodes.{same_code}}, dgt_message.specs.Clock.{ClockState}}
 use Rattle.{dgt_board.specs.{Sending.{differs, every_square, piece_on}, State.{BoardState, follows_clock, updates}}, dgt_link.specs.{Machine.{MachineState}, Promise.{IsPromised, IsQuiet}}}

@@ -4,7 +4,7 @@ use Rattle.std.proofs.{Common.{replicate, append-nil, rules}, Math.Nat.{mul-le-m
 use Rattle.std.{proofs.lemmas.List.{length-drop, drop_all, replicate_more}, specs.{List.{AllByRecursion, flat_map}, Prelude.{◌↔◌, Contains, IsTrue, IsSome, nat_lt}}}
 use Rattle.{dgt_values.specs.declared.pieces.Piece.{Piece}, dgt_message.specs.{Clock.{ClockState}, Content.{Content}, Encoding.{encoding}}, dgt_command.specs.Content.{EventContent}}
 use Rattle.{dgt_command.specs.{Laws.{EachDividesOnce, NoWordBeginsAPart, WordsAreShort}, Words.{Divides, IsPartial}}, dgt_decode.specs.Grammar.{unfinished_message}, dgt_board.specs.Sending.{backlog}}
-use Rattle.{dgt_board.specs.{Sending.{next_message}, State.{effects, BoardState, follows_clock, updates}, declared.modes.Mode.{Mode}}, dgt_link.specs.{Act.{ActContent}, Healing.{IsRestedWorld}}}
+use Rattle.{dgt_board.specs.{Sending.{next_message}, State.{BoardState, follows_clock, updates}, declared.modes.Mode.{Mode}}, dgt_link.specs.{Act.{ActContent}, Healing.{IsRestedWorld}}}
 use Rattle.dgt_link.specs.{Machine.{MachineState, after_moves}, Promise.{mode_after, act_requests, IsPromised, PictureIsComing, coming_mode}, Readers.{Reads}, Settling.{AreInOrder, IsNext}}
 use Rattle.dgt_link.specs.{Settling.{IsSettling, SettlesIn, steps_left}, Sound.{IsUnknownOr}, Stands.{AreEncoded, IsExactWorld, IsWorld, StandsFor}, Step.{moves_nothing, Becomes, Delivers, Runs}}
 use Rattle.dgt_link.{specs.{Step.{Step, done_count}, View.{overflows, IsQuietWorld, WorldView}, Work.{work_left}, declared.acts.Outcome.{Outcome}}, proofs.ActRuns.{run-push, run_keeps}}

@@ -2,7 +2,7 @@
 use Rattle.std.proofs.{Common.{◌≡◌, refl, ap, ◌∙◌, List, [], ◌∷◌, ◌++◌, ◌&&◌, length, append_assoc, rules}, lemmas.{Bool.{cond_both, false≢true}, List.{length-set, Elements.{filter_map-append}}}}
 use Rattle.{std.specs.{List.{cons_option}, Prelude.{filter_map, map, option_to_list}}, dgt_values.specs.declared.{kinds.Kind.{Kind}, pieces.Piece.{Piece}}, dgt_message.specs.Clock.{ClockState}}
 use Rattle.{dgt_message.specs.Content.{Content, clock_message, answered_kind}, dgt_command.specs.{Content.{CommandContent, EventContent, requested_kind}, Words.{IsNoiseList}}}
-use Rattle.{dgt_board.specs.{Sending.{differs, field_of, reply_message}, State.{IdentityContent, updates, effect}, declared.replies.Reply.{Reply}}, dgt_host.specs.Host.{awaited_after}}
+use Rattle.{dgt_board.specs.{Sending.{differs, field_of}, State.{IdentityContent, updates}, declared.replies.Reply.{Reply}}}
 use Rattle.dgt_link.specs.Machine.{IsHostBreak, IsSending, Move, MachineState, commands_anew, new_state, state_of_board, after_move, after_reported, after_take, after_reply, after_hear}
 use Rattle.dgt_link.{specs.Sound.{IsExact, IsSound, IsSubsequence, coming_kinds, kind_of_event, kind_of_reply}, proofs.MessageReports.{ReportedIsHeard, field_reports, clock_reports, reply_reports}}
 use Rattle.dgt_link.proofs.MessageReports.{reply_message-kind, clock_message-kind, picture_reported, clock_reported_of, clock_after_all-append, followed_after, handed_or_reported}

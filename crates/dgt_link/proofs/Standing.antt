@@ -1,6 +1,6 @@
 -- An act leads a world that stands for a state to one for a state that the machine reaches by it.
 use Rattle.std.proofs.{Common.{◌≡◌, ◌≢◌, refl, sym, ap, ◌∙◌, ℕ, ◌≤◌, List, [], ◌∷◌, ◌++◌, length, take, drop, replicate, append_assoc, rules}, lemmas.{Grind.{flat_map-append}, List.{append-nil}}}
-use Rattle.{std.{proofs.lemmas.List.{take-append-drop}, specs.{List.{flat_map}, Prelude.{Contains, map}}}, dgt_values.specs.declared.pieces.Piece.{Piece}, dgt_message.specs.Clock.{ClockState}}
+use Rattle.{std.{proofs.lemmas.List.{take-append-drop}, specs.{Prelude.{Contains, map}}}, dgt_values.specs.declared.pieces.Piece.{Piece}, dgt_message.specs.Clock.{ClockState}}
 use Rattle.{dgt_message.specs.{Content.{Content}, Encoding.{Encodes, encoding}}, dgt_command.specs.{Content.{CommandContent, EventContent}, Words.{Divides, IsPartial}}}
 use Rattle.{dgt_board.specs.{Sending.{after_sending, next_message}, State.{IdentityContent, BoardState, effect, effects}, View.{BoardView, HasTaken}}, dgt_host.specs.Host.{HostView}}
 use Rattle.{dgt_host.specs.Host.{host_after_message, follow_bytes}, dgt_link.specs.{Act.{ActContent}, Machine.{Move, MachineState, commands_anew, after_move, after_moves, new_state, after_hear}}}

@@ -1,5 +1,5 @@
 -- Subsequences, and the kinds of a list with an added element.
-use Rattle.std.proofs.{Common.{◌≡◌, refl, ap, inl, inr, List, [], ◌∷◌, ◌++◌, Option, true, false, append_assoc, rules}, lemmas.{Bool.{cond_both, cond-true, false≢true}, List.{append-nil}}}
+use Rattle.std.proofs.{Common.{◌≡◌, refl, inl, inr, List, [], ◌∷◌, ◌++◌, Option, true, append_assoc, rules}, lemmas.{Bool.{cond_both, cond-true, false≢true}, List.{append-nil}}}
 use Rattle.{std.specs.{List.{cons_option}, Option.{option_to_list}, Prelude.{◌↔◌}}, dgt_values.specs.declared.kinds.Kind.{Kind}, dgt_host.specs.Host.{awaited_after, is_same_kind}}
 use Rattle.dgt_link.specs.Sound.{IsSubsequence}
 
