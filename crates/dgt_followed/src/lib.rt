@@ -32,8 +32,9 @@ ghost use Rattle.dgt_values.specs.declared.pieces.Piece.{Piece};
 ghost use Rattle.dgt_message.specs.Clock.{ClockState};
 ghost use Rattle.dgt_message.specs.Content.{Content, IsMessage};
 ghost use Rattle.dgt_message.specs.Encoding.{encoding};
-ghost use Rattle.dgt_command.specs.Content.{CommandContent, requested_kind};
+ghost use Rattle.dgt_command.specs.Content.{CommandContent, EventContent, requested_kind};
 ghost use Rattle.dgt_command.specs.Encoding.{EncodesCommand, command_encoding};
+ghost use Rattle.dgt_command.specs.Words.{IsNoiseList};
 ghost use Rattle.dgt_decode.specs.Grammar.{Event, events};
 ghost use Rattle.dgt_board.specs.declared.replies.Reply.{Reply};
 ghost use Rattle.dgt_board.specs.Sending.{next_message};
@@ -264,7 +265,11 @@ pub fn dumps_restate()
         IsAtRest board (Reply.Of Kind.Serial ∷ Reply.Of Kind.Dump ∷ later) }
     ensures reply { (x : MachineState) →
         SendsAtRest x Move.Reply ↔ IsAtRest x.board x.board.owed }
-    ensures report { (x : MachineState) (square : ℕ) → SendsAtRest x (Move.Report square) }
+    ensures moves { (x : MachineState) (square : ℕ) (piece : Piece) (clock : ClockState)
+        (command : CommandContent) (noise : List EventContent) (is : IsNoiseList noise) →
+        AllByRecursion (SendsAtRest x) (Move.Change square piece ∷ Move.HandClock clock
+        ∷ Move.Ask command ∷ Move.Take ∷ Move.Report square ∷ Move.ReportClock ∷ Move.Hear
+        ∷ Move.Break ∷ Move.HostBreak noise is ∷ []) }
     ensures each { (x : MachineState) (move : Move) → DumpsAtRest x (Move.Take ∷ move ∷ []) →
         SendsAtRest (after_move x Move.Take) move }
     ensures all { (x : MachineState) (move : Move) → SendsAtRest (after_move x Move.Take) move →
@@ -486,8 +491,21 @@ pub fn patience_and_one_more_heal()
     clocks_heal();
 }
 
-/// Which acts a host notices, and which calls set or record something: these, and no other.
+/// Which acts a host notices, and what sends a message or loses power: these, and no other.
 pub fn what_is_noticed()
+    ensures plain { (count square : ℕ) (piece : Piece) (clock : ClockState) →
+        map is_noticed (FaultyContent.Plain ActContent.BoardSend
+        ∷ FaultyContent.Plain (ActContent.ToBoard count)
+        ∷ FaultyContent.Plain (ActContent.Change square piece)
+        ∷ FaultyContent.Plain (ActContent.ClockRead clock) ∷ [])
+        ≡ false ∷ false ∷ false ∷ false ∷ [] }
+    ensures silent { (before : FollowedView) (now count : ℕ) (call : Call) (bytes : List ℕ) →
+        AllByRecursion (λ happening. sent_by happening before ≡ []) (TimedHappening.Asks now
+        ∷ TimedHappening.Hears now count ∷ TimedHappening.Sets call
+        ∷ TimedHappening.Acts (FaultyContent.GarbleUp bytes)
+        ∷ TimedHappening.Acts (FaultyContent.GarbleDown bytes)
+        ∷ TimedHappening.Acts FaultyContent.BoardLost ∷ TimedHappening.Acts FaultyContent.Restart
+        ∷ TimedHappening.Acts FaultyContent.GiveUp ∷ []) }
     ensures acts { (act : FaultyContent) → (is_noticed act ≡ true)
         ↔ (((count : ℕ) × (act ≡ FaultyContent.Plain (ActContent.ToHost count)))
         ⊎ Contains (FaultyContent.Plain ActContent.Break ∷ FaultyContent.Plain ActContent.HostBreak
