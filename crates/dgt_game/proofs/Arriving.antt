@@ -1,24 +1,10 @@
 -- On how many squares men arrive in a half-move, and in a line.
-use Rattle.std.proofs.lemmas.Bool.{cases_eq}
-use Rattle.std.proofs.Common.{◌≡◌, ◌∙◌, ℕ, ◌<◌, ◌≤◌, List, [], ◌∷◌, ap, arith, inl, inr, length, refl, subst, sym, take}
-use Rattle.std.specs.Prelude.{◌≢◌, ◌⊎◌, ◌+◌, ◌/◌, Bool, true, false, not, ◌&&◌, nat_eq, if◌then◌else◌, slice_set, slice_index_or, suc, zero, Option, Some, None}
-use Rattle.dgt_values.proofs.PieceCodes.{same_code}
-use Rattle.dgt_values.specs.declared.pieces.Piece.{Piece}
-use Rattle.dgt_values.specs.declared.pieces.Piece.TheVariants.{Empty}
-use Rattle.dgt_values.specs.Board.{piece_code}
-use Rattle.dgt_chess.specs.declared.state.Move.{Move}
-use Rattle.dgt_chess.specs.declared.state.State.{State}
-use Rattle.dgt_chess.specs.declared.pieces.Colour.{Colour}
-use Rattle.dgt_chess.specs.declared.pieces.Colour.TheVariants.{White, Black}
-use Rattle.dgt_chess.specs.declared.pieces.Man.{Man}
-use Rattle.dgt_chess.specs.declared.pieces.Man.TheVariants.{Pawn, Knight, Bishop, Rook, Queen, King}
-use Rattle.dgt_chess.specs.Attacks.{file, other, piece_at, piece_of}
-use Rattle.std.specs.Int.{abs_diff}
-use Rattle.dgt_values.specs.Board.{square_number}
-use Rattle.dgt_chess.specs.Rules.{Promotes, beside, board, is_free, moved, pieces_after}
-use Rattle.dgt_chess.proofs.OneMove.{moved_is, put}
-use Rattle.dgt_game.specs.Arrivals.{arrivals, counts, has_arrived}
-use Rattle.dgt_game.specs.Lines.{IsLine, IsMove, LeadsTo, NoLine}
+use Rattle.std.{proofs.{lemmas.Bool.{cases_eq}, Common.{◌≡◌, ◌∙◌, ℕ, ◌<◌, ◌≤◌, List, [], ◌∷◌, ap, arith, inl, inr, length, refl, subst, sym, take}}, specs.Prelude.{◌≢◌, ◌⊎◌, ◌+◌, ◌/◌, Bool, true}}
+use Rattle.{std.specs.{Prelude.{false, not, ◌&&◌, nat_eq, if◌then◌else◌, slice_set, slice_index_or, suc, zero, Option, Some, None}, Int.{abs_diff}}, dgt_values.proofs.PieceCodes.{same_code}}
+use Rattle.{dgt_values.specs.{declared.pieces.Piece.{Piece, TheVariants.{Empty}}, Board.{piece_code, square_number}}, dgt_chess.specs.declared.state.{Move.{Move}, State.{State}}}
+use Rattle.dgt_chess.specs.{declared.pieces.{Colour.{Colour, TheVariants.{White, Black}}, Man.{Man, TheVariants.{Pawn, Knight, Bishop, Rook, Queen, King}}}, Attacks.{file, other, piece_at, piece_of}}
+use Rattle.{dgt_chess.{specs.Rules.{Promotes, beside, board, is_free, moved, pieces_after}, proofs.OneMove.{moved_is, put}}, dgt_game.specs.{Arrivals.{arrivals, counts, has_arrived}, Lines.{IsLine}}}
+use Rattle.dgt_game.specs.Lines.{IsMove, LeadsTo, NoLine}
 
 -- at most one man arrives on a square
 abbrev one_if : Bool → ℕ

@@ -1,13 +1,7 @@
 -- Steps in turn, and places for them.
 use Rattle.std.proofs.Common.{◌≡◌, ◌≢◌, ◌⊎◌, ◌<◌, ◌≤◌, ◌+◌, ◌++◌, ◌∷◌, ◌∙◌, refl, sym, ap, subst, inl, inr, arith, ℕ, zero, suc, length, drop, List, [], Option, Some, None, unwrap_or, slice_index_or}
-use Rattle.std.proofs.lemmas.List.{length-map}
-use Rattle.std.specs.Prelude.{⊤, MatchOption, slice_get}
-use Rattle.dgt_values.specs.declared.pieces.Piece.{Piece}
-use Rattle.dgt_game.specs.declared.node.Node.{Node}
-use Rattle.dgt_game.specs.declared.node.Place.{Place}
-use Rattle.dgt_game.specs.declared.node.Step.{Step}
-use Rattle.dgt_game.specs.Memory.{By, Chain, Grows, IsBefore, IsRooted, IsSeen, Links, step_at, steps, tip}
-use Rattle.dgt_game.proofs.Told.{links_any, links_moved}
+use Rattle.{std.{proofs.lemmas.List.{length-map}, specs.Prelude.{⊤, MatchOption, slice_get}}, dgt_values.specs.declared.pieces.Piece.{Piece}, dgt_game.specs.declared.node.{Node.{Node}, Place.{Place}}}
+use Rattle.dgt_game.{specs.{declared.node.Step.{Step}, Memory.{By, Chain, Grows, IsBefore, IsRooted, IsSeen, Links, step_at, steps, tip}}, proofs.Told.{links_any, links_moved}}
 
 abbrev pub moved : Step → Place → Step
 moved step place = record {

@@ -1,26 +1,9 @@
 -- What several half-moves lead to is found.
-use Rattle.std.proofs.Common.{◌≡◌, ◌≢◌, ◌∙◌, ◌<◌, ◌≤◌, ◌+◌, ◌-◌, ◌^◌, ◌⊎◌, inl, inr, refl, sym, ap, subst, arith, min, ℕ, Bool, true, false, Option, Some, None}
-use Rattle.std.proofs.lemmas.Bool.{false≢true}
-use Rattle.std.specs.Prelude.{IfSome, if◌then◌else◌, option_map}
-use Rattle.dgt_values.specs.Board.{pieces_of}
-use Rattle.dgt_chess.specs.declared.pieces.Colour.{Colour}
-use Rattle.dgt_chess.specs.declared.state.State.{State}
-use Rattle.dgt_chess.specs.Rules.{board}
-use Rattle.dgt_game.specs.declared.node.Place.{Place}
-use Rattle.dgt_game.specs.declared.recogniser.Recogniser.{Recogniser}
-use Rattle.dgt_game.specs.declared.recogniser.Search.{Search}
-use Rattle.dgt_game.specs.declared.resting.Next.{Next}
-use Rattle.dgt_game.specs.declared.resting.Task.{Task}
-use Rattle.dgt_game.specs.declared.view.View.{View}
-use Rattle.dgt_game.specs.Told.{as_shown}
-use Rattle.dgt_game.specs.Finding.{FindsLater, IsFound, IsSearched, SearchIsDue, WhatFollowsIsFound}
-use Rattle.dgt_game.specs.Memory.{IsTold}
-use Rattle.dgt_game.specs.Planning.{EndsSearch, HasKing, IsLostOr, Plans, RestsBefore, StaysPlaced, TaskFits, search_wait}
-use Rattle.dgt_game.specs.Reading.{HasSomeLines, IsLive}
-use Rattle.dgt_game.specs.Settling.{StaysShown}
-use Rattle.dgt_game.specs.Standing.{StandsAt}
-use Rattle.dgt_game.specs.Timing.{IsIdle}
-use Rattle.dgt_game.proofs.Pictures.{king_seen, led_to}
+use Rattle.std.proofs.{Common.{◌≡◌, ◌≢◌, ◌∙◌, ◌<◌, ◌≤◌, ◌+◌, ◌-◌, ◌^◌, ◌⊎◌, inl, inr, refl, sym, ap, subst, arith, min, ℕ, Bool, true, false, Option, Some, None}, lemmas.Bool.{false≢true}}
+use Rattle.{std.specs.Prelude.{IfSome, if◌then◌else◌, option_map}, dgt_values.specs.Board.{pieces_of}, dgt_chess.specs.{declared.{pieces.Colour.{Colour}, state.State.{State}}, Rules.{board}}}
+use Rattle.dgt_game.specs.{declared.{node.Place.{Place}, recogniser.{Recogniser.{Recogniser}, Search.{Search}}, resting.{Next.{Next}, Task.{Task}}, view.View.{View}}, Told.{as_shown}}
+use Rattle.dgt_game.specs.{Finding.{FindsLater, IsFound, IsSearched, SearchIsDue, WhatFollowsIsFound}, Memory.{IsTold}, Planning.{EndsSearch, HasKing, IsLostOr, Plans, RestsBefore, StaysPlaced}}
+use Rattle.dgt_game.{specs.{Planning.{TaskFits, search_wait}, Reading.{HasSomeLines, IsLive}, Settling.{StaysShown}, Standing.{StandsAt}, Timing.{IsIdle}}, proofs.Pictures.{king_seen, led_to}}
 use Rattle.dgt_game.proofs.Rests.{place_or}
 
 -- what is looked for is found, if nothing else has changed

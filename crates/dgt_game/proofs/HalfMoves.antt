@@ -1,15 +1,7 @@
 -- The half-move that leads to a picture.
-use Rattle.std.proofs.Common.{◌≡◌, ◌∙◌, ℕ, ◌<◌, List, [], ◌∷◌, ap, arith, length, refl, subst, sym}
-use Rattle.std.specs.Prelude.{Option}
-use Rattle.dgt_values.specs.declared.pieces.Piece.{Piece}
-use Rattle.dgt_values.specs.Board.{square_number}
-use Rattle.dgt_chess.specs.declared.pieces.Man.{Man}
-use Rattle.dgt_chess.specs.declared.state.Move.{Move}
-use Rattle.dgt_chess.specs.declared.state.State.{State}
-use Rattle.dgt_chess.specs.Rules.{IsAfter, Legal, LegalBy, Reaches, board, pieces_after, OneMoveAPicture}
-use Rattle.dgt_chess.proofs.Unique.{same_man}
-use Rattle.dgt_game.specs.Lines.{IsMove, IsOnly, LeadsTo, NoLine}
-use Rattle.dgt_game.proofs.Same.{same_move}
+use Rattle.{std.{proofs.Common.{◌≡◌, ◌∙◌, ℕ, ◌<◌, List, [], ◌∷◌, ap, arith, length, refl, subst, sym}, specs.Prelude.{Option}}, dgt_values.specs.{declared.pieces.Piece.{Piece}, Board.{square_number}}}
+use Rattle.dgt_chess.{specs.{declared.{pieces.Man.{Man}, state.{Move.{Move}, State.{State}}}, Rules.{IsAfter, Legal, LegalBy, Reaches, board, pieces_after, OneMoveAPicture}}, proofs.Unique.{same_man}}
+use Rattle.dgt_game.{specs.Lines.{IsMove, IsOnly, LeadsTo, NoLine}, proofs.Same.{same_move}}
 
 reaches : (state : State) (one : Move) (new : State) (pieces : List Piece) → IsMove state one new
     → board new ≡ pieces

@@ -1,19 +1,7 @@
 -- Pieces in hands.
-use Rattle.std.proofs.Common.{◌≡◌, ◌∙◌, ◌⊎◌, refl, sym, subst, inl, inr, ℕ, List, Some, slice_get, Contains}
-use Rattle.std.proofs.lemmas.Option.{get_or_from_slice_get}
-use Rattle.dgt_values.specs.declared.pieces.Piece.{Piece}
-use Rattle.dgt_chess.specs.declared.pieces.Man.{Man}
-use Rattle.dgt_chess.specs.declared.state.Move.{Move}
-use Rattle.dgt_chess.specs.declared.state.State.{State}
-use Rattle.dgt_chess.specs.Attacks.{piece_at, piece_of}
-use Rattle.dgt_chess.specs.Rules.{board}
-use Rattle.dgt_game.specs.declared.node.Place.{Place}
-use Rattle.dgt_game.specs.declared.node.Step.{Step}
-use Rattle.dgt_game.specs.declared.node.Way.{Way}
-use Rattle.dgt_game.specs.Lines.{IsMove}
-use Rattle.dgt_game.specs.Told.{IsHeld, WasShown, as_shown}
-use Rattle.dgt_game.specs.Memory.{IsSeen, Links, step_at}
-use Rattle.dgt_game.proofs.Links.{links}
+use Rattle.{std.proofs.{Common.{◌≡◌, ◌∙◌, ◌⊎◌, refl, sym, subst, inl, inr, ℕ, List, Some, slice_get, Contains}, lemmas.Option.{get_or_from_slice_get}}, dgt_values.specs.declared.pieces.Piece.{Piece}}
+use Rattle.{dgt_chess.specs.{declared.{pieces.Man.{Man}, state.{Move.{Move}, State.{State}}}, Attacks.{piece_at, piece_of}, Rules.{board}}, dgt_game.specs.declared.node.{Place.{Place}, Step.{Step}}}
+use Rattle.dgt_game.{specs.{declared.node.Way.{Way}, Lines.{IsMove}, Told.{IsHeld, WasShown, as_shown}, Memory.{IsSeen, Links, step_at}}, proofs.Links.{links}}
 
 -- a square of a picture of a state, if the picture lacks at most pieces of the side to move
 abbrev pub LacksAt : List Piece → State → ℕ → Type 0

@@ -1,10 +1,6 @@
 -- What is held stays so, if steps stay as they are.
-use Rattle.std.proofs.Common.{◌≡◌, inl, inr, length, List, []}
-use Rattle.dgt_values.specs.declared.pieces.Piece.{Piece}
-use Rattle.dgt_game.specs.declared.memory.Memory.{Memory}
-use Rattle.dgt_game.specs.Told.{Told}
-use Rattle.dgt_game.specs.Memory.{Grows, Holds, IsRooted, steps}
-use Rattle.dgt_game.proofs.Told.{grows_none, rooted_none}
+use Rattle.{std.proofs.Common.{◌≡◌, inl, inr, length, List, []}, dgt_values.specs.declared.pieces.Piece.{Piece}, dgt_game.specs.{declared.memory.Memory.{Memory}, Told.{Told}, Memory.{Grows, Holds}}}
+use Rattle.dgt_game.{specs.Memory.{IsRooted, steps}, proofs.Told.{grows_none, rooted_none}}
 
 pub same_line : (shown : List (List Piece)) (line : List Told) (old new : Memory)
     → steps new.line.items ≡ steps old.line.items → new.seen ≡ old.seen → new.back ≡ old.back

@@ -1,23 +1,9 @@
 -- What is known stays so when more is shown, and over whole runs.
-use Rattle.std.proofs.Common.{◌≡◌, ◌∙◌, ◌++◌, ◌<◌, refl, sym, ap, subst, inl, inr, arith, ℕ, zero, suc, length, slice_index_or, Bool, List, [], ◌∷◌, Option, Some, None}
-use Rattle.std.specs.Prelude.{Contains, IfSome}
-use Rattle.dgt_values.specs.declared.pieces.Piece.{Piece}
-use Rattle.dgt_values.specs.Board.{pieces_of}
-use Rattle.dgt_chess.specs.declared.state.State.{State}
-use Rattle.dgt_game.specs.declared.memory.Memory.{Memory}
-use Rattle.dgt_game.specs.declared.node.Node.{Node}
-use Rattle.dgt_game.specs.declared.node.Place.{Place}
-use Rattle.dgt_game.specs.declared.node.Step.{Step}
-use Rattle.dgt_game.specs.declared.node.Way.{Way}
-use Rattle.dgt_game.specs.declared.observation.Sight.{Sight}
-use Rattle.dgt_game.specs.declared.recogniser.Recogniser.{Recogniser}
-use Rattle.dgt_game.specs.declared.view.View.{View}
-use Rattle.dgt_game.specs.Told.{IsLegalTold, IsShown, Told, WasShown, told_pieces}
-use Rattle.dgt_game.specs.Memory.{Chain, Holds, steps}
-use Rattle.dgt_game.specs.Recogniser.{GoesOn, Knows, new_recogniser, shown_after}
-use Rattle.dgt_game.specs.Runs.{Call, CallsAreRuns, IsLegalAndShown, Runs, events_of, shown_in}
-use Rattle.dgt_game.proofs.Links.{was_shown}
-use Rattle.dgt_game.proofs.Told.{grows_none, rooted_none}
+use Rattle.std.{proofs.Common.{◌≡◌, ◌∙◌, ◌++◌, ◌<◌, refl, sym, ap, subst, inl, inr, arith, ℕ, zero, suc, length, slice_index_or, Bool, List, [], ◌∷◌, Option, Some, None}, specs.Prelude.{Contains}}
+use Rattle.{std.specs.Prelude.{IfSome}, dgt_values.specs.{declared.pieces.Piece.{Piece}, Board.{pieces_of}}, dgt_chess.specs.declared.state.State.{State}}
+use Rattle.dgt_game.specs.declared.{memory.Memory.{Memory}, node.{Node.{Node}, Place.{Place}, Step.{Step}, Way.{Way}}, observation.Sight.{Sight}, recogniser.Recogniser.{Recogniser}, view.View.{View}}
+use Rattle.dgt_game.specs.{Told.{IsLegalTold, IsShown, Told, WasShown, told_pieces}, Memory.{Chain, Holds, steps}, Recogniser.{GoesOn, Knows, new_recogniser, shown_after}, Runs.{Call, CallsAreRuns}}
+use Rattle.dgt_game.{specs.Runs.{IsLegalAndShown, Runs, events_of, shown_in}, proofs.{Links.{was_shown}, Told.{grows_none, rooted_none}}}
 
 -- all pictures of the first are among the second
 abbrev pub Within : List (List Piece) → List (List Piece) → Type 0

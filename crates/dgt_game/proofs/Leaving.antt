@@ -1,22 +1,8 @@
 -- A half-move leaves its first square, and the opponent's answer puts none of its men there.
-use Rattle.std.proofs.Common.{◌≡◌, ◌∙◌, ℕ, ◌≤◌, List, [], ◌∷◌, ap, arith, inl, inr, subst, sym}
-use Rattle.std.proofs.lemmas.Bool.{cases_eq}
-use Rattle.std.specs.Prelude.{◌≢◌, suc, Option, Some, None}
-use Rattle.dgt_values.specs.declared.pieces.Piece.{Piece}
-use Rattle.dgt_values.specs.declared.pieces.Piece.TheVariants.{Empty}
-use Rattle.dgt_values.specs.Board.{square_number}
-use Rattle.dgt_chess.specs.declared.state.Move.{Move}
-use Rattle.dgt_chess.specs.declared.state.State.{State}
-use Rattle.dgt_chess.specs.declared.pieces.Colour.{Colour}
-use Rattle.dgt_chess.specs.declared.pieces.Man.{Man}
-use Rattle.dgt_chess.specs.declared.pieces.Man.TheVariants.{Pawn, Rook}
-use Rattle.dgt_chess.specs.Attacks.{other, piece_at, piece_of, IsFree}
-use Rattle.dgt_chess.specs.Rules.{board}
-use Rattle.dgt_chess.proofs.OneMove.{effect_of, put}
-use Rattle.dgt_chess.proofs.Unique.{Effect, not_free, not_theirs, same_kind, same_man}
-use Rattle.dgt_game.specs.declared.ways.Ways.TheVariants.{Nothing}
-use Rattle.dgt_game.specs.Lines.{IsMove}
-use Rattle.dgt_game.specs.Ways.{AreWaysBy, IsWay}
+use Rattle.std.{proofs.{Common.{◌≡◌, ◌∙◌, ℕ, ◌≤◌, List, [], ◌∷◌, ap, arith, inl, inr, subst, sym}, lemmas.Bool.{cases_eq}}, specs.Prelude.{◌≢◌, suc, Option, Some, None}}
+use Rattle.{dgt_values.specs.{declared.pieces.Piece.{Piece, TheVariants.{Empty}}, Board.{square_number}}, dgt_chess.specs.declared.{state.{Move.{Move}, State.{State}}, pieces.Colour.{Colour}}}
+use Rattle.dgt_chess.{specs.{declared.pieces.Man.{Man, TheVariants.{Pawn, Rook}}, Attacks.{other, piece_at, piece_of, IsFree}, Rules.{board}}, proofs.{OneMove.{effect_of, put}, Unique.{Effect}}}
+use Rattle.{dgt_chess.proofs.Unique.{not_free, not_theirs, same_kind, same_man}, dgt_game.specs.{declared.ways.Ways.TheVariants.{Nothing}, Lines.{IsMove}, Ways.{AreWaysBy, IsWay}}}
 
 was_pawn : (man : Man) (promotion : Option Man) → promotion ≢ Some Pawn → put man promotion ≡ Pawn
     → man ≡ Pawn

@@ -1,22 +1,8 @@
 -- Steps that follow each other.
-use Rattle.std.proofs.Common.{◌≡◌, ◌≤◌, ◌∙◌, refl, sym, ap, arith, subst, inl, inr, ℕ, zero, suc, length, Bool, true, false, List, [], ◌∷◌, Option, Some, slice_get}
-use Rattle.std.specs.Prelude.{Contains, IfSome, ◌≢◌, ◌⊎◌}
-use Rattle.std.proofs.lemmas.List.{reverse-reverse}
-use Rattle.std.proofs.lemmas.Option.{IfSome_then}
-use Rattle.dgt_values.specs.declared.pieces.Piece.{Piece}
-use Rattle.dgt_chess.specs.declared.state.State.{State}
-use Rattle.dgt_chess.specs.Rules.{IsStart, board}
-use Rattle.dgt_game.specs.declared.node.Node.{Node}
-use Rattle.dgt_game.specs.declared.node.Step.{Step}
-use Rattle.dgt_game.specs.declared.node.Way.{Way}
-use Rattle.dgt_game.specs.declared.node.Place.{Place}
-use Rattle.dgt_chess.specs.declared.state.Move.{Move}
-use Rattle.dgt_game.specs.declared.reading.Reading.{Reading}
-use Rattle.dgt_game.specs.declared.memory.Memory.{Memory}
-use Rattle.dgt_game.specs.declared.ways.Ways.{Ways}
-use Rattle.dgt_game.specs.Lines.{IsLine, IsMove, moves_of}
-use Rattle.dgt_game.specs.Ways.{AreWays}
-use Rattle.dgt_game.specs.Told.{Told, IsShown, Joins, WasShown, as_shown, told_pieces}
+use Rattle.std.{proofs.Common.{◌≡◌, ◌≤◌, ◌∙◌, refl, sym, ap, arith, subst, inl, inr, ℕ, zero, suc, length, Bool, true, false, List, [], ◌∷◌, Option, Some, slice_get}, specs.Prelude.{Contains, IfSome}}
+use Rattle.{std.{specs.Prelude.{◌≢◌, ◌⊎◌}, proofs.lemmas.{List.{reverse-reverse}, Option.{IfSome_then}}}, dgt_values.specs.declared.pieces.Piece.{Piece}, dgt_chess.specs.declared.state.State.{State}}
+use Rattle.{dgt_chess.specs.{Rules.{IsStart, board}, declared.state.Move.{Move}}, dgt_game.specs.declared.{node.{Node.{Node}, Step.{Step}, Way.{Way}, Place.{Place}}, reading.Reading.{Reading}}}
+use Rattle.dgt_game.specs.{declared.{memory.Memory.{Memory}, ways.Ways.{Ways}}, Lines.{IsLine, IsMove, moves_of}, Ways.{AreWays}, Told.{Told, IsShown, Joins, WasShown, as_shown, told_pieces}}
 use Rattle.dgt_game.specs.Memory.{By, Fits, Holds, IsKept, IsRoot, IsSeen, Links, Reads, halves_of, step_at, steps, told_of}
 
 pub turned_back : (turned : Bool) (pieces shown : List Piece) → pieces ≡ as_shown turned shown

@@ -1,18 +1,9 @@
 -- What lines, events and pictures mean, in other words.
-use Rattle.std.proofs.Common.{◌≡◌, ◌∙◌, ◌<◌, ◌≤◌, refl, sym, ap, subst, inl, inr, arith, zero, suc, length, length-append, List, [], ◌∷◌, ◌++◌, Option, unwrap_or}
-use Rattle.std.specs.Prelude.{⊤, Contains, MatchOption}
-use Rattle.dgt_values.specs.declared.pieces.Piece.{Piece}
-use Rattle.dgt_chess.specs.declared.state.Move.{Move}
-use Rattle.dgt_chess.specs.declared.state.State.{State}
-use Rattle.dgt_chess.specs.Attacks.{piece_at}
-use Rattle.dgt_chess.specs.Rules.{board}
-use Rattle.dgt_game.specs.declared.event.Event.{Event}
-use Rattle.dgt_game.specs.Lines.{IsLine, IsMove, IsOnly, LeadsTo, moves_of}
-use Rattle.dgt_game.specs.Told.{IsLegalTold, Joins, Leads, Told, WasShown, told_pieces}
-use Rattle.dgt_game.specs.Laws.{AreJoined, BackIsCounted, JoinedIsOne, LegalIsJoined, NoneAndOne, OneIsShown, OneLine, OthersAreHeld, SeveralAreShown, ShownIsHeld, StartIsShown, UnseenIsOnly}
-use Rattle.dgt_game.specs.Laws.{first_of}
-use Rattle.dgt_game.proofs.Links.{turned_back}
-use Rattle.dgt_game.proofs.Same.{one_next}
+use Rattle.std.{proofs.Common.{◌≡◌, ◌∙◌, ◌<◌, ◌≤◌, refl, sym, ap, subst, inl, inr, arith, zero, suc, length, length-append, List, [], ◌∷◌, ◌++◌, Option, unwrap_or}, specs.Prelude.{⊤, Contains}}
+use Rattle.{std.specs.Prelude.{MatchOption}, dgt_values.specs.declared.pieces.Piece.{Piece}, dgt_chess.specs.{declared.state.{Move.{Move}, State.{State}}, Attacks.{piece_at}, Rules.{board}}}
+use Rattle.dgt_game.specs.{declared.event.Event.{Event}, Lines.{IsLine, IsMove, IsOnly, LeadsTo, moves_of}, Told.{IsLegalTold, Joins, Leads, Told, WasShown, told_pieces}, Laws.{AreJoined}}
+use Rattle.dgt_game.specs.Laws.{BackIsCounted, JoinedIsOne, LegalIsJoined, NoneAndOne, OneIsShown, OneLine, OthersAreHeld, SeveralAreShown, ShownIsHeld, StartIsShown, UnseenIsOnly, first_of}
+use Rattle.dgt_game.proofs.{Links.{turned_back}, Same.{one_next}}
 
 rest_joined : (told : Told) (line : List Told) → AreJoined (told ∷ line) → AreJoined line
 rest_joined told [] h = tt

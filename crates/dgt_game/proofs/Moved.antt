@@ -1,26 +1,9 @@
 -- Men that have moved.
-use Rattle.std.proofs.Common.{◌≡◌, ◌≢◌, ◌∙◌, ◌⊎◌, ap, ◌<◌, ◌≤◌, ◌+◌, arith, sym, subst, inl, inr, ℕ}
-use Rattle.std.proofs.Common.{zero, suc, List, [], ◌∷◌, ◌++◌, length, slice_index_or, unwrap_or, Option, Some, None, slice_get}
-use Rattle.std.specs.Prelude.{IsSome, MatchOption}
-use Rattle.std.proofs.lemmas.Bool.{cases_lt}
-use Rattle.std.proofs.lemmas.Option.{get_or_from_slice_get, slice_get-get_or, slice_get_within}
-use Rattle.std.proofs.lemmas.List.{length-map}
-use Rattle.dgt_values.specs.declared.pieces.Piece.{Piece}
-use Rattle.dgt_values.specs.Board.{pieces_of}
-use Rattle.dgt_chess.specs.declared.pieces.Colour.{Colour}
-use Rattle.dgt_chess.specs.declared.pieces.Man.{Man}
-use Rattle.dgt_chess.specs.declared.state.State.{State}
-use Rattle.dgt_chess.specs.Attacks.{other, piece_at, piece_of}
-use Rattle.dgt_chess.specs.Rules.{board}
-use Rattle.dgt_chess.proofs.Unique.{not_free, not_theirs}
-use Rattle.dgt_game.specs.declared.node.Node.{Node}
-use Rattle.dgt_game.specs.declared.node.Origin.{Origin}
-use Rattle.dgt_game.specs.declared.node.Step.{Step}
-use Rattle.dgt_game.specs.declared.view.View.{View}
-use Rattle.dgt_game.specs.Told.{as_shown}
-use Rattle.dgt_game.specs.Memory.{steps}
-use Rattle.dgt_game.specs.Reading.{HasLineFrom, HasMoved, MovedAt, origins}
-use Rattle.dgt_game.proofs.Chains.{get_step}
+use Rattle.std.proofs.Common.{◌≡◌, ◌≢◌, ◌∙◌, ◌⊎◌, ap, ◌<◌, ◌≤◌, ◌+◌, arith, sym, subst, inl, inr, ℕ, zero, suc, List, [], ◌∷◌, ◌++◌, length, slice_index_or, unwrap_or, Option, Some, None, slice_get}
+use Rattle.std.{specs.Prelude.{IsSome, MatchOption}, proofs.lemmas.{Bool.{cases_lt}, Option.{get_or_from_slice_get, slice_get-get_or, slice_get_within}, List.{length-map}}}
+use Rattle.{dgt_values.specs.{declared.pieces.Piece.{Piece}, Board.{pieces_of}}, dgt_chess.specs.{declared.{pieces.{Colour.{Colour}, Man.{Man}}, state.State.{State}}, Attacks.{other, piece_at}}}
+use Rattle.{dgt_chess.{specs.{Attacks.{piece_of}, Rules.{board}}, proofs.Unique.{not_free, not_theirs}}, dgt_game.specs.declared.{node.{Node.{Node}, Origin.{Origin}, Step.{Step}}, view.View.{View}}}
+use Rattle.dgt_game.{specs.{Told.{as_shown}, Memory.{steps}, Reading.{HasLineFrom, HasMoved, MovedAt, origins}}, proofs.Chains.{get_step}}
 
 -- on a square only men of a side have moved
 abbrev pub Keeps : Colour → Piece → Piece → Type 0

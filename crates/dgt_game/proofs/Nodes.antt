@@ -1,11 +1,6 @@
 -- Nodes, and their steps.
-use Rattle.std.proofs.Common.{rules, arith, ◌≡◌, ◌∙◌, ap, subst, ℕ, length, List, slice_set, slice_index_or}
-use Rattle.std.specs.List.{refill}
-use Rattle.std.proofs.Math.Seq.{map-set_same}
-use Rattle.std.proofs.lemmas.List.{length-set, places, same_lists}
-use Rattle.dgt_game.specs.declared.node.Node.{Node}
-use Rattle.dgt_game.specs.Memory.{steps}
-use Rattle.dgt_game.specs.Reading.{origins}
+use Rattle.std.{proofs.{Common.{rules, arith, ◌≡◌, ◌∙◌, ap, subst, ℕ, length, List, slice_set, slice_index_or}, Math.Seq.{map-set_same}, lemmas.List.{length-set, places}}, specs.List.{refill}}
+use Rattle.{std.proofs.lemmas.List.{same_lists}, dgt_game.specs.{declared.node.Node.{Node}, Memory.{steps}, Reading.{origins}}}
 
 pub same_steps : (old : List Node) (k : ℕ) (new other : Node)
     → new.step ≡ (slice_index_or old k other).step → steps (slice_set old k new) ≡ steps old

@@ -1,36 +1,12 @@
 -- What a picture is read as.
 use Rattle.std.proofs.Common.{◌≡◌, ◌∙◌, ◌<◌, ◌≤◌, ◌-◌, ◌⊎◌, inl, inr, arith, ap, sym, refl, subst, ℕ, zero, suc, Bool, true, false, ◌∷◌, List, length, Option, Some, None, slice_index_or}
-use Rattle.std.specs.Prelude.{◌≢◌, [], IfSome, slice_get}
-use Rattle.std.proofs.lemmas.Option.{slice_get_read, slice_get_within}
-use Rattle.std.proofs.lemmas.List.{get_or-reverse, length-map}
-use Rattle.std.proofs.lemmas.Bool.{cases_lt}
-use Rattle.std.proofs.Math.Logic.{∥∥₁_elim}
-use Rattle.dgt_values.specs.declared.pieces.Piece.{Piece}
-use Rattle.dgt_values.specs.Board.{pieces_of}
-use Rattle.dgt_chess.specs.declared.state.Move.{Move}
-use Rattle.dgt_chess.specs.declared.state.State.{State}
-use Rattle.dgt_chess.specs.declared.pieces.Colour.{Colour}
-use Rattle.dgt_chess.specs.declared.pieces.Man.{Man}
-use Rattle.dgt_chess.specs.Attacks.{piece_at, piece_of}
-use Rattle.dgt_chess.specs.Possible.{HasKings, HasOneKing}
-use Rattle.dgt_chess.specs.Rules.{board}
-use Rattle.dgt_game.specs.declared.memory.Memory.{Memory}
-use Rattle.dgt_game.specs.declared.node.Node.{Node}
-use Rattle.dgt_game.specs.declared.node.Place.{Place}
-use Rattle.dgt_game.specs.declared.node.Returned.{Returned}
-use Rattle.dgt_game.specs.declared.node.Step.{Step}
-use Rattle.dgt_game.specs.declared.reading.Reading.{Reading}
-use Rattle.dgt_game.specs.declared.recogniser.Over.{Over}
-use Rattle.dgt_game.specs.declared.recogniser.Recogniser.{Recogniser}
-use Rattle.dgt_game.specs.declared.view.View.{View}
-use Rattle.dgt_game.specs.Lines.{LeadsTo, NoLine, IsLine}
-use Rattle.dgt_game.specs.Told.{as_shown, told_pieces}
-use Rattle.dgt_game.specs.Memory.{steps, told_of}
-use Rattle.dgt_game.specs.Reading.{HasLine, HasLineFrom, IsExplained, IsLive, IsNear, MayGoOn, ReadsView, ShowsAt, SomeLine}
-use Rattle.dgt_game.specs.Reading.{EarlierAreKnown, ElseStartIsKnown, FollowsSeen, IsKnown, IsRead, MovesAreKnown, ShowsEarlier, StartIsKnown, TwoAreKnown}
-use Rattle.dgt_game.specs.Waiting.{last_of}
-use Rattle.dgt_game.proofs.Chains.{get_step}
-use Rattle.dgt_game.proofs.Links.{turned_back}
+use Rattle.std.{specs.Prelude.{◌≢◌, [], IfSome, slice_get}, proofs.{lemmas.{Option.{slice_get_read, slice_get_within}, List.{get_or-reverse, length-map}, Bool.{cases_lt}}, Math.Logic.{∥∥₁_elim}}}
+use Rattle.{dgt_values.specs.{declared.pieces.Piece.{Piece}, Board.{pieces_of}}, dgt_chess.specs.declared.{state.{Move.{Move}, State.{State}}, pieces.{Colour.{Colour}, Man.{Man}}}}
+use Rattle.{dgt_chess.specs.{Attacks.{piece_at, piece_of}, Possible.{HasKings, HasOneKing}, Rules.{board}}, dgt_game.specs.declared.{memory.Memory.{Memory}, node.{Node.{Node}, Place.{Place}}}}
+use Rattle.dgt_game.specs.{declared.{node.{Returned.{Returned}, Step.{Step}}, reading.Reading.{Reading}, recogniser.{Over.{Over}, Recogniser.{Recogniser}}, view.View.{View}}, Lines.{LeadsTo, NoLine}}
+use Rattle.dgt_game.specs.{Lines.{IsLine}, Told.{as_shown, told_pieces}, Memory.{steps, told_of}, Reading.{HasLine, HasLineFrom, IsExplained, IsLive, IsNear, MayGoOn, ReadsView, ShowsAt, SomeLine}}
+use Rattle.dgt_game.specs.{Reading.{EarlierAreKnown, ElseStartIsKnown, FollowsSeen, IsKnown, IsRead, MovesAreKnown, ShowsEarlier, StartIsKnown, TwoAreKnown}, Waiting.{last_of}}
+use Rattle.dgt_game.proofs.{Chains.{get_step}, Links.{turned_back}}
 
 pub read_at : (nodes : List Node) (k : ℕ) (node : Node) → k < length nodes
     → node ≡ slice_index_or nodes k node → slice_get nodes k ≡ Some node

@@ -1,40 +1,13 @@
 -- What is planned, and how much is left to do.
-use Rattle.std.proofs.Common.{◌≡◌, ◌∙◌, ◌⊎◌, ◌<◌, ◌≤◌, ◌+◌, inl, inr, refl, sym, ap, subst, arith, ℕ, zero, suc, Bool, true, false}
-use Rattle.std.proofs.Common.{List, [], ◌∷◌, Option, Some, None, Result, Ok, Err, length, unwrap_or, slice_get, slice_index_or}
-use Rattle.std.specs.Prelude.{⊤, ◌↔◌, MatchOption, MatchResult, option_map}
-use Rattle.std.specs.Result.{result_ok}
-use Rattle.std.proofs.lemmas.Option.{get_or_from_slice_get, none-some, slice_get_read}
-use Rattle.std.proofs.Math.Logic.{∥∥₁_elim}
-use Rattle.dgt_values.specs.declared.pieces.Piece.{Piece}
-use Rattle.dgt_values.specs.Board.{pieces_of, square_number}
-use Rattle.dgt_chess.specs.declared.pieces.Colour.{Colour}
-use Rattle.dgt_chess.specs.declared.possible.Impossible.{Impossible}
-use Rattle.dgt_chess.specs.declared.possible.Rights.{Rights}
-use Rattle.dgt_chess.specs.declared.state.State.{State}
-use Rattle.dgt_chess.specs.Attacks.{IsInCheck, other, piece_at}
-use Rattle.dgt_chess.specs.Possible.{HasKings, HasNoExtra, HasNoStray, HasPassed, HasRights, IsPossible, Refuses}
-use Rattle.dgt_chess.specs.Rules.{board}
-use Rattle.dgt_game.specs.declared.event.Event.{Event}
-use Rattle.dgt_game.specs.declared.event.GameResult.{GameResult}
-use Rattle.dgt_game.specs.declared.memory.Memory.{Memory}
-use Rattle.dgt_game.specs.declared.node.Node.{Node}
-use Rattle.dgt_game.specs.declared.node.Origin.{Origin}
-use Rattle.dgt_game.specs.declared.node.Place.{Place}
-use Rattle.dgt_game.specs.declared.node.Step.{Step}
-use Rattle.dgt_game.specs.declared.recogniser.Lost.{Lost}
-use Rattle.dgt_game.specs.declared.recogniser.Over.{Over}
-use Rattle.dgt_game.specs.declared.recogniser.Recogniser.{Recogniser}
-use Rattle.dgt_game.specs.declared.recogniser.Search.{Search}
-use Rattle.dgt_game.specs.declared.resting.Next.{Next}
-use Rattle.dgt_game.specs.declared.resting.Task.{Task}
-use Rattle.dgt_game.specs.declared.view.View.{View}
-use Rattle.dgt_game.specs.Told.{as_shown}
-use Rattle.dgt_game.specs.Memory.{steps}
-use Rattle.dgt_game.specs.Waiting.{Show, has_notice, last_of}
-use Rattle.dgt_game.specs.Planning.{AddsNone, EndsSearch, HasNothing, IsAtLast, IsPlanned, IsRefused, IsSettled, Lacks, LacksOnly}
-use Rattle.dgt_game.specs.Planning.{LostIsReported, NothingFits, OneFits, PossibleIsHopeful, SaysLost}
-use Rattle.dgt_game.specs.Planning.{Plans, PlansPosition, RestsAt, RestsBefore, RestsBy, StaysPlaced, TaskFits, WhyHopeless, of_kings, of_place, of_search, todo}
-use Rattle.dgt_game.proofs.Chains.{get_step}
+use Rattle.std.proofs.Common.{◌≡◌, ◌∙◌, ◌⊎◌, ◌<◌, ◌≤◌, ◌+◌, inl, inr, refl, sym, ap, subst, arith, ℕ, zero, suc, Bool, true, false, List, [], ◌∷◌, Option, Some, None, Result, Ok, Err, length}
+use Rattle.std.{proofs.{Common.{unwrap_or, slice_get, slice_index_or}, lemmas.Option.{get_or_from_slice_get}}, specs.{Prelude.{⊤, ◌↔◌, MatchOption, MatchResult, option_map}, Result.{result_ok}}}
+use Rattle.{std.proofs.{lemmas.Option.{none-some, slice_get_read}, Math.Logic.{∥∥₁_elim}}, dgt_values.specs.{declared.pieces.Piece.{Piece}, Board.{pieces_of, square_number}}}
+use Rattle.dgt_chess.specs.{declared.{pieces.Colour.{Colour}, possible.{Impossible.{Impossible}, Rights.{Rights}}, state.State.{State}}, Attacks.{IsInCheck, other, piece_at}, Possible.{HasKings}}
+use Rattle.{dgt_chess.specs.{Possible.{HasNoExtra, HasNoStray, HasPassed, HasRights, IsPossible, Refuses}, Rules.{board}}, dgt_game.specs.declared.event.{Event.{Event}, GameResult.{GameResult}}}
+use Rattle.dgt_game.specs.declared.{memory.Memory.{Memory}, node.{Node.{Node}, Origin.{Origin}, Place.{Place}, Step.{Step}}, recogniser.{Lost.{Lost}, Over.{Over}, Recogniser.{Recogniser}}}
+use Rattle.dgt_game.specs.{declared.{recogniser.Search.{Search}, resting.{Next.{Next}, Task.{Task}}, view.View.{View}}, Told.{as_shown}, Memory.{steps}, Waiting.{Show, has_notice, last_of}}
+use Rattle.dgt_game.specs.Planning.{AddsNone, EndsSearch, HasNothing, IsAtLast, IsPlanned, IsRefused, IsSettled, Lacks, LacksOnly, LostIsReported, NothingFits, OneFits, PossibleIsHopeful, SaysLost}
+use Rattle.dgt_game.{specs.Planning.{Plans, PlansPosition, RestsAt, RestsBefore, RestsBy, StaysPlaced, TaskFits, WhyHopeless, of_kings, of_place, of_search, todo}, proofs.Chains.{get_step}}
 
 -- ---- Pieces that are gone
 

@@ -1,20 +1,8 @@
 -- The promotions that are tried.
-use Rattle.std.proofs.Common.{◌≡◌, ◌∙◌, ℕ, List, ap, inl, inr, refl, subst, sym}
-use Rattle.std.specs.Prelude.{◌↔◌, ◌⊎◌, Bool, true, false, IsSome, IsTrue, Option, Some, None}
-use Rattle.dgt_values.specs.declared.pieces.Piece.{Piece}
-use Rattle.dgt_values.specs.Board.{square_number}
-use Rattle.dgt_chess.specs.declared.pieces.Man.{Man}
-use Rattle.dgt_chess.specs.declared.pieces.Man.TheVariants.{Pawn, Knight, Bishop, Rook, Queen, King}
-use Rattle.dgt_chess.specs.declared.state.Move.{Move}
-use Rattle.dgt_chess.specs.declared.state.State.{State}
-use Rattle.dgt_chess.specs.declared.pieces.Colour.{Colour}
-use Rattle.dgt_chess.specs.Attacks.{piece_at, piece_of, row}
-use Rattle.dgt_chess.specs.Rules.{LegalBy, board, last_row}
-use Rattle.dgt_chess.proofs.Unique.{same_man}
-use Rattle.dgt_game.specs.declared.ways.Ways.{Ways}
-use Rattle.dgt_game.specs.Lines.{IsMove}
-use Rattle.dgt_game.specs.Ways.{AreWaysBy, Ends, both}
-use Rattle.dgt_game.proofs.Sets.{promoted, same_set}
+use Rattle.std.{proofs.Common.{◌≡◌, ◌∙◌, ℕ, List, ap, inl, inr, refl, subst, sym}, specs.Prelude.{◌↔◌, ◌⊎◌, Bool, true, false, IsSome, IsTrue, Option, Some, None}}
+use Rattle.{dgt_values.specs.{declared.pieces.Piece.{Piece}, Board.{square_number}}, dgt_chess.specs.declared.pieces.Man.{Man, TheVariants.{Pawn, Knight, Bishop, Rook, Queen, King}}}
+use Rattle.dgt_chess.{specs.{declared.{state.{Move.{Move}, State.{State}}, pieces.Colour.{Colour}}, Attacks.{piece_at, piece_of, row}, Rules.{LegalBy, board, last_row}}, proofs.Unique.{same_man}}
+use Rattle.dgt_game.{specs.{declared.ways.Ways.{Ways}, Lines.{IsMove}, Ways.{AreWaysBy, Ends, both}}, proofs.Sets.{promoted, same_set}}
 
 -- whether a legal half-move between two squares promotes
 abbrev pub Tells : State → ℕ → ℕ → Bool → Type 0

@@ -1,18 +1,8 @@
 -- What rests on the board is reported.
-use Rattle.std.proofs.Common.{◌≡◌, ◌≢◌, ◌∙◌, ◌+◌, ◌-◌, ◌^◌, ◌<◌, ◌≤◌, ◌⊎◌, refl, sym, subst, inl, inr, arith, min, ℕ, zero, suc, Bool, true, false, Option, Some, None}
-use Rattle.std.specs.Prelude.{IfSome, MatchOption, if◌then◌else◌, option_map, slice_get}
-use Rattle.dgt_game.specs.declared.memory.Memory.{Memory}
-use Rattle.dgt_game.specs.declared.node.Node.{Node}
-use Rattle.dgt_game.specs.declared.node.Place.{Place}
-use Rattle.dgt_game.specs.declared.node.Step.{Step}
-use Rattle.dgt_game.specs.declared.resting.Next.{Next}
-use Rattle.dgt_game.specs.declared.view.View.{View}
-use Rattle.dgt_game.specs.Memory.{IsTold, steps}
-use Rattle.dgt_game.specs.Planning.{Lacks, Plans}
-use Rattle.dgt_game.specs.Reading.{Shows}
-use Rattle.dgt_game.specs.Standing.{Counts, Lands, OnlyShownIsReported, RestIsReported, ShowsLast, StandsAt}
-use Rattle.dgt_game.specs.Waiting.{last_of}
-use Rattle.dgt_game.proofs.Standing.{last_at_first, some_of}
+use Rattle.std.{proofs.Common.{◌≡◌, ◌≢◌, ◌∙◌, ◌+◌, ◌-◌, ◌^◌, ◌<◌, ◌≤◌, ◌⊎◌, refl, sym, subst, inl, inr, arith, min, ℕ, zero, suc, Bool, true, false, Option, Some, None}, specs.Prelude.{IfSome}}
+use Rattle.{std.specs.Prelude.{MatchOption, if◌then◌else◌, option_map, slice_get}, dgt_game.specs.declared.{memory.Memory.{Memory}, node.{Node.{Node}, Place.{Place}, Step.{Step}}}}
+use Rattle.dgt_game.specs.{declared.{resting.Next.{Next}, view.View.{View}}, Memory.{IsTold, steps}, Planning.{Lacks, Plans}, Reading.{Shows}, Standing.{Counts, Lands, OnlyShownIsReported}}
+use Rattle.dgt_game.{specs.{Standing.{RestIsReported, ShowsLast, StandsAt}, Waiting.{last_of}}, proofs.Standing.{last_at_first, some_of}}
 
 -- nothing is done a minute later
 no_next : (next : Option Next) (since now : ℕ)

@@ -1,11 +1,8 @@
 -- What results and lost lines mean.
 use Rattle.std.proofs.Common.{◌≡◌, ◌≢◌, ◌∙◌, ◌⊎◌, ◌<◌, ◌++◌, inl, inr, refl, sym, arith, ℕ, Bool, true, false, List, [], ◌∷◌, Option, Some, None, ap, subst}
-use Rattle.dgt_values.specs.declared.pieces.Piece.{Piece}
-use Rattle.dgt_game.specs.declared.event.Event.{Event}
-use Rattle.dgt_game.specs.declared.event.GameResult.{GameResult}
-use Rattle.dgt_game.specs.declared.recogniser.Recogniser.{Recogniser}
-use Rattle.dgt_game.specs.Waiting.{CallsFollowOn, FollowOn, IsRight, RightIfAway, RunsInTurn, events_in, has_result, is_lost}
-use Rattle.dgt_game.specs.Results.{AreLost, FitsAt, HasResults, IsOnlyOn, KingsOn, LostInTurn, NotFound, NotLost, OneByKings, OneByRules, OneOther, OneResult, Stay}
+use Rattle.{dgt_values.specs.declared.pieces.Piece.{Piece}, dgt_game.specs.{declared.{event.{Event.{Event}, GameResult.{GameResult}}, recogniser.Recogniser.{Recogniser}}, Waiting.{CallsFollowOn}}}
+use Rattle.dgt_game.specs.{Waiting.{FollowOn, IsRight, RightIfAway, RunsInTurn, events_in, has_result, is_lost}, Results.{AreLost, FitsAt, HasResults, IsOnlyOn, KingsOn, LostInTurn, NotFound}}
+use Rattle.dgt_game.specs.Results.{NotLost, OneByKings, OneByRules, OneOther, OneResult, Stay}
 
 pub one_by_rules : OneByRules
 one_by_rules state GameResult.WhiteWins GameResult.WhiteWins h k = (refl, h.2)

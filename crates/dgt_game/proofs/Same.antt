@@ -1,21 +1,8 @@
 -- Moves and states are the same if clauses see the same of them.
-use Rattle.std.proofs.Common.{◌≡◌, ◌∙◌, ℕ, ◌<◌, List, ap, length, refl, subst, sym}
-use Rattle.std.proofs.Math.Logic.{∥∥₁_prop}
-use Rattle.std.proofs.Props.{props}
-use Rattle.std.specs.Prelude.{Option, Some, None, option_map}
-use Rattle.dgt_values.specs.declared.pieces.Piece.{Piece}
-use Rattle.dgt_values.specs.declared.positions.Position.{Position}
-use Rattle.dgt_values.specs.declared.squares.Square.{Square}
-use Rattle.dgt_values.specs.Board.{pieces_of, square_number}
-use Rattle.dgt_chess.specs.declared.pieces.Colour.{Colour}
-use Rattle.dgt_chess.specs.declared.pieces.Man.{Man}
-use Rattle.dgt_chess.specs.declared.possible.Rights.{Rights}
-use Rattle.dgt_chess.specs.declared.state.Move.{Move}
-use Rattle.dgt_chess.specs.declared.state.State.{State}
-use Rattle.dgt_chess.specs.Possible.{IsPossible}
-use Rattle.dgt_chess.specs.Rules.{IsAfter, passed}
-use Rattle.dgt_chess.proofs.Unique.{same_man}
-use Rattle.dgt_game.specs.Lines.{IsMove}
+use Rattle.std.{proofs.{Common.{◌≡◌, ◌∙◌, ℕ, ◌<◌, List, ap, length, refl, subst, sym}, Math.Logic.{∥∥₁_prop}, Props.{props}}, specs.Prelude.{Option, Some, None, option_map}}
+use Rattle.dgt_values.specs.{declared.{pieces.Piece.{Piece}, positions.Position.{Position}, squares.Square.{Square}}, Board.{pieces_of, square_number}}
+use Rattle.dgt_chess.specs.{declared.{pieces.{Colour.{Colour}, Man.{Man}}, possible.Rights.{Rights}, state.{Move.{Move}, State.{State}}}, Possible.{IsPossible}, Rules.{IsAfter, passed}}
+use Rattle.{dgt_chess.proofs.Unique.{same_man}, dgt_game.specs.Lines.{IsMove}}
 
 same_square : (a b : Square) → square_number a ≡ square_number b → a ≡ b
 same_square a b e =

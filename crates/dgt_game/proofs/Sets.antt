@@ -1,17 +1,8 @@
 -- What is found in sets of lines, which differ in their first half-moves.
-use Rattle.std.proofs.lemmas.Bool.{cases_eq}
-use Rattle.std.proofs.Common.{◌≡◌, ◌∙◌, ℕ, ◌<◌, List, [], ◌∷◌, ap, arith, inl, inr, length, refl, subst, sym}
-use Rattle.std.specs.Prelude.{◌≢◌, ◌⊎◌, ◌+◌, ◌≤◌, ⊤, suc, Option}
-use Rattle.dgt_values.specs.declared.pieces.Piece.{Piece}
-use Rattle.dgt_values.specs.Board.{square_number}
-use Rattle.dgt_chess.specs.declared.pieces.Man.{Man}
-use Rattle.dgt_chess.specs.declared.state.Move.{Move}
-use Rattle.dgt_chess.specs.declared.state.State.{State}
-use Rattle.dgt_game.specs.declared.ways.Ways.{Ways}
-use Rattle.dgt_game.specs.declared.ways.Ways.TheVariants.{Nothing, Only, Several}
-use Rattle.dgt_game.specs.Lines.{IsLine, IsMove, IsOnly, LeadsTo, NoLine, moves_of}
-use Rattle.dgt_game.specs.Ways.{AreWays, AreWaysBy, BeginsIn, Ends, Follows, IsSeveral, IsWay, both}
-use Rattle.dgt_game.proofs.Same.{one_next, same_move}
+use Rattle.std.{proofs.{lemmas.Bool.{cases_eq}, Common.{◌≡◌, ◌∙◌, ℕ, ◌<◌, List, [], ◌∷◌, ap, arith, inl, inr, length, refl, subst, sym}}, specs.Prelude.{◌≢◌, ◌⊎◌, ◌+◌, ◌≤◌, ⊤, suc, Option}}
+use Rattle.{dgt_values.specs.{declared.pieces.Piece.{Piece}, Board.{square_number}}, dgt_chess.specs.declared.{pieces.Man.{Man}, state.{Move.{Move}, State.{State}}}}
+use Rattle.dgt_game.specs.{declared.ways.Ways.{Ways, TheVariants.{Nothing, Only, Several}}, Lines.{IsLine, IsMove, IsOnly, LeadsTo, NoLine, moves_of}, Ways.{AreWays, AreWaysBy, BeginsIn, Ends}}
+use Rattle.dgt_game.{specs.Ways.{Follows, IsSeveral, IsWay, both}, proofs.Same.{one_next, same_move}}
 
 -- the legal half-moves of one set are in another
 abbrev pub Within : State → (Move → Type 0) → (Move → Type 0) → Type 0

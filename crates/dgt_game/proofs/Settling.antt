@@ -1,24 +1,10 @@
 -- What is reported has rested.
-use Rattle.std.proofs.Common.{◌≡◌, ◌∙◌, ◌<◌, ◌≤◌, ◌+◌, ◌-◌, ◌^◌, ◌⊎◌, inl, inr, refl, sym, subst, arith, min, ℕ, Bool, true, false, [], ◌∷◌, Option, Some, None}
-use Rattle.std.specs.Prelude.{◌≢◌, IfSome, MatchOption, if◌then◌else◌, option_map, slice_get}
-use Rattle.std.proofs.lemmas.Bool.{false≢true}
-use Rattle.std.proofs.lemmas.Option.{none-some}
-use Rattle.dgt_game.specs.declared.node.Node.{Node}
-use Rattle.dgt_game.specs.declared.node.Origin.{Origin}
-use Rattle.dgt_game.specs.declared.node.Place.{Place}
-use Rattle.dgt_game.specs.declared.node.Way.{Way}
-use Rattle.dgt_game.specs.declared.recogniser.Recogniser.{Recogniser}
-use Rattle.dgt_game.specs.declared.resting.Next.{Next}
-use Rattle.dgt_game.specs.declared.resting.Task.{Task}
-use Rattle.dgt_game.specs.declared.view.View.{View}
-use Rattle.dgt_game.specs.Memory.{steps}
-use Rattle.dgt_game.specs.Planning.{Lacks, Plans, RestsAfter, RestsAt, RestsBefore, RestsBy, TaskFits, search_wait}
-use Rattle.dgt_game.specs.Settling.{IsAt, NothingWaitsLong, ReplacingHasRested, ReportedHasRested, ReportedHasSettled, ReportedIsShown, SeenIsAnswered}
-use Rattle.dgt_game.specs.Standing.{Counts, Lands, ShowsAs, StandsAt}
-use Rattle.dgt_game.specs.Timing.{HasTask, IsIdle}
-use Rattle.dgt_game.proofs.Finding.{not_yet}
-use Rattle.dgt_game.proofs.Rests.{only_shown}
-use Rattle.dgt_game.proofs.Standing.{some_of}
+use Rattle.std.{proofs.Common.{◌≡◌, ◌∙◌, ◌<◌, ◌≤◌, ◌+◌, ◌-◌, ◌^◌, ◌⊎◌, inl, inr, refl, sym, subst, arith, min, ℕ, Bool, true, false, [], ◌∷◌, Option, Some, None}, specs.Prelude.{◌≢◌, IfSome}}
+use Rattle.{std.{specs.Prelude.{MatchOption, if◌then◌else◌, option_map, slice_get}, proofs.lemmas.{Bool.{false≢true}, Option.{none-some}}}, dgt_game.specs.declared.node.{Node.{Node}, Origin.{Origin}}}
+use Rattle.dgt_game.specs.{declared.{node.{Place.{Place}, Way.{Way}}, recogniser.Recogniser.{Recogniser}, resting.{Next.{Next}, Task.{Task}}, view.View.{View}}, Memory.{steps}, Planning.{Lacks}}
+use Rattle.dgt_game.specs.{Planning.{Plans, RestsAfter, RestsAt, RestsBefore, RestsBy, TaskFits, search_wait}, Settling.{IsAt, NothingWaitsLong, ReplacingHasRested, ReportedHasRested}}
+use Rattle.dgt_game.{specs.{Settling.{ReportedHasSettled, ReportedIsShown, SeenIsAnswered}, Standing.{Counts, Lands, ShowsAs, StandsAt}, Timing.{HasTask, IsIdle}}, proofs.Finding.{not_yet}}
+use Rattle.dgt_game.proofs.{Rests.{only_shown}, Standing.{some_of}}
 
 -- what is done next is planned if it is due
 timed : (sure : Bool) (next : Option Next) (since now : ℕ) → MatchOption (if sure

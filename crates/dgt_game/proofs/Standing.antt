@@ -1,26 +1,9 @@
 -- The board's place in what is known, and what it shows once all is reported.
-use Rattle.std.proofs.Common.{◌≡◌, ◌≢◌, ◌∙◌, ◌⊎◌, ◌≤◌, refl, sym, ap, subst, inl, inr, arith, ℕ, zero, suc, Bool, true, false, List, length, Option, Some, None, unwrap_or}
-use Rattle.std.proofs.Math.Bridge.{le_prop}
-use Rattle.std.specs.Prelude.{IfSome, MatchOption, slice_get}
-use Rattle.dgt_values.specs.declared.pieces.Piece.{Piece}
-use Rattle.dgt_values.specs.Board.{pieces_of}
-use Rattle.dgt_chess.specs.declared.state.State.{State}
-use Rattle.dgt_chess.specs.Attacks.{piece_at}
-use Rattle.dgt_chess.specs.Rules.{board}
-use Rattle.dgt_game.specs.declared.memory.Memory.{Memory}
-use Rattle.dgt_game.specs.declared.node.Node.{Node}
-use Rattle.dgt_game.specs.declared.node.Place.{Place}
-use Rattle.dgt_game.specs.declared.node.Returned.{Returned}
-use Rattle.dgt_game.specs.declared.node.Step.{Step}
-use Rattle.dgt_game.specs.declared.recogniser.Recogniser.{Recogniser}
-use Rattle.dgt_game.specs.declared.view.View.{View}
-use Rattle.dgt_game.specs.Memory.{IsBefore, IsTold, step_at, steps}
-use Rattle.dgt_game.specs.Planning.{LacksOnly}
-use Rattle.dgt_game.specs.Reading.{Shows}
-use Rattle.dgt_game.specs.Told.{IsHeld, as_shown}
-use Rattle.dgt_game.specs.Standing.{Counts, EndsHere, IsCalledFor, IsMeant, IsOpen, Lands, ShowsAs, ShowsBut, ShowsLast, Stands, StandsAt, TakesBack}
-use Rattle.dgt_game.specs.Waiting.{coming}
-use Rattle.dgt_game.proofs.Chains.{moved, some_below}
+use Rattle.std.proofs.{Common.{◌≡◌, ◌≢◌, ◌∙◌, ◌⊎◌, ◌≤◌, refl, sym, ap, subst, inl, inr, arith, ℕ, zero, suc, Bool, true, false, List, length, Option, Some, None, unwrap_or}, Math.Bridge.{le_prop}}
+use Rattle.{std.specs.Prelude.{IfSome, MatchOption, slice_get}, dgt_values.specs.{declared.pieces.Piece.{Piece}, Board.{pieces_of}}, dgt_chess.specs.{declared.state.State.{State}, Attacks.{piece_at}}}
+use Rattle.{dgt_chess.specs.Rules.{board}, dgt_game.specs.declared.{memory.Memory.{Memory}, node.{Node.{Node}, Place.{Place}, Returned.{Returned}, Step.{Step}}, recogniser.Recogniser.{Recogniser}}}
+use Rattle.dgt_game.specs.{declared.view.View.{View}, Memory.{IsBefore, IsTold, step_at, steps}, Planning.{LacksOnly}, Reading.{Shows}, Told.{IsHeld, as_shown}, Standing.{Counts, EndsHere}}
+use Rattle.dgt_game.{specs.{Standing.{IsCalledFor, IsMeant, IsOpen, Lands, ShowsAs, ShowsBut, ShowsLast, Stands, StandsAt, TakesBack}, Waiting.{coming}}, proofs.Chains.{moved, some_below}}
 use Rattle.dgt_game.proofs.Links.{turned_back}
 
 -- what is so of a value is so of one that is there

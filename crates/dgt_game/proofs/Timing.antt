@@ -1,13 +1,8 @@
 -- What is done whenever `due` is called.
-use Rattle.std.proofs.Common.{◌≡◌, ◌∙◌, ◌++◌, ◌≤◌, ◌<◌, ◌+◌, ◌-◌, ◌^◌, refl, ap, sym, subst, arith, ℕ, Bool, true, false, List, [], ◌∷◌, Option, Some, None}
-use Rattle.std.specs.Prelude.{IfSome, MatchOption, min, option_map, if◌then◌else◌}
-use Rattle.std.proofs.lemmas.Option.{none-some}
-use Rattle.dgt_game.specs.declared.event.Event.{Event}
-use Rattle.dgt_game.specs.declared.recogniser.Recogniser.{Recogniser}
-use Rattle.dgt_game.specs.declared.resting.Next.{Next}
-use Rattle.dgt_game.specs.Timing.{Acts, AllDue, DoneBy, Due, HasTask, IsIdle, NoCallMatters, Tells, next_time, with_report}
-use Rattle.dgt_game.specs.Results.{HasResult, IsLost}
-use Rattle.dgt_game.specs.Waiting.{Follows, IsQuiet, IsRight, has_result, is_lost}
+use Rattle.std.{proofs.Common.{◌≡◌, ◌∙◌, ◌++◌, ◌≤◌, ◌<◌, ◌+◌, ◌-◌, ◌^◌, refl, ap, sym, subst, arith, ℕ, Bool, true, false, List, [], ◌∷◌, Option, Some, None}, specs.Prelude.{IfSome, MatchOption, min}}
+use Rattle.{std.{specs.Prelude.{option_map, if◌then◌else◌}, proofs.lemmas.Option.{none-some}}, dgt_game.specs.declared.{event.Event.{Event}, recogniser.Recogniser.{Recogniser}, resting.Next.{Next}}}
+use Rattle.dgt_game.specs.{Timing.{Acts, AllDue, DoneBy, Due, HasTask, IsIdle, NoCallMatters, Tells, next_time, with_report}, Results.{HasResult, IsLost}, Waiting.{Follows, IsQuiet, IsRight}}
+use Rattle.dgt_game.specs.Waiting.{has_result, is_lost}
 
 -- what is done next doesn't count
 pub right_with : (self : Recogniser) (next : Option Next) (event : Event)

@@ -1,15 +1,8 @@
 -- The line, as it is reported.
-use Rattle.std.proofs.Common.{◌≡◌, ◌≢◌, ◌<◌, ◌-◌, ◌⊎◌, refl, sym, ap, subst, inl, inr, arith, ℕ, zero, suc, length, take, Bool, List, [], ◌∷◌, Option, Some, None, unwrap_or}
-use Rattle.std.specs.Prelude.{⊤, slice_get, MatchOption}
-use Rattle.dgt_values.specs.declared.pieces.Piece.{Piece}
-use Rattle.dgt_chess.specs.declared.state.State.{State}
-use Rattle.dgt_game.specs.declared.event.Event.{Event}
-use Rattle.dgt_game.specs.declared.node.Node.{Node}
-use Rattle.dgt_game.specs.declared.node.Step.{Step}
-use Rattle.dgt_game.specs.declared.node.Way.{Way}
-use Rattle.dgt_game.specs.declared.node.Place.{Place}
-use Rattle.dgt_game.specs.Told.{Told, IsShown, Leads, WasShown}
-use Rattle.dgt_game.specs.Memory.{By, Chain, Grows, IsBefore, IsKept, IsRooted, IsSeen, Links, event_by, event_of, halves_of, line_after, line_by, step_at, steps, tip, told_of}
+use Rattle.std.{proofs.Common.{◌≡◌, ◌≢◌, ◌<◌, ◌-◌, ◌⊎◌, refl, sym, ap, subst, inl, inr, arith, ℕ, zero, suc, length, take, Bool, List, [], ◌∷◌, Option, Some, None, unwrap_or}, specs.Prelude.{⊤}}
+use Rattle.{std.specs.Prelude.{slice_get, MatchOption}, dgt_values.specs.declared.pieces.Piece.{Piece}, dgt_chess.specs.declared.state.State.{State}, dgt_game.specs.declared.event.Event.{Event}}
+use Rattle.dgt_game.specs.{declared.node.{Node.{Node}, Step.{Step}, Way.{Way}, Place.{Place}}, Told.{Told, IsShown, Leads, WasShown}, Memory.{By, Chain, Grows, IsBefore, IsKept, IsRooted, IsSeen}}
+use Rattle.dgt_game.specs.Memory.{Links, event_by, event_of, halves_of, line_after, line_by, step_at, steps, tip, told_of}
 
 pub kept_take : (nodes : List Node) (line : List Told) (n : ℕ) → IsKept (steps nodes) line
     → IsKept (steps (take n nodes)) line

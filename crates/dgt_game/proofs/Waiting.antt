@@ -1,22 +1,9 @@
 -- What waits to be reported.
 use Rattle.std.proofs.Common.{◌≡◌, ◌≢◌, ◌∙◌, ◌+◌, ◌-◌, ◌<◌, ◌⊎◌, inl, inr, refl, sym, ap, arith, below_more, ℕ, zero, suc, Bool, true, false, List, [], ◌∷◌, Option, Some, None}
-use Rattle.std.specs.Prelude.{slice_get, IfSome}
-use Rattle.std.specs.Option.{option_or}
-use Rattle.std.proofs.lemmas.Option.{none-some}
-use Rattle.dgt_values.specs.declared.pieces.Piece.{Piece}
-use Rattle.dgt_chess.specs.Attacks.{piece_at}
-use Rattle.dgt_game.specs.declared.event.GameResult.{GameResult}
-use Rattle.dgt_game.specs.declared.memory.Memory.{Memory}
-use Rattle.dgt_game.specs.declared.recogniser.Over.{Over}
-use Rattle.dgt_game.specs.declared.event.Event.{Event}
-use Rattle.dgt_game.specs.declared.node.Node.{Node}
-use Rattle.dgt_game.specs.declared.node.Step.{Step}
-use Rattle.dgt_game.specs.declared.recogniser.Lost.{Lost}
-use Rattle.dgt_game.specs.declared.recogniser.Recogniser.{Recogniser}
-use Rattle.dgt_game.specs.declared.view.View.{View}
-use Rattle.dgt_game.specs.Memory.{steps, tip}
-use Rattle.dgt_game.specs.Results.{ByRules, FitsAt}
-use Rattle.dgt_game.specs.Waiting.{EndsBy, IsOfLine, IsRight, LostBy, Show, coming, has_notice, has_result, last_of}
+use Rattle.{std.{specs.{Prelude.{slice_get, IfSome}, Option.{option_or}}, proofs.lemmas.Option.{none-some}}, dgt_values.specs.declared.pieces.Piece.{Piece}, dgt_chess.specs.Attacks.{piece_at}}
+use Rattle.dgt_game.specs.declared.{event.{GameResult.{GameResult}, Event.{Event}}, memory.Memory.{Memory}, recogniser.{Over.{Over}, Lost.{Lost}}, node.{Node.{Node}, Step.{Step}}}
+use Rattle.dgt_game.specs.{declared.{recogniser.Recogniser.{Recogniser}, view.View.{View}}, Memory.{steps, tip}, Results.{ByRules, FitsAt}, Waiting.{EndsBy, IsOfLine, IsRight, LostBy, Show, coming}}
+use Rattle.dgt_game.specs.Waiting.{has_notice, has_result, last_of}
 
 pub right_of_line : (self : Recogniser) (event : Event) → IsOfLine event → IsRight self event
 right_of_line self (Event.Ended result) h = absurd h

@@ -1,11 +1,7 @@
-use Rattle.std.proofs.Common.{rules, arith, ◌≡◌, Some, inl, inr, subst, slice_get}
-use Rattle.dgt_values.specs.declared.pieces.Piece.{Piece}
-use Rattle.dgt_values.specs.declared.positions.Position.{Position}
-use Rattle.dgt_values.specs.Board.{pieces_of, square_number}
-use Rattle.dgt_chess.specs.Attacks.{other}
-use Rattle.dgt_game.proofs.Moved.{Keeps, kept_more, some_man}
+use Rattle.{std.proofs.Common.{rules, arith, ◌≡◌, Some, inl, inr, subst, slice_get}, dgt_values.specs.{declared.{pieces.Piece.{Piece}, positions.Position.{Position}}, Board.{pieces_of}}}
+use Rattle.{dgt_values.specs.Board.{square_number}, dgt_chess.specs.Attacks.{other}, dgt_game.proofs.{Moved.{Keeps, kept_more, some_man}, early.moves_again.Goals.{then-ne+then-is_some-2}}}
+use Rattle.dgt_game.proofs.early.moves_again.Goals.{then-is_some, else-is_some+else-eq, then-ne+else-is_some-2+else-ne-2, else-ne}
 use Rattle.dgt_game.proofs.early.moves_again.Goals as goal
-use Rattle.dgt_game.proofs.early.moves_again.Goals.{then-ne+then-is_some-2, then-is_some, else-is_some+else-eq, then-ne+else-is_some-2+else-ne-2, else-ne}
 
 pub loop-at-preserved : goal.loop-at-preserved
 loop-at-preserved c =

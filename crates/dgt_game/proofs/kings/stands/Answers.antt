@@ -1,7 +1,5 @@
-use Rattle.dgt_values.specs.Board.{pieces_of}
-use Rattle.dgt_game.proofs.Waiting.{fitting_but, fitting_more}
+use Rattle.{dgt_values.specs.Board.{pieces_of}, dgt_game.proofs.{Waiting.{fitting_but, fitting_more}, kings.stands.Goals.{then-not-fits+else-has_other, else-not-fits}}}
 use Rattle.dgt_game.proofs.kings.stands.Goals as goal
-use Rattle.dgt_game.proofs.kings.stands.Goals.{then-not-fits+else-has_other, else-not-fits}
 
 pub loop-at-preserved : goal.loop-at-preserved
 loop-at-preserved c =

@@ -1,10 +1,6 @@
-use Rattle.std.proofs.Common.{◌≡◌, ◌∙◌, ◌+◌, ◌<◌, ◌++◌, ◌∷◌, [], arith, sym, ap, subst, ℕ, List, drop, length, slice_index_or}
-use Rattle.std.proofs.lemmas.List.{length-map}
-use Rattle.dgt_game.specs.declared.node.Node.{Node}
-use Rattle.dgt_game.specs.declared.node.Place.{Place}
-use Rattle.dgt_game.specs.declared.node.Step.{Step}
-use Rattle.dgt_game.specs.Memory.{Chain, Grows, IsRooted, Links, step_at, steps, tip}
-use Rattle.dgt_game.proofs.Chains.{moved, next_chained, next_tip, rooted_push, steps_drop, steps_push}
+use Rattle.{std.proofs.{Common.{◌≡◌, ◌∙◌, ◌+◌, ◌<◌, ◌++◌, ◌∷◌, [], arith, sym, ap, subst, ℕ, List, drop, length, slice_index_or}, lemmas.List.{length-map}}, dgt_game.specs.declared.node.Node.{Node}}
+use Rattle.dgt_game.{specs.{declared.node.{Place.{Place}, Step.{Step}}, Memory.{Chain, Grows, IsRooted, Links, step_at, steps, tip}}, proofs.Chains.{moved, next_chained, next_tip, rooted_push}}
+use Rattle.dgt_game.proofs.Chains.{steps_drop, steps_push}
 use Rattle.dgt_game.proofs.memory.chained.Goals as goal
 
 pub loop-k-preserved : goal.loop-k-preserved

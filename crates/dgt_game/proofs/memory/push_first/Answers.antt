@@ -1,5 +1,4 @@
-use Rattle.std.proofs.Common.{refl}
-use Rattle.dgt_game.proofs.Told.{kept_take}
+use Rattle.{std.proofs.Common.{refl}, dgt_game.proofs.Told.{kept_take}}
 use Rattle.dgt_game.proofs.memory.push_first.Goals as goal
 
 pub returns-clause-kept : goal.returns-clause-kept

@@ -1,5 +1,4 @@
-use Rattle.std.proofs.Common.{refl}
-use Rattle.dgt_game.proofs.Nodes.{origins_written, same_written}
+use Rattle.{std.proofs.Common.{refl}, dgt_game.proofs.Nodes.{origins_written, same_written}}
 use Rattle.dgt_game.proofs.memory.set_left.Goals as goal
 
 pub returns-then-k-len-clause-steps : goal.returns-then-k-len-clause-steps

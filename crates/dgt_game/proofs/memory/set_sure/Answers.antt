@@ -1,5 +1,4 @@
-use Rattle.std.proofs.Common.{refl}
-use Rattle.dgt_game.proofs.Nodes.{same_written}
+use Rattle.{std.proofs.Common.{refl}, dgt_game.proofs.Nodes.{same_written}}
 use Rattle.dgt_game.proofs.memory.set_sure.Goals as goal
 
 pub returns-then-k-len : goal.returns-then-k-len

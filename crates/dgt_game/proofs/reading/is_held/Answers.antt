@@ -1,11 +1,5 @@
-use Rattle.std.proofs.Common.{◌≡◌, ◌⊎◌, Some, arith, below_more, slice_get, subst}
-use Rattle.dgt_values.specs.declared.pieces.Piece.{Piece}
-use Rattle.dgt_values.specs.declared.positions.Position.{Position}
-use Rattle.dgt_values.specs.Board.{pieces_of, square_number}
-use Rattle.dgt_chess.specs.declared.pieces.Colour.{Colour}
-use Rattle.dgt_chess.specs.declared.pieces.Man.{Man}
-use Rattle.dgt_chess.specs.Attacks.{piece_of}
-use Rattle.dgt_game.proofs.Hands.{LacksAt, lacks_at}
+use Rattle.{std.proofs.Common.{◌≡◌, ◌⊎◌, Some, arith, below_more, slice_get, subst}, dgt_values.specs.{declared.{pieces.Piece.{Piece}, positions.Position.{Position}}, Board.{pieces_of}}}
+use Rattle.{dgt_values.specs.Board.{square_number}, dgt_chess.specs.{declared.pieces.{Colour.{Colour}, Man.{Man}}, Attacks.{piece_of}}, dgt_game.proofs.Hands.{LacksAt, lacks_at}}
 use Rattle.dgt_game.proofs.reading.is_held.Goals as goal
 
 pub loop-at-preserved : goal.loop-at-preserved

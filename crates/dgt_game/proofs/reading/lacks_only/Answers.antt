@@ -1,6 +1,4 @@
-use Rattle.std.proofs.Common.{◌≡◌, Some, arith, below_more, slice_get, subst}
-use Rattle.dgt_values.specs.declared.positions.Position.{Position}
-use Rattle.dgt_values.specs.Board.{pieces_of, square_number}
+use Rattle.{std.proofs.Common.{◌≡◌, Some, arith, below_more, slice_get, subst}, dgt_values.specs.{declared.positions.Position.{Position}, Board.{pieces_of, square_number}}}
 use Rattle.dgt_game.proofs.Planning.{StandsAt, stands_at}
 use Rattle.dgt_game.proofs.reading.lacks_only.Goals as goal
 

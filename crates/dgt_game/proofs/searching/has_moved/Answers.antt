@@ -1,9 +1,7 @@
-use Rattle.std.proofs.Common.{rules, arith, ◌≡◌, None, Some, inl, inr, subst, slice_get}
-use Rattle.dgt_values.specs.declared.positions.Position.{Position}
-use Rattle.dgt_values.specs.Board.{pieces_of, square_number}
-use Rattle.dgt_game.proofs.Moved.{Moves, no_man, stays_more}
+use Rattle.{std.proofs.Common.{rules, arith, ◌≡◌, None, Some, inl, inr, subst, slice_get}, dgt_values.specs.{declared.positions.Position.{Position}, Board.{pieces_of, square_number}}}
+use Rattle.dgt_game.proofs.{Moved.{Moves, no_man, stays_more}, searching.has_moved.Goals.{else-ne-via-then-ne+else-is_some-2, then-is_some, else-is_some+then-eq, else-is_some+else-eq}}
+use Rattle.dgt_game.proofs.searching.has_moved.Goals.{else-ne-via-else-ne}
 use Rattle.dgt_game.proofs.searching.has_moved.Goals as goal
-use Rattle.dgt_game.proofs.searching.has_moved.Goals.{else-ne-via-then-ne+else-is_some-2, then-is_some, else-is_some+then-eq, else-is_some+else-eq, else-ne-via-else-ne}
 
 pub loop-at-preserved : goal.loop-at-preserved
 loop-at-preserved c =

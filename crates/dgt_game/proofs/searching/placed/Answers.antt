@@ -1,6 +1,4 @@
-use Rattle.std.proofs.Common.{◌∙◌, sym}
-use Rattle.dgt_values.specs.Board.{pieces_of}
-use Rattle.dgt_game.proofs.Planning.{unmade}
+use Rattle.{std.proofs.Common.{◌∙◌, sym}, dgt_values.specs.Board.{pieces_of}, dgt_game.proofs.Planning.{unmade}}
 use Rattle.dgt_game.proofs.searching.placed.Goals as goal
 
 pub returns-clause-none : goal.returns-clause-none

@@ -1,11 +1,7 @@
-use Rattle.std.proofs.Common.{rules, arith, ◌≡◌, ◌∙◌, ℕ, Some, None, slice_get, sym, subst}
-use Rattle.std.proofs.lemmas.Option.{get_or_from_slice_get}
-use Rattle.dgt_values.specs.Board.{pieces_of}
-use Rattle.dgt_values.specs.declared.pieces.Piece.{Piece}
-use Rattle.dgt_chess.specs.Attacks.{piece_at}
-use Rattle.dgt_game.proofs.Waiting.{found_none, found_one}
+use Rattle.{std.proofs.{Common.{rules, arith, ◌≡◌, ◌∙◌, ℕ, Some, None, slice_get, sym, subst}, lemmas.Option.{get_or_from_slice_get}}, dgt_values.specs.Board.{pieces_of}}
+use Rattle.{dgt_values.specs.declared.pieces.Piece.{Piece}, dgt_chess.specs.Attacks.{piece_at}, dgt_game.proofs.{Waiting.{found_none, found_one}, view.only_square.Goals.{then-is_same+else-is_some}}}
+use Rattle.dgt_game.proofs.view.only_square.Goals.{else-is_same}
 use Rattle.dgt_game.proofs.view.only_square.Goals as goal
-use Rattle.dgt_game.proofs.view.only_square.Goals.{then-is_same+else-is_some, else-is_same}
 
 pub loop-at-preserved : goal.loop-at-preserved
 loop-at-preserved c =

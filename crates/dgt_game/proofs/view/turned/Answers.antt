@@ -1,6 +1,4 @@
-use Rattle.std.proofs.Common.{rules, arith}
-use Rattle.dgt_values.specs.Board.{pieces_of}
-use Rattle.dgt_game.proofs.Turning.{turned_first, turned_next}
+use Rattle.{std.proofs.Common.{rules, arith}, dgt_values.specs.Board.{pieces_of}, dgt_game.proofs.Turning.{turned_first, turned_next}}
 use Rattle.dgt_game.proofs.view.turned.Goals as goal
 
 pub loop-at-init : goal.loop-at-init

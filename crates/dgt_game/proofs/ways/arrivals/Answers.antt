@@ -1,6 +1,4 @@
-use Rattle.std.proofs.Common.{◌<◌, arith, length}
-use Rattle.dgt_values.specs.Board.{pieces_of}
-use Rattle.dgt_game.proofs.Arriving.{one_more}
+use Rattle.{std.proofs.Common.{◌<◌, arith, length}, dgt_values.specs.Board.{pieces_of}, dgt_game.proofs.Arriving.{one_more}}
 use Rattle.dgt_game.proofs.ways.arrivals.Goals as goal
 
 pub loop-square-preserved : goal.loop-square-preserved

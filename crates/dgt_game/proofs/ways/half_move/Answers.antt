@@ -1,5 +1,4 @@
-use Rattle.dgt_values.specs.Board.{pieces_of, square_number}
-use Rattle.dgt_game.proofs.HalfMoves.{arrives, is_legal, none, only}
+use Rattle.{dgt_values.specs.Board.{pieces_of, square_number}, dgt_game.proofs.HalfMoves.{arrives, is_legal, none, only}}
 use Rattle.dgt_game.proofs.ways.half_move.Goals as goal
 
 pub returns-in-Ok : goal.returns-in-Ok

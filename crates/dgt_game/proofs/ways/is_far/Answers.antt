@@ -1,10 +1,5 @@
-use Rattle.std.proofs.Common.{◌≡◌, ◌<◌, arith, inl, inr}
-use Rattle.std.specs.Prelude.{◌/◌}
-use Rattle.dgt_values.specs.Board.{pieces_of}
-use Rattle.dgt_chess.specs.Attacks.{other}
-use Rattle.dgt_chess.specs.Rules.{board}
-use Rattle.dgt_game.specs.Arrivals.{arrivals}
-use Rattle.dgt_game.proofs.Arriving.{too_far}
+use Rattle.{std.{proofs.Common.{◌≡◌, ◌<◌, arith, inl, inr}, specs.Prelude.{◌/◌}}, dgt_values.specs.Board.{pieces_of}, dgt_chess.specs.{Attacks.{other}, Rules.{board}}}
+use Rattle.dgt_game.{specs.Arrivals.{arrivals}, proofs.Arriving.{too_far}}
 use Rattle.dgt_game.proofs.ways.is_far.Goals as goal
 
 pub returns-then-arrivals-halves : goal.returns-then-arrivals-halves

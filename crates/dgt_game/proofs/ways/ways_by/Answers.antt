@@ -1,9 +1,5 @@
-use Rattle.std.specs.Prelude.{suc}
-use Rattle.dgt_values.specs.Board.{pieces_of}
-use Rattle.dgt_chess.specs.declared.state.Move.{Move}
-use Rattle.dgt_game.specs.declared.ways.Ways.TheVariants.{Nothing}
-use Rattle.dgt_game.proofs.HalfMoves.{is_move, made_by}
-use Rattle.dgt_game.proofs.Sets.{after_move, by_parts, no_move}
+use Rattle.{std.specs.Prelude.{suc}, dgt_values.specs.Board.{pieces_of}, dgt_chess.specs.declared.state.Move.{Move}, dgt_game.specs.declared.ways.Ways.TheVariants.{Nothing}}
+use Rattle.dgt_game.proofs.{HalfMoves.{is_move, made_by}, Sets.{after_move, by_parts, no_move}}
 use Rattle.dgt_game.proofs.ways.ways_by.Goals as goal
 
 pub returns-in-Ok : goal.returns-in-Ok

@@ -1,8 +1,4 @@
-use Rattle.std.proofs.Common.{arith, rules}
-use Rattle.std.specs.Prelude.{◌+◌, suc}
-use Rattle.dgt_values.specs.Board.{pieces_of}
-use Rattle.dgt_game.proofs.Leaving.{kept, no_man}
-use Rattle.dgt_game.proofs.Sets.{all_goals, further, several_from}
+use Rattle.{std.{proofs.Common.{arith, rules}, specs.Prelude.{◌+◌, suc}}, dgt_values.specs.Board.{pieces_of}, dgt_game.proofs.{Leaving.{kept, no_man}, Sets.{all_goals, further, several_from}}}
 use Rattle.dgt_game.proofs.ways.ways_from.Goals as goal
 
 pub returns-in_default : goal.returns-in_default

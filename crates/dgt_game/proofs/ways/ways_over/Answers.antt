@@ -1,10 +1,5 @@
-use Rattle.std.proofs.Common.{◌≡◌, ◌∙◌, ap, arith, rules, subst, sym}
-use Rattle.std.specs.Prelude.{suc}
-use Rattle.dgt_values.specs.Board.{pieces_of, square_number}
-use Rattle.dgt_game.specs.declared.ways.Ways.{Ways}
-use Rattle.dgt_game.specs.Ways.{AreWaysBy, both}
-use Rattle.dgt_game.proofs.Leaving.{vacant}
-use Rattle.dgt_game.proofs.Promoting.{four, tells, unpromoted}
+use Rattle.{std.{proofs.Common.{◌≡◌, ◌∙◌, ap, arith, rules, subst, sym}, specs.Prelude.{suc}}, dgt_values.specs.Board.{pieces_of, square_number}, dgt_game.specs.declared.ways.Ways.{Ways}}
+use Rattle.dgt_game.{specs.Ways.{AreWaysBy, both}, proofs.{Leaving.{vacant}, Promoting.{four, tells, unpromoted}}}
 use Rattle.dgt_game.proofs.ways.ways_over.Goals as goal
 
 pub returns-then-is_same : goal.returns-then-is_same

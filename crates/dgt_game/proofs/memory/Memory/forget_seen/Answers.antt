@@ -1,6 +1,4 @@
-use Rattle.std.proofs.Common.{refl, ap}
-use Rattle.dgt_game.specs.Memory.{steps}
-use Rattle.dgt_game.proofs.Held.{none_seen}
+use Rattle.{std.proofs.Common.{refl, ap}, dgt_game.{specs.Memory.{steps}, proofs.Held.{none_seen}}}
 use Rattle.dgt_game.proofs.memory.Memory.forget_seen.Goals as goal
 
 pub returns-clause-holds : goal.returns-clause-holds

@@ -1,9 +1,5 @@
-use Rattle.std.proofs.Common.{rules, ◌≡◌, [], refl, sym, subst, inr, length, Option}
-use Rattle.dgt_game.specs.declared.node.Place.{Place}
-use Rattle.dgt_game.specs.declared.node.Step.{Step}
-use Rattle.dgt_game.specs.Memory.{Chain, IsBefore, IsRooted, Links, step_at, steps, tip}
-use Rattle.dgt_game.proofs.Chains.{place_at}
-use Rattle.dgt_game.proofs.Held.{seen_new}
+use Rattle.{std.proofs.Common.{rules, ◌≡◌, [], refl, sym, subst, inr, length, Option}, dgt_game.specs.{declared.node.{Place.{Place}, Step.{Step}}, Memory.{Chain, IsBefore, IsRooted, Links, step_at}}}
+use Rattle.dgt_game.{specs.Memory.{steps, tip}, proofs.{Chains.{place_at}, Held.{seen_new}}}
 use Rattle.dgt_game.proofs.memory.Memory.keep_path.Goals as goal
 
 pub returns : goal.returns

@@ -1,6 +1,4 @@
-use Rattle.std.proofs.Common.{refl}
-use Rattle.dgt_game.proofs.Held.{same_line, same_seen}
-use Rattle.dgt_game.proofs.Moved.{seen_kept}
+use Rattle.{std.proofs.Common.{refl}, dgt_game.proofs.{Held.{same_line, same_seen}, Moved.{seen_kept}}}
 use Rattle.dgt_game.proofs.memory.Memory.leave.Goals as goal
 
 pub returns-in-Line-clause-holds : goal.returns-in-Line-clause-holds

@@ -1,11 +1,5 @@
-use Rattle.std.proofs.Common.{◌≢◌, ℕ, sym, subst, inl, List, Option, None}
-use Rattle.std.specs.Prelude.{slice_get, IfSome}
-use Rattle.dgt_game.specs.declared.event.Event.{Event}
-use Rattle.dgt_game.specs.declared.node.Node.{Node}
-use Rattle.dgt_game.specs.declared.node.Step.{Step}
-use Rattle.dgt_game.specs.Told.{Leads}
-use Rattle.dgt_game.specs.Memory.{Chain, Grows, IsSeen, Links, line_after, steps}
-use Rattle.dgt_game.proofs.Told.{grows_none, makes, rooted_none, nothing_seen, same_tip}
+use Rattle.{std.{proofs.Common.{◌≢◌, ℕ, sym, subst, inl, List, Option, None}, specs.Prelude.{slice_get, IfSome}}, dgt_game.specs.declared.{event.Event.{Event}, node.{Node.{Node}, Step.{Step}}}}
+use Rattle.dgt_game.{specs.{Told.{Leads}, Memory.{Chain, Grows, IsSeen, Links, line_after, steps}}, proofs.Told.{grows_none, makes, rooted_none, nothing_seen, same_tip}}
 use Rattle.dgt_game.proofs.memory.Memory.make.Goals as goal
 
 pub returns-clause-told : goal.returns-clause-told

@@ -1,8 +1,4 @@
-use Rattle.std.proofs.Common.{rules, ◌≡◌, ◌+◌, ◌-◌, arith, length}
-use Rattle.std.proofs.lemmas.List.{length-map}
-use Rattle.dgt_game.specs.declared.node.Node.{Node}
-use Rattle.dgt_game.specs.Memory.{steps}
-use Rattle.dgt_game.proofs.Chains.{before_later, is_within}
+use Rattle.{std.proofs.{Common.{rules, ◌≡◌, ◌+◌, ◌-◌, arith, length}, lemmas.List.{length-map}}, dgt_game.{specs.{declared.node.Node.{Node}, Memory.{steps}}, proofs.Chains.{before_later, is_within}}}
 use Rattle.dgt_game.proofs.memory.Memory.path.Goals as goal
 
 pub returns-clause-start : goal.returns-clause-start

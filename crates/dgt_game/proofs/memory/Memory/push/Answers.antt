@@ -1,17 +1,8 @@
-use Rattle.std.proofs.Common.{rules, ◌≡◌, ◌∙◌, ◌++◌, ◌∷◌, [], refl, sym, ap, subst, List, length}
-use Rattle.std.proofs.lemmas.List.{length-map}
-use Rattle.std.specs.Prelude.{slice_get}
-use Rattle.dgt_game.specs.declared.node.Node.{Node}
-use Rattle.dgt_game.specs.declared.node.Step.{Step}
-use Rattle.dgt_game.specs.Memory.{Grows, IsBefore, IsRooted, Links, step_at, steps}
-use Rattle.dgt_game.proofs.Chains.{before_later, grows_push, last_at, last_item, moved, not_seen, rooted_push, steps_push}
-use Rattle.dgt_game.specs.declared.memory.Memory.{Memory}
-use Rattle.dgt_game.proofs.Held.{seen_new}
-use Rattle.dgt_game.proofs.Moved.{FollowsOne, pushed}
-use Rattle.dgt_game.specs.Reading.{FollowsSeen}
-use Rattle.dgt_game.proofs.Told.{links_moved}
-use Rattle.dgt_game.proofs.memory.Memory.push.Goals as goal
+use Rattle.{std.{proofs.{Common.{rules, ◌≡◌, ◌∙◌, ◌++◌, ◌∷◌, [], refl, sym, ap, subst, List, length}, lemmas.List.{length-map}}, specs.Prelude.{slice_get}}, dgt_game.specs.declared.node.Node.{Node}}
+use Rattle.dgt_game.{specs.{declared.node.Step.{Step}, Memory.{Grows, IsBefore, IsRooted, Links, step_at, steps}}, proofs.Chains.{before_later, grows_push, last_at, last_item, moved, not_seen}}
+use Rattle.dgt_game.{proofs.{Chains.{rooted_push, steps_push}, Held.{seen_new}, Moved.{FollowsOne, pushed}, Told.{links_moved}}, specs.{declared.memory.Memory.{Memory}, Reading.{FollowsSeen}}}
 use Rattle.dgt_game.proofs.memory.Memory.push.Goals.{then-is_full-via-then-is_full, then-is_full-via-else-is_full+then-not-may_follow}
+use Rattle.dgt_game.proofs.memory.Memory.push.Goals as goal
 
 pub returns-then-is_full-clause-holds : goal.returns-then-is_full-clause-holds
 returns-then-is_full-clause-holds c = λ shown line back nothing links seen h.

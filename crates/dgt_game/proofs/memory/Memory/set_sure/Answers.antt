@@ -1,5 +1,4 @@
-use Rattle.std.proofs.Common.{refl}
-use Rattle.dgt_game.proofs.Held.{same_seen}
+use Rattle.{std.proofs.Common.{refl}, dgt_game.proofs.Held.{same_seen}}
 use Rattle.dgt_game.proofs.memory.Memory.set_sure.Goals as goal
 
 pub returns-clause-holds : goal.returns-clause-holds

@@ -1,10 +1,5 @@
-use Rattle.std.proofs.Common.{◌≢◌, ◌∙◌, ◌++◌, ◌∷◌, [], ℕ, ap, refl, sym, subst, inr, length, List, Option, None}
-use Rattle.std.specs.Prelude.{slice_get, IfSome}
-use Rattle.dgt_game.specs.declared.node.Node.{Node}
-use Rattle.dgt_game.specs.declared.node.Place.{Place}
-use Rattle.dgt_game.specs.declared.node.Step.{Step}
-use Rattle.dgt_game.specs.Memory.{Grows, IsRooted, IsSeen, Links, steps, tip}
-use Rattle.dgt_game.proofs.Told.{grows_one, links_moved, rooted_one}
+use Rattle.{std.{proofs.Common.{◌≢◌, ◌∙◌, ◌++◌, ◌∷◌, [], ℕ, ap, refl, sym, subst, inr, length, List, Option, None}, specs.Prelude.{slice_get, IfSome}}, dgt_game.specs.declared.node.Node.{Node}}
+use Rattle.dgt_game.{specs.{declared.node.{Place.{Place}, Step.{Step}}, Memory.{Grows, IsRooted, IsSeen, Links, steps, tip}}, proofs.Told.{grows_one, links_moved, rooted_one}}
 use Rattle.dgt_game.proofs.memory.Memory.take_answer.Goals as goal
 
 pub returns-clause-holds : goal.returns-clause-holds

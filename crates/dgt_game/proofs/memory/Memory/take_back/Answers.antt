@@ -1,9 +1,5 @@
-use Rattle.std.proofs.Common.{◌≡◌, ◌≢◌, [], ap, sym, subst, inl, inr, List, Option, None}
-use Rattle.std.specs.Prelude.{slice_get, IfSome}
-use Rattle.dgt_game.specs.declared.node.Step.{Step}
-use Rattle.dgt_game.specs.Memory.{Chain, Grows, IsSeen, Links, steps, tip}
-use Rattle.dgt_game.proofs.Told.{grows_none, rooted_none, taken_back}
-use Rattle.dgt_game.proofs.Waiting.{dropped}
+use Rattle.{std.{proofs.Common.{◌≡◌, ◌≢◌, [], ap, sym, subst, inl, inr, List, Option, None}, specs.Prelude.{slice_get, IfSome}}, dgt_game.specs.{declared.node.Step.{Step}, Memory.{Chain, Grows}}}
+use Rattle.dgt_game.{specs.Memory.{IsSeen, Links, steps, tip}, proofs.{Told.{grows_none, rooted_none, taken_back}, Waiting.{dropped}}}
 use Rattle.dgt_game.proofs.memory.Memory.take_back.Goals as goal
 
 pub returns-clause-holds : goal.returns-clause-holds

@@ -1,13 +1,8 @@
-use Rattle.std.proofs.Common.{rules, ◌≡◌, ◌≢◌, ◌<◌, arith, inl, inr, subst, ℕ, [], Some, length}
-use Rattle.std.specs.Prelude.{slice_get}
-use Rattle.std.proofs.lemmas.Option.{none-some}
-use Rattle.dgt_game.specs.declared.node.Place.{Place}
-use Rattle.dgt_game.specs.Memory.{IsBefore, step_at, steps}
-use Rattle.dgt_game.proofs.Chains.{below_some, not_seen, steps_length, chain_any, some_at, steps_some, tip_any, tip_there}
-use Rattle.dgt_game.proofs.Waiting.{tip_some}
+use Rattle.{std.{proofs.{Common.{rules, ◌≡◌, ◌≢◌, ◌<◌, arith, inl, inr, subst, ℕ, [], Some, length}, lemmas.Option.{none-some}}, specs.Prelude.{slice_get}}, dgt_game.specs.declared.node.Place.{Place}}
+use Rattle.dgt_game.{specs.Memory.{IsBefore, step_at, steps}, proofs.{Chains.{below_some, not_seen, steps_length, chain_any, some_at, steps_some, tip_any, tip_there}, Waiting.{tip_some}}}
+use Rattle.dgt_game.proofs.memory.Memory.way_to.Goals.{in-Seen, in_default, in_default-start-via-in-Line+else-base-len, in_default-start-via-in-Nowhere+else-not-is_empty}
+use Rattle.dgt_game.proofs.memory.Memory.way_to.Goals.{in_default-start-via-in_default-start}
 use Rattle.dgt_game.proofs.memory.Memory.way_to.Goals as goal
-use Rattle.dgt_game.proofs.memory.Memory.way_to.Goals.{in-Seen, in_default}
-use Rattle.dgt_game.proofs.memory.Memory.way_to.Goals.{in_default-start-via-in-Line+else-base-len, in_default-start-via-in-Nowhere+else-not-is_empty, in_default-start-via-in_default-start}
 
 pub returns-else-is_open-clause-chain : goal.returns-else-is_open-clause-chain
 returns-else-is_open-clause-chain c = λ shown line h.

@@ -1,8 +1,4 @@
-use Rattle.std.proofs.Common.{subst, Some}
-use Rattle.std.specs.Prelude.{slice_get}
-use Rattle.dgt_game.specs.declared.node.Place.{Place}
-use Rattle.dgt_game.specs.Memory.{Links, step_at, steps}
-use Rattle.dgt_game.proofs.Chains.{chain_any, get_step, tip_any}
+use Rattle.{std.{proofs.Common.{subst, Some}, specs.Prelude.{slice_get}}, dgt_game.{specs.{declared.node.Place.{Place}, Memory.{Links, step_at, steps}}, proofs.Chains.{chain_any, get_step, tip_any}}}
 use Rattle.dgt_game.proofs.Waiting.{tip_some}
 use Rattle.dgt_game.proofs.memory.Memory.with_last.Goals as goal
 

@@ -1,12 +1,5 @@
-use Rattle.std.proofs.Common.{rules, arith, ◌≡◌, subst, Bool, true}
-use Rattle.std.specs.Prelude.{IfSome, MatchOption}
-use Rattle.dgt_game.specs.declared.resting.Task.{Task}
-use Rattle.dgt_game.specs.Memory.{step_at, steps}
-use Rattle.dgt_game.specs.Planning.{TaskFits}
-use Rattle.dgt_game.specs.Reading.{Shows}
-use Rattle.dgt_game.specs.Standing.{StandsAt}
-use Rattle.dgt_game.proofs.Finding.{found_by_search, found_ended, found_placed}
-use Rattle.dgt_game.proofs.Standing.{if_some, shows_at}
+use Rattle.{std.{proofs.Common.{rules, arith, ◌≡◌, subst, Bool, true}, specs.Prelude.{IfSome, MatchOption}}, dgt_game.specs.{declared.resting.Task.{Task}, Memory.{step_at, steps}}}
+use Rattle.dgt_game.{specs.{Planning.{TaskFits}, Reading.{Shows}, Standing.{StandsAt}}, proofs.{Finding.{found_by_search, found_ended, found_placed}, Standing.{if_some, shows_at}}}
 use Rattle.dgt_game.proofs.recogniser.Recogniser.act.Goals as goal
 
 pub returns-in-Tell-clause-stands : goal.returns-in-Tell-clause-stands

@@ -1,5 +1,4 @@
-use Rattle.std.proofs.Common.{◌∙◌, sym, subst}
-use Rattle.dgt_game.specs.Standing.{IsOpen}
+use Rattle.{std.proofs.Common.{◌∙◌, sym, subst}, dgt_game.specs.Standing.{IsOpen}}
 use Rattle.dgt_game.proofs.recogniser.Recogniser.add_jump.Goals as goal
 
 pub returns-clause-stands : goal.returns-clause-stands

@@ -1,7 +1,4 @@
-use Rattle.std.specs.Prelude.{⊤}
-use Rattle.std.proofs.lemmas.Option.{MatchOption-at_some}
-use Rattle.dgt_game.specs.Memory.{IsRoot}
-use Rattle.dgt_game.proofs.Links.{begins}
+use Rattle.{std.{specs.Prelude.{⊤}, proofs.lemmas.Option.{MatchOption-at_some}}, dgt_game.{specs.Memory.{IsRoot}, proofs.Links.{begins}}}
 use Rattle.dgt_game.proofs.recogniser.Recogniser.add_root.Goals as goal
 
 pub returns-in-Some-clause-holds : goal.returns-in-Some-clause-holds

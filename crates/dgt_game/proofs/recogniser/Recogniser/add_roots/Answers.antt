@@ -1,6 +1,4 @@
-use Rattle.std.proofs.Common.{◌∙◌, arith, subst, sym}
-use Rattle.dgt_game.specs.declared.memory.Memory.{Memory}
-use Rattle.dgt_game.specs.Reading.{FollowsSeen}
+use Rattle.{std.proofs.Common.{◌∙◌, arith, subst, sym}, dgt_game.specs.{declared.memory.Memory.{Memory}, Reading.{FollowsSeen}}}
 use Rattle.dgt_game.proofs.recogniser.Recogniser.add_roots.Goals as goal
 
 pub returns-clause-holds : goal.returns-clause-holds

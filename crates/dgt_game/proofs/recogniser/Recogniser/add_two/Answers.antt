@@ -1,8 +1,4 @@
-use Rattle.std.proofs.Common.{rules, ◌∙◌, arith, sym, subst, Option}
-use Rattle.dgt_game.specs.declared.node.Place.{Place}
-use Rattle.dgt_game.specs.declared.node.Step.{Step}
-use Rattle.dgt_game.specs.Memory.{Links, steps}
-use Rattle.dgt_game.proofs.Chains.{below_some}
+use Rattle.{std.proofs.Common.{rules, ◌∙◌, arith, sym, subst, Option}, dgt_game.{specs.{declared.node.{Place.{Place}, Step.{Step}}, Memory.{Links, steps}}, proofs.Chains.{below_some}}}
 use Rattle.dgt_game.proofs.Told.{links_after}
 use Rattle.dgt_game.proofs.recogniser.Recogniser.add_two.Goals as goal
 

@@ -1,11 +1,5 @@
-use Rattle.std.proofs.Common.{rules, ◌∙◌, inl, length}
-use Rattle.std.specs.Prelude.{slice_get}
-use Rattle.dgt_game.specs.declared.node.Place.{Place}
-use Rattle.dgt_game.specs.Memory.{IsBefore, IsRooted, steps}
-use Rattle.dgt_game.specs.Standing.{IsCalledFor}
-use Rattle.dgt_game.proofs.Standing.{if_some, of_some, shows_as}
-use Rattle.dgt_game.proofs.Told.{rooted_none}
-use Rattle.dgt_game.proofs.Links.{begins, root_links}
+use Rattle.{std.{proofs.Common.{rules, ◌∙◌, inl, length}, specs.Prelude.{slice_get}}, dgt_game.specs.{declared.node.Place.{Place}, Memory.{IsBefore, IsRooted, steps}, Standing.{IsCalledFor}}}
+use Rattle.dgt_game.proofs.{Standing.{if_some, of_some, shows_as}, Told.{rooted_none}, Links.{begins, root_links}}
 use Rattle.dgt_game.proofs.recogniser.Recogniser.begin.Goals as goal
 
 pub returns-in-Some-push-clause-holds : goal.returns-in-Some-push-clause-holds

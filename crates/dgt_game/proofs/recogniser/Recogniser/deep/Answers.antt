@@ -1,8 +1,4 @@
-use Rattle.std.proofs.Common.{arith, ◌≡◌, ℕ, inl, inr, subst}
-use Rattle.std.proofs.lemmas.Bool.{cases_lt}
-use Rattle.dgt_values.specs.Board.{pieces_of}
-use Rattle.dgt_game.specs.declared.node.Place.{Place}
-use Rattle.dgt_game.specs.Finding.{MayJump}
+use Rattle.{std.proofs.{Common.{arith, ◌≡◌, ℕ, inl, inr, subst}, lemmas.Bool.{cases_lt}}, dgt_values.specs.Board.{pieces_of}, dgt_game.specs.{declared.node.Place.{Place}, Finding.{MayJump}}}
 use Rattle.dgt_game.specs.Reading.{HasLine}
 use Rattle.dgt_game.proofs.recogniser.Recogniser.deep.Goals as goal
 

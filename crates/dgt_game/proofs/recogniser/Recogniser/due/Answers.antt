@@ -1,16 +1,8 @@
-use Rattle.std.proofs.Common.{rules, true, ◌≡◌, ◌<◌, ap, inr, sym, subst, refl, arith, None, Some, Option}
-use Rattle.std.specs.Prelude.{IfSome}
-use Rattle.dgt_game.specs.declared.event.Event.{Event}
-use Rattle.dgt_game.specs.declared.recogniser.Recogniser.{Recogniser}
-use Rattle.dgt_game.specs.declared.resting.Next.{Next}
-use Rattle.dgt_game.specs.Finding.{FindsLater}
-use Rattle.dgt_game.specs.Planning.{IsPlanned, todo}
-use Rattle.dgt_game.specs.Timing.{Due, HasTask, next_time}
-use Rattle.dgt_game.proofs.Planning.{hopeless_stays, nothing_left, planned_quiet, planned_then, plans_with, todo_most}
-use Rattle.dgt_game.proofs.Finding.{shown_then}
-use Rattle.dgt_game.proofs.Timing.{acts_with, follows_then, idle_in_doubt, idle_stays, no_time, one_more, quiet_now, told_now}
+use Rattle.{std.{proofs.Common.{rules, true, ◌≡◌, ◌<◌, ap, inr, sym, subst, refl, arith, None, Some, Option}, specs.Prelude.{IfSome}}, dgt_game.specs.declared.event.Event.{Event}}
+use Rattle.dgt_game.specs.{declared.{recogniser.Recogniser.{Recogniser}, resting.Next.{Next}}, Finding.{FindsLater}, Planning.{IsPlanned, todo}, Timing.{Due, HasTask, next_time}}
+use Rattle.dgt_game.proofs.{Planning.{hopeless_stays, nothing_left, planned_quiet, planned_then, plans_with, todo_most}, Finding.{shown_then}, Timing.{acts_with, follows_then, idle_in_doubt}}
+use Rattle.dgt_game.proofs.{Timing.{idle_stays, no_time, one_more, quiet_now, told_now}, recogniser.Recogniser.due.Goals.{then-done-lt2, else-done-lt2}}
 use Rattle.dgt_game.proofs.recogniser.Recogniser.due.Goals as goal
-use Rattle.dgt_game.proofs.recogniser.Recogniser.due.Goals.{then-done-lt2, else-done-lt2}
 
 pub returns-in-Some-clause-idle : goal.returns-in-Some-clause-idle
 returns-in-Some-clause-idle c = λ idle.

@@ -1,9 +1,5 @@
-use Rattle.std.proofs.Common.{rules, arith, ◌≡◌, ◌∙◌, ◌<◌, ℕ, true, false, inl, inr, sym, subst, length, slice_index_or}
-use Rattle.std.proofs.lemmas.Bool.{cases_lt}
-use Rattle.dgt_values.specs.Board.{pieces_of}
-use Rattle.dgt_game.specs.declared.node.Place.{Place}
-use Rattle.dgt_game.specs.Reading.{ShowsAt}
-use Rattle.dgt_game.proofs.Pictures.{at_least, not_shown, one_node, read_at, shown_at, shown_back, shown_within, shows_line}
+use Rattle.{std.proofs.{Common.{rules, arith, ◌≡◌, ◌∙◌, ◌<◌, ℕ, true, false, inl, inr, sym, subst, length, slice_index_or}, lemmas.Bool.{cases_lt}}, dgt_values.specs.Board.{pieces_of}}
+use Rattle.dgt_game.{specs.{declared.node.Place.{Place}, Reading.{ShowsAt}}, proofs.Pictures.{at_least, not_shown, one_node, read_at, shown_at, shown_back, shown_within, shows_line}}
 use Rattle.dgt_game.proofs.recogniser.Recogniser.earlier.Goals as goal
 
 pub returns-then-is-clause-at : goal.returns-then-is-clause-at

@@ -1,7 +1,4 @@
-use Rattle.std.proofs.Common.{◌∙◌, inl, inr, refl}
-use Rattle.dgt_game.specs.Waiting.{Show}
-use Rattle.dgt_game.proofs.Planning.{fewer_by_result}
-use Rattle.dgt_game.proofs.Standing.{every_some}
+use Rattle.{std.proofs.Common.{◌∙◌, inl, inr, refl}, dgt_game.{specs.Waiting.{Show}, proofs.{Planning.{fewer_by_result}, Standing.{every_some}}}}
 use Rattle.dgt_game.proofs.recogniser.Recogniser.end_by_kings.Goals as goal
 
 pub returns-then-is_there-clause-right : goal.returns-then-is_there-clause-right

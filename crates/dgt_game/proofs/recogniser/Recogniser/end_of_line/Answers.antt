@@ -1,10 +1,5 @@
-use Rattle.std.proofs.Common.{◌≡◌, Some, List, length, refl, sym, subst}
-use Rattle.std.specs.Prelude.{slice_get}
-use Rattle.std.proofs.lemmas.Option.{IfSome_then, slice_get_read}
-use Rattle.dgt_game.specs.declared.node.Node.{Node}
-use Rattle.dgt_game.specs.declared.recogniser.Over.{Over}
-use Rattle.dgt_game.specs.Waiting.{EndsBy}
-use Rattle.dgt_game.proofs.Chains.{get_step}
+use Rattle.{std.{proofs.{Common.{◌≡◌, Some, List, length, refl, sym, subst}, lemmas.Option.{IfSome_then, slice_get_read}}, specs.Prelude.{slice_get}}, dgt_game.specs.declared.node.Node.{Node}}
+use Rattle.dgt_game.{specs.{declared.recogniser.Over.{Over}, Waiting.{EndsBy}}, proofs.Chains.{get_step}}
 use Rattle.dgt_game.proofs.recogniser.Recogniser.end_of_line.Goals as goal
 
 pub returns : goal.returns

@@ -1,5 +1,4 @@
-use Rattle.dgt_game.specs.Planning.{CannotMove}
-use Rattle.dgt_game.proofs.Planning.{either_side}
+use Rattle.dgt_game.{specs.Planning.{CannotMove}, proofs.Planning.{either_side}}
 use Rattle.dgt_game.proofs.recogniser.Recogniser.first_root.Goals as goal
 
 pub returns-in_err-black-in-None-clause-none : goal.returns-in_err-black-in-None-clause-none

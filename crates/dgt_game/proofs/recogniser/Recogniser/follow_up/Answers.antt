@@ -1,17 +1,7 @@
-use Rattle.std.proofs.Common.{rules, ◌≡◌, ◌∙◌, [], Some, None, ap, subst, sym}
-use Rattle.std.proofs.lemmas.Option.{IfSome_then}
-use Rattle.dgt_game.specs.declared.event.GameResult.{GameResult}
-use Rattle.dgt_game.specs.declared.node.Step.{Step}
-use Rattle.dgt_game.specs.declared.recogniser.Over.{Over}
-use Rattle.dgt_game.specs.declared.recogniser.Recogniser.{Recogniser}
-use Rattle.dgt_game.specs.Memory.{IsTold}
-use Rattle.dgt_game.specs.Standing.{EndsHere, Stands}
-use Rattle.dgt_game.proofs.Standing.{ends_of, meant_stands}
-use Rattle.dgt_game.specs.Waiting.{EndWaits, EndsBy, coming}
-use Rattle.dgt_game.proofs.Known.{knows_same, memory_of, view_of}
-use Rattle.dgt_game.proofs.Waiting.{last_comes, or_some}
+use Rattle.{std.proofs.{Common.{rules, ◌≡◌, ◌∙◌, [], Some, None, ap, subst, sym}, lemmas.Option.{IfSome_then}}, dgt_game.specs.declared.{event.GameResult.{GameResult}, node.Step.{Step}}}
+use Rattle.dgt_game.{specs.{declared.recogniser.{Over.{Over}, Recogniser.{Recogniser}}, Memory.{IsTold}, Standing.{EndsHere, Stands}, Waiting.{EndWaits}}, proofs.Standing.{ends_of, meant_stands}}
+use Rattle.dgt_game.{specs.Waiting.{EndsBy, coming}, proofs.{Known.{knows_same, memory_of, view_of}, Waiting.{last_comes, or_some}, recogniser.Recogniser.follow_up.Goals.{in_default, in-Begun}}}
 use Rattle.dgt_game.proofs.recogniser.Recogniser.follow_up.Goals as goal
-use Rattle.dgt_game.proofs.recogniser.Recogniser.follow_up.Goals.{in_default, in-Begun}
 
 pub returns-else-is_quiet-clause-knows : goal.returns-else-is_quiet-clause-knows
 returns-else-is_quiet-clause-knows c = λ shown line h.

@@ -1,7 +1,4 @@
-use Rattle.std.proofs.Common.{◌∙◌}
-use Rattle.dgt_values.specs.Board.{pieces_of}
-use Rattle.dgt_game.specs.Memory.{steps}
-use Rattle.dgt_game.proofs.Links.{started}
+use Rattle.{std.proofs.Common.{◌∙◌}, dgt_values.specs.Board.{pieces_of}, dgt_game.{specs.Memory.{steps}, proofs.Links.{started}}}
 use Rattle.dgt_game.proofs.recogniser.Recogniser.from_start_by.Goals as goal
 
 pub returns-clause-linked : goal.returns-clause-linked

@@ -1,7 +1,4 @@
-use Rattle.std.proofs.Common.{◌≡◌, refl, ap, None}
-use Rattle.dgt_game.specs.declared.recogniser.Lost.{Lost}
-use Rattle.dgt_game.specs.declared.recogniser.Recogniser.{Recogniser}
-use Rattle.dgt_game.proofs.Known.{goes_on}
+use Rattle.{std.proofs.Common.{◌≡◌, refl, ap, None}, dgt_game.{specs.declared.recogniser.{Lost.{Lost}, Recogniser.{Recogniser}}, proofs.Known.{goes_on}}}
 use Rattle.dgt_game.proofs.recogniser.Recogniser.go_on.Goals as goal
 
 pub returns-clause-on : goal.returns-clause-on

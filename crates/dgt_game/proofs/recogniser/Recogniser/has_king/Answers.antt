@@ -1,7 +1,4 @@
-use Rattle.std.proofs.Common.{arith, ◌≢◌, ◌∙◌, below_more, refl, sym}
-use Rattle.dgt_values.specs.Board.{pieces_of}
-use Rattle.dgt_chess.specs.declared.pieces.Man.{Man}
-use Rattle.dgt_chess.specs.Attacks.{piece_at, piece_of}
+use Rattle.{std.proofs.Common.{arith, ◌≢◌, ◌∙◌, below_more, refl, sym}, dgt_values.specs.Board.{pieces_of}, dgt_chess.specs.{declared.pieces.Man.{Man}, Attacks.{piece_at, piece_of}}}
 use Rattle.dgt_game.proofs.Planning.{piece_got}
 use Rattle.dgt_game.proofs.recogniser.Recogniser.has_king.Goals as goal
 

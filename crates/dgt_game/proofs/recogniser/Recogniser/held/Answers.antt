@@ -1,8 +1,4 @@
-use Rattle.std.proofs.Common.{ap, length, subst, sym}
-use Rattle.dgt_values.specs.Board.{pieces_of}
-use Rattle.dgt_game.specs.declared.node.Step.{Step}
-use Rattle.dgt_game.specs.Memory.{IsBefore, steps}
-use Rattle.dgt_game.proofs.Chains.{found_before}
+use Rattle.{std.proofs.Common.{ap, length, subst, sym}, dgt_values.specs.Board.{pieces_of}, dgt_game.{specs.{declared.node.Step.{Step}, Memory.{IsBefore, steps}}, proofs.Chains.{found_before}}}
 use Rattle.dgt_game.proofs.Hands.{held}
 use Rattle.dgt_game.proofs.recogniser.Recogniser.held.Goals as goal
 

@@ -1,12 +1,6 @@
-use Rattle.std.proofs.Common.{sym, subst, false}
-use Rattle.std.specs.Prelude.{slice_get}
-use Rattle.dgt_game.specs.declared.node.Place.{Place}
-use Rattle.dgt_game.specs.declared.recogniser.Recogniser.{Recogniser}
-use Rattle.dgt_game.specs.Memory.{steps}
-use Rattle.dgt_game.specs.Standing.{Stands, StandsAt, StandsOn}
-use Rattle.dgt_game.proofs.Standing.{but_moved, held_lacks, of_some, resting, some_view}
+use Rattle.{std.{proofs.Common.{sym, subst, false}, specs.Prelude.{slice_get}}, dgt_game.specs.{declared.{node.Place.{Place}, recogniser.Recogniser.{Recogniser}}, Memory.{steps}, Standing.{Stands}}}
+use Rattle.dgt_game.{specs.Standing.{StandsAt, StandsOn}, proofs.{Standing.{but_moved, held_lacks, of_some, resting, some_view}, recogniser.Recogniser.hold.Goals.{in-Some, in-None}}}
 use Rattle.dgt_game.proofs.recogniser.Recogniser.hold.Goals as goal
-use Rattle.dgt_game.proofs.recogniser.Recogniser.hold.Goals.{in-Some, in-None}
 
 pub returns-clause-stands : goal.returns-clause-stands
 returns-clause-stands c = λ view ready seen held.

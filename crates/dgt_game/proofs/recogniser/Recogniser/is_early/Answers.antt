@@ -1,12 +1,5 @@
-use Rattle.std.proofs.Common.{rules, arith, ◌≡◌, ◌∙◌, ◌<◌, inl, inr, slice_index_or, List, Some, length, true, false, refl, subst, sym}
-use Rattle.std.specs.Prelude.{slice_get}
-use Rattle.std.proofs.lemmas.Option.{slice_get_read}
-use Rattle.dgt_values.specs.declared.pieces.Piece.{Piece}
-use Rattle.dgt_game.specs.declared.node.Node.{Node}
-use Rattle.dgt_game.specs.Memory.{steps}
-use Rattle.dgt_game.specs.Reading.{HasMoved}
-use Rattle.dgt_game.proofs.Chains.{get_step}
-use Rattle.dgt_game.proofs.Moved.{moved_here, same_view}
+use Rattle.std.{proofs.{Common.{rules, arith, ◌≡◌, ◌∙◌, ◌<◌, inl, inr, slice_index_or, List, Some, length, true, false, refl, subst, sym}, lemmas.Option.{slice_get_read}}, specs.Prelude.{slice_get}}
+use Rattle.{dgt_values.specs.declared.pieces.Piece.{Piece}, dgt_game.{specs.{declared.node.Node.{Node}, Memory.{steps}, Reading.{HasMoved}}, proofs.{Chains.{get_step}, Moved.{moved_here, same_view}}}}
 use Rattle.dgt_game.proofs.Planning.{step_got}
 use Rattle.dgt_game.proofs.recogniser.Recogniser.is_early.Goals as goal
 

@@ -1,14 +1,7 @@
-use Rattle.std.proofs.Common.{rules, arith, ◌≡◌, ◌<◌, List, Some, below_more, length, slice_get, slice_index_or, refl, sym, ap, subst}
-use Rattle.std.specs.Prelude.{IsTrue}
-use Rattle.std.proofs.lemmas.Option.{slice_get_within}
-use Rattle.dgt_values.specs.declared.pieces.Piece.{Piece}
-use Rattle.dgt_game.specs.declared.node.Node.{Node}
-use Rattle.dgt_game.specs.declared.node.Step.{Step}
-use Rattle.dgt_game.specs.Memory.{steps}
-use Rattle.dgt_game.specs.Planning.{LacksOnly}
-use Rattle.dgt_game.proofs.Planning.{LacksOf, lacks_last, lacks_none, lacks_not, lacks_seen, node_of, same_got, step_got}
+use Rattle.std.{proofs.{Common.{rules, arith, ◌≡◌, ◌<◌, List, Some, below_more, length, slice_get, slice_index_or, refl, sym, ap, subst}, lemmas.Option.{slice_get_within}}, specs.Prelude.{IsTrue}}
+use Rattle.{dgt_values.specs.declared.pieces.Piece.{Piece}, dgt_game.{specs.{declared.node.{Node.{Node}, Step.{Step}}, Memory.{steps}, Planning.{LacksOnly}}, proofs.Planning.{LacksOf, lacks_last}}}
+use Rattle.dgt_game.proofs.{Planning.{lacks_none, lacks_not, lacks_seen, node_of, same_got, step_got}, recogniser.Recogniser.is_lifted.Goals.{in-Some-get+else-lacks_only, in_default-get}}
 use Rattle.dgt_game.proofs.recogniser.Recogniser.is_lifted.Goals as goal
-use Rattle.dgt_game.proofs.recogniser.Recogniser.is_lifted.Goals.{in-Some-get+else-lacks_only, in_default-get}
 
 pub returns-in_default : goal.returns-in_default
 returns-in_default c = (

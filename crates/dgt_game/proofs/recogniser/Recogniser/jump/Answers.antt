@@ -1,7 +1,4 @@
-use Rattle.std.proofs.Common.{arith, refl}
-use Rattle.dgt_values.specs.Board.{pieces_of}
-use Rattle.dgt_game.proofs.Links.{several}
-use Rattle.dgt_game.proofs.Pictures.{no_line}
+use Rattle.{std.proofs.Common.{arith, refl}, dgt_values.specs.Board.{pieces_of}, dgt_game.proofs.{Links.{several}, Pictures.{no_line}}}
 use Rattle.dgt_game.proofs.recogniser.Recogniser.jump.Goals as goal
 
 pub returns-in-Several-clause-linked : goal.returns-in-Several-clause-linked

@@ -1,11 +1,5 @@
-use Rattle.std.proofs.Common.{◌∙◌, length, subst, sym}
-use Rattle.std.proofs.lemmas.Option.{IfSome_then}
-use Rattle.dgt_values.specs.Board.{pieces_of}
-use Rattle.dgt_game.specs.Memory.{IsBefore, step_at, steps}
-use Rattle.dgt_game.specs.Reading.{SomeLine}
-use Rattle.dgt_game.proofs.Chains.{found_before}
-use Rattle.dgt_game.proofs.Links.{fits_at, not_begun}
-use Rattle.dgt_game.proofs.Pictures.{from_here, none_here}
+use Rattle.{std.proofs.{Common.{◌∙◌, length, subst, sym}, lemmas.Option.{IfSome_then}}, dgt_values.specs.Board.{pieces_of}, dgt_game.specs.{Memory.{IsBefore, step_at, steps}, Reading.{SomeLine}}}
+use Rattle.dgt_game.proofs.{Chains.{found_before}, Links.{fits_at, not_begun}, Pictures.{from_here, none_here}}
 use Rattle.dgt_game.proofs.recogniser.Recogniser.jumped.Goals as goal
 
 pub returns-clause-linked : goal.returns-clause-linked

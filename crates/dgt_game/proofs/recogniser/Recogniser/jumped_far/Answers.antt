@@ -1,7 +1,4 @@
-use Rattle.std.proofs.Common.{subst, sym}
-use Rattle.dgt_values.specs.Board.{pieces_of}
-use Rattle.dgt_game.specs.declared.node.Place.{Place}
-use Rattle.dgt_game.specs.Reading.{HasLine}
+use Rattle.{std.proofs.Common.{subst, sym}, dgt_values.specs.Board.{pieces_of}, dgt_game.specs.{declared.node.Place.{Place}, Reading.{HasLine}}}
 use Rattle.dgt_game.proofs.recogniser.Recogniser.jumped_far.Goals as goal
 
 pub returns-clause-reads : goal.returns-clause-reads

@@ -1,12 +1,5 @@
-use Rattle.std.proofs.Common.{rules, arith, ◌≡◌, ◌-◌, ◌<◌, List, Bool, Some, length, slice_index_or, refl, subst}
-use Rattle.std.specs.Prelude.{slice_get}
-use Rattle.std.proofs.lemmas.Option.{slice_get_read}
-use Rattle.dgt_values.specs.declared.pieces.Piece.{Piece}
-use Rattle.dgt_values.specs.Board.{pieces_of}
-use Rattle.dgt_game.specs.declared.node.Node.{Node}
-use Rattle.dgt_game.specs.Results.{KingsMean}
-use Rattle.dgt_game.specs.Told.{as_shown}
-use Rattle.dgt_game.proofs.Chains.{get_step}
+use Rattle.std.{proofs.{Common.{rules, arith, ◌≡◌, ◌-◌, ◌<◌, List, Bool, Some, length, slice_index_or, refl, subst}, lemmas.Option.{slice_get_read}}, specs.Prelude.{slice_get}}
+use Rattle.{dgt_values.specs.{declared.pieces.Piece.{Piece}, Board.{pieces_of}}, dgt_game.{specs.{declared.node.Node.{Node}, Results.{KingsMean}, Told.{as_shown}}, proofs.Chains.{get_step}}}
 use Rattle.dgt_game.proofs.recogniser.Recogniser.kings_result.Goals as goal
 
 pub returns-then-stands-clause-is : goal.returns-then-stands-clause-is

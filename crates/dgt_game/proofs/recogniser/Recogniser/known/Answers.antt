@@ -1,8 +1,4 @@
-use Rattle.std.proofs.Common.{rules, arith, ◌≡◌, ◌∙◌, ◌<◌, length, slice_index_or}
-use Rattle.dgt_chess.specs.Rules.{board}
-use Rattle.dgt_game.proofs.Chains.{get_step}
-use Rattle.dgt_game.proofs.Links.{reads, same_told}
-use Rattle.dgt_game.proofs.Pictures.{read_at}
+use Rattle.{std.proofs.Common.{rules, arith, ◌≡◌, ◌∙◌, ◌<◌, length, slice_index_or}, dgt_chess.specs.Rules.{board}, dgt_game.proofs.{Chains.{get_step}, Links.{reads, same_told}, Pictures.{read_at}}}
 use Rattle.dgt_game.proofs.recogniser.Recogniser.known.Goals as goal
 
 pub returns-clause-linked : goal.returns-clause-linked

@@ -1,19 +1,7 @@
-use Rattle.std.proofs.Common.{rules, arith, ◌≡◌, ◌≢◌, ◌∙◌, ap, inl, inr, subst, sym}
-use Rattle.std.specs.Prelude.{⊤, Contains}
-use Rattle.std.proofs.lemmas.Option.{MatchOption-at_some}
-use Rattle.dgt_values.specs.Board.{pieces_of}
-use Rattle.dgt_game.specs.declared.memory.Memory.{Memory}
-use Rattle.dgt_game.specs.declared.node.Place.{Place}
-use Rattle.dgt_game.specs.declared.recogniser.Recogniser.{Recogniser}
-use Rattle.dgt_game.specs.Memory.{Holds}
-use Rattle.dgt_game.specs.declared.view.View.{View}
-use Rattle.dgt_game.specs.declared.recogniser.Search.{Search}
-use Rattle.dgt_game.specs.Finding.{IsSearched}
-use Rattle.dgt_game.specs.Reading.{HasSomeLines}
-use Rattle.dgt_game.proofs.Links.{reads}
-use Rattle.dgt_game.proofs.Moved.{none_some, same_view}
+use Rattle.{std.{proofs.{Common.{rules, arith, ◌≡◌, ◌≢◌, ◌∙◌, ap, inl, inr, subst, sym}, lemmas.Option.{MatchOption-at_some}}, specs.Prelude.{⊤, Contains}}, dgt_values.specs.Board.{pieces_of}}
+use Rattle.dgt_game.specs.{declared.{memory.Memory.{Memory}, node.Place.{Place}, recogniser.{Recogniser.{Recogniser}, Search.{Search}}, view.View.{View}}, Memory.{Holds}, Finding.{IsSearched}}
+use Rattle.dgt_game.{specs.Reading.{HasSomeLines}, proofs.{Links.{reads}, Moved.{none_some, same_view}, recogniser.Recogniser.look_deep.Goals.{in-Some-deep, in-None}}}
 use Rattle.dgt_game.proofs.recogniser.Recogniser.look_deep.Goals as goal
-use Rattle.dgt_game.proofs.recogniser.Recogniser.look_deep.Goals.{in-Some-deep, in-None}
 
 pub returns-then-eq-clause-holds : goal.returns-then-eq-clause-holds
 returns-then-eq-clause-holds c = λ shown line back unsaid seen holds.

@@ -1,13 +1,6 @@
-use Rattle.std.proofs.Common.{rules, ◌≡◌, List, length, Some, refl, sym, ap, subst}
-use Rattle.std.specs.Prelude.{slice_get}
-use Rattle.std.proofs.lemmas.Option.{slice_get_read}
-use Rattle.dgt_values.specs.declared.pieces.Piece.{Piece}
-use Rattle.dgt_values.specs.declared.positions.Position.{Position}
-use Rattle.dgt_values.specs.Board.{DifferingSquares, pieces_of}
-use Rattle.dgt_game.specs.declared.node.Node.{Node}
-use Rattle.dgt_game.specs.declared.recogniser.Lost.{Lost}
-use Rattle.dgt_game.specs.Waiting.{Differs, is_lost}
-use Rattle.dgt_game.proofs.Chains.{get_step}
+use Rattle.{std.{proofs.{Common.{rules, ◌≡◌, List, length, Some, refl, sym, ap, subst}, lemmas.Option.{slice_get_read}}, specs.Prelude.{slice_get}}, dgt_values.specs.declared.pieces.Piece.{Piece}}
+use Rattle.{dgt_values.specs.{declared.positions.Position.{Position}, Board.{DifferingSquares, pieces_of}}, dgt_game.specs.{declared.{node.Node.{Node}, recogniser.Lost.{Lost}}, Waiting.{Differs}}}
+use Rattle.dgt_game.{specs.Waiting.{is_lost}, proofs.Chains.{get_step}}
 use Rattle.dgt_game.proofs.recogniser.Recogniser.lose.Goals as goal
 
 pub returns-clause-keeps : goal.returns-clause-keeps

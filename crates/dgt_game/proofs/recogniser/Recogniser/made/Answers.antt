@@ -1,10 +1,5 @@
-use Rattle.std.proofs.Common.{ap, ◌∙◌, length, subst, sym, Option}
-use Rattle.std.proofs.lemmas.Option.{IfSome_then}
-use Rattle.dgt_game.specs.declared.node.Step.{Step}
-use Rattle.dgt_game.specs.Memory.{IsBefore, Links, step_at, steps}
-use Rattle.dgt_values.specs.Board.{pieces_of}
-use Rattle.dgt_game.proofs.Chains.{found_before}
-use Rattle.dgt_game.proofs.Pictures.{from_here, none_here}
+use Rattle.{std.proofs.{Common.{ap, ◌∙◌, length, subst, sym, Option}, lemmas.Option.{IfSome_then}}, dgt_game.specs.{declared.node.Step.{Step}, Memory.{IsBefore, Links, step_at, steps}}}
+use Rattle.{dgt_game.proofs.{Chains.{found_before}, Pictures.{from_here, none_here}}, dgt_values.specs.Board.{pieces_of}}
 use Rattle.dgt_game.proofs.recogniser.Recogniser.made.Goals as goal
 
 pub returns-clause-linked : goal.returns-clause-linked

@@ -1,18 +1,8 @@
-use Rattle.std.proofs.Common.{◌≡◌, ◌∙◌, List, arith, false, Some, inl, inr, subst, sym}
-use Rattle.std.proofs.lemmas.Bool.{false≢true}
-use Rattle.std.proofs.lemmas.Bool.Decides.{nat_tests}
-use Rattle.dgt_values.specs.declared.pieces.Piece.{Piece}
-use Rattle.dgt_values.specs.Board.{pieces_of}
-use Rattle.dgt_chess.specs.declared.pieces.Colour.{Colour}
-use Rattle.dgt_game.specs.declared.node.Place.{Place}
-use Rattle.dgt_game.specs.declared.node.Step.{Step}
-use Rattle.dgt_game.specs.Memory.{step_at, steps}
-use Rattle.dgt_game.specs.Reading.{HasMoved}
-use Rattle.dgt_game.specs.Told.{as_shown}
-use Rattle.dgt_game.specs.Waiting.{last_of}
-use Rattle.dgt_game.proofs.Planning.{same_got}
+use Rattle.{std.proofs.{Common.{◌≡◌, ◌∙◌, List, arith, false, Some, inl, inr, subst, sym}, lemmas.Bool.{false≢true, Decides.{nat_tests}}}, dgt_values.specs.declared.pieces.Piece.{Piece}}
+use Rattle.{dgt_values.specs.Board.{pieces_of}, dgt_chess.specs.declared.pieces.Colour.{Colour}, dgt_game.specs.{declared.node.{Place.{Place}, Step.{Step}}, Memory.{step_at, steps}}}
+use Rattle.dgt_game.{specs.{Reading.{HasMoved}, Told.{as_shown}, Waiting.{last_of}}, proofs.{Planning.{same_got}, recogniser.Recogniser.may_jump_far.Goals.{then-has_moved, else-has_moved}}}
+use Rattle.dgt_game.proofs.recogniser.Recogniser.may_jump_far.Goals.{then-halves-lt3, else-halves-lt3}
 use Rattle.dgt_game.proofs.recogniser.Recogniser.may_jump_far.Goals as goal
-use Rattle.dgt_game.proofs.recogniser.Recogniser.may_jump_far.Goals.{then-has_moved, else-has_moved, then-halves-lt3, else-halves-lt3}
 
 pub returns-else-have_moved-3 : goal.returns-else-have_moved-3
 returns-else-have_moved-3 c = record {

@@ -1,8 +1,4 @@
-use Rattle.std.proofs.Common.{◌∙◌, ap}
-use Rattle.dgt_game.specs.declared.memory.Memory.{Memory}
-use Rattle.dgt_game.specs.declared.node.Returned.{Returned}
-use Rattle.dgt_game.specs.Recogniser.{new_recogniser}
-use Rattle.dgt_game.proofs.Standing.{returned_same}
+use Rattle.{std.proofs.Common.{◌∙◌, ap}, dgt_game.{specs.{declared.{memory.Memory.{Memory}, node.Returned.{Returned}}, Recogniser.{new_recogniser}}, proofs.Standing.{returned_same}}}
 use Rattle.dgt_game.proofs.recogniser.Recogniser.new.Goals as goal
 
 pub returns : goal.returns

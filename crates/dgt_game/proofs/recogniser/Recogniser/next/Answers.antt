@@ -1,9 +1,4 @@
-use Rattle.std.proofs.Common.{◌∙◌}
-use Rattle.dgt_values.specs.Board.{pieces_of}
-use Rattle.dgt_game.specs.declared.node.Way.{Way}
-use Rattle.dgt_game.specs.Told.{as_shown}
-use Rattle.dgt_game.proofs.Links.{follows}
-use Rattle.dgt_game.proofs.Pictures.{no_line}
+use Rattle.{std.proofs.Common.{◌∙◌}, dgt_values.specs.Board.{pieces_of}, dgt_game.{specs.{declared.node.Way.{Way}, Told.{as_shown}}, proofs.{Links.{follows}, Pictures.{no_line}}}}
 use Rattle.dgt_game.proofs.recogniser.Recogniser.next.Goals as goal
 
 pub returns-clause-linked : goal.returns-clause-linked

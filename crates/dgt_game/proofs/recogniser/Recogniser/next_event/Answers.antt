@@ -1,17 +1,6 @@
-use Rattle.std.proofs.Common.{rules, ◌≡◌, ◌∙◌, Some, Option, false, inl, inr, refl, ap, sym, subst}
-use Rattle.std.specs.Prelude.{⊤, IfSome}
-use Rattle.std.proofs.lemmas.Option.{MatchOption-at_some, none-some}
-use Rattle.dgt_game.specs.declared.event.GameResult.{GameResult}
-use Rattle.dgt_game.specs.declared.memory.Memory.{Memory}
-use Rattle.dgt_game.specs.declared.node.Step.{Step}
-use Rattle.dgt_game.specs.declared.recogniser.Lost.{Lost}
-use Rattle.dgt_game.specs.declared.recogniser.Over.{Over}
-use Rattle.dgt_game.specs.Waiting.{EndsBy, coming, has_notice, has_result}
-use Rattle.dgt_game.specs.Finding.{IsFound}
-use Rattle.dgt_game.specs.Standing.{IsMeant}
-use Rattle.dgt_game.proofs.Finding.{found_later}
-use Rattle.dgt_game.proofs.Standing.{back_moved, meant_moved}
-use Rattle.dgt_game.proofs.Waiting.{ended_right, last_comes, right_of_line, silent}
+use Rattle.std.{proofs.{Common.{rules, ◌≡◌, ◌∙◌, Some, Option, false, inl, inr, refl, ap, sym, subst}, lemmas.Option.{MatchOption-at_some, none-some}}, specs.Prelude.{⊤, IfSome}}
+use Rattle.dgt_game.specs.{declared.{event.GameResult.{GameResult}, memory.Memory.{Memory}, node.Step.{Step}, recogniser.{Lost.{Lost}, Over.{Over}}}, Waiting.{EndsBy, coming, has_notice, has_result}}
+use Rattle.dgt_game.{specs.{Finding.{IsFound}, Standing.{IsMeant}}, proofs.{Finding.{found_later}, Standing.{back_moved, meant_moved}, Waiting.{ended_right, last_comes, right_of_line, silent}}}
 use Rattle.dgt_game.proofs.recogniser.Recogniser.next_event.Goals as goal
 
 pub returns-in-Some-next_event-clause-right : goal.returns-in-Some-next_event-clause-right

@@ -1,7 +1,6 @@
-use Rattle.std.proofs.Common.{rules, sym, ap}
-use Rattle.dgt_game.specs.Planning.{search_wait}
+use Rattle.{std.proofs.Common.{rules, sym, ap}, dgt_game.{specs.Planning.{search_wait}, proofs.recogniser.Recogniser.next_of_position.Goals.{then-self, else-self+else-ne+in-Waiting}}}
+use Rattle.dgt_game.proofs.recogniser.Recogniser.next_of_position.Goals.{else-self+else-ne+in-Waiting-2, else-self+else-ne+in-Done-2+in_ok-new_wait-in-Done-2}
 use Rattle.dgt_game.proofs.recogniser.Recogniser.next_of_position.Goals as goal
-use Rattle.dgt_game.proofs.recogniser.Recogniser.next_of_position.Goals.{then-self, else-self+else-ne+in-Waiting, else-self+else-ne+in-Waiting-2, else-self+else-ne+in-Done-2+in_ok-new_wait-in-Done-2}
 
 pub returns : goal.returns
 returns c = record {

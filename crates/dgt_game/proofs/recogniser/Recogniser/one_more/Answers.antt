@@ -1,16 +1,7 @@
-use Rattle.std.proofs.Common.{rules, arith, ◌≡◌, ◌-◌, ◌+◌, ◌<◌, ℕ, inl, inr, sym, subst, true, false, length, Option, Some, IsSome, slice_index_or}
-use Rattle.std.specs.Prelude.{IfSome, slice_get}
-use Rattle.std.proofs.lemmas.Bool.{cases_lt}
-use Rattle.dgt_values.specs.Board.{pieces_of}
-use Rattle.dgt_game.specs.declared.node.Node.{Node}
-use Rattle.dgt_game.specs.declared.node.Origin.{Origin}
-use Rattle.dgt_game.specs.Memory.{Fits}
-use Rattle.dgt_game.specs.Reading.{IsRoomFor}
-use Rattle.dgt_game.proofs.Chains.{get_step}
-use Rattle.dgt_game.proofs.Links.{either}
-use Rattle.dgt_game.proofs.Pictures.{one_node, read_at}
+use Rattle.std.{proofs.Common.{rules, arith, ◌≡◌, ◌-◌, ◌+◌, ◌<◌, ℕ, inl, inr, sym, subst, true, false, length, Option, Some, IsSome, slice_index_or}, specs.Prelude.{IfSome, slice_get}}
+use Rattle.{std.proofs.lemmas.Bool.{cases_lt}, dgt_values.specs.Board.{pieces_of}, dgt_game.specs.{declared.node.{Node.{Node}, Origin.{Origin}}, Memory.{Fits}, Reading.{IsRoomFor}}}
+use Rattle.dgt_game.proofs.{Chains.{get_step}, Links.{either}, Pictures.{one_node, read_at}, recogniser.Recogniser.one_more.Goals.{then-not-is_shadow, else-not-is_shadow}}
 use Rattle.dgt_game.proofs.recogniser.Recogniser.one_more.Goals as goal
-use Rattle.dgt_game.proofs.recogniser.Recogniser.one_more.Goals.{then-not-is_shadow, else-not-is_shadow}
 
 pub loop-at-preserved : goal.loop-at-preserved
 loop-at-preserved c =

@@ -1,7 +1,4 @@
-use Rattle.std.specs.Prelude.{⊤}
-use Rattle.std.proofs.lemmas.Option.{MatchOption-at_some}
-use Rattle.dgt_game.specs.Reading.{IsRoomFor}
-use Rattle.dgt_game.specs.Memory.{FitsBy}
+use Rattle.{std.{specs.Prelude.{⊤}, proofs.lemmas.Option.{MatchOption-at_some}}, dgt_game.specs.{Reading.{IsRoomFor}, Memory.{FitsBy}}}
 use Rattle.dgt_game.proofs.recogniser.Recogniser.or_unordered.Goals as goal
 
 pub returns-clause-linked : goal.returns-clause-linked

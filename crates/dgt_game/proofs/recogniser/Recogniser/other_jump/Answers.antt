@@ -1,9 +1,5 @@
-use Rattle.std.proofs.Common.{rules, ◌≡◌, ◌∙◌, ap, length, subst, sym}
-use Rattle.std.proofs.lemmas.Option.{IfSome_then}
-use Rattle.dgt_values.specs.Board.{pieces_of}
-use Rattle.dgt_game.specs.Memory.{IsBefore, step_at, steps}
-use Rattle.dgt_game.proofs.Chains.{found_before}
-use Rattle.dgt_game.proofs.Links.{links, same_told}
+use Rattle.{std.proofs.{Common.{rules, ◌≡◌, ◌∙◌, ap, length, subst, sym}, lemmas.Option.{IfSome_then}}, dgt_values.specs.Board.{pieces_of}, dgt_game.specs.Memory.{IsBefore, step_at, steps}}
+use Rattle.dgt_game.proofs.{Chains.{found_before}, Links.{links, same_told}}
 use Rattle.dgt_game.proofs.recogniser.Recogniser.other_jump.Goals as goal
 
 pub returns-clause-linked : goal.returns-clause-linked

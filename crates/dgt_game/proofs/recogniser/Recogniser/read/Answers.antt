@@ -1,6 +1,4 @@
-use Rattle.dgt_values.specs.Board.{pieces_of}
-use Rattle.dgt_game.proofs.Links.{reads}
-use Rattle.dgt_game.proofs.Pictures.{reads_at}
+use Rattle.{dgt_values.specs.Board.{pieces_of}, dgt_game.proofs.{Links.{reads}, Pictures.{reads_at}}}
 use Rattle.dgt_game.proofs.recogniser.Recogniser.read.Goals as goal
 
 pub returns-in-Some-clause-at : goal.returns-in-Some-clause-at

@@ -1,6 +1,4 @@
-use Rattle.std.proofs.Common.{inl, inr, subst, sym}
-use Rattle.dgt_game.specs.Reading.{IsRead}
-use Rattle.dgt_game.proofs.Pictures.{near_read}
+use Rattle.{std.proofs.Common.{inl, inr, subst, sym}, dgt_game.{specs.Reading.{IsRead}, proofs.Pictures.{near_read}}}
 use Rattle.dgt_game.proofs.recogniser.Recogniser.read_by_kings.Goals as goal
 
 pub returns-then-has_black-2-clause-linked : goal.returns-then-has_black-2-clause-linked

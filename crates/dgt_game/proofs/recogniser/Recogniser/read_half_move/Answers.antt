@@ -1,5 +1,4 @@
-use Rattle.dgt_values.specs.Board.{pieces_of}
-use Rattle.dgt_game.proofs.Links.{reads}
+use Rattle.{dgt_values.specs.Board.{pieces_of}, dgt_game.proofs.Links.{reads}}
 use Rattle.dgt_game.proofs.recogniser.Recogniser.read_half_move.Goals as goal
 
 pub returns-in-Some-clause-linked : goal.returns-in-Some-clause-linked

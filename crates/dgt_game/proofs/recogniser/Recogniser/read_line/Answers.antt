@@ -1,7 +1,4 @@
-use Rattle.std.proofs.Common.{◌≡◌, List, Some, length, refl, subst}
-use Rattle.std.specs.Prelude.{slice_get}
-use Rattle.std.proofs.lemmas.Option.{slice_get_read}
-use Rattle.dgt_game.specs.declared.node.Node.{Node}
+use Rattle.{std.{proofs.{Common.{◌≡◌, List, Some, length, refl, subst}, lemmas.Option.{slice_get_read}}, specs.Prelude.{slice_get}}, dgt_game.specs.declared.node.Node.{Node}}
 use Rattle.dgt_game.proofs.Pictures.{shows_line}
 use Rattle.dgt_game.proofs.recogniser.Recogniser.read_line.Goals as goal
 

@@ -1,8 +1,4 @@
-use Rattle.std.proofs.Common.{arith, ℕ, inl, inr}
-use Rattle.dgt_values.specs.Board.{pieces_of}
-use Rattle.dgt_game.specs.declared.node.Place.{Place}
-use Rattle.dgt_game.specs.Reading.{HasLine}
-use Rattle.dgt_game.proofs.Moved.{none_more, none_some}
+use Rattle.{std.proofs.Common.{arith, ℕ, inl, inr}, dgt_values.specs.Board.{pieces_of}, dgt_game.{specs.{declared.node.Place.{Place}, Reading.{HasLine}}, proofs.Moved.{none_more, none_some}}}
 use Rattle.dgt_game.proofs.recogniser.Recogniser.read_replaced.Goals as goal
 
 pub loop-k-preserved : goal.loop-k-preserved

@@ -1,9 +1,4 @@
-use Rattle.std.specs.Prelude.{⊤}
-use Rattle.std.proofs.lemmas.Option.{MatchOption-at_some}
-use Rattle.dgt_values.specs.Board.{pieces_of}
-use Rattle.dgt_game.specs.Reading.{IsRoomFor}
-use Rattle.dgt_game.specs.Memory.{Fits}
-use Rattle.dgt_game.proofs.Links.{reads}
+use Rattle.{std.{specs.Prelude.{⊤}, proofs.lemmas.Option.{MatchOption-at_some}}, dgt_values.specs.Board.{pieces_of}, dgt_game.{specs.{Reading.{IsRoomFor}, Memory.{Fits}}, proofs.Links.{reads}}}
 use Rattle.dgt_game.proofs.recogniser.Recogniser.read_shadow.Goals as goal
 
 pub returns-in-Some-best-clause-linked : goal.returns-in-Some-best-clause-linked

@@ -1,6 +1,4 @@
-use Rattle.std.proofs.Common.{◌∙◌}
-use Rattle.dgt_values.specs.Board.{pieces_of}
-use Rattle.dgt_game.proofs.Links.{begun}
+use Rattle.{std.proofs.Common.{◌∙◌}, dgt_values.specs.Board.{pieces_of}, dgt_game.proofs.Links.{begun}}
 use Rattle.dgt_game.proofs.recogniser.Recogniser.read_start.Goals as goal
 
 pub returns-then-is-clause-linked : goal.returns-then-is-clause-linked

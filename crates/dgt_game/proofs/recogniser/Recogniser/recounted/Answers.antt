@@ -1,8 +1,4 @@
-use Rattle.std.proofs.Common.{◌≡◌, ◌≤◌, ℕ, arith}
-use Rattle.std.specs.Prelude.{⊤}
-use Rattle.std.proofs.lemmas.Option.{MatchOption-at_some}
-use Rattle.dgt_game.specs.Memory.{Reads, halves_of}
-use Rattle.dgt_game.proofs.Links.{arrived, seen_at}
+use Rattle.{std.{proofs.{Common.{◌≡◌, ◌≤◌, ℕ, arith}, lemmas.Option.{MatchOption-at_some}}, specs.Prelude.{⊤}}, dgt_game.{specs.Memory.{Reads, halves_of}, proofs.Links.{arrived, seen_at}}}
 use Rattle.dgt_game.proofs.recogniser.Recogniser.recounted.Goals as goal
 
 some_halves : (halves count : ℕ) → count ≡ halves → 2 ≤ count → 2 ≤ halves

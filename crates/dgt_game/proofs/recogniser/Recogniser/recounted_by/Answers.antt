@@ -1,7 +1,4 @@
-use Rattle.dgt_values.specs.Board.{pieces_of}
-use Rattle.dgt_game.specs.Told.{told_pieces}
-use Rattle.dgt_game.specs.Memory.{told_of}
-use Rattle.dgt_game.proofs.Links.{was_shown}
+use Rattle.{dgt_values.specs.Board.{pieces_of}, dgt_game.{specs.{Told.{told_pieces}, Memory.{told_of}}, proofs.Links.{was_shown}}}
 use Rattle.dgt_game.proofs.recogniser.Recogniser.recounted_by.Goals as goal
 
 pub returns-clause-linked : goal.returns-clause-linked

@@ -1,7 +1,4 @@
-use Rattle.std.proofs.Common.{sym}
-use Rattle.std.proofs.lemmas.Option.{none-some}
-use Rattle.dgt_game.proofs.Planning.{plans_with}
-use Rattle.dgt_game.proofs.Timing.{right_with}
+use Rattle.{std.proofs.{Common.{sym}, lemmas.Option.{none-some}}, dgt_game.proofs.{Planning.{plans_with}, Timing.{right_with}}}
 use Rattle.dgt_game.proofs.recogniser.Recogniser.report.Goals as goal
 
 pub returns-clause-tells : goal.returns-clause-tells

@@ -1,5 +1,4 @@
-use Rattle.std.proofs.Common.{arith, inl, inr, rules}
-use Rattle.dgt_game.proofs.Planning.{rests_here}
+use Rattle.{std.proofs.Common.{arith, inl, inr, rules}, dgt_game.proofs.Planning.{rests_here}}
 use Rattle.dgt_game.proofs.recogniser.Recogniser.rest.Goals as goal
 
 pub returns-in-Line-clause-least : goal.returns-in-Line-clause-least

@@ -1,15 +1,6 @@
-use Rattle.std.proofs.Common.{◌∙◌, sym, subst, ◌≡◌, List, Option, ap, inr, unwrap_or}
-use Rattle.std.specs.Prelude.{⊤, Contains}
-use Rattle.std.proofs.lemmas.Option.{MatchOption-at_some}
-use Rattle.dgt_values.specs.declared.pieces.Piece.{Piece}
-use Rattle.dgt_values.specs.Board.{pieces_of}
-use Rattle.dgt_game.specs.declared.node.Step.{Step}
-use Rattle.dgt_game.specs.declared.view.View.{View}
-use Rattle.dgt_game.specs.Planning.{IsRefused}
-use Rattle.dgt_game.specs.Reading.{Shows}
-use Rattle.dgt_game.specs.Told.{as_shown}
-use Rattle.dgt_game.proofs.Links.{is_root, turned_back}
-use Rattle.dgt_game.proofs.Standing.{some_view}
+use Rattle.std.{proofs.{Common.{◌∙◌, sym, subst, ◌≡◌, List, Option, ap, inr, unwrap_or}, lemmas.Option.{MatchOption-at_some}}, specs.Prelude.{⊤, Contains}}
+use Rattle.{dgt_values.specs.{declared.pieces.Piece.{Piece}, Board.{pieces_of}}, dgt_game.specs.{declared.{node.Step.{Step}, view.View.{View}}, Planning.{IsRefused}, Reading.{Shows}, Told.{as_shown}}}
+use Rattle.dgt_game.proofs.{Links.{is_root, turned_back}, Standing.{some_view}}
 use Rattle.dgt_game.proofs.recogniser.Recogniser.root.Goals as goal
 
 pub returns-clause-root : goal.returns-clause-root

@@ -1,7 +1,4 @@
-use Rattle.std.proofs.Common.{rules, arith, ◌≡◌, ◌<◌, length, slice_index_or}
-use Rattle.dgt_chess.specs.Rules.{board}
-use Rattle.dgt_game.proofs.Chains.{get_step}
-use Rattle.dgt_game.proofs.Pictures.{read_at}
+use Rattle.{std.proofs.Common.{rules, arith, ◌≡◌, ◌<◌, length, slice_index_or}, dgt_chess.specs.Rules.{board}, dgt_game.proofs.{Chains.{get_step}, Pictures.{read_at}}}
 use Rattle.dgt_game.proofs.recogniser.Recogniser.same_node.Goals as goal
 
 pub returns-then-eq-3 : goal.returns-then-eq-3

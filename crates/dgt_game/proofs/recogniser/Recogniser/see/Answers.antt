@@ -1,22 +1,9 @@
-use Rattle.std.proofs.Common.{◌≡◌, ◌∙◌, ◌<◌, inl, None, false, length, sym, ap, subst}
-use Rattle.std.specs.Prelude.{◌≢◌}
-use Rattle.dgt_values.specs.Board.{pieces_of}
-use Rattle.dgt_game.specs.declared.node.Place.{Place}
-use Rattle.dgt_game.specs.declared.recogniser.Recogniser.{Recogniser}
-use Rattle.dgt_game.specs.Reading.{FollowsSeen, IsExplained}
-use Rattle.dgt_game.specs.declared.memory.Memory.{Memory}
-use Rattle.dgt_game.specs.Memory.{Holds}
-use Rattle.dgt_game.specs.Planning.{WhyHopeless}
-use Rattle.dgt_game.specs.Recogniser.{Knows, shown_after}
-use Rattle.dgt_game.proofs.Known.{holds_more, knows_more, knows_same, memory_of, view_of, within_after}
-use Rattle.dgt_game.specs.declared.recogniser.Lost.{Lost}
-use Rattle.dgt_game.specs.Finding.{IsFound}
-use Rattle.dgt_game.specs.Settling.{IsAnswered}
-use Rattle.dgt_game.specs.Standing.{IsOpen, Stands}
-use Rattle.dgt_game.specs.Waiting.{Waits, has_notice}
-use Rattle.dgt_game.proofs.Waiting.{ended_of, lost_of}
-use Rattle.dgt_game.proofs.recogniser.Recogniser.see.Goals as goal
+use Rattle.{std.{proofs.Common.{◌≡◌, ◌∙◌, ◌<◌, inl, None, false, length, sym, ap, subst}, specs.Prelude.{◌≢◌}}, dgt_values.specs.Board.{pieces_of}, dgt_game.specs.declared.node.Place.{Place}}
+use Rattle.dgt_game.specs.{declared.{recogniser.Recogniser.{Recogniser}, memory.Memory.{Memory}}, Reading.{FollowsSeen, IsExplained}, Memory.{Holds}, Planning.{WhyHopeless}, Recogniser.{Knows}}
+use Rattle.dgt_game.{specs.{Recogniser.{shown_after}, declared.recogniser.Lost.{Lost}, Finding.{IsFound}}, proofs.Known.{holds_more, knows_more, knows_same, memory_of, view_of, within_after}}
+use Rattle.dgt_game.{specs.{Settling.{IsAnswered}, Standing.{IsOpen, Stands}, Waiting.{Waits, has_notice}}, proofs.Waiting.{ended_of, lost_of}}
 use Rattle.dgt_game.proofs.recogniser.Recogniser.see.Goals.{then-not-is_same_picture, then-not-self, else-not-self, else-not-is_same_picture+else-is_sure-self}
+use Rattle.dgt_game.proofs.recogniser.Recogniser.see.Goals as goal
 
 pub returns-clause-seen : goal.returns-clause-seen
 returns-clause-seen c = λ done shown line knows.

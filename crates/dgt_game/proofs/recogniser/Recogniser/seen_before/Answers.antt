@@ -1,5 +1,4 @@
-use Rattle.std.proofs.Common.{rules, arith, ◌≡◌, ◌-◌, ◌<◌, length, slice_index_or}
-use Rattle.dgt_game.proofs.Pictures.{read_at, shows_seen}
+use Rattle.{std.proofs.Common.{rules, arith, ◌≡◌, ◌-◌, ◌<◌, length, slice_index_or}, dgt_game.proofs.Pictures.{read_at, shows_seen}}
 use Rattle.dgt_game.proofs.recogniser.Recogniser.seen_before.Goals as goal
 
 pub returns-then-is : goal.returns-then-is

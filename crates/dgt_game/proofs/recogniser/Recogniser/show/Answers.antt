@@ -1,14 +1,7 @@
-use Rattle.std.proofs.Common.{◌≡◌, ◌∙◌, ◌<◌, length, ap, subst, sym}
-use Rattle.dgt_game.specs.declared.memory.Memory.{Memory}
-use Rattle.dgt_game.specs.Standing.{IsOpen}
-use Rattle.dgt_values.specs.Board.{pieces_of}
-use Rattle.dgt_game.specs.declared.view.View.{View}
-use Rattle.dgt_game.specs.Reading.{FollowsSeen}
-use Rattle.dgt_game.proofs.Known.{memory_of}
-use Rattle.dgt_game.proofs.Moved.{same_view}
-use Rattle.dgt_game.proofs.Pictures.{explains}
+use Rattle.{std.proofs.Common.{◌≡◌, ◌∙◌, ◌<◌, length, ap, subst, sym}, dgt_game.specs.{declared.{memory.Memory.{Memory}, view.View.{View}}, Standing.{IsOpen}, Reading.{FollowsSeen}}}
+use Rattle.dgt_game.proofs.{Known.{memory_of}, Moved.{same_view}, Pictures.{explains}, recogniser.Recogniser.show.Goals.{in-Some-Some, in_default, in_default-2, then-not-is_same_picture}}
+use Rattle.{dgt_game.proofs.recogniser.Recogniser.show.Goals.{else-not-is_same_picture}, dgt_values.specs.Board.{pieces_of}}
 use Rattle.dgt_game.proofs.recogniser.Recogniser.show.Goals as goal
-use Rattle.dgt_game.proofs.recogniser.Recogniser.show.Goals.{in-Some-Some, in_default, in_default-2, then-not-is_same_picture, else-not-is_same_picture}
 
 pub returns-in-Some-clause-reads : goal.returns-in-Some-clause-reads
 returns-in-Some-clause-reads c = λ few.

@@ -1,11 +1,5 @@
-use Rattle.std.proofs.Common.{◌≡◌, ◌∙◌, ap, sym, subst, true, Some}
-use Rattle.std.specs.Prelude.{slice_get}
-use Rattle.dgt_game.specs.declared.node.Place.{Place}
-use Rattle.dgt_game.specs.declared.reading.Reading.{Reading}
-use Rattle.dgt_game.specs.Memory.{steps}
-use Rattle.dgt_game.specs.Reading.{ReadsView}
-use Rattle.dgt_game.specs.Standing.{StandsAt, StandsOn}
-use Rattle.dgt_game.proofs.Standing.{at_other, of_some, resting, some_view, told_stays}
+use Rattle.{std.{proofs.Common.{◌≡◌, ◌∙◌, ap, sym, subst, true, Some}, specs.Prelude.{slice_get}}, dgt_game.specs.{declared.{node.Place.{Place}, reading.Reading.{Reading}}, Memory.{steps}}}
+use Rattle.dgt_game.{specs.{Reading.{ReadsView}, Standing.{StandsAt, StandsOn}}, proofs.Standing.{at_other, of_some, resting, some_view, told_stays}}
 use Rattle.dgt_game.proofs.recogniser.Recogniser.stand_on.Goals as goal
 
 pub returns-then-self-clause-stands : goal.returns-then-self-clause-stands

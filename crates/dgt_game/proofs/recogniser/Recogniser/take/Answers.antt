@@ -1,10 +1,5 @@
-use Rattle.std.proofs.Common.{rules, ◌≡◌, subst}
-use Rattle.std.specs.Prelude.{slice_get}
-use Rattle.dgt_game.specs.declared.node.Place.{Place}
-use Rattle.dgt_game.specs.declared.reading.Reading.{Reading}
-use Rattle.dgt_game.specs.Memory.{steps}
-use Rattle.dgt_game.specs.Reading.{ReadsView, Shows, ShowsAt}
-use Rattle.dgt_game.proofs.Standing.{of_some}
+use Rattle.{std.{proofs.Common.{rules, ◌≡◌, subst}, specs.Prelude.{slice_get}}, dgt_game.specs.{declared.{node.Place.{Place}, reading.Reading.{Reading}}, Memory.{steps}, Reading.{ReadsView, Shows}}}
+use Rattle.dgt_game.{specs.Reading.{ShowsAt}, proofs.Standing.{of_some}}
 use Rattle.dgt_game.proofs.recogniser.Recogniser.take.Goals as goal
 
 pub returns-in-At-Line-clause-stands : goal.returns-in-At-Line-clause-stands

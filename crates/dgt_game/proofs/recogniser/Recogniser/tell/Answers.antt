@@ -1,10 +1,5 @@
-use Rattle.std.proofs.Common.{◌≡◌, ◌∙◌, ◌⊎◌, ◌≤◌, inl, inr, refl, sym, subst, true, Option, Some}
-use Rattle.std.specs.Prelude.{IfSome}
-use Rattle.dgt_game.specs.declared.memory.Memory.{Memory}
-use Rattle.dgt_game.specs.declared.view.View.{View}
-use Rattle.dgt_game.specs.Memory.{step_at, steps}
-use Rattle.dgt_game.specs.Standing.{IsCalledFor, IsOpen, Lands, ShowsLast}
-use Rattle.dgt_game.proofs.Standing.{back_of, if_some, tells}
+use Rattle.{std.{proofs.Common.{◌≡◌, ◌∙◌, ◌⊎◌, ◌≤◌, inl, inr, refl, sym, subst, true, Option, Some}, specs.Prelude.{IfSome}}, dgt_game.specs.declared.{memory.Memory.{Memory}, view.View.{View}}}
+use Rattle.dgt_game.{specs.{Memory.{step_at, steps}, Standing.{IsCalledFor, IsOpen, Lands, ShowsLast}}, proofs.Standing.{back_of, if_some, tells}}
 use Rattle.dgt_game.proofs.recogniser.Recogniser.tell.Goals as goal
 
 pub returns-clause-stands : goal.returns-clause-stands

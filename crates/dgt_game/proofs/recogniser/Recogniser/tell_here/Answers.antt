@@ -1,14 +1,5 @@
-use Rattle.std.proofs.Common.{rules, ◌≡◌, ◌<◌, inl, inr, length, slice_get, Some, None}
-use Rattle.std.proofs.lemmas.Option.{MatchOption-at_some}
-use Rattle.dgt_game.specs.declared.node.Node.{Node}
-use Rattle.dgt_game.specs.declared.node.Way.{Way}
-use Rattle.dgt_game.specs.Memory.{step_at, steps}
-use Rattle.dgt_game.proofs.Links.{begins, seen_at}
-use Rattle.dgt_game.specs.declared.node.Place.{Place}
-use Rattle.dgt_game.specs.Reading.{Shows}
-use Rattle.dgt_game.specs.Standing.{IsCalledFor}
-use Rattle.dgt_game.specs.declared.node.Origin.{Origin}
-use Rattle.dgt_game.proofs.Chains.{some_below}
+use Rattle.{std.proofs.{Common.{rules, ◌≡◌, ◌<◌, inl, inr, length, slice_get, Some, None}, lemmas.Option.{MatchOption-at_some}}, dgt_game.specs.declared.node.{Node.{Node}, Way.{Way}}}
+use Rattle.dgt_game.{specs.{Memory.{step_at, steps}, declared.node.{Place.{Place}, Origin.{Origin}}, Reading.{Shows}, Standing.{IsCalledFor}}, proofs.{Links.{begins, seen_at}, Chains.{some_below}}}
 use Rattle.dgt_game.proofs.Standing.{at_some, if_some, match_more, of_some, shows_as}
 use Rattle.dgt_game.proofs.recogniser.Recogniser.tell_here.Goals as goal
 

@@ -1,6 +1,4 @@
-use Rattle.std.proofs.Common.{refl}
-use Rattle.dgt_game.specs.Memory.{steps}
-use Rattle.dgt_game.proofs.Links.{fits_gap}
+use Rattle.{std.proofs.Common.{refl}, dgt_game.{specs.Memory.{steps}, proofs.Links.{fits_gap}}}
 use Rattle.dgt_game.proofs.recogniser.Recogniser.unordered.Goals as goal
 
 pub returns-clause-linked : goal.returns-clause-linked

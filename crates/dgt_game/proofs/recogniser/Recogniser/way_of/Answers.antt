@@ -1,5 +1,4 @@
-use Rattle.dgt_game.specs.Lines.{moves_of}
-use Rattle.dgt_game.proofs.Links.{joins}
+use Rattle.dgt_game.{specs.Lines.{moves_of}, proofs.Links.{joins}}
 use Rattle.dgt_game.proofs.recogniser.Recogniser.way_of.Goals as goal
 
 pub returns-in_default : goal.returns-in_default

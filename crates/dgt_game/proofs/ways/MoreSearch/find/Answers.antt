@@ -1,6 +1,4 @@
-use Rattle.std.specs.Prelude.{◌+◌, suc}
-use Rattle.dgt_values.specs.Board.{pieces_of}
-use Rattle.dgt_game.proofs.Sets.{all_from, next_from, several_ways}
+use Rattle.{std.specs.Prelude.{◌+◌, suc}, dgt_values.specs.Board.{pieces_of}, dgt_game.proofs.Sets.{all_from, next_from, several_ways}}
 use Rattle.dgt_game.proofs.ways.MoreSearch.find.Goals as goal
 
 pub loop-from-preserved : goal.loop-from-preserved

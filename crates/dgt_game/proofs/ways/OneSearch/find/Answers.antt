@@ -1,8 +1,4 @@
-use Rattle.std.proofs.Common.{List, refl, subst, sym}
-use Rattle.dgt_values.specs.Board.{pieces_of}
-use Rattle.dgt_chess.specs.declared.state.Move.{Move}
-use Rattle.dgt_game.specs.Lines.{IsOnly}
-use Rattle.dgt_game.specs.Ways.{IsWay}
+use Rattle.{std.proofs.Common.{List, refl, subst, sym}, dgt_values.specs.Board.{pieces_of}, dgt_chess.specs.declared.state.Move.{Move}, dgt_game.specs.{Lines.{IsOnly}, Ways.{IsWay}}}
 use Rattle.dgt_game.proofs.ways.OneSearch.find.Goals as goal
 
 pub returns-in-Some : goal.returns-in-Some

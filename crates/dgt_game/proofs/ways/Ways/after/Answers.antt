@@ -1,7 +1,4 @@
-use Rattle.std.proofs.Common.{refl, subst, sym}
-use Rattle.dgt_game.specs.declared.ways.Ways.{Ways}
-use Rattle.dgt_game.specs.declared.ways.Ways.TheVariants.{Only}
-use Rattle.dgt_game.specs.Ways.{Follows}
+use Rattle.{std.proofs.Common.{refl, subst, sym}, dgt_game.specs.{declared.ways.Ways.{Ways, TheVariants.{Only}}, Ways.{Follows}}}
 use Rattle.dgt_game.proofs.ways.Ways.after.Goals as goal
 
 pub returns-in-Only : goal.returns-in-Only
