@@ -152,8 +152,8 @@ pub fn bytes_of_a_rank()
         → MeansSquares byte first → MeansSquares byte second → first ≡ second }
 {}
 
-/// A rank has the squares of its bytes in order, and a placement those of its ranks, eight each.
-/// Each prefix of a placement begins one.
+/// A rank has the squares of its bytes in order, and a placement those of its ranks, eight each. A
+/// text begins a placement if it is a prefix of one.
 pub fn ranks_and_their_squares()
     ensures no_byte { (squares : List Piece) → IsRank [] squares ↔ (squares ≡ []) }
     ensures one_byte { (byte : ℕ) (squares : List Piece)
@@ -166,8 +166,8 @@ pub fn ranks_and_their_squares()
     ensures two_ranks { (rank other : List ℕ) (first second : List Piece)
         → AreRanks (rank ∷ []) first → AreRanks (other ∷ []) second
         → AreRanks (rank ∷ other ∷ []) (first ++ second) }
-    ensures begins { (text more : List ℕ) (pieces : List Piece)
-        → IsPlacement (text ++ more) pieces → BeginsPlacement text }
+    ensures begins { (text : List ℕ) → BeginsPlacement text
+        ↔ ((more : List ℕ) × (pieces : List Piece) × IsPlacement (text ++ more) pieces) }
 {}
 
 /// An accepted text has a piece for each of the 64 squares.
