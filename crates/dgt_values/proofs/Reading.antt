@@ -1,6 +1,6 @@
 -- How a placement may continue after a part of it was read.
 use Prim.Native.Char.{code as ascii}
-use Rattle.std.proofs.Common.{◌≡◌, ℕ, zero, suc, ◌+◌, ◌-◌, ◌*◌, ◌<◌, ◌≤◌, inl, inr, refl, ap, arith, List, [], ◌∷◌, ◌++◌, length, take, drop, replicate, append_assoc, length-append, get_or, rules}
+use Rattle.std.proofs.Common.{◌≡◌, ℕ, zero, suc, ◌+◌, ◌-◌, ◌*◌, ◌<◌, ◌≤◌, inl, inr, refl, arith, List, [], ◌∷◌, ◌++◌, length, take, drop, replicate, append_assoc, length-append, get_or, rules}
 use Rattle.{std.proofs.lemmas.{List.{append-nil, length-replicate, length-take, length-drop, take_more, take_all}, Slice.{put_mid-paste}}, dgt_values.specs.Placement.{MeansSquares, IsPlacement}}
 use Rattle.dgt_values.{specs.{Placement.{BeginsPlacement, IsFirstBadOffset}, declared.pieces.Piece.{Piece, TheVariants.{Empty}}}, proofs.Finishing.{Steps, Finishes, steps_one, placement_finishes}}
 use Rattle.dgt_values.proofs.Finishing.{finishes_placement}
