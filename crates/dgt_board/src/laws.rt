@@ -18,7 +18,6 @@ ghost use Rattle.dgt_board.specs.declared.replies.Reply.{Reply as BoardReply};
 ghost use Rattle.dgt_values.specs.declared.kinds.Kind.{Kind};
 ghost use Rattle.dgt_board.specs.View.{BoardView, HasTaken, IsBoard, Polls, after_bytes};
 ghost use Rattle.dgt_board.specs.declared.sending.Polled.{Polled as Answer};
-
 ghost use Rattle.std.specs.Prelude.{Bool, IsTrue, drop, not, replicate, slice_set, ◌≢◌};
 
 use crate::{Busy, MAX_KEPT_BODY, MAX_OWED, MAX_SENT, Mode, Polled, Taken, TooLong};
