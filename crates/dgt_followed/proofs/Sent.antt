@@ -1,5 +1,5 @@
 -- What a board has reported is the picture after the messages that it has sent.
-use Rattle.std.{proofs.Common.{◌≡◌, Bool, Some, refl, sym, ap, ◌∙◌, List, [], ◌∷◌, if◌then◌else◌, rules, true, false, Option, None}, specs.List.{AllByRecursion}}
+use Rattle.std.{proofs.{Common.{◌≡◌, Bool, Some, refl, sym, ap, ◌∙◌, List, [], ◌∷◌, if◌then◌else◌, rules, true, false, Option, None}, lemmas.List.{append-nil}}, specs.List.{AllByRecursion}}
 use Rattle.{dgt_values.specs.declared.pieces.Piece.{Piece}, dgt_message.specs.{Content.{Content, clock_message}, Encoding.{encoding}, Picture.{picture_after, picture_after_all}}}
 use Rattle.{dgt_command.specs.Content.{EventContent}, dgt_board.specs.{Sending.{next_message, reported_squares_after}, State.{BoardState, effect, effects}, declared.replies.Reply.{Reply}}}
 use Rattle.{dgt_host.proofs.ConfirmedLemmas.{pictures_append}, dgt_follow.specs.{Follower.{asking_of}, declared.asking.{Asking.{Asking}, UpdateMode.{UpdateMode}}}, dgt_link.specs.Act.{ActContent}}
@@ -42,7 +42,8 @@ next_reports board message e =
     let x = state_of_board board in
     let by = next_is_sent x message e in
     move_is board by.0 message by.1
-    (sym (sending_sends x by.0 by.1) ∙ ap (λ (y : MachineState). y.up) by.2)
+    (sym (append-nil (sent_by_move x by.0)) ∙ sym (sending_sends x (by.0 ∷ []) (by.1, tt))
+    ∙ ap (λ (y : MachineState). y.up) by.2)
 
 -- ---- acts that leave what was reported
 
