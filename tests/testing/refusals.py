@@ -5,7 +5,7 @@ crates/NAME/mutants.txt has a line for each definition: a sum of its mutants, th
 the clause that refuses them, and last a sum of all that was read when they were tried. After `no
 definition` are those that have no sense. By hand you write `same:` and why nothing can refuse the
 others, or `held:` and what was seen to be refused with them: altered.edits has to show it of
-another mutant of this definition. Those after `left` are still to be tried.
+another mutant of this definition. Those after `left` are still to be decided.
 
 A definition whose line would stay the same is passed over. The last sum covers the logic, the
 definition, the contracts with these clauses, and all definitions and types that they read, also of
