@@ -22,6 +22,18 @@ pub tip_any : (before : Option Step) (path : List Step) (step : Step)
 tip_any before [] step h = links_any before step h
 tip_any before (first ∷ path) step h = h
 
+-- the same after other steps
+pub chain_joined : (shown : List (List Piece)) (before : Option Step) (first path : List Step)
+    → Chain shown before first → Chain shown None path → Chain shown before (first ++ path)
+chain_joined shown before [] path h rest = chain_any shown before path rest
+chain_joined shown before (step ∷ first) path h rest =
+    (h.0, h.1, chain_joined shown (Some step) first path h.2 rest)
+
+pub tip_joined : (before : Option Step) (first path : List Step) (step : Step)
+    → Links (tip None path) step → Links (tip before (first ++ path)) step
+tip_joined before [] path step h = tip_any before path step h
+tip_joined before (next ∷ first) path step h = tip_joined (Some next) first path step h
+
 pub get_step : (nodes : List Node) (k : ℕ) (node : Node) → slice_get nodes k ≡ Some node
     → slice_get (steps nodes) k ≡ Some node.step
 get_step [] k node e = absurd (subst (λ (o : Option Node). MatchOption o ⊤ (λ _. ⊥)) e tt)
@@ -107,12 +119,25 @@ before_all lines k (Place.Line base) other h = h
 before_all lines k (Place.Seen j) other h = absurd (other j refl)
 before_all lines k Place.Nowhere other h = tt
 
+seen_index : Place → ℕ
+seen_index (Place.Seen k) = k
+seen_index (Place.Line k) = 0
+seen_index Place.Nowhere = 0
+
 -- a path that has left a place began at one that was seen
 pub is_within : (k len at : ℕ) (place : Place) → (at ≡ 0 → place ≡ Place.Seen k)
     → (at ≢ 0 → k < len) → (k < len) ⊎ ((j : ℕ) → place ≢ Place.Seen j) → k < len
 is_within k len at place first later (inl within) = within
 is_within k len zero place first later (inr other) = absurd (other k (first refl))
 is_within k len (suc at) place first later (inr other) = later (λ e. omega (arith, e))
+
+-- a path that leaves one has left it before, or leaves where it begins
+pub is_inside : (k len at here : ℕ) → (at ≡ 0 → Place.Seen here ≡ Place.Seen k)
+    → (at ≢ 0 → k < len) → here < len → k < len
+unfolding seen_index
+is_inside k len zero here first later within =
+    let same : here ≡ k = ap seen_index (first refl) in omega (arith, same, within)
+is_inside k len (suc at) here first later within = later (λ e. omega (arith, e))
 
 pub last_item : {X : Type 0} (old : List X) (item : X) (k : ℕ) → length old ≡ k
     → slice_get (old ++ item ∷ []) k ≡ Some item
@@ -140,6 +165,22 @@ pub steps_push : (nodes : List Node) (node : Node)
     → steps (nodes ++ node ∷ []) ≡ steps nodes ++ node.step ∷ []
 steps_push [] node = refl
 steps_push (first ∷ nodes) node = ap (λ (xs : List Step). first.step ∷ xs) (steps_push nodes node)
+
+-- a node that is read
+pub node_at : (nodes : List Node) (k : ℕ) (node : Node) → k < length nodes
+    → node ≡ slice_index_or nodes k node → slice_get nodes k ≡ Some node
+node_at [] k node l e = absurd (omega arith)
+node_at (first ∷ nodes) zero node l e = ap (λ (n : Node). Some n) (sym e)
+node_at (first ∷ nodes) (suc k) node l e = node_at nodes k node (omega arith) e
+
+-- what leads to a step leads to the one before it, too
+pub path_first : (shown : List (List Piece)) (kept seen path : List Step) (k : ℕ) (step : Step)
+    → slice_get seen k ≡ Some step → Grows shown kept seen
+    → Chain shown (slice_get seen k) path
+    → Chain shown (step_at kept seen step.parent) (step ∷ path)
+path_first shown kept seen path k step at grows chain =
+    let new = grows k step at in
+    (new.0, new.1, subst (λ (o : Option Step). Chain shown o path) at chain)
 
 drops : (nodes : List Node) (k : ℕ) (node : Node) → k < length nodes
     → node ≡ slice_index_or nodes k node

@@ -31,7 +31,7 @@ within_after (Sight.Sure position) shown = within_cons shown (pieces_of position
 within_after (Sight.Doubted position) shown = within_cons shown (pieces_of position)
 within_after Sight.Away shown = λ picture h. h
 
-was_more : (shown more : List (List Piece)) (told : Told) → Within shown more
+pub was_more : (shown more : List (List Piece)) (told : Told) → Within shown more
     → WasShown shown told → WasShown more told
 unfolding WasShown
 was_more shown more told within h = elim h [
@@ -114,7 +114,7 @@ knows_nothing = record {
 }
 
 -- the first step of a line
-abbrev first_step : State → Bool → Step
+abbrev pub first_step : State → Bool → Step
 first_step state is_turned = record {
   state = state;
   is_turned = is_turned;

@@ -23,3 +23,4 @@ pub mod Planning
 pub mod Rests
 pub mod Finding
 pub mod Settling
+pub mod Sure

@@ -78,10 +78,11 @@ if_some (Some x) P Q h more = more x h
 
 pub returned_same : (count : ℕ) (near other : count ≤ 4) → ◌≡◌ {A = Returned} (record {
   count = count;
+  is_sure = false;
   near = near;
-}) (record { count = count; near = other })
-returned_same count near other = ap (λ (n : count ≤ 4). record { count = count; near = n }) (le_prop
-    near other)
+}) (record { count = count; is_sure = false; near = other })
+returned_same count near other =
+    ap (λ (n : count ≤ 4). record { count = count; is_sure = false; near = n }) (le_prop near other)
 
 pub match_more : {X : Type 0} (o : Option X) (P Q : X → Type 0) → MatchOption o ⊥ P
     → ((x : X) → P x → Q x) → MatchOption o ⊥ Q

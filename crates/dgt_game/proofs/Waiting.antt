@@ -1,5 +1,5 @@
 -- What waits to be reported.
-use Rattle.std.proofs.Common.{◌≡◌, ◌≢◌, ◌∙◌, ◌+◌, ◌-◌, ◌<◌, ◌⊎◌, inl, inr, refl, sym, ap, arith, below_more, ℕ, zero, suc, Bool, true, false, List, [], ◌∷◌, Option, Some, None}
+use Rattle.std.proofs.Common.{◌≡◌, ◌≢◌, ◌∙◌, ◌+◌, ◌-◌, ◌++◌, ◌<◌, ◌⊎◌, inl, inr, refl, sym, ap, arith, below_more, ℕ, zero, suc, Bool, true, false, List, [], ◌∷◌, Option, Some, None}
 use Rattle.{std.{specs.{Prelude.{slice_get, IfSome}, Option.{option_or}}, proofs.lemmas.Option.{none-some}}, dgt_values.specs.declared.pieces.Piece.{Piece}, dgt_chess.specs.Attacks.{piece_at}}
 use Rattle.dgt_game.specs.declared.{event.{GameResult.{GameResult}, Event.{Event}}, memory.Memory.{Memory}, recogniser.{Over.{Over}, Lost.{Lost}}, node.{Node.{Node}, Step.{Step}}}
 use Rattle.dgt_game.specs.{declared.{recogniser.Recogniser.{Recogniser}, view.View.{View}}, Memory.{steps, tip}, Results.{ByRules, FitsAt}, Waiting.{EndsBy, IsOfLine, IsRight, LostBy, Show, coming}}
@@ -37,6 +37,11 @@ pub tip_some : (before : Option Step) (path : List Step) (step : Step)
     → tip None path ≡ Some step → tip before path ≡ Some step
 tip_some before [] step e = absurd (none-some step e)
 tip_some before (first ∷ path) step e = e
+
+pub some_joined : (before : Option Step) (first path : List Step) (step : Step)
+    → tip None path ≡ Some step → tip before (first ++ path) ≡ Some step
+some_joined before [] path step e = tip_some before path step e
+some_joined before (next ∷ first) path step e = some_joined (Some next) first path step e
 
 pub or_some : {X : Type 0} (a b : Option X) (P : X → Type 0) → IfSome a P → IfSome b P
     → IfSome (option_or a b) P

@@ -3,6 +3,7 @@ pub mod Lines
 pub mod Told
 pub mod Memory
 pub mod Recogniser
+pub mod Sure
 pub mod Runs
 pub mod Laws
 pub mod Results

@@ -44,7 +44,7 @@ new_recogniser = record {
   search = Search.Hopeless;
   next = None;
   has_kings = false;
-  returned = record { count = 0; near = omega arith };
+  returned = record { count = 0; is_sure = false; near = omega arith };
   is_behind = false;
   is_set_up = false;
   is_white_king_lifted = false;

@@ -1,6 +1,6 @@
 //! Results that the players show by their kings, on squares in the centre.
 
-ghost use Rattle.std.specs.Prelude.{ℕ, false, ◌≡◌, ◌<◌, ◌≤◌, List, [], None, Some, IfSome, IsTrue, length, true};
+ghost use Rattle.std.specs.Prelude.{ℕ, false, ◌≡◌, ◌<◌, ◌≤◌, List, [], None, Some, Contains, IfSome, MatchOption, IsTrue, length, true};
 ghost use Rattle.dgt_values.specs.declared.pieces.Piece.{Piece};
 ghost use Rattle.dgt_values.specs.Board.{pieces_of};
 ghost use Rattle.dgt_chess.specs.Rules.{board};
@@ -18,9 +18,10 @@ use crate::ways::is_same;
 use dgt_values::{Piece, Position, Square};
 
 impl Recogniser {
-    ghost use Rattle.dgt_game.specs.Memory.{Holds, IsRooted, IsTold};
+    ghost use Rattle.dgt_game.specs.Memory.{Holds, IsRooted, IsTold, told_of};
     ghost use Rattle.dgt_game.specs.Settling.{StaysShown};
     ghost use Rattle.dgt_game.specs.Standing.{IsOpen, Stands};
+    ghost use Rattle.dgt_game.specs.Sure.{WasSure, WereSure};
     ghost use Rattle.dgt_game.specs.Finding.{FindsLater};
     ghost use Rattle.dgt_game.specs.Planning.{AddsNone, todo, IsLostOr, WhyHopeless};
     ghost use Rattle.dgt_game.specs.Waiting.{Follows, IsQuiet, Keeps, Waits, coming};
@@ -100,6 +101,10 @@ impl Recogniser {
         ensures hopeless { WhyHopeless self.old → WhyHopeless self.new }
         ensures found { FindsLater self.old → FindsLater self.new }
         ensures shown { StaysShown self.old self.new }
+        ensures sure { (sure : List (List Piece))
+            → MatchOption self.old.view ⊥ (λ view. Contains sure (pieces_of view.shown))
+            → WereSure sure self.old.memory self.old.returned
+            → WereSure sure self.new.memory self.new.returned }
     {
         self.has_kings = false;
         let Some(view) = self.view else {
@@ -133,6 +138,11 @@ impl Recogniser {
             ≡ Some step → ((k : ℕ) → place ≡ Place.Line k → k ≡ 0)
             → (self.new.memory.back ≤ 4) × (self.new.memory.answer ≡ None)
             × (result ≡ false → IsTold self.new.memory) }
+        ensures sure { (sure : List (List Piece))
+            → IfSome (step_at (steps self.old.memory.line.items) (steps self.old.memory.seen.items)
+            place) (λ step. WasSure sure (told_of step))
+            → WereSure sure self.old.memory self.old.returned
+            → WereSure sure self.new.memory self.new.returned }
     {
         if place == Place::Line(0) {
             self.memory.forget_seen();

@@ -6,13 +6,14 @@ ghost use Rattle.dgt_game.specs.declared.node.Place.{Place};
 ghost use Rattle.dgt_game.specs.declared.node.Node.{Node};
 ghost use Rattle.dgt_game.specs.declared.node.Step.{Step};
 ghost use Rattle.dgt_game.specs.declared.node.Way.{Way};
-ghost use Rattle.dgt_game.specs.Told.{Leads, Told};
+ghost use Rattle.dgt_game.specs.Told.{Leads, Told, WasShown};
 ghost use Rattle.dgt_game.specs.Memory.{Chain, Grows, IsBefore, IsKept, IsRooted, Links, event_of, halves_of, line_after, step_at, steps, tip, told_of};
 ghost use Rattle.dgt_game.specs.Reading.{origins};
+ghost use Rattle.dgt_game.specs.Sure.{AreMarked};
 
 use crate::event::Event;
-use crate::node::{Node, Place, Way};
-use crate::times::{KEPT, NEAR, SEEN, SETTLE};
+use crate::node::{Node, Origin, Place, Way};
+use crate::times::{JUMP, KEPT, NEAR, SEEN, SETTLE};
 use arrayvec::ArrayVec;
 use dgt_chess::State;
 
@@ -35,6 +36,8 @@ impl Memory {
     ghost use Rattle.dgt_game.specs.Waiting.{IsOfLine, coming};
     ghost use Rattle.dgt_game.specs.Reading.{FollowsSeen};
     ghost use Rattle.dgt_game.specs.Recogniser.{new_memory};
+    ghost use Rattle.dgt_game.specs.Sure.{IsMarked, LeavesSure, WereSure};
+    ghost use Rattle.dgt_game.specs.declared.node.Returned.{Returned};
 
     pub(crate) fn new() -> Self
         ensures is { result ≡ new_memory }
@@ -54,6 +57,17 @@ impl Memory {
         ensures { IsTrue result ↔ ((self.now.back ≡ 0) × (self.now.unsaid.items ≡ [])) }
     {
         self.back == 0 && self.unsaid.is_empty()
+    }
+
+    /// Whether another line begins with what is to be reported next.
+    pub(crate) fn begins_next(&self) -> bool
+        ensures { IsTrue result → ¬ (IsTold self.now) }
+    {
+        self.back == 0
+            && match self.unsaid.get(0) {
+                Some(node) => node.step.way == Way::Begun,
+                None => false,
+            }
     }
 
     /// The node at a place.
@@ -88,6 +102,7 @@ impl Memory {
         ensures few { length self.new.seen.items ≡ length self.old.seen.items }
         ensures seen { (picture : List Piece) → FollowsSeen self.old picture
             → FollowsSeen self.new picture }
+        ensures sure { LeavesSure self.old self.new }
     {
         match place {
             Place::Line(k) => set_left(&mut self.line, k, now),
@@ -105,6 +120,10 @@ impl Memory {
         ensures line { self.new.line ≡ self.old.line }
         ensures answer { self.new.answer ≡ self.old.answer }
         ensures seen { steps self.new.seen.items ≡ steps self.old.seen.items }
+        ensures sure { (sure : List (List Piece)) (returned : Returned)
+            → IfSome (slice_get (steps self.old.seen.items) k)
+            (λ step. WasShown sure (told_of step))
+            → WereSure sure self.old returned → WereSure sure self.new returned }
     {
         set_sure(&mut self.seen, k);
     }
@@ -117,6 +136,7 @@ impl Memory {
         ensures line { self.new.line ≡ self.old.line }
         ensures answer { self.new.answer ≡ self.old.answer }
         ensures none { self.new.seen.items ≡ [] }
+        ensures sure { LeavesSure self.old self.new }
     {
         self.seen.clear();
     }
@@ -131,6 +151,7 @@ impl Memory {
         ensures answer { self.new.answer ≡ self.old.answer }
         ensures few { length self.new.seen.items ≤ length self.old.seen.items }
         ensures kept { length self.old.seen.items + room ≤ 24 → self.new ≡ self.old }
+        ensures sure { LeavesSure self.old self.new }
     {
         if self.seen.remaining_capacity() < room {
             self.forget_seen();
@@ -169,6 +190,8 @@ impl Memory {
             → length self.new.seen.items ≤ length self.old.seen.items + 1 }
         ensures kept { length self.old.seen.items < 24 → (picture : List Piece)
             → FollowsSeen self.old picture → FollowsSeen self.new picture }
+        ensures sure { (sure : List (List Piece)) (returned : Returned) → IsMarked sure node
+            → WereSure sure self.old returned → WereSure sure self.new returned }
     {
         let parent = self.keep_path(node.step.parent)?;
         if self.seen.is_full() || !self.may_follow(parent) {
@@ -213,6 +236,7 @@ impl Memory {
             → (result ≡ Some place) × (length self.new.seen.items < 24) }
         ensures few { length self.old.seen.items < 24
             → (result ≡ Some place) × (self.new ≡ self.old) }
+        ensures sure { LeavesSure self.old self.new }
     {
         if !self.seen.is_full() {
             return Some(place);
@@ -243,6 +267,8 @@ impl Memory {
             ⊎ ((j : ℕ) → result.1 ≢ Place.Seen j)
             → IsBefore (length (steps self.now.line.items)) 0 result.1 }
         ensures some { k < length (steps self.now.seen.items) → result.0.items ≢ [] }
+        ensures sure { (sure : List (List Piece)) → AreMarked sure self.now.seen.items
+            → AreMarked sure result.0.items }
     {
         let mut path = ArrayVec::new();
         let mut place = Place::Seen(k);
@@ -253,8 +279,9 @@ impl Memory {
             if path.is_full() || k >= self.seen.len() {
                 return (path, place);
             }
-            path.insert(0, self.seen[k]);
-            place = self.seen[k].step.parent;
+            let node = self.seen[k];
+            path.insert(0, node);
+            place = node.step.parent;
         }
         (path, place)
     }
@@ -287,6 +314,9 @@ impl Memory {
         ensures idle { IsTold self.new → self.new.answer ≡ None }
         ensures cleared { self.new.seen.items ≡ [] }
         ensures either { (self.new.answer ≡ answer) ⊎ (self.new.answer ≡ None) }
+        ensures ends { (coming self.new ≡ coming self.old) ⊎ ((step : Step)
+            × (step_at (steps self.old.line.items) (steps self.old.seen.items) place ≡ Some step)
+            × (coming self.new ≡ Some step)) }
     {
         let way = self.way_to(place, is_open);
         self.seen.clear();
@@ -328,6 +358,9 @@ impl Memory {
             → step_at (steps self.now.line.items) (steps self.now.seen.items) place ≡ Some step
             → place ≢ Place.Line 0
             → IfSome result (λ way. (way.0 ≢ 0) ⊎ (way.1.items ≢ [])) }
+        ensures ends { IfSome result (λ way. (step : Step)
+            × (step_at (steps self.now.line.items) (steps self.now.seen.items) place ≡ Some step)
+            × (tip (slice_get (steps self.now.line.items) way.0) (steps way.1.items) ≡ Some step)) }
     {
         let (path, start) = match place {
             Place::Seen(k) => self.path(k),
@@ -346,6 +379,7 @@ impl Memory {
         }
     }
 
+    // The path of another line, after the last half-moves of this one that rested.
     fn with_last(&self, path: ArrayVec<Node, SEEN>) -> ArrayVec<Node, SEEN>
         ensures chain { (shown : List (List Piece)) (line : List Told) → Holds shown line self.now
             → Chain shown None (steps path.items)
@@ -356,31 +390,47 @@ impl Memory {
             → tip (slice_get (steps self.now.line.items) 0) (steps result.items) ≡ Some step }
         ensures some { (path.items ≢ []) → result.items ≢ [] }
     {
-        if path.is_full() || path.is_empty() {
+        let is_start = match path.get(0) {
+            Some(first) => first.origin == Origin::Start,
+            None => false,
+        };
+        let Some(mut nodes) = self.last_path(is_start) else {
             return path;
-        }
-        match self.rested() {
-            Some(node) => inserted(path, node),
-            None => path,
+        };
+        match nodes.try_extend_from_slice(path.as_slice()) {
+            Ok(()) => nodes,
+            Err(_) => path,
         }
     }
 
-    // The half-move after the line's last state that has rested last.
-    fn rested(&self) -> Option<Node>
-        ensures { IfSome result (λ node. (k : ℕ)
-            × (slice_get self.now.seen.items k ≡ Some node)
-            × (node.step.parent ≡ Place.Line 0)) }
+    // The path to the last half-moves that rested, from the line's last state.
+    fn last_path(&self, is_start: bool) -> Option<ArrayVec<Node, SEEN>>
+        ensures { (shown : List (List Piece)) (line : List Told) → Holds shown line self.now
+            → IfSome result (λ path.
+            Chain shown (slice_get (steps self.now.line.items) 0) (steps path.items)) }
     {
+        let k = self.last_rested(is_start)?;
+        let (path, start) = self.path(k);
+        if start == Place::Line(0) {
+            Some(path)
+        } else {
+            None
+        }
+    }
+
+    // The last half-moves after the line's last state that rested: those shown for sure, or in a
+    // doubt for longer if the start of a game was shown since.
+    fn last_rested(&self, is_start: bool) -> Option<usize> {
         let len = self.seen.len();
         for at in 0..len {
             let node = &self.seen[len - 1 - at];
-            if node.step.parent == Place::Line(0)
-                && node.is_sure
-                && !node.is_held
-                && !node.is_quick
-                && node.rested() >= SETTLE
-            {
-                return Some(*node);
+            let has_rested = if node.is_sure && node.step.parent == Place::Line(0) {
+                node.rested() >= SETTLE
+            } else {
+                is_start && node.rested() >= JUMP
+            };
+            if node.origin == Origin::Line(0) && !node.is_held && !node.is_quick && has_rested {
+                return Some(len - 1 - at);
             }
         }
         None
@@ -401,6 +451,7 @@ impl Memory {
         ensures nothing { result ≡ None → self.new ≡ self.old }
         ensures answer { self.new.answer ≡ self.old.answer }
         ensures less { self.new.back ≤ self.old.back }
+        ensures seen { self.new.seen ≡ self.old.seen }
     {
         if self.back > 0 {
             Some(self.take_back())
@@ -417,6 +468,7 @@ impl Memory {
         ensures of_line { IsOfLine result }
         ensures answer { self.new.answer ≡ self.old.answer }
         ensures less { self.new.back ≤ self.old.back }
+        ensures seen { self.new.seen ≡ self.old.seen }
     {
         self.back = self.back.saturating_sub(1);
         Event::Back(drop_first(&mut self.line))
@@ -438,6 +490,7 @@ impl Memory {
         ensures nothing { result ≡ None → self.new ≡ self.old }
         ensures answer { self.new.answer ≡ self.old.answer }
         ensures less { self.new.back ≡ self.old.back }
+        ensures seen { self.new.seen ≡ self.old.seen }
     {
         let Some(node) = take_first(&mut self.unsaid) else {
             return None;
@@ -460,6 +513,7 @@ impl Memory {
             × (new.step.state ≡ node.step.state) × (new.step.is_turned ≡ node.step.is_turned)
             × (new.step.way ≡ node.step.way) × (new.is_held ≡ node.is_held)
             × (node.step.way ≡ Way.Begun → new.origin ≡ node.origin)) }
+        ensures sure { LeavesSure self.old self.new }
     {
         let Some(node) = self.answer.take() else {
             return None;
@@ -476,6 +530,8 @@ impl Memory {
 fn set_left<const ROOM: usize>(nodes: &mut ArrayVec<Node, ROOM>, k: usize, now: u64)
     ensures steps { steps nodes.new.items ≡ steps nodes.old.items }
     ensures origins { origins nodes.new.items ≡ origins nodes.old.items }
+    ensures sure { (sure : List (List Piece)) → AreMarked sure nodes.old.items
+        → AreMarked sure nodes.new.items }
 {
     if k < nodes.len() {
         let mut node = nodes[k];
@@ -486,7 +542,10 @@ fn set_left<const ROOM: usize>(nodes: &mut ArrayVec<Node, ROOM>, k: usize, now: 
 
 #[tactic(auto, using(crate::proofs::Nodes::same_steps))]
 fn set_sure(nodes: &mut ArrayVec<Node, SEEN>, k: usize)
-    ensures { steps nodes.new.items ≡ steps nodes.old.items }
+    ensures steps { steps nodes.new.items ≡ steps nodes.old.items }
+    ensures sure { (sure : List (List Piece))
+        → IfSome (slice_get (steps nodes.old.items) k) (λ step. WasShown sure (told_of step))
+        → AreMarked sure nodes.old.items → AreMarked sure nodes.new.items }
 {
     if k < nodes.len() {
         let mut node = nodes[k];
@@ -494,15 +553,6 @@ fn set_sure(nodes: &mut ArrayVec<Node, SEEN>, k: usize)
         node.is_held = false;
         nodes[k] = node;
     }
-}
-
-fn inserted(path: ArrayVec<Node, SEEN>, node: Node) -> ArrayVec<Node, SEEN>
-    requires { length path.items < SEEN }
-    ensures { result.items ≡ node ∷ path.items }
-{
-    let mut nodes = path;
-    nodes.insert(0, node);
-    nodes
 }
 
 // The same nodes, each after the one before, and the first after a place that was not seen since.
@@ -515,6 +565,8 @@ fn chained(path: &ArrayVec<Node, SEEN>, start: Place) -> (ArrayVec<Node, SEEN>, 
     ensures links { (kept : List Step) (step : Step)
         → Links (tip (step_at kept [] start) (steps path.now.items)) step
         → Links (step_at kept (steps result.0.items) result.1) step }
+    ensures sure { (sure : List (List Piece)) → AreMarked sure path.now.items
+        → AreMarked sure result.0.items }
 {
     let mut nodes = ArrayVec::new();
     let mut parent = start;

@@ -59,6 +59,8 @@ pub(crate) enum Place {
 #[derive(Clone, Copy, Debug, PartialEq, Eq)]
 pub(crate) struct Returned {
     pub(crate) count: usize,
+    /// Whether that is for sure.
+    pub(crate) is_sure: bool,
     ghost near: { count ≤ 4 },
 }
 
@@ -138,6 +140,7 @@ impl Node {
 
     /// The same node, as one that follows the line's last state.
     pub(crate) fn after_line(&self) -> Self
+        ensures sure { result.is_sure ≡ self.now.is_sure }
         ensures rest { (result.is_held ≡ self.now.is_held)
             × (self.now.step.way ≡ Way.Begun → result.origin ≡ self.now.origin) }
         ensures step { result.step ≡ record {

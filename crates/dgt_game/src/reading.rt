@@ -11,7 +11,7 @@ ghost use Rattle.dgt_game.specs.declared.node.Step.{Step};
 ghost use Rattle.dgt_game.specs.Planning.{LacksOnly};
 ghost use Rattle.dgt_chess.specs.Attacks.{piece_of};
 ghost use Rattle.dgt_game.specs.Told.{IsHeld, Told, told_pieces};
-ghost use Rattle.dgt_game.specs.Memory.{By, told_of};
+ghost use Rattle.dgt_game.specs.Memory.{By, halves_of, told_of};
 ghost use Rattle.dgt_game.specs.declared.node.Origin.{Origin};
 ghost use Rattle.dgt_game.specs.declared.node.Place.{Place};
 ghost use Rattle.dgt_game.specs.declared.recogniser.Over.{Over};
@@ -42,6 +42,7 @@ pub(crate) enum Reading {
 impl Recogniser {
     ghost use Rattle.dgt_game.specs.Memory.{Fits, FitsBy, Holds, Links, Reads, step_at, steps};
     ghost use Rattle.dgt_game.specs.Reading.{HasLine, HasLineFrom, HasRoom, IsLive, IsNear, IsRead, IsRoomFor, ReadsView, Shows, ShowsAt, SomeLine, FollowsSeen, IsReplaced, ShowsEarlier, ShowsStart};
+    ghost use Rattle.dgt_game.specs.Sure.{MarksStart};
     ghost use Rattle.dgt_game.specs.Waiting.{last_of};
 
     /// The likeliest meaning.
@@ -63,6 +64,7 @@ impl Recogniser {
         ensures last { self.now.over ≡ Over.No → ShowsAt self.now.memory view.now (Place.Line 0)
             → result ≡ Reading.At (Place.Line 0) }
         ensures room { HasRoom self.now.memory result }
+        ensures begins { MarksStart result }
     {
         if let Some(place) = self.read_line(view) {
             return Reading::At(place);
@@ -171,6 +173,7 @@ impl Recogniser {
             → IsSome result }
         ensures seen { FollowsSeen self.now.memory (pieces_of view.now.shown)
             → IsSome result }
+        ensures begins { IfSome result MarksStart }
     {
         if self.returned.count > 0 && self.is_live() {
             if let Some(node) = self.made(Place::Line(self.returned.count), view) {
@@ -191,6 +194,7 @@ impl Recogniser {
         ensures at { (view : View) → Shows view node.step → ReadsView self.now.memory view result }
         ensures room { IsRoomFor self.now.memory node → HasRoom self.now.memory result }
         ensures near { IsNear result }
+        ensures begins { MarksStart result }
     {
         dgt_values::laws::equal_is_same();
         for k in 0..self.memory.seen.len() {
@@ -228,6 +232,7 @@ impl Recogniser {
             → Reads shown self.now.memory result }
         ensures at { ReadsView self.now.memory view.now result }
         ensures room { HasRoom self.now.memory result }
+        ensures begins { MarksStart result }
     {
         match self.read_held(view) {
             Some(node) => Reading::Held(node),
@@ -242,6 +247,7 @@ impl Recogniser {
         ensures at { IfSome result
             (λ node. ReadsView self.now.memory view.now (Reading.Held node)) }
         ensures room { IfSome result (IsRoomFor self.now.memory) }
+        ensures begins { IfSome result (λ node. halves_of node.step.way ≡ 1) }
     {
         let len = self.memory.seen.len();
         for at in 0..len {
@@ -265,6 +271,7 @@ impl Recogniser {
             (λ node. ReadsView self.now.memory view.now (Reading.Held node)) }
         ensures room { ((k : ℕ) → place ≡ Place.Line k → k ≤ 4)
             → IfSome result (IsRoomFor self.now.memory) }
+        ensures begins { IfSome result (λ node. halves_of node.step.way ≡ 1) }
     {
         let from = self.memory.node(place)?;
         let shown = view.from(from.step.is_turned);
@@ -397,6 +404,7 @@ impl Recogniser {
         ensures room { IfSome result (HasRoom self.now.memory) }
         ensures near { IfSome result IsNear }
         ensures reads { ShowsStart view.now → IsSome result }
+        ensures begins { IfSome result MarksStart }
     {
         dgt_chess::laws::one_start();
         let start = State::start();
@@ -408,7 +416,7 @@ impl Recogniser {
                     }
                 }
                 let node = Node::root(start, is_turned, Origin::Start, self.since);
-                return Some(Reading::New(self.dated(node)));
+                return Some(Reading::New(node));
             }
         }
         None
@@ -425,6 +433,7 @@ impl Recogniser {
             → HasLine 2 self.now.memory (Place.Line 0) (pieces_of view.now.shown)
             → IsSome result }
         ensures room { IfSome result (HasRoom self.now.memory) }
+        ensures begins { IfSome result MarksStart }
     {
         if self.lifts_after_back(view) {
             return None;
@@ -510,6 +519,7 @@ impl Recogniser {
         ensures at { IfSome result (λ reading. ReadsView self.now.memory view.now reading) }
         ensures read { IfSome result IsRead }
         ensures room { IfSome result (HasRoom self.now.memory) }
+        ensures begins { IfSome result MarksStart }
     {
         let node = self.memory.node(place)?;
         if node.step.way.halves() < 2 || !node.was_behind {
@@ -550,6 +560,7 @@ impl Recogniser {
         ensures at { IfSome result (λ reading. ReadsView self.now.memory view.now reading) }
         ensures read { IfSome result IsRead }
         ensures room { IfSome result (HasRoom self.now.memory) }
+        ensures begins { IfSome result MarksStart }
     {
         let first = self.other_jump(parent, node, halves)?;
         let second = self.next(&first, Place::Nowhere, view)?;
@@ -561,6 +572,7 @@ impl Recogniser {
         ensures linked { IfSome result (λ other.
             Fits self.now.memory (told_pieces (told_of node.now.step)) other) }
         ensures room { IfSome result (IsRoomFor self.now.memory) }
+        ensures sure { IfSome result (λ node. node.is_sure ≡ false) }
     {
         let from = self.memory.node(place)?;
         if from.step.is_turned != node.step.is_turned || is_far(place) {
@@ -598,6 +610,7 @@ impl Recogniser {
             → Reads shown self.now.memory result }
         ensures at { ReadsView self.now.memory view.now result }
         ensures room { HasRoom self.now.memory result }
+        ensures begins { MarksStart result }
     {
         if let Some(k) = self.seen_before(view, true) {
             return Reading::At(Place::Seen(k));
@@ -728,6 +741,7 @@ impl Recogniser {
             × (board node.step.state ≡ pieces_of shown.now)) }
         ensures reads { 1 ≤ halves → halves ≤ 4
             → SomeLine halves from.now.step.state (pieces_of shown.now) → IsSome result }
+        ensures sure { IfSome result (λ node. node.is_sure ≡ false) }
     {
         let (way, state) = self.jump(from, place, shown, halves)?;
         Some(self.follow(from, place, way, state))
@@ -765,12 +779,13 @@ impl Recogniser {
 
     // A node that follows another.
     fn follow(&self, from: &Node, parent: Place, way: Way, state: State) -> Node
-        ensures { result.step ≡ record {
+        ensures step { result.step ≡ record {
           state = state;
           is_turned = from.now.step.is_turned;
           way = way;
           parent = parent;
         } }
+        ensures sure { result.is_sure ≡ false }
     {
         let origin = match parent {
             Place::Line(k) => Origin::Line(k),
@@ -780,7 +795,7 @@ impl Recogniser {
             Place::Line(_) => true,
             _ => false,
         };
-        self.dated(Node {
+        Node {
             step: Step {
                 state,
                 is_turned: from.step.is_turned,
@@ -801,16 +816,7 @@ impl Recogniser {
             } else {
                 from.depth.saturating_add(1)
             },
-        })
-    }
-
-    // A node that is shown now.
-    fn dated(&self, node: Node) -> Node
-        ensures { result.step ≡ node.step }
-    {
-        let mut new = node;
-        new.is_sure = self.is_sure;
-        new
+        }
     }
 
     // Whether the last two half-moves were made faster than by hands, with no doubt meanwhile.

@@ -91,7 +91,7 @@ pub struct Recogniser {
 }
 
 impl Recogniser {
-    ghost use Rattle.dgt_game.specs.Memory.{Holds, IsTold, Reads, steps};
+    ghost use Rattle.dgt_game.specs.Memory.{Holds, IsTold, Reads, steps, told_of};
     ghost use Rattle.dgt_game.specs.Finding.{IsFound};
     ghost use Rattle.dgt_game.specs.Planning.{AddsNone, IsLifted, IsPlanned, HasKing, IsLostOr, PlacesOr, WhyHopeless};
     ghost use Rattle.dgt_game.specs.Reading.{HasLine, IsExplained, HasRoom, IsLive, IsRoomFor, ReadsView, FollowsSeen, IsKnown, IsRead};
@@ -99,7 +99,9 @@ impl Recogniser {
     ghost use Rattle.dgt_game.specs.Reading.{ReadsView, Shows};
     ghost use Rattle.dgt_game.specs.Settling.{IsAnswered};
     ghost use Rattle.dgt_game.specs.Standing.{IsOpen, ShowsAs, Stands};
+    ghost use Rattle.dgt_game.specs.Sure.{FollowsSure, IsMarked, KeepsSure, KnowsSure, MarksStart, SeesSure, WereSure};
     ghost use Rattle.dgt_game.specs.Timing.{IsIdle};
+    ghost use Rattle.dgt_game.specs.Told.{WasShown, told_pieces};
     ghost use Rattle.dgt_game.specs.Waiting.{Follows, IsQuiet, Keeps, LostWaits, Waits, has_notice, has_result, is_lost, is_sure_sight};
 
     /// A recogniser that has seen nothing.
@@ -123,7 +125,7 @@ impl Recogniser {
             search: Search::Hopeless,
             next: None,
             has_kings: false,
-            returned: Returned { count: 0 },
+            returned: Returned { count: 0, is_sure: false },
             is_behind: false,
             is_set_up: false,
             is_white_king_lifted: false,
@@ -163,6 +165,7 @@ impl Recogniser {
             → self.new.view ≡ Some view → self.new.view ≢ self.old.view
             → FollowsSeen self.old.memory (pieces_of view.shown)
             → self.new.here ≢ Place.Nowhere }
+        ensures sight { IsOk result → SeesSure self.old observation.now.sight self.new }
     {
         if self.is_due(observation.at) {
             return Err(StillDue);
@@ -205,6 +208,11 @@ impl Recogniser {
         ensures hopeless { WhyHopeless self.new }
         ensures found { IsFound self.new }
         ensures reads { IsExplained self.new }
+        ensures sure { KnowsSure (told_pieces (record {
+          state = state;
+          halves = 0;
+          is_turned = is_turned;
+        }) ∷ []) self.new }
     {
         *self = Recogniser::new();
         self.memory
@@ -240,6 +248,7 @@ impl Recogniser {
             → length self.new.memory.seen.items < 23 }
         ensures kept { length self.old.memory.seen.items < 21 → (picture : List Piece)
             → FollowsSeen self.old.memory picture → FollowsSeen self.new.memory picture }
+        ensures sure { KeepsSure self.old self.new }
     {
         self.memory.leave(self.here, now);
         if self.is_unexplained(now) || self.may_either_move() {
@@ -289,6 +298,11 @@ impl Recogniser {
         ensures seen { (shown : View) → view ≡ Some shown → length self.old.memory.seen.items < 23
             → FollowsSeen self.old.memory (pieces_of shown.shown)
             → self.new.here ≢ Place.Nowhere }
+        ensures were { (sure : List (List Piece)) → IsTold self.old.memory
+            → (self.old.is_sure ≡ true
+            → MatchOption view ⊥ (λ view. Contains sure (pieces_of view.shown)))
+            → WereSure sure self.old.memory self.old.returned
+            → WereSure sure self.new.memory self.new.returned }
     {
         self.changed = match (&self.view, &view) {
             (Some(old), Some(new)) => old.shown.differ(&new.shown),
@@ -329,6 +343,10 @@ impl Recogniser {
             → self.new.here ≢ Place.Nowhere }
         ensures unread { length self.old.memory.seen.items < 23
             → (self.new.here ≢ Place.Nowhere) ⊎ (self.new.returned ≡ self.old.returned) }
+        ensures sure { (sure : List (List Piece)) → IsTold self.old.memory
+            → (self.old.is_sure ≡ true → Contains sure (pieces_of view.now.shown))
+            → WereSure sure self.old.memory self.old.returned
+            → WereSure sure self.new.memory self.new.returned }
     {
         let has_white = self.has_king(view, Colour::White);
         let has_black = self.has_king(view, Colour::Black);
@@ -351,6 +369,7 @@ impl Recogniser {
         ensures seen { FollowsSeen self.now.memory (pieces_of view.now.shown) → has_white ≡ true
             → has_black ≡ true → IsRead result }
         ensures room { HasRoom self.now.memory result }
+        ensures begins { MarksStart result }
     {
         if has_white && has_black {
             self.read(view)
@@ -380,6 +399,11 @@ impl Recogniser {
             → self.new.returned ≡ self.old.returned }
         ensures line { self.new.memory.line ≡ self.old.memory.line }
         ensures search { self.new.search ≡ self.old.search }
+        ensures sure { (sure : List (List Piece)) (view : View) → IsTold self.old.memory
+            → (self.old.is_sure ≡ true → Contains sure (pieces_of view.shown))
+            → ReadsView self.old.memory view reading → MarksStart reading
+            → WereSure sure self.old.memory self.old.returned
+            → WereSure sure self.new.memory self.new.returned }
     {
         match reading {
             Reading::At(Place::Line(k)) => self.stand_on_line(k),
@@ -414,11 +438,14 @@ impl Recogniser {
         ensures here { self.new.here ≢ Place.Nowhere }
         ensures line { self.new.memory.line ≡ self.old.memory.line }
         ensures search { self.new.search ≡ self.old.search }
+        ensures sure { (sure : List (List Piece)) → IsTold self.old.memory
+            → (self.old.is_sure ≡ true → IfSome (slice_get (steps self.old.memory.line.items) k)
+            (λ step. WasShown sure (told_of step)))
+            → WereSure sure self.old.memory self.old.returned
+            → WereSure sure self.new.memory self.new.returned }
     {
         self.here = Place::Line(k);
-        self.returned = Returned {
-            count: if k <= NEAR { k } else { 0 },
-        };
+        self.returned = self.returned_to(k);
         if !self.is_sure {
             return;
         }
@@ -431,6 +458,23 @@ impl Recogniser {
         self.is_white_king_lifted = false;
         self.is_black_king_lifted = false;
         self.find();
+    }
+
+    // The board shows the line so many states back.
+    fn returned_to(&self, k: usize) -> Returned
+        ensures { result.is_sure ≡ true → (self.now.is_sure ≡ true) × (result.count ≡ k) }
+    {
+        if k <= NEAR {
+            Returned {
+                count: k,
+                is_sure: self.is_sure,
+            }
+        } else {
+            Returned {
+                count: 0,
+                is_sure: false,
+            }
+        }
     }
 
     fn stand_on(&mut self, place: Place)
@@ -448,6 +492,12 @@ impl Recogniser {
         ensures returned { self.new.returned ≡ self.old.returned }
         ensures line { self.new.memory.line ≡ self.old.memory.line }
         ensures search { self.new.search ≡ self.old.search }
+        ensures sure { (sure : List (List Piece))
+            → (self.old.is_sure ≡ true → (k : ℕ) → place ≡ Place.Seen k
+            → IfSome (slice_get (steps self.old.memory.seen.items) k)
+            (λ step. WasShown sure (told_of step)))
+            → WereSure sure self.old.memory self.old.returned
+            → WereSure sure self.new.memory self.new.returned }
     {
         self.here = place;
         self.is_next = false;
@@ -476,6 +526,10 @@ impl Recogniser {
             → IsRoomFor self.old.memory node → self.new.here ≢ Place.Nowhere }
         ensures line { self.new.memory.line ≡ self.old.memory.line }
         ensures search { self.new.search ≡ self.old.search }
+        ensures sure { (sure : List (List Piece))
+            → (self.old.is_sure ≡ true → WasShown sure (told_of node.step))
+            → WereSure sure self.old.memory self.old.returned
+            → WereSure sure self.new.memory self.new.returned }
     {
         match self.same_node(&node) {
             Some(k) => self.here = Place::Seen(k),
@@ -491,12 +545,15 @@ impl Recogniser {
     // Whether a node shows that the one before was meant: the line was taken back to it, or it was
     // answered.
     fn is_answer(&self, node: &Node) -> bool
-        ensures { IsTrue result → (node.now.step.parent ≢ Place.Line 0)
+        ensures follows { IsTrue result → (node.now.step.parent ≢ Place.Line 0)
             × (node.now.step.parent ≢ Place.Nowhere) × (node.now.step.way ≢ Way.Begun) }
+        ensures sure { IsTrue result → FollowsSure self.now node.now }
     {
         node.step.way != Way::Begun
             && match node.step.parent {
-                Place::Line(base) => base > 0 && base == self.returned.count,
+                Place::Line(base) => {
+                    base > 0 && base == self.returned.count && self.returned.is_sure
+                }
                 Place::Seen(parent) => self.is_answered(parent, node),
                 Place::Nowhere => false,
             }
@@ -519,6 +576,10 @@ impl Recogniser {
             → IsRoomFor self.old.memory first → self.new.here ≢ Place.Nowhere }
         ensures line { self.new.memory.line ≡ self.old.memory.line }
         ensures lost { PlacesOr self.old self.new }
+        ensures sure { (sure : List (List Piece)) → IsMarked sure first
+            → (self.old.is_sure ≡ true → WasShown sure (told_of second.step))
+            → WereSure sure self.old.memory self.old.returned
+            → WereSure sure self.new.memory self.new.returned }
     {
         let Some(k) = self.memory.push(first) else {
             self.here = Place::Nowhere;
@@ -548,8 +609,14 @@ impl Recogniser {
             → IsRoomFor self.old.memory node → self.new.here ≢ Place.Nowhere }
         ensures line { self.new.memory.line ≡ self.old.memory.line }
         ensures lost { PlacesOr self.old self.new }
+        ensures sure { (sure : List (List Piece))
+            → (self.old.is_sure ≡ true → WasShown sure (told_of node.step))
+            → WereSure sure self.old.memory self.old.returned
+            → WereSure sure self.new.memory self.new.returned }
     {
-        let Some(k) = self.memory.push(node) else {
+        let mut new = node;
+        new.is_sure = self.is_sure;
+        let Some(k) = self.memory.push(new) else {
             self.here = Place::Nowhere;
             self.is_next = false;
             return;

@@ -1,6 +1,6 @@
 //! What is due, and when.
 
-ghost use Rattle.std.specs.Prelude.{◌≡◌, ◌↔◌, ◌<◌, ◌≤◌, ◌+◌, ℕ, false, true, length, None, Some, IfSome, MatchOption, List, [], option_map, ◌⊎◌};
+ghost use Rattle.std.specs.Prelude.{◌≡◌, ◌↔◌, ◌<◌, ◌≤◌, ◌+◌, ℕ, false, true, length, None, Some, IfSome, IsTrue, MatchOption, List, [], option_map, slice_get, ◌⊎◌};
 ghost use Rattle.dgt_values.specs.declared.pieces.Piece.{Piece};
 ghost use Rattle.dgt_game.specs.Told.{Told};
 ghost use Rattle.dgt_game.specs.declared.resting.Task.{Task};
@@ -36,6 +36,7 @@ impl Recogniser {
     ghost use Rattle.dgt_game.specs.Planning.{RestsAfter, RestsBefore, TaskFits, IsAtLast, IsPlanned, MayNotBegin, Plans, PlansPosition, todo, HasNothing, IsLostOr, StaysPlaced, WhyHopeless};
     ghost use Rattle.dgt_game.specs.Settling.{StaysShown};
     ghost use Rattle.dgt_game.specs.Standing.{ShowsHere, Stands};
+    ghost use Rattle.dgt_game.specs.Sure.{KeepsSure, StaysSure};
     ghost use Rattle.dgt_game.specs.Timing.{Acts, Due, IsIdle, Tells, next_time};
     ghost use Rattle.dgt_game.specs.Waiting.{Follows, IsQuiet, IsRight, Keeps, Waits};
 
@@ -77,6 +78,8 @@ impl Recogniser {
             → Knows shown line self.old → IsPlanned self.old → Stands self.old → Stands self.new }
         ensures shown { (self.new.view ≡ self.old.view) × (self.new.since ≡ self.old.since)
             × (self.new.is_sure ≡ self.old.is_sure) }
+        ensures sure { (shown : List (List Piece)) (line : List Told) → Knows shown line self.old
+            → IsPlanned self.old → Stands self.old → StaysSure self.old self.new }
     {
         for done in 0..3u8 {
             if let Some(event) = self.report() {
@@ -103,6 +106,7 @@ impl Recogniser {
         ensures stands { Stands self.old → Stands self.new }
         ensures found { IsLostOr self.old → IsFound self.old → IsFound self.new }
         ensures shown { StaysShown self.old self.new }
+        ensures sure { StaysSure self.old self.new }
     {
         let event = self.next_event()?;
         self.next = self.plan();
@@ -188,59 +192,18 @@ impl Recogniser {
         ensures hopeless { WhyHopeless self.old → WhyHopeless self.new }
         ensures found { TaskFits self.old task → FindsLater self.old → FindsLater self.new }
         ensures shown { StaysShown self.old self.new }
+        ensures sure { IsTold self.old.memory → self.old.is_sure ≡ true → TaskFits self.old task
+            → Stands self.old → KeepsSure self.old self.new }
     {
         match task {
             Task::EndByKings => self.end_by_kings(),
             Task::Search => self.look_deep(),
             Task::Tell => {
                 self.is_next = false;
-                self.tell_here();
+                self.tell(self.here, None);
             }
             Task::Begin => self.begin(),
         }
-    }
-
-    // Before another game begins, the last half-moves are reported that rested, even if in doubt:
-    // they aren't shown again.
-    fn tell_here(&mut self)
-        ensures holds { (shown : List (List Piece)) (line : List Told)
-            → self.old.memory.back ≡ 0 → self.old.memory.unsaid.items ≡ []
-            → Holds shown line self.old.memory → Holds shown line self.new.memory }
-        ensures view { self.new.view ≡ self.old.view }
-        ensures keeps { Keeps self.old self.new }
-        ensures stands { IsRooted (length (steps self.old.memory.line.items))
-            (steps self.old.memory.seen.items) → IsTold self.old.memory
-            → self.old.is_sure ≡ true
-            → ShowsHere self.old → self.old.memory.answer ≡ None
-            → Stands self.new }
-        ensures todo { IsAtLast self.old self.new }
-    {
-        if let (Some(root), Some(k)) = (self.memory.node(self.here), self.last_rested()) {
-            if root.origin == Origin::Start && root.step.way == Way::Begun {
-                self.tell(Place::Seen(k), Some(root));
-                return;
-            }
-        }
-        self.tell(self.here, None);
-    }
-
-    // The last half-moves after the line's last state that rested.
-    fn last_rested(&self) -> Option<usize>
-        ensures { IfSome result (λ k. k < length (steps self.now.memory.seen.items)) }
-    {
-        let len = self.memory.seen.len();
-        for at in 0..len {
-            let node = &self.memory.seen[len - 1 - at];
-            if self.over == Over::No
-                && node.origin == Origin::Line(0)
-                && !node.is_held
-                && !node.is_quick
-                && node.rested() >= JUMP
-            {
-                return Some(len - 1 - at);
-            }
-        }
-        None
     }
 
     // How long a position that no half-moves lead to rests before a line begins with it.
@@ -348,7 +311,10 @@ impl Recogniser {
     }
 
     /// Whether a half-move after a node means that the node was meant.
-    pub(crate) fn is_answered(&self, parent: usize, node: &Node) -> bool {
+    pub(crate) fn is_answered(&self, parent: usize, node: &Node) -> bool
+        ensures { IsTrue result → MatchOption (slice_get self.now.memory.seen.items parent) ⊥
+            (λ before. before.is_sure ≡ true) }
+    {
         let Some(before) = self.memory.seen.get(parent) else {
             return false;
         };

@@ -25,12 +25,14 @@ use dgt_chess::{Colour, Man, Rights, State};
 use dgt_values::{Piece, Position, Square};
 
 impl Recogniser {
-    ghost use Rattle.dgt_game.specs.Memory.{Fits, FitsBy, Holds, IsRoot, IsRooted, IsTold, Reads, steps};
+    ghost use Rattle.dgt_game.specs.Memory.{Fits, FitsBy, Holds, IsRoot, IsRooted, IsTold, Reads, steps, told_of};
     ghost use Rattle.dgt_game.specs.Reading.{IsRoomFor, ReadsView, Shows, FollowsSeen, HasLine, HasSomeLines, IsLive};
     ghost use Rattle.dgt_game.specs.Finding.{IsSearched, MayJump};
     ghost use Rattle.dgt_game.specs.Standing.{IsOpen, Stands};
     ghost use Rattle.dgt_game.specs.declared.resting.Task.{Task};
     ghost use Rattle.dgt_game.specs.Planning.{TaskFits, AddsNone, IsAsBefore, IsAtLast, CannotBegin, CannotMove, EndsSearch, IsLostOr, LosesLine, PlacesOr, WhyHopeless};
+    ghost use Rattle.dgt_game.specs.Sure.{IsMarked, KeepsSure, MarksStart, ShowsSure, WereSure};
+    ghost use Rattle.dgt_game.specs.Told.{WasShown};
     ghost use Rattle.dgt_game.specs.Waiting.{Keeps, IsQuiet, last_of};
 
     /// Looks for several half-moves, also from the start of another game. If there are none, the
@@ -54,6 +56,7 @@ impl Recogniser {
             → self.new.here ≢ Place.Nowhere }
         ensures still { length self.old.memory.seen.items < 23 → (self.new.here ≢ Place.Nowhere)
             ⊎ (self.new ≡ record self.old { search = Search.Done; lost = self.new.lost }) }
+        ensures sure { KeepsSure self.old self.new }
     {
         self.search = Search::Done;
         let Some(view) = self.view else {
@@ -82,6 +85,10 @@ impl Recogniser {
         ensures lost { PlacesOr self.old self.new }
         ensures here { length self.old.memory.seen.items < 24
             → IsRoomFor self.old.memory node → self.new.here ≢ Place.Nowhere }
+        ensures sure { (sure : List (List Piece))
+            → (self.old.is_sure ≡ true → WasShown sure (told_of node.step))
+            → WereSure sure self.old.memory self.old.returned
+            → WereSure sure self.new.memory self.new.returned }
     {
         self.lose_by(&node, view);
         self.add(node);
@@ -94,6 +101,7 @@ impl Recogniser {
         ensures keeps { Keeps self.old self.new }
         ensures todo { IsAsBefore self.old self.new }
         ensures lost { self.old.lost ≢ Lost.Found → self.new.lost ≢ Lost.Found }
+        ensures returned { self.new.returned ≡ self.old.returned }
     {
         if node.jumps_far && !self.is_behind {
             self.lose(view);
@@ -262,6 +270,10 @@ impl Recogniser {
         ensures lost { PlacesOr self.old self.new }
         ensures still { length self.old.memory.seen.items < 23
             → (self.new.here ≢ Place.Nowhere) ⊎ (self.new ≡ self.old) }
+        ensures sure { (sure : List (List Piece))
+            → (self.old.is_sure ≡ true → Contains sure (pieces_of view.now.shown))
+            → WereSure sure self.old.memory self.old.returned
+            → WereSure sure self.new.memory self.new.returned }
     {
         if !self.may_start() {
             return;
@@ -279,6 +291,7 @@ impl Recogniser {
         ensures at { IfSome result
             (λ two. ReadsView self.now.memory view.now (Reading.Two two.0 two.1)) }
         ensures room { IfSome result (λ two. IsRoomFor self.now.memory two.0) }
+        ensures begins { IfSome result (λ two. MarksStart (Reading.Two two.0 two.1)) }
     {
         for halves in 1..GAP as u8 + 1 {
             for is_turned in [false, true] {
@@ -296,6 +309,7 @@ impl Recogniser {
         ensures at { IfSome result
             (λ two. ReadsView self.now.memory view.now (Reading.Two two.0 two.1)) }
         ensures room { IfSome result (λ two. IsRoomFor self.now.memory two.0) }
+        ensures begins { IfSome result (λ two. MarksStart (Reading.Two two.0 two.1)) }
     {
         let mut root = Node::root(State::start(), is_turned, Origin::Start, self.since);
         root.is_sure = true;
@@ -342,6 +356,7 @@ impl Recogniser {
             → Stands self.new }
         ensures todo { EndsSearch self.old self.new }
         ensures hopeless { WhyHopeless self.new }
+        ensures sure { self.old.is_sure ≡ true → KeepsSure self.old self.new }
     {
         self.search = Search::Hopeless;
         self.memory.forget_seen();
@@ -369,6 +384,7 @@ impl Recogniser {
         ensures answer { self.new.memory.answer ≡ self.old.memory.answer }
         ensures kept { length self.old.memory.seen.items < 21 → (picture : List Piece)
             → FollowsSeen self.old.memory picture → FollowsSeen self.new.memory picture }
+        ensures sure { KeepsSure self.old self.new }
     {
         let (white, black) = self.roots();
         self.memory.make_room(2);
@@ -391,6 +407,9 @@ impl Recogniser {
         ensures answer { self.new.memory.answer ≡ self.old.memory.answer }
         ensures kept { length self.old.memory.seen.items < 24 → (picture : List Piece)
             → FollowsSeen self.old.memory picture → FollowsSeen self.new.memory picture }
+        ensures sure { (sure : List (List Piece)) → IfSome root (IsMarked sure)
+            → WereSure sure self.old.memory self.old.returned
+            → WereSure sure self.new.memory self.new.returned }
     {
         if let Some(node) = root {
             self.memory.push(node);
@@ -408,6 +427,9 @@ impl Recogniser {
         ensures at { IfSome self.now.view (λ view. IfSome result (λ found. Shows view found.0.step
             × IfSome found.1 (λ node. Shows view node.step))) }
         ensures free { IfSome result (λ found. found.0.step.parent ≡ Place.Nowhere) }
+        ensures marked { (sure : List (List Piece)) → ShowsSure sure self.now
+            → IfSome result (λ found. IsMarked sure found.0 × IfSome found.1 (IsMarked sure)) }
+        ensures sure { IfSome result (λ found. found.0.is_sure ≡ self.now.is_sure) }
     {
         let (white, black) = self.roots();
         match white {
@@ -429,6 +451,10 @@ impl Recogniser {
             × IfSome result.1 (λ node. Shows view node.step)) }
         ensures free { IfSome result.0 (λ node. node.step.parent ≡ Place.Nowhere)
             × IfSome result.1 (λ node. node.step.parent ≡ Place.Nowhere) }
+        ensures marked { (sure : List (List Piece)) → ShowsSure sure self.now
+            → IfSome result.0 (IsMarked sure) × IfSome result.1 (IsMarked sure) }
+        ensures sure { IfSome result.0 (λ node. node.is_sure ≡ self.now.is_sure)
+            × IfSome result.1 (λ node. node.is_sure ≡ self.now.is_sure) }
     {
         let is_turned = self.is_shown_turned();
         (
@@ -454,6 +480,9 @@ impl Recogniser {
         ensures none { result ≡ None → (view : View) → self.now.view ≡ Some view
             → CannotMove self.now.running is_turned view turn }
         ensures free { IfSome result (λ node. node.step.parent ≡ Place.Nowhere) }
+        ensures marked { (sure : List (List Piece)) → ShowsSure sure self.now
+            → IfSome result (IsMarked sure) }
+        ensures sure { IfSome result (λ node. node.is_sure ≡ self.now.is_sure) }
     {
         let view = self.view?;
         if self.is_confirmed && self.running == Some(turn.other()) {

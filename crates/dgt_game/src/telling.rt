@@ -21,9 +21,10 @@ impl Recogniser {
     ghost use Rattle.dgt_game.specs.Results.{HasResult};
     ghost use Rattle.dgt_game.specs.Settling.{StaysShown};
     ghost use Rattle.dgt_game.specs.Standing.{EndsHere, IsCalledFor, IsMeant, IsOpen, Stands, TakesBack};
+    ghost use Rattle.dgt_game.specs.Sure.{IsMarked, KeepsSure, StaysSure, WasSure, WereSure};
     ghost use Rattle.dgt_game.specs.Timing.{next_time};
     ghost use Rattle.dgt_game.specs.Waiting.{EndWaits, EndsBy, Follows, IsOfLine, IsQuiet, IsRight, Keeps, Waits, coming, has_notice, has_result, last_of};
-    ghost use Rattle.dgt_game.specs.Memory.{Holds, IsSeen, IsTold, Links, step_at};
+    ghost use Rattle.dgt_game.specs.Memory.{Holds, IsSeen, IsTold, Links, step_at, told_of};
     ghost use Rattle.dgt_game.specs.Recogniser.{Knows, Reports, Stays};
 
     /// Whether an event waits to be reported.
@@ -61,6 +62,11 @@ impl Recogniser {
             ≡ Some step → place ≢ Place.Line 0 → self.new.memory.answer ≡ answer }
         ensures idle { IsTold self.new.memory → self.new.memory.answer ≡ None }
         ensures either { (self.new.memory.answer ≡ answer) ⊎ (self.new.memory.answer ≡ None) }
+        ensures sure { (sure : List (List Piece))
+            → IfSome (step_at (steps self.old.memory.line.items) (steps self.old.memory.seen.items)
+            place) (λ step. WasSure sure (told_of step))
+            → IfSome answer (IsMarked sure) → WereSure sure self.old.memory self.old.returned
+            → WereSure sure self.new.memory self.new.returned }
     {
         self.find();
         self.memory.tell(place, answer, self.over == Over::No);
@@ -71,7 +77,7 @@ impl Recogniser {
         self.is_white_king_lifted = false;
         self.is_black_king_lifted = false;
         self.has_kings = false;
-        self.returned = Returned { count: 0 };
+        self.returned = Returned { count: 0, is_sure: false };
     }
 
     /// The next event that waits to be reported.
@@ -91,8 +97,9 @@ impl Recogniser {
         ensures place { StaysPlaced self.old self.new }
         ensures found { IsLostOr self.old → IsFound self.old → IsFound self.new }
         ensures shown { StaysShown self.old self.new }
+        ensures sure { StaysSure self.old self.new }
     {
-        if let Some(event) = self.next_notice() {
+        if let Some(event) = self.next_before() {
             return Some(event);
         }
         if let Some(event) = self.memory.next_event() {
@@ -103,6 +110,52 @@ impl Recogniser {
         if self.over != Over::No {
             return None;
         }
+        self.over = over;
+        Some(Event::Ended(result))
+    }
+
+    // What is reported before the line.
+    fn next_before(&mut self) -> Option<Event>
+        ensures told { Reports self.old result self.new }
+        ensures right { Waits self.old
+            → Waits self.new × IfSome result (λ event. IsRight self.new event) }
+        ensures follows { Follows self.old result self.new }
+        ensures none { result ≡ None → self.new ≡ self.old }
+        ensures quiet { has_notice self.new.lost ≡ false }
+        ensures idle { IsQuiet self.old → result ≡ None }
+        ensures stands { Stands self.old → Stands self.new }
+        ensures lost { IsLostOr self.old → IsLostOr self.new }
+        ensures place { StaysPlaced self.old self.new }
+        ensures found { IsFound self.old → IsFound self.new }
+        ensures shown { StaysShown self.old self.new }
+        ensures sure { StaysSure self.old self.new }
+    {
+        match self.next_notice() {
+            Some(event) => Some(event),
+            None => self.end_before_next(),
+        }
+    }
+
+    // The result of the line's last state, if another line begins next.
+    fn end_before_next(&mut self) -> Option<Event>
+        ensures told { Reports self.old result self.new }
+        ensures right { Waits self.old
+            → Waits self.new × IfSome result (λ event. IsRight self.new event) }
+        ensures follows { Follows self.old result self.new }
+        ensures none { result ≡ None → self.new ≡ self.old }
+        ensures idle { IsTold self.old.memory → result ≡ None }
+        ensures notice { self.new.lost ≡ self.old.lost }
+        ensures stands { Stands self.old → Stands self.new }
+        ensures lost { IsLostOr self.old → IsLostOr self.new }
+        ensures place { StaysPlaced self.old self.new }
+        ensures found { IsFound self.old → IsFound self.new }
+        ensures shown { StaysShown self.old self.new }
+        ensures sure { StaysSure self.old self.new }
+    {
+        if self.over != Over::No || !self.memory.begins_next() {
+            return None;
+        }
+        let (result, over) = self.end_of_line()?;
         self.over = over;
         Some(Event::Ended(result))
     }
@@ -121,13 +174,13 @@ impl Recogniser {
         ensures follows { Follows self.old result self.new }
         ensures none { result ≡ None → self.new ≡ self.old }
         ensures quiet { has_notice self.new.lost ≡ false }
-        ensures still { has_notice self.old.lost ≡ false → result ≡ None }
         ensures idle { has_notice self.old.lost ≡ false → result ≡ None }
         ensures stands { Stands self.old → Stands self.new }
         ensures lost { IsLostOr self.old → IsLostOr self.new }
         ensures place { StaysPlaced self.old self.new }
         ensures found { IsFound self.old → IsFound self.new }
         ensures shown { StaysShown self.old self.new }
+        ensures sure { StaysSure self.old self.new }
     {
         match self.lost {
             Lost::Now(squares) => {
@@ -148,6 +201,7 @@ impl Recogniser {
         ensures keeps { Keeps self.old self.new }
         ensures todo { IsAsBefore self.old self.new }
         ensures here { self.new.here ≡ self.old.here }
+        ensures returned { self.new.returned ≡ self.old.returned }
     {
         match self.lost {
             Lost::Now(_) => self.lost = Lost::No,
@@ -168,6 +222,7 @@ impl Recogniser {
         ensures stands { IsMeant self.old → TakesBack 4 self.old → Stands self.new }
         ensures place { StaysPlaced self.old self.new }
         ensures shown { StaysShown self.old self.new }
+        ensures sure { KeepsSure self.old self.new }
     {
         match event {
             Event::Begun(_, _) | Event::Back(_) => self.over = Over::No,
@@ -196,6 +251,7 @@ impl Recogniser {
         ensures coming { coming self.new.memory ≡ coming self.old.memory }
         ensures stands { IsTold self.old.memory → EndsHere self.old → Stands self.new }
         ensures place { StaysPlaced self.old self.new }
+        ensures sure { KeepsSure self.old self.new }
     {
         if let Some(node) = self.memory.take_answer() {
             if node.step.way != Way::Begun || node.origin == Origin::Start {

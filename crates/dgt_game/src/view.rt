@@ -1,8 +1,7 @@
 //! A picture, seen from both sides.
 
-ghost use Rattle.std.specs.Prelude.{◌≡◌, ◌↔◌, List, Contains, IfSome, IsTrue, reverse};
+ghost use Rattle.std.specs.Prelude.{◌≡◌, ◌↔◌, true, List, Contains, IfSome, IsTrue, MatchOption, reverse};
 ghost use Rattle.dgt_values.specs.declared.pieces.Piece.{Piece};
-ghost use Rattle.std.specs.Prelude.{◌≡◌, ◌↔◌, IfSome, IsTrue, reverse};
 ghost use Rattle.dgt_values.specs.Board.{pieces_of};
 ghost use Rattle.dgt_chess.specs.Attacks.{piece_of};
 ghost use Rattle.dgt_chess.specs.declared.pieces.Man.{Man};
@@ -25,6 +24,8 @@ pub(crate) struct View {
 
 impl View {
     ghost use Rattle.dgt_game.specs.Recogniser.{picture_of, pictured, shown_after};
+    ghost use Rattle.dgt_game.specs.Sure.{sure_after};
+    ghost use Rattle.dgt_game.specs.Waiting.{is_sure_sight};
 
     pub(crate) fn new(shown: Position) -> Self
         ensures { result.shown ≡ shown }
@@ -39,6 +40,9 @@ impl View {
     pub(crate) fn of(sight: Sight) -> Option<Self>
         ensures seen { (shown : List (List Piece)) → IfSome result (λ view.
             Contains (shown_after sight shown) (pieces_of view.shown)) }
+        ensures sure { (sure : List (List Piece)) → is_sure_sight sight ≡ true
+            → MatchOption result ⊥ (λ view.
+            Contains (sure_after sight sure) (pieces_of view.shown)) }
         ensures is { pictured result ≡ picture_of sight }
     {
         match sight {

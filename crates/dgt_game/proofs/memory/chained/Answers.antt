@@ -1,6 +1,6 @@
 use Rattle.{std.proofs.{Common.{◌≡◌, ◌∙◌, ◌+◌, ◌<◌, ◌++◌, ◌∷◌, [], arith, sym, ap, subst, ℕ, List, drop, length, slice_index_or}, lemmas.List.{length-map}}, dgt_game.specs.declared.node.Node.{Node}}
 use Rattle.dgt_game.{specs.{declared.node.{Place.{Place}, Step.{Step}}, Memory.{Chain, Grows, IsRooted, Links, step_at, steps, tip}}, proofs.Chains.{moved, next_chained, next_tip, rooted_push}}
-use Rattle.dgt_game.proofs.Chains.{steps_drop, steps_push}
+use Rattle.dgt_game.{proofs.{Chains.{node_at, steps_drop, steps_push}, Sure.{marked_push}}, specs.Sure.{AreMarked}}
 use Rattle.dgt_game.proofs.memory.chained.Goals as goal
 
 pub loop-k-preserved : goal.loop-k-preserved
@@ -41,6 +41,10 @@ loop-k-preserved c =
                 (rooted_push lines old (moved step parent) at.0 (rw len at.1)),
             omega arith,
           )),
+      (λ sure marked. subst (AreMarked sure) (sym c.push.ensures.items)
+          (marked_push sure c.loop-k.nodes.items _ (c.loop-k.invariant.4 sure marked)
+          (marked k node (node_at path k node within (subst (λ (xs : List Node). node
+          ≡ slice_index_or xs k node) c.deref.ensures.0 c.index-deref-k.is))))),
     )
 
 pub returns-clause-grows : goal.returns-clause-grows

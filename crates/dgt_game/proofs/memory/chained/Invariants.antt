@@ -2,6 +2,7 @@ use Rattle.std.proofs.Common.{◌≡◌, ℕ, List, [], drop, length}
 use Rattle.dgt_values.specs.declared.pieces.Piece.{Piece}
 use Rattle.dgt_game.specs.declared.node.Step.{Step}
 use Rattle.dgt_game.specs.Memory.{Chain, Grows, IsBefore, IsRooted, Links, step_at, steps, tip}
+use Rattle.dgt_game.specs.Sure.{AreMarked}
 use Rattle.dgt_game.proofs.memory.chained.Given as goal
 
 abbrev pub invariant-loop-k : goal.invariant-loop-k
@@ -17,3 +18,4 @@ invariant-loop-k l =
     step)
     × ((lines : ℕ) → IsBefore lines 0 l.fn.start → IsRooted lines (steps l.nodes.items)
     × IsBefore lines l.k l.parent)
+    × ((sure : List (List Piece)) → AreMarked sure l.path.items → AreMarked sure l.nodes.items)

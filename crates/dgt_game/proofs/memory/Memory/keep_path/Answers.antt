@@ -1,5 +1,5 @@
 use Rattle.{std.proofs.Common.{rules, ◌≡◌, [], refl, sym, subst, inr, length, Option}, dgt_game.specs.{declared.node.{Place.{Place}, Step.{Step}}, Memory.{Chain, IsBefore, IsRooted, Links, step_at}}}
-use Rattle.dgt_game.{specs.Memory.{steps, tip}, proofs.{Chains.{place_at}, Held.{seen_new}}}
+use Rattle.dgt_game.{specs.Memory.{steps, tip}, proofs.{Chains.{place_at}, Held.{seen_new}, Sure.{seen_marked}}}
 use Rattle.dgt_game.proofs.memory.Memory.keep_path.Goals as goal
 
 pub returns : goal.returns
@@ -31,5 +31,7 @@ returns c =
       answer = refl;
       room = λ other. absurd (other c.in-Seen.k c.in-Seen.is);
       few = λ few. absurd (search (rules, few));
+      sure = λ sure gone h. seen_marked sure gone m _ refl refl refl refl
+          (c.chained-seen.ensures.sure sure (c.path-path.ensures.sure sure h.seen)) h;
       rooted = λ rooted. c.chained-seen.ensures.rooted (length kept) (within rooted);
     }

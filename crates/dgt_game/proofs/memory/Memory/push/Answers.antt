@@ -1,6 +1,6 @@
 use Rattle.{std.{proofs.{Common.{rules, ◌≡◌, ◌∙◌, ◌++◌, ◌∷◌, [], refl, sym, ap, subst, List, length}, lemmas.List.{length-map}}, specs.Prelude.{slice_get}}, dgt_game.specs.declared.node.Node.{Node}}
 use Rattle.dgt_game.{specs.{declared.node.Step.{Step}, Memory.{Grows, IsBefore, IsRooted, Links, step_at, steps}}, proofs.Chains.{before_later, grows_push, last_at, last_item, moved, not_seen}}
-use Rattle.dgt_game.{proofs.{Chains.{rooted_push, steps_push}, Held.{seen_new}, Moved.{FollowsOne, pushed}, Told.{links_moved}}, specs.{declared.memory.Memory.{Memory}, Reading.{FollowsSeen}}}
+use Rattle.dgt_game.{proofs.{Chains.{rooted_push, steps_push}, Held.{seen_new}, Moved.{FollowsOne, pushed}, Sure.{marked_push, seen_marked}, Told.{links_moved}}, specs.{declared.memory.Memory.{Memory}, Reading.{FollowsSeen}, Sure.{AreMarked}}}
 use Rattle.dgt_game.proofs.memory.Memory.push.Goals.{then-is_full-via-then-is_full, then-is_full-via-else-is_full+then-not-may_follow}
 use Rattle.dgt_game.proofs.memory.Memory.push.Goals as goal
 
@@ -91,3 +91,10 @@ returns-clause-kept c = λ few picture seen.
 pub returns-then-is_full-clause-kept : goal.returns-then-is_full-clause-kept
 returns-then-is_full-clause-kept c = λ few picture seen.
     subst (λ (n : Memory). FollowsSeen n picture) (sym (c.keep_path.ensures.few few).1) seen
+
+pub returns-clause-sure : goal.returns-clause-sure
+returns-clause-sure c = λ sure gone mark h.
+    let m = c.keep_path.new.self in
+    let held = c.keep_path.ensures.sure sure gone h in
+    seen_marked sure gone m _ refl refl refl refl (subst (AreMarked sure) (sym c.push.ensures.items)
+    (marked_push sure m.seen.items _ held.seen mark)) held

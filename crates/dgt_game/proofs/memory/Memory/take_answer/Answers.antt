@@ -1,5 +1,6 @@
 use Rattle.{std.{proofs.Common.{◌≢◌, ◌∙◌, ◌++◌, ◌∷◌, [], ℕ, ap, refl, sym, subst, inr, length, List, Option, None}, specs.Prelude.{slice_get, IfSome}}, dgt_game.specs.declared.node.Node.{Node}}
-use Rattle.dgt_game.{specs.{declared.node.{Place.{Place}, Step.{Step}}, Memory.{Grows, IsRooted, IsSeen, Links, steps, tip}}, proofs.Told.{grows_one, links_moved, rooted_one}}
+use Rattle.dgt_game.{specs.{declared.node.{Place.{Place}, Step.{Step}}, Memory.{Grows, IsRooted, IsSeen, Links, steps, tip}}, proofs.{Sure.{marked_first, marked_none}, Told.{grows_one, links_moved, rooted_one}}}
+use Rattle.dgt_game.specs.{Memory.{told_of}, Sure.{IsMarked}, Told.{WasShown}}
 use Rattle.dgt_game.proofs.memory.Memory.take_answer.Goals as goal
 
 pub returns-clause-holds : goal.returns-clause-holds
@@ -62,3 +63,20 @@ returns-clause-is c =
       after.rest.0,
       after.rest.1,
     )
+
+pub returns-clause-sure : goal.returns-clause-sure
+returns-clause-sure c = λ sure gone h.
+    let new = c.after_line-new.result in
+    let after = c.after_line-new.ensures in
+    let was = subst (λ (o : Option Node). IfSome o (IsMarked sure)) (sym c.in-Some.ensures.value)
+    h.answer in
+    let mark : IsMarked sure new = λ e. subst (λ (s : Step). WasShown sure (told_of s))
+    (sym after.step) (was (sym after.sure ∙ e)) in
+    record {
+      seen = rw (c.push.ensures.items, c.clear.ensures)
+          (marked_first sure new [] mark (marked_none sure));
+      answer = rw c.in-Some.ensures.after tt;
+      returned = h.returned;
+      waits = h.waits;
+      ends = h.ends;
+    }

@@ -1,5 +1,5 @@
-use Rattle.{std.{proofs.{Common.{rules, ◌≡◌, ◌≢◌, ◌<◌, arith, inl, inr, subst, ℕ, [], Some, length}, lemmas.Option.{none-some}}, specs.Prelude.{slice_get}}, dgt_game.specs.declared.node.Place.{Place}}
-use Rattle.dgt_game.{specs.Memory.{IsBefore, step_at, steps}, proofs.{Chains.{below_some, not_seen, steps_length, chain_any, some_at, steps_some, tip_any, tip_there}, Waiting.{tip_some}}}
+use Rattle.{std.{proofs.{Common.{rules, ◌≡◌, ◌≢◌, ◌<◌, arith, inl, inr, refl, sym, subst, ℕ, [], Option, None, Some, length}, lemmas.Option.{none-some}}, specs.Prelude.{slice_get}}, dgt_game.specs.declared.node.Place.{Place}}
+use Rattle.dgt_game.{specs.{declared.node.Step.{Step}, Memory.{IsBefore, step_at, steps, tip}}, proofs.{Chains.{below_some, not_seen, steps_length, chain_any, some_at, steps_some, tip_any, tip_there}, Waiting.{tip_some}}}
 use Rattle.dgt_game.proofs.memory.Memory.way_to.Goals.{in-Seen, in_default, in_default-start-via-in-Line+else-base-len, in_default-start-via-in-Nowhere+else-not-is_empty}
 use Rattle.dgt_game.proofs.memory.Memory.way_to.Goals.{in_default-start-via-in_default-start}
 use Rattle.dgt_game.proofs.memory.Memory.way_to.Goals as goal
@@ -87,3 +87,52 @@ returns-in_default-start-clause-found c = λ step rooted e.
       | in_default-start-via-in_default-start w ↦
           absurd (facts.2 w.in_default-start.field-0 w.in_default-start.is)
     ]
+
+-- what a path leads to is at the place
+ends_at : (last at : Option Step) → last ≡ at → last ≢ None → (step : Step)
+    × (at ≡ Some step) × (last ≡ Some step)
+ends_at None at e some = absurd (some refl)
+ends_at (Some step) at e some = (step, sym e, refl)
+
+pub returns-in-Line-clause-ends : goal.returns-in-Line-clause-ends
+returns-in-Line-clause-ends c =
+    let lines = steps c.args.self.now.line.items in
+    let seen = steps c.args.self.now.seen.items in
+    let path = c.match-place.path in
+    let same : tip (step_at lines seen path.1) (steps path.0.items)
+    ≡ step_at lines seen c.args.place = elim c.match-place.branch [
+      | in-Seen w ↦ rw (w.path-is, w.in-Seen.is) w.path.ensures.tip
+      | in_default w ↦ rw (w.path-is, w.new.ensures) refl
+    ] in
+    ends_at _ _ (subst (λ (p : Place). tip (step_at lines seen p) (steps path.0.items)
+    ≡ step_at lines seen c.args.place) c.in-Line.is same) (returns-in-Line-clause-some c)
+
+pub returns-then-is_open-clause-ends : goal.returns-then-is_open-clause-ends
+returns-then-is_open-clause-ends c =
+    let lines = steps c.args.self.now.line.items in
+    let seen = steps c.args.self.now.seen.items in
+    let path = c.match-place.path in
+    let same : tip (step_at lines seen path.1) (steps path.0.items)
+    ≡ step_at lines seen c.args.place = elim c.match-place.branch [
+      | in-Seen w ↦ rw (w.path-is, w.in-Seen.is) w.path.ensures.tip
+      | in_default w ↦ rw (w.path-is, w.new.ensures) refl
+    ] in
+    let found = ends_at _ _ (subst (λ (p : Place). tip (step_at lines seen p) (steps path.0.items)
+    ≡ step_at lines seen c.args.place) c.in-Nowhere.is same)
+    (tip_there None (steps path.0.items) (inr (steps_some _ (search rules)))) in
+    (found.0, found.1, c.with_last.ensures.there found.0 found.2)
+
+pub returns-else-is_open-clause-ends : goal.returns-else-is_open-clause-ends
+returns-else-is_open-clause-ends c =
+    let lines = steps c.args.self.now.line.items in
+    let seen = steps c.args.self.now.seen.items in
+    let path = c.match-place.path in
+    let same : tip (step_at lines seen path.1) (steps path.0.items)
+    ≡ step_at lines seen c.args.place = elim c.match-place.branch [
+      | in-Seen w ↦ rw (w.path-is, w.in-Seen.is) w.path.ensures.tip
+      | in_default w ↦ rw (w.path-is, w.new.ensures) refl
+    ] in
+    let found = ends_at _ _ (subst (λ (p : Place). tip (step_at lines seen p) (steps path.0.items)
+    ≡ step_at lines seen c.args.place) c.in-Nowhere.is same)
+    (tip_there None (steps path.0.items) (inr (steps_some _ (search rules)))) in
+    (found.0, found.1, tip_some (slice_get lines 0) (steps path.0.items) found.0 found.2)

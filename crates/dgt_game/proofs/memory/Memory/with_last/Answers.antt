@@ -1,42 +1,39 @@
-use Rattle.{std.{proofs.Common.{subst, Some}, specs.Prelude.{slice_get}}, dgt_game.{specs.{declared.node.Place.{Place}, Memory.{Links, step_at, steps}}, proofs.Chains.{chain_any, get_step, tip_any}}}
-use Rattle.dgt_game.proofs.Waiting.{tip_some}
+use Rattle.{std.{proofs.{Common.{◌≡◌, ◌∙◌, ◌++◌, ap, List}, lemmas.List.{map-append}}, specs.Prelude.{slice_get}}, dgt_game.specs.{declared.node.Node.{Node}, Memory.{steps}}}
+use Rattle.dgt_game.proofs.{Chains.{chain_any, chain_joined, tip_any, tip_joined}, Waiting.{some_joined}}
 use Rattle.dgt_game.proofs.memory.Memory.with_last.Goals as goal
 
-pub returns-then-is_full-clause-chain : goal.returns-then-is_full-clause-chain
-returns-then-is_full-clause-chain c = λ shown line h chain. chain_any shown _ _ chain
+joined : (first path new other : List Node) → new ≡ first ++ other → other ≡ path
+    → steps new ≡ steps first ++ steps path
+joined first path new other e same =
+    ap steps (e ∙ ap (λ (xs : List Node). first ++ xs) same)
+    ∙ map-append (λ (n : Node). n.step) first path
 
-pub returns-then-is_full-clause-tip : goal.returns-then-is_full-clause-tip
-returns-then-is_full-clause-tip c = λ step h. tip_any _ (steps c.args.path.items) step h
+pub returns-in_default-clause-chain : goal.returns-in_default-clause-chain
+returns-in_default-clause-chain c = λ shown line h chain. chain_any shown _ _ chain
 
-pub returns-in-Some-clause-chain : goal.returns-in-Some-clause-chain
-returns-in-Some-clause-chain c = λ shown line h chain.
-    let m = c.args.self.now in
-    let kept = steps m.line.items in
-    let node = c.in-Some.node in
-    let last = c.in-Some.ensures in
-    let grows = h.grows last.0 node.step (get_step m.seen.items last.0 node last.1) in
-    let links : Links (slice_get kept 0) node.step =
-    subst (λ (p : Place). Links (step_at kept (steps m.seen.items) p) node.step) last.2 grows.0 in
-    rw c.inserted.ensures (
-      links,
-      grows.1,
-      chain_any shown (Some node.step) (steps
-          c.args.path.items) chain,
-    )
+pub returns-in_default-clause-tip : goal.returns-in_default-clause-tip
+returns-in_default-clause-tip c = λ step h. tip_any _ (steps c.args.path.items) step h
 
-pub returns-in-Some-clause-tip : goal.returns-in-Some-clause-tip
-returns-in-Some-clause-tip c = λ step h.
-    rw c.inserted.ensures (tip_any (Some c.in-Some.node.step) (steps c.args.path.items) step h)
+pub returns-in-Err-clause-chain : goal.returns-in-Err-clause-chain
+returns-in-Err-clause-chain c = λ shown line h chain. chain_any shown _ _ chain
 
-pub returns-in-None-clause-chain : goal.returns-in-None-clause-chain
-returns-in-None-clause-chain c = λ shown line h chain. chain_any shown _ _ chain
+pub returns-in-Ok-clause-chain : goal.returns-in-Ok-clause-chain
+returns-in-Ok-clause-chain c = λ shown line h chain.
+    let first = c.in-Some-last_path.nodes.items in
+    rw (joined first c.args.path.items _ _ c.in-Ok.ensures.ok c.as_slice.ensures.value)
+    (chain_joined shown _ (steps first) (steps c.args.path.items)
+    (c.in-Some-last_path.ensures shown line h) chain)
 
-pub returns-in-None-clause-tip : goal.returns-in-None-clause-tip
-returns-in-None-clause-tip c = λ step h. tip_any _ (steps c.args.path.items) step h
+pub returns-in-Ok-clause-tip : goal.returns-in-Ok-clause-tip
+returns-in-Ok-clause-tip c = λ step h.
+    let first = c.in-Some-last_path.nodes.items in
+    rw (joined first c.args.path.items _ _ c.in-Ok.ensures.ok c.as_slice.ensures.value)
+    (tip_joined (slice_get (steps c.args.self.now.line.items) 0) (steps first)
+    (steps c.args.path.items) step h)
 
-pub returns-in-Some-clause-there : goal.returns-in-Some-clause-there
-returns-in-Some-clause-there c = λ step e.
-    rw c.inserted.ensures (tip_some (Some c.in-Some.node.step) (steps c.args.path.items) step e)
-
-pub returns-in-None-clause-there : goal.returns-in-None-clause-there
-returns-in-None-clause-there c = λ step e. tip_some _ (steps c.args.path.items) step e
+pub returns-in-Ok-clause-there : goal.returns-in-Ok-clause-there
+returns-in-Ok-clause-there c = λ step e.
+    let first = c.in-Some-last_path.nodes.items in
+    rw (joined first c.args.path.items _ _ c.in-Ok.ensures.ok c.as_slice.ensures.value)
+    (some_joined (slice_get (steps c.args.self.now.line.items) 0) (steps first)
+    (steps c.args.path.items) step e)

@@ -1,5 +1,6 @@
-use Rattle.{std.{proofs.Common.{rules, arith, ◌≡◌, subst, Bool, true}, specs.Prelude.{IfSome, MatchOption}}, dgt_game.specs.{declared.resting.Task.{Task}, Memory.{step_at, steps}}}
-use Rattle.dgt_game.{specs.{Planning.{TaskFits}, Reading.{Shows}, Standing.{StandsAt}}, proofs.{Finding.{found_by_search, found_ended, found_placed}, Standing.{if_some, shows_at}}}
+use Rattle.{std.{proofs.Common.{rules, arith, ◌≡◌, inl, subst, Bool, true, None}, specs.Prelude.{IfSome, MatchOption}}, dgt_game.specs.{declared.resting.Task.{Task}, Memory.{step_at, steps}}}
+use Rattle.dgt_game.{specs.{Planning.{TaskFits}, Reading.{Shows}, Standing.{IsCalledFor, StandsAt}}, proofs.{Finding.{found_by_search, found_ended, found_placed}, Standing.{if_some, match_more, shows_at}}}
+use Rattle.dgt_game.proofs.Sure.{here_sure}
 use Rattle.dgt_game.proofs.recogniser.Recogniser.act.Goals as goal
 
 pub returns-in-Tell-clause-stands : goal.returns-in-Tell-clause-stands
@@ -11,7 +12,9 @@ returns-in-Tell-clause-stands c = λ rooted told sure fits stands.
     let here = if_some self.view _ (λ view. MatchOption (step_at (steps self.memory.line.items)
     (steps self.memory.seen.items) self.here) ⊥ (Shows view)) at (λ view h. shows_at view self.here
     self.memory self.is_sure told (stands.1 told) h) in
-    c.tell_here.ensures.stands rooted told sure here (stands.1 told)
+    c.tell.ensures.stands (told, stands.1 told, rooted) sure (if_some self.view _
+    (IsCalledFor self.memory self.here None) here
+    (λ view at. (match_more _ _ _ at (λ step shows. inl shows), tt)))
 
 pub returns-in-EndByKings-clause-found : goal.returns-in-EndByKings-clause-found
 returns-in-EndByKings-clause-found c = λ fits h. c.end_by_kings.ensures.found h
@@ -27,8 +30,16 @@ returns-in-Search-clause-found c = λ fits h.
 
 pub returns-in-Tell-clause-found : goal.returns-in-Tell-clause-found
 returns-in-Tell-clause-found c = λ fits h.
-    found_placed c.tell_here.new.self c.tell_here.ensures.todo.3
+    found_placed c.tell.new.self c.tell.ensures.todo.3
 
 pub returns-in-Begin-clause-found : goal.returns-in-Begin-clause-found
 returns-in-Begin-clause-found c = λ fits h.
     found_ended c.args.self.now c.begin.new.self c.begin.ensures.todo
+
+pub returns-in-Tell-clause-sure : goal.returns-in-Tell-clause-sure
+returns-in-Tell-clause-sure c = λ told is fits stands sure shows h.
+    let self = c.args.self.now in
+    let next : self.is_next ≡ true = search (rules, fits) in
+    let at : IfSome self.view (StandsAt self.here self.memory true self.is_sure) = subst (λ (b :
+    Bool). IfSome self.view (StandsAt self.here self.memory b self.is_sure)) next stands.0 in
+    c.tell.ensures.sure sure (here_sure sure self told (stands.1 told) at (shows is)) tt h

@@ -1,6 +1,7 @@
 use Rattle.{std.{proofs.Common.{◌≡◌, ◌∙◌, ap, inl, inr, arith, refl, sym, subst, length, Bool, false, Some}, specs.Prelude.{◌≢◌, IfSome, slice_get}}, dgt_game.specs.declared.node.Node.{Node}}
 use Rattle.dgt_game.specs.{declared.node.{Place.{Place}, Way.{Way}}, Memory.{IsBefore, IsRooted, IsTold, step_at, steps}, Standing.{IsCalledFor, ShowsAs, StandsAt, StandsOn}}
 use Rattle.dgt_game.proofs.{Chains.{before_later, below_some, get_step}, Standing.{but_as, found_of, of_some, resting, same_some, shows_as, shows_but, shows_moved, some_view}}
+use Rattle.dgt_game.proofs.Sure.{parent_sure}
 use Rattle.dgt_game.proofs.recogniser.Recogniser.add.Goals as goal
 
 pub returns-then-is_answer-clause-stands : goal.returns-then-is_answer-clause-stands
@@ -21,7 +22,7 @@ returns-then-is_answer-clause-stands c = λ view ready seen.
     let held : new.is_held ≡ node.is_held =
     ap (λ (n : Node). n.is_held) (same_some (slice_get m.seen.items k) new whole.0 here whole.1)
     ∙ whole.2 in
-    let answers = c.is_answer.ensures c.if-is_answer.true in
+    let answers = c.is_answer.ensures.follows c.if-is_answer.true in
     let before : IsBefore (length lines) (length items) new.step.parent =
     before_later (length lines) k (length items) new.step.parent (let within = below_some items k
     new.step at in omega (arith, within)) (rooted k new.step at) in
@@ -69,7 +70,7 @@ returns-then-is_answer-clause-answers c = λ ready.
     let rooted : IsRooted (length (steps m.line.items)) items = push.rooted ready.2 in
     let at : slice_get items k ≡ Some new.step = get_step m.seen.items k new (sym
     c.in-Some-seen_node.ensures) in
-    let answers = c.is_answer.ensures c.if-is_answer.true in
+    let answers = c.is_answer.ensures.follows c.if-is_answer.true in
     let before = before_later (length (steps m.line.items)) k (length items) new.step.parent
     (let within = below_some items k new.step at in omega (arith, within)) (rooted k new.step at) in
     let found = found_of (steps m.line.items) items new.step.parent before answers.1 in
@@ -110,3 +111,12 @@ returns-else-self-clause-stands c = λ view ready seen.
                 node.is_held refl shown,
           ))),
     )
+
+pub returns-then-is_answer-clause-sure : goal.returns-then-is_answer-clause-sure
+returns-then-is_answer-clause-sure c = λ sure mark h.
+    let new = c.in-Some-seen_node.new in
+    let held = c.push.ensures.sure sure c.args.self.now.returned mark h in
+    let follows = c.is_answer.ensures.sure c.if-is_answer.true in
+    c.tell.ensures.sure sure (parent_sure sure c.push.new.self c.args.self.now.returned
+    new.step.parent follows.0 follows.1 held)
+    (held.seen c.in-Some.k new (sym c.in-Some-seen_node.ensures)) held

@@ -19,3 +19,9 @@ returns-clause-kept c = λ few picture seen.
     (subst (λ (m : Memory). FollowsSeen m picture) (sym (room.kept (omega (arith, few)))) seen) in
     c.add_root-2.ensures.kept
     (omega (arith, few, room.few, first.few (omega (arith, few, room.few)))) picture one
+
+pub returns-clause-sure : goal.returns-clause-sure
+returns-clause-sure c = λ sure shows h.
+    let roots = c.roots-white.ensures.marked sure shows in
+    c.add_root-2.ensures.sure sure roots.1 (c.add_root.ensures.sure sure roots.0
+    (c.make_room.ensures.sure sure _ h))

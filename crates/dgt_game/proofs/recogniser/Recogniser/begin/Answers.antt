@@ -1,5 +1,6 @@
 use Rattle.{std.{proofs.Common.{rules, ◌∙◌, inl, length}, specs.Prelude.{slice_get}}, dgt_game.specs.{declared.node.Place.{Place}, Memory.{IsBefore, IsRooted, steps}, Standing.{IsCalledFor}}}
 use Rattle.dgt_game.proofs.{Standing.{if_some, of_some, shows_as}, Told.{rooted_none}, Links.{begins, root_links}}
+use Rattle.dgt_game.{specs.Memory.{told_of}, proofs.Sure.{shown_sure}}
 use Rattle.dgt_game.proofs.recogniser.Recogniser.begin.Goals as goal
 
 pub returns-in-Some-push-clause-holds : goal.returns-in-Some-push-clause-holds
@@ -45,3 +46,12 @@ returns-in_default-push-clause-hopeless c =
     c.in-Some.root.step.parent = rw c.in-Some.ensures.free tt in
     let some = c.push.ensures.room free in
     absurd (search (rules, some))
+
+pub returns-in-Some-push-clause-sure : goal.returns-in-Some-push-clause-sure
+returns-in-Some-push-clause-sure c = λ is sure shows h.
+    let found = c.in-Some.ensures in
+    let marked = found.marked sure shows in
+    let pushed = c.push.ensures.sure sure _ marked.0 (c.forget_seen.ensures.sure sure _ h) in
+    let (place, at) = c.in-Some-push.ensures.seen in
+    c.tell.ensures.sure sure (rw at (shown_sure sure (told_of c.in-Some.root.step)
+    (marked.0 (found.sure ∙ is)))) marked.1 pushed

@@ -2,6 +2,7 @@ use Rattle.{std.{proofs.Common.{rules, true, ◌≡◌, ◌<◌, ap, inr, sym, s
 use Rattle.dgt_game.specs.{declared.{recogniser.Recogniser.{Recogniser}, resting.Next.{Next}}, Finding.{FindsLater}, Planning.{IsPlanned, todo}, Timing.{Due, HasTask, next_time}}
 use Rattle.dgt_game.proofs.{Planning.{hopeless_stays, nothing_left, planned_quiet, planned_then, plans_with, todo_most}, Finding.{shown_then}, Timing.{acts_with, follows_then, idle_in_doubt}}
 use Rattle.dgt_game.proofs.{Timing.{idle_stays, no_time, one_more, quiet_now, told_now}, recogniser.Recogniser.due.Goals.{then-done-lt2, else-done-lt2}}
+use Rattle.{std.{proofs.Common.{◌∙◌}, specs.Prelude.{Contains, MatchOption}}, dgt_values.specs.Board.{pieces_of}, dgt_game.specs.declared.view.View.{View}}
 use Rattle.dgt_game.proofs.recogniser.Recogniser.due.Goals as goal
 
 pub returns-in-Some-clause-idle : goal.returns-in-Some-clause-idle
@@ -44,6 +45,7 @@ loop-done-init c = record {
   found = λ few plans lost h. (h, λ nowhere waits. few);
   hopeless = λ h. h;
   stands = λ shown line knows plans h. h;
+  sure = λ shown line knows plans stands sure h. h;
 }
 
 pub loop-done-preserved : goal.loop-done-preserved
@@ -105,6 +107,19 @@ loop-done-preserved c =
           (c.in_ok-at.ensures.fits (planned_quiet self quiet c.in_default.ensures.planned
           (c.loop-done.invariant.planned plans).0))
           (c.in_default.ensures.stands (c.loop-done.invariant.stands shown line knows plans h));
+      sure = λ shown line knows plans h sure were.
+          let is_sure : quiet.is_sure ≡ true = search rules in
+          let now = c.in_default.ensures.sure sure
+          (c.loop-done.invariant.sure shown line knows plans h sure were) in
+          let kept = act.shown in (
+            (λ e. subst (λ (o : Option View). MatchOption o ⊥ (λ view.
+                Contains sure (pieces_of view.shown))) (sym kept.0) (now.0 (sym kept.2 ∙ e))),
+            act.sure is.0 is_sure
+                (c.in_ok-at.ensures.fits (planned_quiet self quiet c.in_default.ensures.planned
+                (c.loop-done.invariant.planned plans).0))
+                (c.in_default.ensures.stands
+                (c.loop-done.invariant.stands shown line knows plans h)) sure now.0 now.1,
+          );
     }
 
 pub returns-clause-idle : goal.returns-clause-idle
@@ -218,3 +233,19 @@ returns-then-at-now-clause-shown c = shown_then c.args.self.now c.loop-done.self
 pub returns-clause-shown : goal.returns-clause-shown
 returns-clause-shown c = shown_then c.args.self.now c.loop-done.self c.report-2.new.self
     c.loop-done.invariant.shown c.report-2.ensures.shown
+
+pub returns-in-Some-clause-sure : goal.returns-in-Some-clause-sure
+returns-in-Some-clause-sure c = λ shown line knows plans h sure were.
+    c.in-Some.ensures.sure sure (c.loop-done.invariant.sure shown line knows plans h sure were)
+
+pub returns-in_err-at-clause-sure : goal.returns-in_err-at-clause-sure
+returns-in_err-at-clause-sure c = λ shown line knows plans h sure were.
+    c.in_default.ensures.sure sure (c.loop-done.invariant.sure shown line knows plans h sure were)
+
+pub returns-then-at-now-clause-sure : goal.returns-then-at-now-clause-sure
+returns-then-at-now-clause-sure c = λ shown line knows plans h sure were.
+    c.in_default.ensures.sure sure (c.loop-done.invariant.sure shown line knows plans h sure were)
+
+pub returns-clause-sure : goal.returns-clause-sure
+returns-clause-sure c = λ shown line knows plans h sure were.
+    c.report-2.ensures.sure sure (c.loop-done.invariant.sure shown line knows plans h sure were)

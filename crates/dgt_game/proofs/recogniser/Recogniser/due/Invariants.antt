@@ -8,6 +8,7 @@ use Rattle.dgt_game.specs.Planning.{IsLostOr, IsPlanned, WhyHopeless, todo}
 use Rattle.dgt_game.specs.Recogniser.{Knows}
 use Rattle.dgt_game.specs.Settling.{StaysShown}
 use Rattle.dgt_game.specs.Standing.{Stands}
+use Rattle.dgt_game.specs.Sure.{StaysSure}
 use Rattle.dgt_game.specs.Timing.{Due, next_time}
 use Rattle.dgt_game.specs.Waiting.{Follows, Waits}
 use Rattle.dgt_game.proofs.recogniser.Recogniser.due.Given as goal
@@ -28,4 +29,6 @@ invariant-loop-done l = record {
   hopeless : WhyHopeless l.fn.self → WhyHopeless l.self;
   stands : (shown : List (List Piece)) (line : List Told) → Knows shown line l.fn.self
       → IsPlanned l.fn.self → Stands l.fn.self → Stands l.self;
+  sure : (shown : List (List Piece)) (line : List Told) → Knows shown line l.fn.self
+      → IsPlanned l.fn.self → Stands l.fn.self → StaysSure l.fn.self l.self;
 }

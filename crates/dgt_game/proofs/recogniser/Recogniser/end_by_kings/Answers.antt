@@ -1,4 +1,5 @@
 use Rattle.{std.proofs.Common.{◌∙◌, inl, inr, refl}, dgt_game.{specs.Waiting.{Show}, proofs.{Planning.{fewer_by_result}, Standing.{every_some}}}}
+use Rattle.{std.{proofs.lemmas.Option.{MatchOption-at_some}, specs.Prelude.{Contains}}, dgt_values.specs.Board.{pieces_of}, dgt_game.{specs.Memory.{told_of}, proofs.Sure.{kings_sure}}}
 use Rattle.dgt_game.proofs.recogniser.Recogniser.end_by_kings.Goals as goal
 
 pub returns-then-is_there-clause-right : goal.returns-then-is_there-clause-right
@@ -70,3 +71,19 @@ returns-else-is_there-clause-hopeless c = λ why view e here search.
         (c.in-Some.view, c.end_at-is_there.ensures.keeps.0 ∙ c.in-Some.is, by),
       ),
     ))
+
+pub returns-then-is_there-clause-sure : goal.returns-then-is_there-clause-sure
+returns-then-is_there-clause-sure c = λ sure seen h.
+    let (step, at, by) = c.in-Some-kings_result.ensures.is in
+    let here = MatchOption-at_some ⊥ (λ view. Contains sure (pieces_of view.shown)) c.in-Some.view
+    c.in-Some.is seen in
+    c.end_at-is_there.ensures.sure sure (rw at (kings_sure sure (told_of step)
+    (pieces_of c.in-Some.view.shown) c.in-Some-kings_result.result here by)) h
+
+pub returns-else-is_there-clause-sure : goal.returns-else-is_there-clause-sure
+returns-else-is_there-clause-sure c = λ sure seen h.
+    let (step, at, by) = c.in-Some-kings_result.ensures.is in
+    let here = MatchOption-at_some ⊥ (λ view. Contains sure (pieces_of view.shown)) c.in-Some.view
+    c.in-Some.is seen in
+    c.end_at-is_there.ensures.sure sure (rw at (kings_sure sure (told_of step)
+    (pieces_of c.in-Some.view.shown) c.in-Some-kings_result.result here by)) h

@@ -1,4 +1,4 @@
-use Rattle.{std.proofs.Common.{◌≡◌, refl, ap, None}, dgt_game.{specs.declared.recogniser.{Lost.{Lost}, Recogniser.{Recogniser}}, proofs.Known.{goes_on}}}
+use Rattle.{std.proofs.Common.{◌≡◌, refl, ap, None}, dgt_game.{specs.declared.recogniser.{Lost.{Lost}, Recogniser.{Recogniser}}, proofs.{Known.{goes_on}, Sure.{goes_on_sure}}}}
 use Rattle.dgt_game.proofs.recogniser.Recogniser.go_on.Goals as goal
 
 pub returns-clause-on : goal.returns-clause-on
@@ -11,3 +11,9 @@ returns-clause-right c =
     let none : c.new.result.ended ≡ None = ap (λ (r : Recogniser). r.ended) c.new.ensures in
     let never : c.new.result.lost ≡ Lost.No = ap (λ (r : Recogniser). r.lost) c.new.ensures in
     (rw none tt, rw never tt)
+
+pub returns-clause-sure : goal.returns-clause-sure
+returns-clause-sure c =
+    goes_on_sure c.args.state c.args.is_turned c.new.result (record c.new.result {
+      memory = record c.new.result.memory { line = c.push.new.self };
+    }) c.root.result c.new.ensures c.root.ensures c.push.ensures.items refl refl refl refl refl refl

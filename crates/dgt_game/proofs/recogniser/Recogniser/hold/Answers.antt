@@ -1,5 +1,6 @@
 use Rattle.{std.{proofs.Common.{sym, subst, false}, specs.Prelude.{slice_get}}, dgt_game.specs.{declared.{node.Place.{Place}, recogniser.Recogniser.{Recogniser}}, Memory.{steps}, Standing.{Stands}}}
 use Rattle.dgt_game.{specs.Standing.{StandsAt, StandsOn}, proofs.{Standing.{but_moved, held_lacks, of_some, resting, some_view}, recogniser.Recogniser.hold.Goals.{in-Some, in-None}}}
+use Rattle.dgt_game.specs.Memory.{Holds}
 use Rattle.dgt_game.proofs.recogniser.Recogniser.hold.Goals as goal
 
 pub returns-clause-stands : goal.returns-clause-stands
@@ -28,3 +29,10 @@ returns-clause-stands c = λ view ready seen held.
                 lacks,
           ))
     ]
+
+pub returns-clause-holds : goal.returns-clause-holds
+returns-clause-holds c = λ shown line back unsaid reads h. elim c.match-same_node.branch [
+  | in-Some w ↦ subst (λ (self : Recogniser). Holds shown line self.memory) (sym w.self-is) h
+  | in-None w ↦ subst (λ (self : Recogniser). Holds shown line self.memory) (sym w.self-is)
+      (w.add.ensures.holds shown line back unsaid reads h)
+]

@@ -2,6 +2,7 @@ use Rattle.{std.{proofs.Common.{◌≡◌, ◌∙◌, ◌<◌, inl, inr, Bool, [
 use Rattle.dgt_game.{specs.{declared.memory.Memory.{Memory}, Memory.{Holds, Reads}, Reading.{HasRoom, ReadsView, FollowsSeen}, Standing.{IsOpen}}, proofs.Known.{memory_of, view_of}}
 use Rattle.dgt_game.proofs.{Pictures.{king_seen, over_of, since_of, known_same, read_or_not, returned_of, seen_state, state_of}, recogniser.Recogniser.look.Goals.{then-has_white+then-has_black}}
 use Rattle.{dgt_game.proofs.recogniser.Recogniser.look.Goals.{else-has_white}, dgt_chess.specs.declared.pieces.Colour.{Colour}}
+use Rattle.dgt_game.{specs.Memory.{IsTold}, proofs.Sure.{sure_of}}
 use Rattle.dgt_game.proofs.recogniser.Recogniser.look.Goals as goal
 
 pub returns-clause-holds : goal.returns-clause-holds
@@ -117,3 +118,28 @@ returns-clause-answers c = λ ready.
       | else-has_white w ↦ ap memory_of w.self-is
     ] in
     c.take.ensures.answers (subst IsOpen (sym (c.look_at_kings.ensures.same ∙ same)) ready)
+
+pub returns-clause-sure : goal.returns-clause-sure
+returns-clause-sure c = λ sure told shown h.
+    let old = c.args.self.now in
+    let mid = c.if-has_white.self in
+    let same : (memory_of mid ≡ memory_of old) × (returned_of mid ≡ returned_of old)
+    × (sure_of mid ≡ sure_of old) = elim c.if-has_white.branch [
+      | then-has_white+then-has_black w ↦ (
+        ap memory_of w.self-is,
+        ap returned_of w.self-is,
+        ap sure_of w.self-is,
+      )
+      | else-has_white w ↦ (
+        ap memory_of w.self-is,
+        ap returned_of w.self-is,
+        ap sure_of w.self-is,
+      )
+    ] in
+    let kings = c.look_at_kings.ensures in
+    let memory = kings.same ∙ same.0 in
+    c.take.ensures.sure sure c.args.view.now (subst IsTold (sym memory) told)
+    (λ e. shown (sym (kings.keeps.6 ∙ same.2) ∙ e))
+    (subst (λ (m : Memory). ReadsView m c.args.view.now c.read_by_kings-reading.result)
+    (sym kings.same) c.read_by_kings-reading.ensures.at) c.read_by_kings-reading.ensures.begins
+    (rw (memory, kings.returned ∙ same.1) h)

@@ -1,6 +1,7 @@
 use Rattle.{std.{proofs.{Common.{rules, arith, ◌≡◌, ◌≢◌, ◌∙◌, ap, inl, inr, subst, sym}, lemmas.Option.{MatchOption-at_some}}, specs.Prelude.{⊤, Contains}}, dgt_values.specs.Board.{pieces_of}}
 use Rattle.dgt_game.specs.{declared.{memory.Memory.{Memory}, node.Place.{Place}, recogniser.{Recogniser.{Recogniser}, Search.{Search}}, view.View.{View}}, Memory.{Holds}, Finding.{IsSearched}}
 use Rattle.dgt_game.{specs.Reading.{HasSomeLines}, proofs.{Links.{reads}, Moved.{none_some, same_view}, recogniser.Recogniser.look_deep.Goals.{in-Some-deep, in-None}}}
+use Rattle.{std.proofs.Common.{true}, dgt_game.{specs.{Memory.{told_of}, Sure.{WereSure}}, proofs.Links.{was_shown}}}
 use Rattle.dgt_game.proofs.recogniser.Recogniser.look_deep.Goals as goal
 
 pub returns-then-eq-clause-holds : goal.returns-then-eq-clause-holds
@@ -70,3 +71,35 @@ returns-then-eq-clause-still c = λ few.
 
 pub returns-else-eq-clause-still : goal.returns-else-eq-clause-still
 returns-else-eq-clause-still c = λ few. inl (search rules)
+
+pub returns-then-eq-clause-sure : goal.returns-then-eq-clause-sure
+returns-then-eq-clause-sure c = λ sure shows h.
+    let view = c.in-Some.view in
+    let here = λ (e : c.args.self.now.is_sure ≡ true). MatchOption-at_some ⊥
+    (λ view. Contains sure (pieces_of view.shown)) view c.in-Some.is (shows e) in
+    let new : WereSure sure c.match-deep.self.memory c.match-deep.self.returned =
+    elim c.match-deep.branch [
+      | in-Some-deep w ↦ subst (λ (r : Recogniser). WereSure sure r.memory r.returned)
+          (sym w.self-is) (w.add_jump.ensures.sure sure (λ e. was_shown sure
+          (told_of w.in-Some-deep.node.step) (pieces_of view.shown) (here e)
+          w.in-Some-deep.ensures.linked.0.1) h)
+      | in-None w ↦ subst (λ (r : Recogniser). WereSure sure r.memory r.returned)
+          (sym w.self-is) (w.start_deep.ensures.sure sure here h)
+    ] in
+    rw (c.lose.ensures.same, ap (λ (r : Recogniser). r.returned) c.lose.ensures.only) new
+
+pub returns-else-eq-clause-sure : goal.returns-else-eq-clause-sure
+returns-else-eq-clause-sure c = λ sure shows h.
+    let view = c.in-Some.view in
+    let here = λ (e : c.args.self.now.is_sure ≡ true). MatchOption-at_some ⊥
+    (λ view. Contains sure (pieces_of view.shown)) view c.in-Some.is (shows e) in
+    let new : WereSure sure c.match-deep.self.memory c.match-deep.self.returned =
+    elim c.match-deep.branch [
+      | in-Some-deep w ↦ subst (λ (r : Recogniser). WereSure sure r.memory r.returned)
+          (sym w.self-is) (w.add_jump.ensures.sure sure (λ e. was_shown sure
+          (told_of w.in-Some-deep.node.step) (pieces_of view.shown) (here e)
+          w.in-Some-deep.ensures.linked.0.1) h)
+      | in-None w ↦ subst (λ (r : Recogniser). WereSure sure r.memory r.returned)
+          (sym w.self-is) (w.start_deep.ensures.sure sure here h)
+    ] in
+    new

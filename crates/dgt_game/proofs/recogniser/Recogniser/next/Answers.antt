@@ -5,7 +5,7 @@ pub returns-clause-linked : goal.returns-clause-linked
 returns-clause-linked c =
     let made = c.in_ok-one.ensures in
     follows c.args.from.now.step c.args.place (Way.Made c.in_ok-one.one) c.in_ok-one.state
-    c.follow.result.step (pieces_of c.args.view.now.shown) c.follow.ensures made.0
+    c.follow.result.step (pieces_of c.args.view.now.shown) c.follow.ensures.step made.0
     (made.1 ∙ c.from.ensures)
 
 pub returns-in_err-one-clause-reads : goal.returns-in_err-one-clause-reads

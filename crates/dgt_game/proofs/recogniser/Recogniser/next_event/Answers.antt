@@ -5,7 +5,7 @@ use Rattle.dgt_game.proofs.recogniser.Recogniser.next_event.Goals as goal
 
 pub returns-in-Some-next_event-clause-right : goal.returns-in-Some-next_event-clause-right
 returns-in-Some-next_event-clause-right c = λ h.
-    let self = c.next_notice.new.self in
+    let self = c.next_before.new.self in
     let new = c.follow_up.new.self in
     let next = c.in-Some-next_event in
     let waits = (c.in_default.ensures.right h).0 in
@@ -22,7 +22,7 @@ returns-in-Some-next_event-clause-right c = λ h.
 
 pub returns-clause-right : goal.returns-clause-right
 returns-clause-right c = λ h.
-    let self = c.next_notice.new.self in
+    let self = c.next_before.new.self in
     let new = c.next_event.new.self in
     let waits = (c.in_default.ensures.right h).0 in
     let value = c.in_ok-result.ensures.value in
@@ -45,7 +45,7 @@ returns-clause-right c = λ h.
 
 pub returns-clause-follows : goal.returns-clause-follows
 returns-clause-follows c = λ h.
-    let self = c.next_notice.new.self in
+    let self = c.next_before.new.self in
     let waits = (c.in_default.ensures.right h).0 in
     let follows = c.in_default.ensures.follows in
     let was : self.ended ≡ Some (c.in_ok-result.result, c.in_ok-result.over) = search rules in
@@ -64,10 +64,10 @@ returns-clause-follows c = λ h.
 
 pub returns-in-Some-next_event-clause-stands : goal.returns-in-Some-next_event-clause-stands
 returns-in-Some-next_event-clause-stands c = λ stands.
-    let self = c.next_notice.new.self in
+    let self = c.next_before.new.self in
     let new = c.next_event.new.self in
     let event = c.next_event.ensures in
-    let was = c.next_notice.ensures.stands stands in
+    let was = c.next_before.ensures.stands stands in
     let meant : IsMeant self = elim was.2 [
       | inl told ↦ absurd (none-some c.in-Some-next_event.event (sym (event.still told)
           ∙ c.in-Some-next_event.is))
@@ -79,13 +79,13 @@ returns-in-Some-next_event-clause-stands c = λ stands.
 
 pub returns-in-Some-next_event-clause-found : goal.returns-in-Some-next_event-clause-found
 returns-in-Some-next_event-clause-found c = λ lost h.
-    found_later c.next_notice.new.self c.follow_up.new.self c.follow_up.ensures.place
+    found_later c.next_before.new.self c.follow_up.new.self c.follow_up.ensures.place
     (c.in_default.ensures.lost lost) (λ quiet. none-some c.in-Some-next_event.event
     (sym (c.next_event.ensures.still quiet.0) ∙ c.in-Some-next_event.is))
 
 pub returns-clause-found : goal.returns-clause-found
 returns-clause-found c = λ lost h.
-    let self = c.next_notice.new.self in
+    let self = c.next_before.new.self in
     let was : self.ended ≡ Some (c.in_ok-result.result, c.in_ok-result.over) = search rules in
     found_later self (record self {
       memory = c.next_event.new.self;
@@ -96,6 +96,6 @@ returns-clause-found c = λ lost h.
 
 pub returns-in_err-result-clause-found : goal.returns-in_err-result-clause-found
 returns-in_err-result-clause-found c = λ lost h.
-    let self = c.next_notice.new.self in
+    let self = c.next_before.new.self in
     subst (λ (m : Memory). IsFound (record self { memory = m; ended = c.take.new.self }))
     (sym (c.in_default-next_event.ensures.nothing refl)) (c.in_default.ensures.found h)

@@ -1,6 +1,6 @@
 use Rattle.std.{proofs.{Common.{◌∙◌, sym, subst, ◌≡◌, List, Option, ap, inr, unwrap_or}, lemmas.Option.{MatchOption-at_some}}, specs.Prelude.{⊤, Contains}}
-use Rattle.{dgt_values.specs.{declared.pieces.Piece.{Piece}, Board.{pieces_of}}, dgt_game.specs.{declared.{node.Step.{Step}, view.View.{View}}, Planning.{IsRefused}, Reading.{Shows}, Told.{as_shown}}}
-use Rattle.dgt_game.proofs.{Links.{is_root, turned_back}, Standing.{some_view}}
+use Rattle.{dgt_values.specs.{declared.pieces.Piece.{Piece}, Board.{pieces_of}}, dgt_game.specs.{declared.{node.Step.{Step}, view.View.{View}}, Memory.{told_of}, Planning.{IsRefused}, Reading.{Shows}, Told.{as_shown}}}
+use Rattle.dgt_game.proofs.{Links.{is_root, turned_back, was_shown}, Standing.{some_view}}
 use Rattle.dgt_game.proofs.recogniser.Recogniser.root.Goals as goal
 
 pub returns-clause-root : goal.returns-clause-root
@@ -27,3 +27,12 @@ returns-in_err-state-clause-none c = λ none view e.
     inr (subst (λ (v : View). IsRefused (as_shown turned (pieces_of v.shown)) turn) same
     (subst (λ (ps : List Piece). IsRefused ps turn) c.from.ensures
     (c.placed.ensures.none c.in_err-state.was)))
+
+pub returns-clause-marked : goal.returns-clause-marked
+returns-clause-marked c = λ sure shows is.
+    let view = c.in_ok-view.view in
+    let seen = MatchOption-at_some ⊥ (λ view. Contains sure (pieces_of view.shown)) view
+    c.in_ok-view.was (shows is) in
+    was_shown sure (told_of c.root-node.result.step) (pieces_of view.shown) seen
+    (subst (λ (s : Step). Shows view s) (sym c.root-node.ensures) (turned_back _ _
+    (pieces_of view.shown) (c.in_ok-state.ensures.placed ∙ c.from.ensures)))

@@ -3,6 +3,8 @@ use Rattle.dgt_game.specs.{declared.{recogniser.Recogniser.{Recogniser}, memory.
 use Rattle.dgt_game.{specs.{Recogniser.{shown_after}, declared.recogniser.Lost.{Lost}, Finding.{IsFound}}, proofs.Known.{holds_more, knows_more, knows_same, memory_of, view_of, within_after}}
 use Rattle.dgt_game.{specs.{Settling.{IsAnswered}, Standing.{IsOpen, Stands}, Waiting.{Waits, has_notice}}, proofs.Waiting.{ended_of, lost_of}}
 use Rattle.dgt_game.proofs.recogniser.Recogniser.see.Goals.{then-not-is_same_picture, then-not-self, else-not-self, else-not-is_same_picture+else-is_sure-self}
+use Rattle.dgt_game.{specs.{Memory.{IsTold}, Sure.{KnowsSure, sure_after}, Waiting.{is_sure_sight}}, proofs.{Pictures.{returned_of}, Standing.{match_more}, Sure.{not_sure, were_more, within_sure}}}
+use Rattle.{std.{proofs.Common.{true, Option}, specs.Prelude.{Contains, MatchOption}}, dgt_game.{specs.declared.view.View.{View}, proofs.recogniser.Recogniser.see.Goals.{in-Sure, in_default}}}
 use Rattle.dgt_game.proofs.recogniser.Recogniser.see.Goals as goal
 
 pub returns-clause-seen : goal.returns-clause-seen
@@ -147,3 +149,43 @@ returns-clause-found c = λ h.
           fits lines. w.show.ensures.search done)
       | else-not-is_same_picture+else-is_sure-self w ↦ subst IsFound (sym w.self-is) h
     ] in new
+
+pub returns-clause-sight : goal.returns-clause-sight
+returns-clause-sight c = λ done sure knows.
+    let told = (c.is_due.ensures.0 c.if-is_due.false).0.0 in
+    let sight = c.args.observation.now.sight in
+    let more = within_sure sight sure in
+    let is : c.match-matches.matches ≡ is_sure_sight sight = elim c.match-matches.branch [
+      | in-Sure w ↦ rw w.in-Sure.is w.matches-is
+      | in_default w ↦ w.matches-is ∙ sym (not_sure sight w.in_default.not-Sure)
+    ] in
+    let new : KnowsSure (sure_after sight sure) c.if-not-is_same_picture.self = elim
+    c.if-not-is_same_picture.branch [
+      | then-not-is_same_picture w ↦
+          let same : (memory_of w.if-not-self.self ≡ w.leave.new.self.memory)
+          × (returned_of w.if-not-self.self ≡ w.leave.new.self.returned) =
+          elim w.if-not-self.branch [
+            | then-not-self w' ↦ (ap memory_of w'.self-is, ap returned_of w'.self-is)
+            | else-not-self w' ↦ (ap memory_of w'.self-is, ap returned_of w'.self-is)
+          ] in
+          let show = w.show.ensures in
+          let old = were_more sure (sure_after sight sure) w.leave.new.self.returned
+          w.leave.new.self.memory more (w.leave.ensures.sure sure knows.0 knows.1) in
+          let seen = λ (e : c.match-matches.matches ≡ true).
+          c.of-view.ensures.sure sure (sym is ∙ e) in
+          subst (KnowsSure (sure_after sight sure)) (sym w.self-is) (
+            (λ e. subst (λ (o : Option View). MatchOption o ⊥ (λ view. Contains (sure_after sight
+                sure) (pieces_of view.shown))) (sym show.shown) (seen (sym show.sure ∙ e))),
+            show.were (sure_after sight sure) (subst IsTold (sym same.0)
+                (w.leave.ensures.back ∙ told.0, w.leave.ensures.unsaid ∙ told.1)) seen
+                (rw (same.0, same.1) old),
+          )
+      | else-not-is_same_picture+else-is_sure-self w ↦
+          subst (KnowsSure (sure_after sight sure)) (sym w.self-is) (
+            (λ e. match_more c.args.self.now.view _ _ (knows.0 e)
+                (λ view seen. more (pieces_of view.shown) seen)),
+            were_more sure (sure_after sight sure) c.args.self.now.returned
+                c.args.self.now.memory more knows.1,
+          )
+    ] in
+    (new.0, new.1)
