@@ -2,8 +2,8 @@
 use Rattle.std.{proofs.Common.{◌≡◌, ◌∙◌, ◌++◌, ◌<◌, refl, sym, ap, subst, inl, inr, arith, ℕ, zero, suc, length, slice_index_or, Bool, List, [], ◌∷◌, Option, Some, None}, specs.Prelude.{Contains}}
 use Rattle.{std.specs.Prelude.{IfSome}, dgt_values.specs.{declared.pieces.Piece.{Piece}, Board.{pieces_of}}, dgt_chess.specs.declared.state.State.{State}}
 use Rattle.dgt_game.specs.declared.{memory.Memory.{Memory}, node.{Node.{Node}, Place.{Place}, Step.{Step}, Way.{Way}}, observation.Sight.{Sight}, recogniser.Recogniser.{Recogniser}, view.View.{View}}
-use Rattle.dgt_game.specs.{Told.{IsLegalTold, IsShown, Told, WasShown, told_pieces}, Memory.{Chain, Holds, steps}, Recogniser.{GoesOn, Knows, new_recogniser, shown_after}, Runs.{Call, CallsAreRuns}}
-use Rattle.dgt_game.{specs.Runs.{IsLegalAndShown, Runs, events_of, shown_in}, proofs.{Links.{was_shown}, Told.{grows_none, rooted_none}}}
+use Rattle.dgt_game.specs.{Told.{IsLegalTold, IsShown, Told, WasShown, told_pieces}, Memory.{Chain, Holds, steps}, Recogniser.{GoesOn, Knows, new_recogniser, shown_after}}
+use Rattle.dgt_game.{proofs.{Links.{was_shown}, Told.{grows_none, rooted_none}}}
 
 -- all pictures of the first are among the second
 abbrev pub Within : List (List Piece) → List (List Piece) → Type 0
@@ -21,7 +21,7 @@ first_among : (shown : List (List Piece)) (first picture : List Piece) (k : ℕ)
 first_among shown first picture zero l e = (zero, omega arith, e)
 first_among shown first picture (suc k) l e = absurd (omega (arith, l))
 
-within_first : (shown : List (List Piece)) (first : List Piece)
+pub within_first : (shown : List (List Piece)) (first : List Piece)
     → Within (first ∷ []) (first ∷ shown)
 within_first shown first picture h = first_among shown first picture h.0 h.1 h.2
 
@@ -97,11 +97,11 @@ knows_same shown line old new memory view h = record {
       (sym view) h.seen;
 }
 
-knows_nothing : Knows [] [] new_recogniser
+pub knows_nothing : Knows [] [] new_recogniser
 knows_nothing = record {
   held = record {
     shown_line = tt;
-    kept = tt;
+    kept = (tt, λ e. refl);
     back = inl refl;
     unsaid = tt;
     answer = tt;
@@ -149,7 +149,7 @@ goes_on state is_turned old self node new step line back unsaid answer seen view
               (first_shown [] (told_pieces told)) refl,
           tt,
         );
-        kept = rw lines (refl, tt);
+        kept = rw lines ((refl, tt), λ e. absurd (let wrong : ⊥ = cc in wrong));
         back = inl (back ∙ ap (λ (r : Recogniser). r.memory.back) new);
         unsaid = rw none tt;
         answer = rw no_answer tt;
@@ -160,51 +160,3 @@ goes_on state is_turned old self node new step line back unsaid answer seen view
       };
       seen = rw no_view tt;
     }
-
-runs_append : (old mid new : Recogniser) (calls more : List Call) → Runs old calls mid
-    → Runs mid more new → Runs old (calls ++ more) new
-runs_append old mid new [] more first next =
-    subst (λ (self : Recogniser). Runs self more new) first next
-runs_append old mid new (call ∷ calls) more first next =
-    (first.0, first.1, runs_append first.0 mid new calls more first.2 next)
-
-pub calls_are_runs : CallsAreRuns
-calls_are_runs old new = (
-  (λ sight h. h),
-  (λ report h. h),
-  (λ state is_turned h. h),
-  (λ call h. (new, h, refl)),
-  (λ mid calls more first next. runs_append old mid new calls more first next),
-)
-
--- where a run leads to
-abbrev Leads_on : List (List Piece) → List Told → List Call → Recogniser → Type 0
-Leads_on shown line calls ended =
-    (after : List Told) × IsLegalTold line (events_of calls) after
-    × Knows (shown_in shown calls) after ended
-
-over_calls : (calls : List Call) (shown : List (List Piece)) (line : List Told) (old ended :
-    Recogniser) → Knows shown line old → Runs old calls ended → Leads_on shown line calls ended
-over_calls [] shown line old ended h runs =
-    (line, refl, subst (λ (self : Recogniser). Knows shown line self) (sym runs) h)
-over_calls (Call.See sight ∷ calls) shown line old ended h runs =
-    over_calls calls (shown_after sight shown) line runs.0 ended (runs.1 shown line h) runs.2
-over_calls (Call.Due None ∷ calls) shown line old ended h runs =
-    over_calls calls shown line runs.0 ended (runs.1 shown line h) runs.2
-over_calls (Call.Due (Some event) ∷ calls) shown line old ended h runs =
-    let (next, leads, known) = runs.1 shown line h in
-    let (after, legal, last) = over_calls calls shown next runs.0 ended known runs.2 in
-    (after, (next, leads, legal), last)
-over_calls (Call.GoOn state is_turned ∷ calls) shown line old ended h runs =
-    let told : Told = record { state = state; halves = 0; is_turned = is_turned } in
-    let known : Knows (told_pieces told ∷ shown) (told ∷ []) runs.0 =
-    knows_more (told_pieces told ∷ []) (told_pieces told ∷ shown) (told ∷ []) runs.0
-    (within_first shown (told_pieces told)) runs.1 in
-    let (after, legal, last) = over_calls calls (told_pieces told ∷ shown) (told ∷ []) runs.0 ended
-    known runs.2 in
-    (after, (told ∷ [], refl, legal), last)
-
-pub legal_and_shown : IsLegalAndShown
-legal_and_shown calls ended runs =
-    let (line, legal, known) = over_calls calls [] [] new_recogniser ended knows_nothing runs in
-    (line, legal, known.held.shown_line)

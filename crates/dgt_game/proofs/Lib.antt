@@ -24,3 +24,4 @@ pub mod Rests
 pub mod Finding
 pub mod Settling
 pub mod Sure
+pub mod Runs

@@ -3,7 +3,7 @@ use Rattle.std.{proofs.Common.{◌≡◌, ◌≤◌, ◌∙◌, refl, sym, ap, a
 use Rattle.{std.{specs.Prelude.{◌≢◌, ◌⊎◌}, proofs.lemmas.{List.{reverse-reverse}, Option.{IfSome_then}}}, dgt_values.specs.declared.pieces.Piece.{Piece}, dgt_chess.specs.declared.state.State.{State}}
 use Rattle.{dgt_chess.specs.{Rules.{IsStart, board}, declared.state.Move.{Move}}, dgt_game.specs.declared.{node.{Node.{Node}, Step.{Step}, Way.{Way}, Place.{Place}}, reading.Reading.{Reading}}}
 use Rattle.dgt_game.specs.{declared.{memory.Memory.{Memory}, ways.Ways.{Ways}}, Lines.{IsLine, IsMove, moves_of}, Ways.{AreWays}, Told.{Told, IsShown, Joins, WasShown, as_shown, told_pieces}}
-use Rattle.dgt_game.specs.Memory.{By, Fits, Holds, IsKept, IsRoot, IsSeen, Links, Reads, halves_of, step_at, steps, told_of}
+use Rattle.dgt_game.specs.Memory.{By, Fits, Holds, AreLast, IsRoot, IsSeen, Links, Reads, halves_of, step_at, steps, told_of}
 
 pub turned_back : (turned : Bool) (pieces shown : List Piece) → pieces ≡ as_shown turned shown
     → as_shown turned pieces ≡ shown
@@ -124,7 +124,7 @@ arrived shown step some seen = elim seen [
 
 -- each step at a place was seen
 kept_seen : (shown : List (List Piece)) (steps : List Step) (line : List Told) (k : ℕ) (step :
-    Step) → IsKept steps line → IsShown shown line → slice_get steps k ≡ Some step
+    Step) → AreLast steps line → IsShown shown line → slice_get steps k ≡ Some step
     → IsSeen shown step
 kept_seen shown [] line k step kept seen e = absurd (let wrong : ⊥ = cc in wrong)
 kept_seen shown (other ∷ steps) [] k step kept seen e = absurd kept
@@ -138,7 +138,7 @@ pub seen_at : (shown : List (List Piece)) (line : List Told) (self : Memory) (pl
     : Step) → Holds shown line self
     → step_at (steps self.line.items) (steps self.seen.items) place ≡ Some step → IsSeen shown step
 seen_at shown line self (Place.Line k) step holds e = kept_seen shown (steps self.line.items) line
-    k step holds.kept holds.shown_line e
+    k step holds.kept.0 holds.shown_line e
 seen_at shown line self (Place.Seen k) step holds e = (holds.grows k step e).1
 seen_at shown line self Place.Nowhere step holds e = absurd (let wrong : ⊥ = cc in wrong)
 

@@ -3,7 +3,7 @@ use Rattle.std.proofs.Common.{◌≡◌, ◌≢◌, ◌∙◌, ◌++◌, ◌∷�
 use Rattle.{std.specs.Prelude.{⊤, Contains, IfSome, MatchOption, slice_get}, dgt_values.specs.{declared.pieces.Piece.{Piece}, Board.{pieces_of}}, dgt_chess.specs.declared.state.State.{State}}
 use Rattle.dgt_game.specs.declared.{event.GameResult.{GameResult}, memory.Memory.{Memory}, node.{Node.{Node}, Place.{Place}, Returned.{Returned}, Step.{Step}}, observation.Sight.{Sight}, recogniser.Recogniser.{Recogniser}}
 use Rattle.dgt_game.specs.{Memory.{IsTold, halves_of, step_at, steps, told_of}, Recogniser.{new_recogniser}, Results.{ByKings}, Sure.{AreMarked, IsMarked, KnowsSure, WasSure, WereSure, sure_after}}
-use Rattle.dgt_game.{specs.{Told.{IsHeld, Told, WasShown, as_shown, told_pieces}, Waiting.{coming, is_sure_sight}}, proofs.{Known.{Within, first_shown, first_step, was_more, within_cons}, Links.{was_shown}, Standing.{if_some, shows_at}}}
+use Rattle.dgt_game.{specs.{Told.{IsHeld, Told, WasShown, as_shown, told_pieces}, Waiting.{coming, is_sure_sight}}, proofs.{Known.{Within, first_shown, first_step, was_more, within_cons}, Links.{was_shown}, Standing.{if_some, match_more, shows_at}}}
 use Rattle.dgt_values.specs.declared.positions.Position.{Position}
 use Rattle.dgt_game.specs.{declared.view.View.{View}, Reading.{Shows}, Standing.{StandsAt}}
 
@@ -185,3 +185,22 @@ pub not_sure : (sight : Sight) → ((position : Position) → sight ≢ Sight.Su
 not_sure (Sight.Sure position) other = absurd (other position refl)
 not_sure (Sight.Doubted position) other = refl
 not_sure Sight.Away other = refl
+
+pub knows_sure_more : (sure more : List (List Piece)) (self : Recogniser) → Within sure more
+    → KnowsSure sure self → KnowsSure more self
+knows_sure_more sure more self within h = (
+  (λ e. match_more self.view _ _ (h.0 e) (λ view seen. within (pieces_of view.shown) seen)),
+  were_more sure more self.returned self.memory within h.1,
+)
+
+pub knows_none : KnowsSure [] new_recogniser
+knows_none = (
+  (λ e. absurd (let wrong : ⊥ = cc in wrong)),
+  record {
+    seen = marked_none [];
+    answer = tt;
+    returned = λ e. absurd (let wrong : ⊥ = cc in wrong);
+    waits = inr refl;
+    ends = tt;
+  },
+)

@@ -1,11 +1,11 @@
 -- The line, as it is reported.
 use Rattle.std.{proofs.Common.{◌≡◌, ◌≢◌, ◌<◌, ◌-◌, ◌⊎◌, refl, sym, ap, subst, inl, inr, arith, ℕ, zero, suc, length, take, Bool, List, [], ◌∷◌, Option, Some, None, unwrap_or}, specs.Prelude.{⊤}}
 use Rattle.{std.specs.Prelude.{slice_get, MatchOption}, dgt_values.specs.declared.pieces.Piece.{Piece}, dgt_chess.specs.declared.state.State.{State}, dgt_game.specs.declared.event.Event.{Event}}
-use Rattle.dgt_game.specs.{declared.node.{Node.{Node}, Step.{Step}, Way.{Way}, Place.{Place}}, Told.{Told, IsShown, Leads, WasShown}, Memory.{By, Chain, Grows, IsBefore, IsKept, IsRooted, IsSeen}}
+use Rattle.dgt_game.specs.{declared.node.{Node.{Node}, Step.{Step}, Way.{Way}, Place.{Place}}, Told.{Told, IsShown, Leads, WasShown}, Memory.{By, Chain, Grows, IsBefore, AreLast, IsKept, IsRooted, IsSeen}}
 use Rattle.dgt_game.specs.Memory.{Links, event_by, event_of, halves_of, line_after, line_by, step_at, steps, tip, told_of}
 
-pub kept_take : (nodes : List Node) (line : List Told) (n : ℕ) → IsKept (steps nodes) line
-    → IsKept (steps (take n nodes)) line
+pub kept_take : (nodes : List Node) (line : List Told) (n : ℕ) → AreLast (steps nodes) line
+    → AreLast (steps (take n nodes)) line
 kept_take nodes line zero h = tt
 kept_take [] line (suc n) h = tt
 kept_take (node ∷ nodes) [] (suc n) h = h
@@ -69,9 +69,9 @@ leads [] line step kept h = elim h [
   | inl begun ↦ leads_begun line step begun
   | inr found ↦ absurd (subst (λ (o : Option Step). MatchOption o ⊤ (λ _. ⊥)) found.1 tt)
 ]
-leads (first ∷ rest) [] step kept h = absurd kept
+leads (first ∷ rest) [] step kept h = absurd kept.0
 leads (first ∷ rest) (told ∷ line) step kept h =
-    subst (λ (t : Told). Leads (t ∷ line) (event_of step) (line_after step (t ∷ line))) kept.0
+    subst (λ (t : Told). Leads (t ∷ line) (event_of step) (line_after step (t ∷ line))) kept.0.0
     (leads_first first step line h)
 
 shown_by : (shown : List (List Piece)) (way : Way) (told : Told) (line : List Told)
@@ -99,22 +99,22 @@ takes_back : (shown : List (List Piece)) (line : List Told) (first : Node) (kept
     × IsKept (steps kept) new × ((back - 1 ≡ 0) ⊎ (back - 1 < length (steps kept)))
     × (slice_get (steps (first ∷ kept)) back ≡ slice_get (steps kept) (back - 1))
 takes_back shown line first kept zero some within is_kept is_shown = absurd (some refl)
-takes_back shown [] first kept (suc k) some within is_kept is_shown = absurd is_kept
+takes_back shown [] first kept (suc k) some within is_kept is_shown = absurd is_kept.0
 takes_back shown (told ∷ line) first [] (suc k) some within is_kept is_shown = absurd (elim within
     [ inl e ↦ omega arith | inr l ↦ omega arith ])
 takes_back shown (told ∷ []) first (second ∷ kept) (suc k) some within is_kept is_shown = absurd
-    is_kept.1
+    is_kept.0.1
 takes_back shown (told ∷ before ∷ line) first (second ∷ kept) (suc k) some within is_kept is_shown
     = (
       before ∷ line,
       (
         (λ e. let l : length (before ∷ line) ≡ 0 = ap length e in omega arith),
         ap (λ (t : Told).
-            t.halves) is_kept.0,
+            t.halves) is_kept.0.0,
         refl,
       ),
       is_shown.1,
-      is_kept.1,
+      (is_kept.0.1, λ e. absurd (let wrong : ⊥ = cc in wrong)),
       elim within [ inl e ↦ absurd (omega arith) | inr l ↦ inr (omega arith) ],
       ap (λ (n : ℕ). slice_get (steps (second ∷ kept)) n) (omega arith),
     )

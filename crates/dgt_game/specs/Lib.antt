@@ -3,8 +3,6 @@ pub mod Lines
 pub mod Told
 pub mod Memory
 pub mod Recogniser
-pub mod Sure
-pub mod Runs
 pub mod Laws
 pub mod Results
 pub mod Waiting
@@ -12,6 +10,8 @@ pub mod Timing
 pub mod Planning
 pub mod Reading
 pub mod Standing
+pub mod Sure
+pub mod Runs
 pub mod Settling
 pub mod Finding
 -- Only for bodies.

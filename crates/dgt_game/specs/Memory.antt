@@ -100,11 +100,15 @@ abbrev pub IsRooted : ℕ → List Step → Type 0
 IsRooted lines seen =
     (k : ℕ) (step : Step) → slice_get seen k ≡ Some step → IsBefore lines k step.parent
 
--- the steps kept are the last ones of the line
+-- the steps are the last ones of the line
+abbrev pub AreLast : List Step → List Told → Type 0
+AreLast [] line = ⊤
+AreLast (step ∷ steps) [] = ⊥
+AreLast (step ∷ steps) (told ∷ line) = (told_of step ≡ told) × AreLast steps line
+
+-- some are kept if the line has any
 abbrev pub IsKept : List Step → List Told → Type 0
-IsKept [] line = ⊤
-IsKept (step ∷ steps) [] = ⊥
-IsKept (step ∷ steps) (told ∷ line) = (told_of step ≡ told) × IsKept steps line
+IsKept steps line = AreLast steps line × (steps ≡ [] → line ≡ [])
 
 -- all of the line was reported
 abbrev pub IsTold : Memory → Type 0

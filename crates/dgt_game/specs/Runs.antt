@@ -7,7 +7,11 @@ use Rattle.dgt_game.specs.declared.event.Event.{Event}
 use Rattle.dgt_game.specs.declared.observation.Sight.{Sight}
 use Rattle.dgt_game.specs.declared.recogniser.Recogniser.{Recogniser}
 use Rattle.dgt_game.specs.Told.{IsLegalTold, IsShown, Told, as_shown}
-use Rattle.dgt_game.specs.Recogniser.{GoesOn, Reports, Sees, new_recogniser, shown_after}
+use Rattle.dgt_game.specs.Memory.{IsTold}
+use Rattle.dgt_game.specs.Recogniser.{GoesOn, Knows, Reports, Sees, new_recogniser, shown_after}
+use Rattle.dgt_game.specs.Planning.{IsPlanned}
+use Rattle.dgt_game.specs.Standing.{Stands}
+use Rattle.dgt_game.specs.Sure.{EndsSure, KnowsSure, SeesSure, StaysSure, sure_after}
 
 -- A call that was done: what was seen, what was reported if anything, or what was gone on from.
 pub data Call : Type 0 where
@@ -15,10 +19,20 @@ pub data Call : Type 0 where
   Due : (report : Option Event) → Call
   GoOn : (state : State) (is_turned : Bool) → Call
 
+-- what is planned, and where the board stands, is as it should be, whatever was shown and reported
+abbrev pub StaysSound : Recogniser → Recogniser → Type 0
+StaysSound old new =
+    (shown : List (List Piece)) (line : List Told) → Knows shown line old → IsPlanned old
+    → Stands old → IsPlanned new × Stands new
+
 abbrev pub Does : Recogniser → Call → Recogniser → Type 0
-Does old (Call.See sight) new = Sees old sight new
-Does old (Call.Due report) new = Reports old report new
-Does old (Call.GoOn state is_turned) new = GoesOn state is_turned new
+Does old (Call.See sight) new = Sees old sight new × StaysSound old new × SeesSure old sight new
+Does old (Call.Due report) new =
+    Reports old report new × StaysSound old new × ((shown : List (List Piece)) (line : List Told)
+    → Knows shown line old → IsPlanned old → Stands old → StaysSure old new)
+Does old (Call.GoOn state is_turned) new =
+    GoesOn state is_turned new × IsPlanned new × Stands new
+    × KnowsSure (as_shown is_turned (board state) ∷ []) new
 
 -- consecutive calls
 abbrev pub Runs : Recogniser → List Call → Recogniser → Type 0
@@ -29,9 +43,13 @@ Runs old (call ∷ calls) new = (next : Recogniser) × Does old call next × Run
 abbrev pub CallsAreRuns : Type 0
 CallsAreRuns =
     (old new : Recogniser)
-    → ((sight : Sight) → Sees old sight new → Does old (Call.See sight) new)
-    × ((report : Option Event) → Reports old report new → Does old (Call.Due report) new)
-    × ((state : State) (is_turned : Bool) → GoesOn state is_turned new
+    → ((sight : Sight) → Sees old sight new → StaysSound old new → SeesSure old sight new
+    → Does old (Call.See sight) new)
+    × ((report : Option Event) → Reports old report new → StaysSound old new
+    → ((shown : List (List Piece)) (line : List Told) → Knows shown line old → IsPlanned old
+    → Stands old → StaysSure old new) → Does old (Call.Due report) new)
+    × ((state : State) (is_turned : Bool) → GoesOn state is_turned new → IsPlanned new → Stands new
+    → KnowsSure (as_shown is_turned (board state) ∷ []) new
     → Does old (Call.GoOn state is_turned) new)
     × ((call : Call) → Does old call new → Runs old (call ∷ []) new)
     × ((mid : Recogniser) (calls more : List Call) → Runs old calls mid → Runs mid more new
@@ -45,6 +63,14 @@ shown_in shown (Call.Due report ∷ calls) = shown_in shown calls
 shown_in shown (Call.GoOn state is_turned ∷ calls) =
     shown_in (as_shown is_turned (board state) ∷ shown) calls
 
+-- those shown for sure
+abbrev pub sure_in : List (List Piece) → List Call → List (List Piece)
+sure_in sure [] = sure
+sure_in sure (Call.See sight ∷ calls) = sure_in (sure_after sight sure) calls
+sure_in sure (Call.Due report ∷ calls) = sure_in sure calls
+sure_in sure (Call.GoOn state is_turned ∷ calls) =
+    sure_in (as_shown is_turned (board state) ∷ sure) calls
+
 -- The events reported. A line that goes on from a state begins there.
 abbrev pub events_of : List Call → List Event
 events_of [] = []
@@ -53,9 +79,10 @@ events_of (Call.GoOn state is_turned ∷ calls) = Event.Begun state is_turned �
 events_of (call ∷ calls) = events_of calls
 
 -- **What is reported is legal, and was shown.** Whatever is seen and whenever a recogniser is
--- asked, its events in turn are legal, and lead to a line whose positions were shown before.
+-- asked, its events in turn are legal, and lead to a line whose positions were shown before. Once
+-- nothing of it waits, its last state was shown for sure.
 abbrev pub IsLegalAndShown : Type 0
 IsLegalAndShown =
     (calls : List Call) (ended : Recogniser) → Runs new_recogniser calls ended
     → (line : List Told) × IsLegalTold [] (events_of calls) line
-    × IsShown (shown_in [] calls) line
+    × IsShown (shown_in [] calls) line × (IsTold ended.memory → EndsSure (sure_in [] calls) line)

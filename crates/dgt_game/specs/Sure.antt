@@ -1,5 +1,5 @@
 -- What the board has shown for sure.
-use Rattle.std.specs.Prelude.{◌≡◌, ◌⊎◌, ⊤, ℕ, true, false, List, ◌∷◌, Some, IfSome, MatchOption, Contains, slice_get}
+use Rattle.std.specs.Prelude.{◌≡◌, ◌⊎◌, ⊤, ℕ, true, false, List, [], ◌∷◌, Some, IfSome, MatchOption, Contains, slice_get}
 use Rattle.dgt_values.specs.declared.pieces.Piece.{Piece}
 use Rattle.dgt_values.specs.Board.{pieces_of}
 use Rattle.dgt_game.specs.declared.event.GameResult.{GameResult}
@@ -66,6 +66,11 @@ SeesSure old sight new =
 -- What is reported was shown for sure.
 abbrev pub StaysSure : Recogniser → Recogniser → Type 0
 StaysSure old new = (sure : List (List Piece)) → KnowsSure sure old → KnowsSure sure new
+
+-- **The last state was shown for sure**, once all that was to be reported of the line is.
+abbrev pub EndsSure : List (List Piece) → List Told → Type 0
+EndsSure sure [] = ⊤
+EndsSure sure (told ∷ line) = WasSure sure told
 
 -- only for bodies
 

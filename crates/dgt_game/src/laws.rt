@@ -1,5 +1,6 @@
 //! Laws of a recogniser. Each function does nothing at run time: its contract states the facts.
 
+ghost use Rattle.std.specs.Prelude.{[]};
 ghost use Rattle.dgt_game.specs.Finding.{IsFound, WhatFollowsIsFound};
 ghost use Rattle.dgt_game.specs.Laws.{BackIsCounted, JoinedIsOne, LegalIsJoined, NoneAndOne, OneIsShown, OneLine, OthersAreHeld, SeveralAreShown, ShownIsHeld, StartIsShown, UnseenIsOnly};
 ghost use Rattle.dgt_game.specs.Planning.{IsLostOr, IsPlanned, LostIsReported, NothingFits, OneFits, PossibleIsHopeful, WhyHopeless};
@@ -9,6 +10,7 @@ ghost use Rattle.dgt_game.specs.Results.{LostInTurn, OneByKings, OneByRules, One
 ghost use Rattle.dgt_game.specs.Runs.{CallsAreRuns, IsLegalAndShown};
 ghost use Rattle.dgt_game.specs.Settling.{NothingWaitsLong, ReplacingHasRested, ReportedHasRested, ReportedHasSettled, ReportedIsShown, SeenIsAnswered};
 ghost use Rattle.dgt_game.specs.Standing.{OnlyShownIsReported, RestIsReported, Stands};
+ghost use Rattle.dgt_game.specs.Sure.{KnowsSure};
 ghost use Rattle.dgt_game.specs.Timing.{NoCallMatters};
 ghost use Rattle.dgt_game.specs.Waiting.{CallsFollowOn, RightIfAway, RunsInTurn, Waits};
 
@@ -25,6 +27,7 @@ pub fn nothing_waits_at_first()
     ensures lost { IsLostOr new_recogniser }
     ensures hopeless { WhyHopeless new_recogniser }
     ensures stands { Stands new_recogniser }
+    ensures sure { KnowsSure [] new_recogniser }
     ensures found { IsFound new_recogniser }
 {}
 

@@ -1,4 +1,4 @@
-use Rattle.dgt_game.proofs.Known.{calls_are_runs, legal_and_shown}
+use Rattle.dgt_game.proofs.Runs.{calls_are_runs, legal_and_shown}
 use Rattle.dgt_game.proofs.laws.reports_are_legal.Goals as goal
 
 pub returns-clause-are : goal.returns-clause-are

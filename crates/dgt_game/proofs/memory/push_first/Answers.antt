@@ -4,7 +4,6 @@ use Rattle.dgt_game.proofs.memory.push_first.Goals as goal
 pub returns-clause-kept : goal.returns-clause-kept
 returns-clause-kept c = λ line h.
     rw (c.insert.ensures.items, c.truncate.ensures.items) (
-      refl,
-      kept_take c.args.nodes.now.items
-          line 15 h,
+      (refl, kept_take c.args.nodes.now.items line 15 h.0),
+      λ e. absurd (let wrong : ⊥ = cc in wrong),
     )
