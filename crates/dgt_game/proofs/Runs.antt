@@ -1,9 +1,9 @@
 -- Over whole runs.
-use Rattle.std.proofs.Common.{rules, ◌≡◌, ◌++◌, inl, refl, sym, subst, List, [], ◌∷◌, Option, Some, None}
-use Rattle.{std.specs.Prelude.{IfSome, slice_get}, dgt_values.specs.declared.pieces.Piece.{Piece}}
-use Rattle.dgt_game.specs.{declared.{node.Step.{Step}, recogniser.Recogniser.{Recogniser}}, Memory.{IsKept, steps, told_of}, Planning.{IsPlanned}, Recogniser.{Knows, new_recogniser, shown_after}}
-use Rattle.dgt_game.specs.{Runs.{Call, CallsAreRuns, IsLegalAndShown, Runs, StaysSound, events_of, shown_in, sure_in}, Standing.{Stands}, Sure.{EndsSure, KnowsSure, WasSure, sure_after}, Told.{IsLegalTold, Told, told_pieces}}
-use Rattle.dgt_game.proofs.{Known.{knows_more, knows_nothing, within_first}, Sure.{knows_none, knows_sure_more}, Waiting.{last_comes}}
+use Rattle.std.proofs.Common.{rules, arith, ◌≡◌, ◌++◌, inl, inr, refl, sym, subst, zero, suc, List, [], ◌∷◌, Option, Some, None}
+use Rattle.{std.specs.Prelude.{IfSome, slice_get}, dgt_values.specs.{declared.pieces.Piece.{Piece}, Board.{pieces_of}}, dgt_chess.specs.Rules.{board}}
+use Rattle.dgt_game.specs.{declared.{node.Step.{Step}, observation.Sight.{Sight}, recogniser.Recogniser.{Recogniser}}, Memory.{IsKept, steps, told_of}, Planning.{IsPlanned}, Recogniser.{Knows, new_recogniser, shown_after}}
+use Rattle.dgt_game.specs.{Runs.{Call, CallsAreRuns, IsLegalAndShown, LastWasShown, NothingWasSure, Runs, ShownMayEnd, StaysSound, SureIsSeen, SureWasShown, events_of, shown_in, sure_in}, Standing.{Stands}, Sure.{EndsSure, KnowsSure, WasSure, sure_after}, Told.{IsLegalTold, Told, WasShown, as_shown, told_pieces}}
+use Rattle.dgt_game.proofs.{Known.{Within, knows_more, knows_nothing, within_cons, within_first}, Sure.{kings_sure, knows_none, knows_sure_more, shown_sure}, Waiting.{last_comes}}
 
 runs_append : (old mid new : Recogniser) (calls more : List Call) → Runs old calls mid
     → Runs mid more new → Runs old (calls ++ more) new
@@ -106,3 +106,53 @@ legal_and_shown calls ended runs =
           (subst (λ (o : Option Step). IfSome o (λ step. WasSure (sure_in [] calls) (told_of step)))
           (last_comes ended.memory told.0 told.1) sound.seen.1.ends),
     )
+
+-- ---- What was shown for sure
+
+pub sure_is_seen : SureIsSeen
+sure_is_seen (Sight.Sure position) sure = (λ e. refl, λ e. absurd (let wrong : ⊥ = cc in wrong))
+sure_is_seen (Sight.Doubted position) sure = (λ e. absurd (let wrong : ⊥ = cc in wrong), λ e. refl)
+sure_is_seen Sight.Away sure = (λ e. absurd (let wrong : ⊥ = cc in wrong), λ e. refl)
+
+within_both : (shown more : List (List Piece)) (first : List Piece) → Within shown more
+    → Within (first ∷ shown) (first ∷ more)
+within_both shown more first within picture (zero, l, e) = (zero, omega arith, e)
+within_both shown more first within picture (suc k, l, e) =
+    within_cons more first picture (within picture (k, omega (arith, l), e))
+
+within_run : (calls : List Call) (sure shown : List (List Piece)) → Within sure shown
+    → Within (sure_in sure calls) (shown_in shown calls)
+within_run [] sure shown within = within
+within_run (Call.See (Sight.Sure position) ∷ calls) sure shown within =
+    within_run calls (pieces_of position ∷ sure) (pieces_of position ∷ shown)
+    (within_both sure shown (pieces_of position) within)
+within_run (Call.See (Sight.Doubted position) ∷ calls) sure shown within =
+    within_run calls sure (pieces_of position ∷ shown) (λ picture h.
+    within_cons shown (pieces_of position) picture (within picture h))
+within_run (Call.See Sight.Away ∷ calls) sure shown within = within_run calls sure shown within
+within_run (Call.Due report ∷ calls) sure shown within = within_run calls sure shown within
+within_run (Call.GoOn state is_turned ∷ calls) sure shown within =
+    let pieces = as_shown is_turned (board state) in
+    within_run calls (pieces ∷ sure) (pieces ∷ shown) (within_both sure shown pieces within)
+
+pub sure_was_shown : SureWasShown
+sure_was_shown calls picture h = within_run calls [] [] (λ picture h. h) picture h
+
+pub last_was_shown : LastWasShown
+unfolding WasSure
+last_was_shown sure told line (inl shown) none = shown
+last_was_shown sure told line (inr (picture, seen, (result, by))) none =
+    absurd (none picture result seen by.0)
+
+pub nothing_was_sure : NothingWasSure
+unfolding WasSure WasShown
+nothing_was_sure told line (inl (inl seen)) = absurd (omega (arith, seen.1))
+nothing_was_sure told line (inl (inr (inl held))) = absurd (omega (arith, held.1.1.1))
+nothing_was_sure told line (inl (inr (inr start))) = start
+nothing_was_sure told line (inr (picture, seen, by)) = absurd (omega (arith, seen.1))
+
+pub shown_may_end : ShownMayEnd
+shown_may_end sure told line = (
+  (λ shown. shown_sure sure told shown),
+  (λ picture result seen by. kings_sure sure told picture result seen by),
+)

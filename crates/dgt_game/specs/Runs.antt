@@ -1,17 +1,19 @@
 -- What a recogniser reports over whole runs.
-use Rattle.std.specs.Prelude.{◌≡◌, Bool, List, [], ◌∷◌, ◌++◌, Option, Some}
+use Rattle.std.specs.Prelude.{◌≡◌, Bool, true, false, List, [], ◌∷◌, ◌++◌, Option, Some, Contains}
 use Rattle.dgt_values.specs.declared.pieces.Piece.{Piece}
 use Rattle.dgt_chess.specs.declared.state.State.{State}
-use Rattle.dgt_chess.specs.Rules.{board}
-use Rattle.dgt_game.specs.declared.event.Event.{Event}
+use Rattle.dgt_chess.specs.Rules.{IsStart, board}
+use Rattle.dgt_game.specs.declared.event.{Event.{Event}, GameResult.{GameResult}}
 use Rattle.dgt_game.specs.declared.observation.Sight.{Sight}
 use Rattle.dgt_game.specs.declared.recogniser.Recogniser.{Recogniser}
-use Rattle.dgt_game.specs.Told.{IsLegalTold, IsShown, Told, as_shown}
+use Rattle.dgt_game.specs.Told.{IsLegalTold, IsShown, Told, WasShown, as_shown}
 use Rattle.dgt_game.specs.Memory.{IsTold}
 use Rattle.dgt_game.specs.Recogniser.{GoesOn, Knows, Reports, Sees, new_recogniser, shown_after}
 use Rattle.dgt_game.specs.Planning.{IsPlanned}
+use Rattle.dgt_game.specs.Results.{ByKings, KingsMean}
 use Rattle.dgt_game.specs.Standing.{Stands}
 use Rattle.dgt_game.specs.Sure.{EndsSure, KnowsSure, SeesSure, StaysSure, sure_after}
+use Rattle.dgt_game.specs.Waiting.{is_sure_sight}
 
 -- A call that was done: what was seen, what was reported if anything, or what was gone on from.
 pub data Call : Type 0 where
@@ -86,3 +88,40 @@ IsLegalAndShown =
     (calls : List Call) (ended : Recogniser) → Runs new_recogniser calls ended
     → (line : List Told) × IsLegalTold [] (events_of calls) line
     × IsShown (shown_in [] calls) line × (IsTold ended.memory → EndsSure (sure_in [] calls) line)
+
+-- ---- What was shown for sure
+
+-- What is seen counts as shown for sure if and only if it is sure.
+abbrev pub SureIsSeen : Type 0
+SureIsSeen =
+    (sight : Sight) (sure : List (List Piece))
+    → (is_sure_sight sight ≡ true → sure_after sight sure ≡ shown_after sight sure)
+    × (is_sure_sight sight ≡ false → sure_after sight sure ≡ sure)
+
+-- It was shown.
+abbrev pub SureWasShown : Type 0
+SureWasShown =
+    (calls : List Call) (picture : List Piece) → Contains (sure_in [] calls) picture
+    → Contains (shown_in [] calls) picture
+
+-- If no kings gave a result, the last state itself was shown for sure.
+abbrev pub LastWasShown : Type 0
+LastWasShown =
+    (sure : List (List Piece)) (told : Told) (line : List Told) → EndsSure sure (told ∷ line)
+    → ((picture : List Piece) (result : GameResult) → Contains sure picture
+    → ¬ (KingsMean (as_shown told.is_turned picture) result))
+    → WasShown sure told
+
+-- Without pictures shown for sure, the line has only the state in which games begin.
+abbrev pub NothingWasSure : Type 0
+NothingWasSure =
+    (told : Told) (line : List Told) → EndsSure [] (told ∷ line)
+    → (told.halves ≡ 0) × IsStart told.state
+
+-- A state that was shown for sure may end a line, and so may one whose result the kings showed.
+abbrev pub ShownMayEnd : Type 0
+ShownMayEnd =
+    (sure : List (List Piece)) (told : Told) (line : List Told)
+    → (WasShown sure told → EndsSure sure (told ∷ line))
+    × ((picture : List Piece) (result : GameResult) → Contains sure picture
+    → ByKings (as_shown told.is_turned picture) told.state result → EndsSure sure (told ∷ line))
