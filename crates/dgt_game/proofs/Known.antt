@@ -2,7 +2,7 @@
 use Rattle.std.{proofs.Common.{◌≡◌, ◌∙◌, ◌++◌, ◌<◌, refl, sym, ap, subst, inl, inr, arith, ℕ, zero, suc, length, slice_index_or, Bool, List, [], ◌∷◌, Option, Some, None}, specs.Prelude.{Contains}}
 use Rattle.{std.specs.Prelude.{IfSome}, dgt_values.specs.{declared.pieces.Piece.{Piece}, Board.{pieces_of}}, dgt_chess.specs.declared.state.State.{State}}
 use Rattle.dgt_game.specs.declared.{memory.Memory.{Memory}, node.{Node.{Node}, Place.{Place}, Step.{Step}, Way.{Way}}, observation.Sight.{Sight}, recogniser.Recogniser.{Recogniser}, view.View.{View}}
-use Rattle.dgt_game.specs.{Told.{IsLegalTold, IsShown, Told, WasShown, told_pieces}, Memory.{Chain, Holds, steps}, Recogniser.{GoesOn, Knows, new_recogniser, shown_after}}
+use Rattle.dgt_game.specs.{Told.{IsShown, Told, WasShown, told_pieces}, Memory.{Chain, Holds, steps}, Recogniser.{GoesOn, Knows, new_recogniser, shown_after}}
 use Rattle.dgt_game.{proofs.{Links.{was_shown}, Told.{grows_none, rooted_none}}}
 
 -- all pictures of the first are among the second

@@ -23,11 +23,11 @@ calls_are_runs old new = (
 
 -- what is so between calls
 record IsSound (shown sure : List (List Piece)) (line : List Told) (self : Recogniser) : Type 0
-    where
-  pub known : Knows shown line self
-  pub planned : IsPlanned self
-  pub stands : Stands self
-  pub seen : KnowsSure sure self
+  where
+    pub known : Knows shown line self
+    pub planned : IsPlanned self
+    pub stands : Stands self
+    pub seen : KnowsSure sure self
 
 -- where a run leads to
 abbrev Leads_on : List (List Piece) → List (List Piece) → List Told → List Call → Recogniser

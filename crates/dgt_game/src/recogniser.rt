@@ -125,7 +125,10 @@ impl Recogniser {
             search: Search::Hopeless,
             next: None,
             has_kings: false,
-            returned: Returned { count: 0, is_sure: false },
+            returned: Returned {
+                count: 0,
+                is_sure: false,
+            },
             is_behind: false,
             is_set_up: false,
             is_white_king_lifted: false,

@@ -77,7 +77,10 @@ impl Recogniser {
         self.is_white_king_lifted = false;
         self.is_black_king_lifted = false;
         self.has_kings = false;
-        self.returned = Returned { count: 0, is_sure: false };
+        self.returned = Returned {
+            count: 0,
+            is_sure: false,
+        };
     }
 
     /// The next event that waits to be reported.
