@@ -1,8 +1,8 @@
 -- Over whole runs.
-use Rattle.std.proofs.Common.{rules, arith, ◌≡◌, ◌++◌, inl, inr, refl, sym, subst, zero, suc, List, [], ◌∷◌, Option, Some, None}
+use Rattle.std.proofs.Common.{rules, arith, ◌≡◌, ◌++◌, inl, inr, refl, sym, subst, zero, suc, true, false, List, [], ◌∷◌, Option, Some, None}
 use Rattle.{std.specs.Prelude.{IfSome, slice_get}, dgt_values.specs.{declared.pieces.Piece.{Piece}, Board.{pieces_of}}, dgt_chess.specs.Rules.{board}}
 use Rattle.dgt_game.specs.{declared.{node.Step.{Step}, observation.Sight.{Sight}, recogniser.Recogniser.{Recogniser}}, Memory.{IsKept, steps, told_of}, Planning.{IsPlanned}, Recogniser.{Knows, new_recogniser, shown_after}}
-use Rattle.dgt_game.specs.{Runs.{Call, CallsAreRuns, IsLegalAndShown, LastWasShown, NothingWasSure, Runs, ShownMayEnd, StaysSound, SureIsSeen, SureWasShown, events_of, shown_in, sure_in}, Standing.{Stands}, Sure.{EndsSure, KnowsSure, WasSure, sure_after}, Told.{IsLegalTold, Told, WasShown, as_shown, told_pieces}}
+use Rattle.dgt_game.specs.{Runs.{Call, CallsAreRuns, IsLegalAndShown, LastWasShown, NothingWasSure, Runs, ShownMayEnd, StaysSound, SureIsCounted, SureIsSeen, SureWasShown, events_of, shown_in, sure_in}, Standing.{Stands}, Sure.{EndsSure, KnowsSure, WasSure, sure_after}, Told.{IsLegalTold, Told, WasShown, as_shown, told_pieces}}
 use Rattle.dgt_game.proofs.{Known.{Within, knows_more, knows_nothing, within_cons, within_first}, Sure.{kings_sure, knows_none, knows_sure_more, shown_sure}, Waiting.{last_comes}}
 
 runs_append : (old mid new : Recogniser) (calls more : List Call) → Runs old calls mid
@@ -113,6 +113,21 @@ pub sure_is_seen : SureIsSeen
 sure_is_seen (Sight.Sure position) sure = (λ e. refl, λ e. absurd (let wrong : ⊥ = cc in wrong))
 sure_is_seen (Sight.Doubted position) sure = (λ e. absurd (let wrong : ⊥ = cc in wrong), λ e. refl)
 sure_is_seen Sight.Away sure = (λ e. absurd (let wrong : ⊥ = cc in wrong), λ e. refl)
+
+pub sure_is_counted : SureIsCounted
+sure_is_counted [] sure = (λ all. refl, λ all. refl)
+sure_is_counted (Sight.Sure position ∷ sights) sure = (
+  (λ all. absurd (let wrong : true ≡ false = all.0 in let wrong : ⊥ = cc in wrong)),
+  (λ all. (sure_is_counted sights (pieces_of position ∷ sure)).1 all.1),
+)
+sure_is_counted (Sight.Doubted position ∷ sights) sure = (
+  (λ all. (sure_is_counted sights sure).0 all.1),
+  (λ all. absurd (let wrong : false ≡ true = all.0 in let wrong : ⊥ = cc in wrong)),
+)
+sure_is_counted (Sight.Away ∷ sights) sure = (
+  (λ all. (sure_is_counted sights sure).0 all.1),
+  (λ all. absurd (let wrong : false ≡ true = all.0 in let wrong : ⊥ = cc in wrong)),
+)
 
 within_both : (shown more : List (List Piece)) (first : List Piece) → Within shown more
     → Within (first ∷ shown) (first ∷ more)

@@ -1,5 +1,6 @@
 -- What a recogniser reports over whole runs.
-use Rattle.std.specs.Prelude.{◌≡◌, Bool, true, false, List, [], ◌∷◌, ◌++◌, Option, Some, Contains}
+use Rattle.std.specs.Prelude.{◌≡◌, Bool, true, false, List, [], ◌∷◌, ◌++◌, Option, Some, Contains, map}
+use Rattle.std.specs.List.{AllByRecursion}
 use Rattle.dgt_values.specs.declared.pieces.Piece.{Piece}
 use Rattle.dgt_chess.specs.declared.state.State.{State}
 use Rattle.dgt_chess.specs.Rules.{IsStart, board}
@@ -97,6 +98,15 @@ SureIsSeen =
     (sight : Sight) (sure : List (List Piece))
     → (is_sure_sight sight ≡ true → sure_after sight sure ≡ shown_after sight sure)
     × (is_sure_sight sight ≡ false → sure_after sight sure ≡ sure)
+
+-- So what was seen in doubts adds nothing, and if all was sure, it is all that was shown.
+abbrev pub SureIsCounted : Type 0
+SureIsCounted =
+    (sights : List Sight) (sure : List (List Piece))
+    → (AllByRecursion (λ sight. is_sure_sight sight ≡ false) sights
+    → sure_in sure (map Call.See sights) ≡ sure)
+    × (AllByRecursion (λ sight. is_sure_sight sight ≡ true) sights
+    → sure_in sure (map Call.See sights) ≡ shown_in sure (map Call.See sights))
 
 -- It was shown.
 abbrev pub SureWasShown : Type 0

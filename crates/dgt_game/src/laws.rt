@@ -7,7 +7,7 @@ ghost use Rattle.dgt_game.specs.Planning.{IsLostOr, IsPlanned, LostIsReported, N
 ghost use Rattle.dgt_game.specs.Reading.{EarlierAreKnown, ElseStartIsKnown, MovesAreKnown, StartIsKnown, TwoAreKnown, IsExplained};
 ghost use Rattle.dgt_game.specs.Recogniser.{new_recogniser};
 ghost use Rattle.dgt_game.specs.Results.{LostInTurn, OneByKings, OneByRules, OneOther, OneResult};
-ghost use Rattle.dgt_game.specs.Runs.{CallsAreRuns, IsLegalAndShown, LastWasShown, NothingWasSure, ShownMayEnd, SureIsSeen, SureWasShown};
+ghost use Rattle.dgt_game.specs.Runs.{CallsAreRuns, IsLegalAndShown, LastWasShown, NothingWasSure, ShownMayEnd, SureIsCounted, SureIsSeen, SureWasShown};
 ghost use Rattle.dgt_game.specs.Settling.{NothingWaitsLong, ReplacingHasRested, ReportedHasRested, ReportedHasSettled, ReportedIsShown, SeenIsAnswered};
 ghost use Rattle.dgt_game.specs.Standing.{OnlyShownIsReported, RestIsReported, Stands};
 ghost use Rattle.dgt_game.specs.Sure.{KnowsSure};
@@ -53,6 +53,7 @@ pub fn what_was_shown()
 /// What was shown for sure of a line.
 pub fn what_was_sure()
     ensures seen { SureIsSeen }
+    ensures counted { SureIsCounted }
     ensures runs { SureWasShown }
     ensures last { LastWasShown }
     ensures none { NothingWasSure }

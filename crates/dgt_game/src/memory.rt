@@ -61,7 +61,9 @@ impl Memory {
 
     /// Whether another line begins with what is to be reported next.
     pub(crate) fn begins_next(&self) -> bool
-        ensures { IsTrue result → ¬ (IsTold self.now) }
+        ensures { IsTrue result ↔ (self.now.back ≡ 0)
+            × MatchOption (slice_get (steps self.now.unsaid.items) 0) ⊥
+            (λ step. step.way ≡ Way.Begun) }
     {
         self.back == 0
             && match self.unsaid.get(0) {

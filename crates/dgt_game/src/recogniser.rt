@@ -463,7 +463,7 @@ impl Recogniser {
         self.find();
     }
 
-    // The board shows the line so many states back.
+    // The board shows the state of the line that is `k` before its last one.
     fn returned_to(&self, k: usize) -> Returned
         ensures { result.is_sure ≡ true → (self.now.is_sure ≡ true) × (result.count ≡ k) }
     {
