@@ -420,8 +420,8 @@ impl Memory {
         }
     }
 
-    // The last half-moves after the line's last state that rested: those shown for sure, or in a
-    // doubt for longer if the start of a game was shown since.
+    // The last half-moves after the line's last state that rested: a single one that was shown for
+    // sure or, before the start of a game, any that rested for longer, even in a doubt.
     fn last_rested(&self, is_start: bool) -> Option<usize> {
         let len = self.seen.len();
         for at in 0..len {

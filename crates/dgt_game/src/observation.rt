@@ -8,8 +8,8 @@ use dgt_values::Position;
 pub enum Sight {
     /// These pieces.
     Sure(Position),
-    /// These pieces, unless something was lost on the line. They report nothing, but show in which
-    /// order half-moves were made.
+    /// These pieces, unless something was lost on the line. They report nothing until others are
+    /// sure, but show in which order half-moves were made.
     Doubted(Position),
     /// Nothing: the board is away.
     Away,
