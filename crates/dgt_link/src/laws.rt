@@ -405,7 +405,7 @@ pub fn what_is_quiet()
 
 /// Examples of what is shown in order: a pawn that was put on an empty square and removed again may
 /// be seen twice, and not before what was there before it. A known picture shows one piece on each
-/// square.
+/// square. What is shown at first is followed by what is shown after each move.
 pub fn what_is_in_order()
     ensures seen { IsInOrderOf (Piece.WhitePawn ∷ Piece.WhitePawn ∷ Piece.Empty ∷ [])
         (Piece.Empty ∷ Piece.WhitePawn ∷ Piece.Empty ∷ []) }
@@ -416,6 +416,9 @@ pub fn what_is_in_order()
         → shown_in square (world ∷ []) ≡ piece_on pieces square ∷ [] }
     ensures stood { (world : WorldView) (square : ℕ)
         → stood_in square (world ∷ []) ≡ piece_on world.board.state.squares square ∷ [] }
+    ensures moves { (square : ℕ) (x : MachineState) (move : Move) (moves : List Move)
+        → shown_on square x (move ∷ moves)
+        ≡ shown_on square x [] ++ shown_on square (after_move x move) moves }
 {}
 
 /// From each sound state, some takes of the board, sendings of the board and hears of the host lead
@@ -562,13 +565,13 @@ pub fn moves_do_as_acts()
     ensures host_break { (move : Move) → IsHostBreak move → requests move ≡ map Some commands_anew }
 {}
 
-/// What holds of acts that ran holds of their outcomes, whatever these are, and what holds after
-/// faults holds after each run of a sane world.
+/// What holds of acts that ran is exactly what holds of their outcomes, whatever these are. What
+/// holds after faults holds after each run of a sane world.
 pub fn what_ran_holds()
     ensures ran { (acts : List FaultyContent) (world after : WorldView)
-        (holds : List Outcome → Bool) (outcomes : List Outcome) →
-        IfRan acts world after (λ found. IsTrue (holds found)) →
-        FaultyRuns acts world outcomes after → IsTrue (holds outcomes) }
+        (holds : List Outcome → Bool) → IfRan acts world after (λ found. IsTrue (holds found))
+        ↔ ((outcomes : List Outcome) →
+        FaultyRuns acts world outcomes after → IsTrue (holds outcomes)) }
     ensures faults { (holds : List FaultyContent → WorldView → WorldView → List Outcome → Bool)
         (acts : List FaultyContent) (world after : WorldView) (outcomes : List Outcome) →
         AfterFaults (λ some old new found. IsTrue (holds some old new found)) → IsSane world →
