@@ -2,6 +2,7 @@
 use Rattle.std.proofs.Common.{◌≡◌, ◌≢◌, ◌∙◌, ◌⊎◌, ◌<◌, ◌++◌, inl, inr, refl, sym, arith, ℕ, Bool, true, false, List, [], ◌∷◌, Option, Some, None, ap, subst}
 use Rattle.{dgt_values.specs.declared.pieces.Piece.{Piece}, dgt_game.specs.{declared.{event.{Event.{Event}, GameResult.{GameResult}}, recogniser.Recogniser.{Recogniser}}, Waiting.{CallsFollowOn}}}
 use Rattle.dgt_game.specs.{Waiting.{FollowOn, IsRight, RightIfAway, RunsInTurn, events_in, has_result, is_lost}, Results.{AreLost, FitsAt, HasResults, IsOnlyOn, KingsOn, LostInTurn, NotFound}}
+use Rattle.{std.{proofs.Common.{zero, suc}, specs.Prelude.{Contains}}, dgt_chess.specs.declared.state.State.{State}}
 use Rattle.dgt_game.specs.Results.{NotLost, OneByKings, OneByRules, OneOther, OneResult, Stay}
 
 pub one_by_rules : OneByRules
@@ -197,3 +198,51 @@ right_if_away self away = (
   ),
   λ squares h. let e = sym away ∙ h.2.1 in let wrong : ⊥ = cc in wrong,
 )
+
+-- what the rest has, all have
+rest_has : (first event : Event) (events : List Event) → Contains events event
+    → Contains (first ∷ events) event
+rest_has first event events (k, l, e) = (suc k, omega (arith, l), e)
+
+pub not_found : (events : List Event) → ¬ (Contains events Event.Found) → NotFound events
+not_found [] none = tt
+not_found (Event.Begun state is_turned ∷ events) none = not_found events (λ h. none (rest_has _ _ events h))
+not_found (Event.Made one ∷ events) none = not_found events (λ h. none (rest_has _ _ events h))
+not_found (Event.Unseen moves ∷ events) none = not_found events (λ h. none (rest_has _ _ events h))
+not_found (Event.Gap state count ∷ events) none = not_found events (λ h. none (rest_has _ _ events h))
+not_found (Event.Back count ∷ events) none = not_found events (λ h. none (rest_has _ _ events h))
+not_found (Event.Ended result ∷ events) none = not_found events (λ h. none (rest_has _ _ events h))
+not_found (Event.Lost squares ∷ events) none = not_found events (λ h. none (rest_has _ _ events h))
+not_found (Event.Found ∷ events) none = absurd (none (zero, omega arith, refl))
+
+pub not_lost : (events : List Event)
+    → ((squares : ℕ) → ¬ (Contains events (Event.Lost squares))) → NotLost events
+not_lost [] none = tt
+not_lost (Event.Begun state is_turned ∷ events) none = not_lost events (λ n h. none n (rest_has _ _ events h))
+not_lost (Event.Made one ∷ events) none = not_lost events (λ n h. none n (rest_has _ _ events h))
+not_lost (Event.Unseen moves ∷ events) none = not_lost events (λ n h. none n (rest_has _ _ events h))
+not_lost (Event.Gap state count ∷ events) none = not_lost events (λ n h. none n (rest_has _ _ events h))
+not_lost (Event.Back count ∷ events) none = not_lost events (λ n h. none n (rest_has _ _ events h))
+not_lost (Event.Ended result ∷ events) none = not_lost events (λ n h. none n (rest_has _ _ events h))
+not_lost (Event.Lost squares ∷ events) none = absurd (none squares (zero, omega arith, refl))
+not_lost (Event.Found ∷ events) none = not_lost events (λ n h. none n (rest_has _ _ events h))
+
+pub stays : (events : List Event)
+    → ((count : ℕ) → ¬ (Contains events (Event.Back count)))
+    → ((state : State) (is_turned : Bool) → ¬ (Contains events (Event.Begun state is_turned)))
+    → Stay events
+stays [] back begun = tt
+stays (Event.Begun state is_turned ∷ events) back begun = absurd (begun state is_turned (zero, omega arith, refl))
+stays (Event.Made one ∷ events) back begun = stays events (λ n h. back n (rest_has _ _ events h))
+    (λ s t h. begun s t (rest_has _ _ events h))
+stays (Event.Unseen moves ∷ events) back begun = stays events (λ n h. back n (rest_has _ _ events h))
+    (λ s t h. begun s t (rest_has _ _ events h))
+stays (Event.Gap state count ∷ events) back begun = stays events (λ n h. back n (rest_has _ _ events h))
+    (λ s t h. begun s t (rest_has _ _ events h))
+stays (Event.Back count ∷ events) back begun = absurd (back count (zero, omega arith, refl))
+stays (Event.Ended result ∷ events) back begun = stays events (λ n h. back n (rest_has _ _ events h))
+    (λ s t h. begun s t (rest_has _ _ events h))
+stays (Event.Lost squares ∷ events) back begun = stays events (λ n h. back n (rest_has _ _ events h))
+    (λ s t h. begun s t (rest_has _ _ events h))
+stays (Event.Found ∷ events) back begun = stays events (λ n h. back n (rest_has _ _ events h))
+    (λ s t h. begun s t (rest_has _ _ events h))

@@ -1,7 +1,7 @@
 -- What is done whenever `due` is called.
 use Rattle.std.{proofs.Common.{◌≡◌, ◌∙◌, ◌++◌, ◌≤◌, ◌<◌, ◌+◌, ◌-◌, ◌^◌, refl, ap, sym, subst, arith, ℕ, Bool, true, false, List, [], ◌∷◌, Option, Some, None}, specs.Prelude.{IfSome, MatchOption, min}}
 use Rattle.{std.{specs.Prelude.{option_map, if◌then◌else◌}, proofs.lemmas.Option.{none-some}}, dgt_game.specs.declared.{event.Event.{Event}, recogniser.Recogniser.{Recogniser}, resting.Next.{Next}}}
-use Rattle.dgt_game.specs.{Timing.{Acts, AllDue, DoneBy, Due, HasTask, IsIdle, NoCallMatters, Tells, next_time, with_report}, Results.{HasResult, IsLost}, Waiting.{Follows, IsQuiet, IsRight}}
+use Rattle.dgt_game.specs.{Timing.{Acts, AllDue, Calls, DoneBy, Due, HasTask, IsIdle, NoCallMatters, Tells, next_time, with_report}, Results.{HasResult, IsLost}, Waiting.{Follows, IsQuiet, IsRight}}
 use Rattle.dgt_game.specs.Waiting.{has_result, is_lost}
 
 -- what is done next doesn't count
@@ -147,3 +147,25 @@ pub idle_in_doubt : (now : ℕ) (self : Recogniser) → self.is_sure ≡ false �
     → IsIdle now self
 idle_in_doubt now self sure quiet =
     let none : IfSome (next_time self) (λ at. now < at) = rw sure tt in (quiet, none)
+
+with_more : (report : Option Event) (after late : List Event)
+    → with_report report after ++ late ≡ with_report report (after ++ late)
+with_more None after late = refl
+with_more (Some event) after late = refl
+
+-- calls after others
+pub calls_then : (old mid new : Recogniser) (times later : List ℕ) (early late : List Event)
+    → Calls times old early mid → Calls later mid late new
+    → Calls (times ++ later) old (early ++ late) new
+calls_then old mid new [] later early late (none, same) next =
+    rw none (subst (λ (self : Recogniser). Calls later self late new) same next)
+calls_then old mid new (now ∷ times) later early late (report, self, due, (after, calls, e)) next = (
+  report,
+  self,
+  due,
+  (
+    after ++ late,
+    calls_then self mid new times later after late calls next,
+    ap (λ (events : List Event). events ++ late) e ∙ with_more report after late,
+  ),
+)

@@ -1,18 +1,21 @@
 //! Laws of a recogniser. Each function does nothing at run time: its contract states the facts.
 
-ghost use Rattle.std.specs.Prelude.{[]};
-ghost use Rattle.dgt_game.specs.Finding.{IsFound, WhatFollowsIsFound};
+ghost use Rattle.std.specs.Prelude.{◌≡◌, ◌<◌, ◌≤◌, ◌+◌, ◌-◌, ◌^◌, ℕ, Bool, true, false, List, [], ◌∷◌, ◌++◌, Option, Some, Contains};
+ghost use Rattle.dgt_chess.specs.declared.state.State.{State};
+ghost use Rattle.dgt_game.specs.declared.event.Event.{Event};
+ghost use Rattle.dgt_game.specs.declared.recogniser.Recogniser.{Recogniser};
+ghost use Rattle.dgt_game.specs.Finding.{IsFound, SearchIsDue, WhatFollowsIsFound};
 ghost use Rattle.dgt_game.specs.Laws.{BackIsCounted, JoinedIsOne, LegalIsJoined, NoneAndOne, OneIsShown, OneLine, OthersAreHeld, SeveralAreShown, ShownIsHeld, StartIsShown, UnseenIsOnly};
 ghost use Rattle.dgt_game.specs.Planning.{IsLostOr, IsPlanned, LostIsReported, NothingFits, OneFits, PossibleIsHopeful, WhyHopeless};
 ghost use Rattle.dgt_game.specs.Reading.{EarlierAreKnown, ElseStartIsKnown, MovesAreKnown, StartIsKnown, TwoAreKnown, IsExplained};
 ghost use Rattle.dgt_game.specs.Recogniser.{new_recogniser};
-ghost use Rattle.dgt_game.specs.Results.{LostInTurn, OneByKings, OneByRules, OneOther, OneResult};
+ghost use Rattle.dgt_game.specs.Results.{LostInTurn, NotFound, NotLost, OneByKings, OneByRules, OneOther, OneResult, Stay};
 ghost use Rattle.dgt_game.specs.Runs.{CallsAreRuns, IsLegalAndShown, LastWasShown, NothingWasSure, ShownMayEnd, SureIsCounted, SureIsSeen, SureWasShown};
-ghost use Rattle.dgt_game.specs.Settling.{NothingWaitsLong, ReplacingHasRested, ReportedHasRested, ReportedHasSettled, ReportedIsShown, SeenIsAnswered};
-ghost use Rattle.dgt_game.specs.Standing.{OnlyShownIsReported, RestIsReported, Stands};
+ghost use Rattle.dgt_game.specs.Settling.{NothingWaitsLong, ReplacingHasRested, ReportedHasRested, ReportedHasSettled, ReportedIsShown, ReportsNow, SeenIsAnswered};
+ghost use Rattle.dgt_game.specs.Standing.{HasRested, OnlyShownIsReported, RestIsReported, Stands};
 ghost use Rattle.dgt_game.specs.Sure.{KnowsSure};
-ghost use Rattle.dgt_game.specs.Timing.{NoCallMatters};
-ghost use Rattle.dgt_game.specs.Waiting.{CallsFollowOn, RightIfAway, RunsInTurn, Waits};
+ghost use Rattle.dgt_game.specs.Timing.{Calls, Due, IsIdle, NoCallMatters, with_report};
+ghost use Rattle.dgt_game.specs.Waiting.{CallsFollowOn, IsQuiet, RightIfAway, RunsInTurn, Waits};
 
 /// What is reported is legal and was shown, over whole runs.
 pub fn reports_are_legal()
@@ -68,6 +71,13 @@ pub fn what_results_say()
     ensures once { OneResult }
     ensures lost { LostInTurn }
     ensures away { RightIfAway }
+    ensures stay { (events : List Event) → ((count : ℕ) → ¬ (Contains events (Event.Back count)))
+        → ((state : State) (is_turned : Bool) → ¬ (Contains events (Event.Begun state is_turned)))
+        → Stay events }
+    ensures not_found { (events : List Event) → ¬ (Contains events Event.Found)
+        → NotFound events }
+    ensures not_lost { (events : List Event) → ((squares : ℕ) →
+        ¬ (Contains events (Event.Lost squares))) → NotLost events }
 {}
 
 /// Results, and lines that are lost, over whole runs.
@@ -88,6 +98,9 @@ pub fn what_plans_say()
 pub fn what_rests_is_reported()
     ensures rest { RestIsReported }
     ensures only { OnlyShownIsReported }
+    ensures enough { (self : Recogniser) (now : ℕ) → self.is_sure ≡ true
+        → self.is_confirmed ≡ true → self.since + 60000 ≤ now → IsIdle now self
+        → HasRested now self }
 {}
 
 /// What is reported has rested or was answered, and doesn't wait for long.
@@ -98,16 +111,28 @@ pub fn what_is_reported_has_rested()
     ensures replacing { ReplacingHasRested }
     ensures long { NothingWaitsLong }
     ensures answered { SeenIsAnswered }
+    ensures enough { (self new : Recogniser) (event : Event) (now : ℕ) → IsPlanned self
+        → IsQuiet self → now < 2 ^ 64 - 1 → Due now self (Some event) new
+        → ReportsNow now self event new }
 {}
 
 /// What several half-moves lead to is found.
 pub fn what_follows_is_found()
-    ensures { WhatFollowsIsFound }
+    ensures found { WhatFollowsIsFound }
+    ensures due { (self : Recogniser) (now : ℕ) → self.since + 1000 ≤ now → SearchIsDue now self }
+    ensures doubt { (self : Recogniser) (now : ℕ) → self.is_behind ≡ true
+        → self.has_kings ≡ false → self.since + 320 ≤ now → SearchIsDue now self }
 {}
 
 /// It doesn't matter how often `due` is called before.
 pub fn no_call_matters()
-    ensures { NoCallMatters }
+    ensures matters { NoCallMatters }
+    ensures none { (self : Recogniser) → Calls [] self [] self }
+    ensures one { (old new : Recogniser) (now : ℕ) (report : Option Event) →
+        Due now old report new → Calls (now ∷ []) old (with_report report []) new }
+    ensures more { (old mid new : Recogniser) (times later : List ℕ) (early late : List Event) →
+        Calls times old early mid → Calls later mid late new
+        → Calls (times ++ later) old (early ++ late) new }
 {}
 
 /// Which pictures are known.

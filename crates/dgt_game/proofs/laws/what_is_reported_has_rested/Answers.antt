@@ -9,4 +9,5 @@ returns c = record {
   replacing = replacing_has_rested;
   long = nothing_waits_long;
   answered = seen_is_answered;
+  enough = λ self new event now planned quiet small due. (planned, quiet, small, due);
 }
