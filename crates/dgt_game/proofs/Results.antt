@@ -199,50 +199,53 @@ right_if_away self away = (
   λ squares h. let e = sym away ∙ h.2.1 in let wrong : ⊥ = cc in wrong,
 )
 
--- what the rest has, all have
-rest_has : (first event : Event) (events : List Event) → Contains events event
-    → Contains (first ∷ events) event
-rest_has first event events (k, l, e) = (suc k, omega (arith, l), e)
+first_has : (event : Event) (events : List Event) → Contains (event ∷ events) event
+first_has event events = (zero, omega arith, refl)
+
+-- what none of all are, none of the rest are
+rest_not : (first event : Event) (events : List Event) → ¬ (Contains (first ∷ events) event)
+    → ¬ (Contains events event)
+rest_not first event events none (k, l, e) = none (suc k, omega (arith, l), e)
 
 pub not_found : (events : List Event) → ¬ (Contains events Event.Found) → NotFound events
 not_found [] none = tt
-not_found (Event.Begun state is_turned ∷ events) none = not_found events (λ h. none (rest_has _ _ events h))
-not_found (Event.Made one ∷ events) none = not_found events (λ h. none (rest_has _ _ events h))
-not_found (Event.Unseen moves ∷ events) none = not_found events (λ h. none (rest_has _ _ events h))
-not_found (Event.Gap state count ∷ events) none = not_found events (λ h. none (rest_has _ _ events h))
-not_found (Event.Back count ∷ events) none = not_found events (λ h. none (rest_has _ _ events h))
-not_found (Event.Ended result ∷ events) none = not_found events (λ h. none (rest_has _ _ events h))
-not_found (Event.Lost squares ∷ events) none = not_found events (λ h. none (rest_has _ _ events h))
-not_found (Event.Found ∷ events) none = absurd (none (zero, omega arith, refl))
+not_found (Event.Begun state is_turned ∷ events) none = not_found events (rest_not _ _ _ none)
+not_found (Event.Made one ∷ events) none = not_found events (rest_not _ _ _ none)
+not_found (Event.Unseen moves ∷ events) none = not_found events (rest_not _ _ _ none)
+not_found (Event.Gap state count ∷ events) none = not_found events (rest_not _ _ _ none)
+not_found (Event.Back count ∷ events) none = not_found events (rest_not _ _ _ none)
+not_found (Event.Ended result ∷ events) none = not_found events (rest_not _ _ _ none)
+not_found (Event.Lost squares ∷ events) none = not_found events (rest_not _ _ _ none)
+not_found (Event.Found ∷ events) none = absurd (none (first_has _ _))
 
 pub not_lost : (events : List Event)
     → ((squares : ℕ) → ¬ (Contains events (Event.Lost squares))) → NotLost events
 not_lost [] none = tt
-not_lost (Event.Begun state is_turned ∷ events) none = not_lost events (λ n h. none n (rest_has _ _ events h))
-not_lost (Event.Made one ∷ events) none = not_lost events (λ n h. none n (rest_has _ _ events h))
-not_lost (Event.Unseen moves ∷ events) none = not_lost events (λ n h. none n (rest_has _ _ events h))
-not_lost (Event.Gap state count ∷ events) none = not_lost events (λ n h. none n (rest_has _ _ events h))
-not_lost (Event.Back count ∷ events) none = not_lost events (λ n h. none n (rest_has _ _ events h))
-not_lost (Event.Ended result ∷ events) none = not_lost events (λ n h. none n (rest_has _ _ events h))
-not_lost (Event.Lost squares ∷ events) none = absurd (none squares (zero, omega arith, refl))
-not_lost (Event.Found ∷ events) none = not_lost events (λ n h. none n (rest_has _ _ events h))
+not_lost (Event.Begun state is_turned ∷ events) none = not_lost events (λ n. rest_not _ _ _ (none n))
+not_lost (Event.Made one ∷ events) none = not_lost events (λ n. rest_not _ _ _ (none n))
+not_lost (Event.Unseen moves ∷ events) none = not_lost events (λ n. rest_not _ _ _ (none n))
+not_lost (Event.Gap state count ∷ events) none = not_lost events (λ n. rest_not _ _ _ (none n))
+not_lost (Event.Back count ∷ events) none = not_lost events (λ n. rest_not _ _ _ (none n))
+not_lost (Event.Ended result ∷ events) none = not_lost events (λ n. rest_not _ _ _ (none n))
+not_lost (Event.Lost squares ∷ events) none = absurd (none squares (first_has _ _))
+not_lost (Event.Found ∷ events) none = not_lost events (λ n. rest_not _ _ _ (none n))
 
 pub stays : (events : List Event)
     → ((count : ℕ) → ¬ (Contains events (Event.Back count)))
     → ((state : State) (is_turned : Bool) → ¬ (Contains events (Event.Begun state is_turned)))
     → Stay events
 stays [] back begun = tt
-stays (Event.Begun state is_turned ∷ events) back begun = absurd (begun state is_turned (zero, omega arith, refl))
-stays (Event.Made one ∷ events) back begun = stays events (λ n h. back n (rest_has _ _ events h))
-    (λ s t h. begun s t (rest_has _ _ events h))
-stays (Event.Unseen moves ∷ events) back begun = stays events (λ n h. back n (rest_has _ _ events h))
-    (λ s t h. begun s t (rest_has _ _ events h))
-stays (Event.Gap state count ∷ events) back begun = stays events (λ n h. back n (rest_has _ _ events h))
-    (λ s t h. begun s t (rest_has _ _ events h))
-stays (Event.Back count ∷ events) back begun = absurd (back count (zero, omega arith, refl))
-stays (Event.Ended result ∷ events) back begun = stays events (λ n h. back n (rest_has _ _ events h))
-    (λ s t h. begun s t (rest_has _ _ events h))
-stays (Event.Lost squares ∷ events) back begun = stays events (λ n h. back n (rest_has _ _ events h))
-    (λ s t h. begun s t (rest_has _ _ events h))
-stays (Event.Found ∷ events) back begun = stays events (λ n h. back n (rest_has _ _ events h))
-    (λ s t h. begun s t (rest_has _ _ events h))
+stays (Event.Begun state is_turned ∷ events) back begun = absurd (begun state is_turned (first_has _ _))
+stays (Event.Made one ∷ events) back begun =
+    stays events (λ n. rest_not _ _ _ (back n)) (λ s t. rest_not _ _ _ (begun s t))
+stays (Event.Unseen moves ∷ events) back begun =
+    stays events (λ n. rest_not _ _ _ (back n)) (λ s t. rest_not _ _ _ (begun s t))
+stays (Event.Gap state count ∷ events) back begun =
+    stays events (λ n. rest_not _ _ _ (back n)) (λ s t. rest_not _ _ _ (begun s t))
+stays (Event.Back count ∷ events) back begun = absurd (back count (first_has _ _))
+stays (Event.Ended result ∷ events) back begun =
+    stays events (λ n. rest_not _ _ _ (back n)) (λ s t. rest_not _ _ _ (begun s t))
+stays (Event.Lost squares ∷ events) back begun =
+    stays events (λ n. rest_not _ _ _ (back n)) (λ s t. rest_not _ _ _ (begun s t))
+stays (Event.Found ∷ events) back begun =
+    stays events (λ n. rest_not _ _ _ (back n)) (λ s t. rest_not _ _ _ (begun s t))

@@ -159,7 +159,8 @@ pub calls_then : (old mid new : Recogniser) (times later : List ℕ) (early late
     → Calls (times ++ later) old (early ++ late) new
 calls_then old mid new [] later early late (none, same) next =
     rw none (subst (λ (self : Recogniser). Calls later self late new) same next)
-calls_then old mid new (now ∷ times) later early late (report, self, due, (after, calls, e)) next = (
+calls_then old mid new (now ∷ times) later early late
+    (report, self, due, (after, calls, e)) next = (
   report,
   self,
   due,
