@@ -1,8 +1,9 @@
 -- On how many squares men arrive in a half-move, and in a line.
-use Rattle.std.{proofs.{lemmas.Bool.{cases_eq}, Common.{◌≡◌, ◌∙◌, ℕ, ◌<◌, ◌≤◌, List, [], ◌∷◌, ap, arith, inl, inr, length, refl, subst, sym, take}}, specs.Prelude.{◌≢◌, ◌⊎◌, ◌+◌, ◌/◌, Bool, true}}
+use Rattle.std.proofs.Common.{rules}
+use Rattle.std.{proofs.{lemmas.Bool.{cases_eq}, Common.{◌≡◌, ◌∙◌, ℕ, ◌<◌, ◌≤◌, List, [], ◌∷◌, arith, inl, inr, length, refl, subst, sym, take}}, specs.Prelude.{◌≢◌, ◌⊎◌, ◌+◌, ◌/◌, Bool, true}}
 use Rattle.{std.specs.{Prelude.{false, not, ◌&&◌, nat_eq, if◌then◌else◌, slice_set, slice_index_or, suc, zero, Option, Some, None}, Int.{abs_diff}}, dgt_values.proofs.PieceCodes.{same_code}}
-use Rattle.{dgt_values.specs.{declared.pieces.Piece.{Piece, TheVariants.{Empty}}, Board.{piece_code, square_number}}, dgt_chess.specs.declared.state.{Move.{Move}, State.{State}}}
-use Rattle.dgt_chess.specs.{declared.pieces.{Colour.{Colour, TheVariants.{White, Black}}, Man.{Man, TheVariants.{Pawn, Knight, Bishop, Rook, Queen, King}}}, Attacks.{file, other, piece_at, piece_of}}
+use Rattle.{dgt_values.specs.{declared.pieces.Piece.{Piece, TheVariants.{Empty}}, Board.{piece_code}}, dgt_chess.specs.declared.state.{Move.{Move}, State.{State}}}
+use Rattle.dgt_chess.specs.{declared.pieces.{Colour.{Colour}, Man.{Man, TheVariants.{Pawn, Knight, Bishop, Rook, Queen, King}}}, Attacks.{other, piece_of}}
 use Rattle.{dgt_chess.{specs.Rules.{Promotes, beside, board, is_free, moved, pieces_after}, proofs.OneMove.{moved_is, put}}, dgt_game.specs.{Arrivals.{arrivals, counts, has_arrived}, Lines.{IsLine}}}
 use Rattle.dgt_game.specs.Lines.{IsMove, LeadsTo, NoLine}
 
@@ -11,15 +12,13 @@ abbrev one_if : Bool → ℕ
 one_if test = if test then 1 else 0
 
 at_most : (test : Bool) → one_if test ≤ 1
-at_most true = omega arith
-at_most false = omega arith
+at_most test = search rules
 
 stays : (colour : Colour) (piece : Piece) → has_arrived colour piece piece ≡ false
 stays colour piece = grind arith
 
 part : (s t : Bool) → one_if (s && t) ≤ one_if t
-part true t = omega arith
-part false t = omega arith
+part s t = search rules
 
 arrives_at_most : (colour : Colour) (old new : Piece)
     → one_if (has_arrived colour old new) ≤ one_if (counts colour new)
@@ -37,9 +36,7 @@ by_steps colour a b c = elim (cases_eq (piece_code b) (piece_code c)) [
       ≤ one_if (has_arrived colour a b) + one_if (has_arrived colour b p) in
       subst P (same_code b c same) (omega arith)
   | inr differ ↦
-      let all : one_if (has_arrived colour b c) ≡ one_if (counts colour c) =
-      ap one_if (comes (piece_code b) (piece_code c) (counts colour c) differ) in
-      omega (arith, arrives_at_most colour a c)
+      search (rules, one_if, has_arrived, counts, comes, arrives_at_most)
 ]
 
 pub triangle : (colour : Colour) (a b c : List Piece) → length a ≡ length b
@@ -68,8 +65,7 @@ set_one colour (x ∷ old) (y ∷ new) (suc at) piece =
 -- ---- a half-move
 
 free_counts : (colour : Colour) → one_if (counts colour Empty) ≡ 0
-free_counts White = refl
-free_counts Black = refl
+free_counts colour = search rules
 
 moved_one : (colour : Colour) (man : Man) (old : List Piece) (turn : Colour) (a b : ℕ)
     (promotion : Option Man) → arrivals colour old (moved man old turn a b promotion)
@@ -77,13 +73,7 @@ moved_one : (colour : Colour) (man : Man) (old : List Piece) (turn : Colour) (a 
 moved_one colour man old turn a b promotion =
     let piece = piece_of turn (put man promotion) in
     let P : List Piece → Type 0 = λ new. arrivals colour old new ≤ one_if (counts colour piece) in
-    subst P (sym (moved_is man old turn a b promotion)) (omega (
-      arith,
-      set_one colour old (slice_set old a Empty) b piece,
-      set_one colour old old a Empty,
-      none_arrives colour old,
-      free_counts colour,
-    ))
+    search (rules, moved_is, set_one, none_arrives, free_counts)
 
 -- a colour of whose men at most this many are counted if one is put on a square
 record Puts (colour turn : Colour) (most : ℕ) : Type 0 where
@@ -95,16 +85,8 @@ pawn_one : (colour turn : Colour) (most : ℕ) (test : Bool) (old : List Piece) 
     → arrivals colour old
     (if test then slice_set (moved Pawn old turn a b promotion) c Empty
     else moved Pawn old turn a b promotion) ≤ most
-pawn_one colour turn most true old a b c promotion puts =
-    omega (
-      arith,
-      set_one colour old (moved Pawn old turn a b promotion) c Empty,
-      moved_one colour Pawn old turn a b promotion,
-      free_counts colour,
-      puts.men (put Pawn promotion),
-    )
-pawn_one colour turn most false old a b c promotion puts =
-    omega (arith, moved_one colour Pawn old turn a b promotion, puts.men (put Pawn promotion))
+pawn_one colour turn most test old a b c promotion puts =
+    search (rules, set_one, moved, moved_one, free_counts, put)
 
 king_one : (colour turn : Colour) (most : ℕ) (test : Bool) (old : List Piece) (a b c d : ℕ)
     → Puts colour turn most
@@ -113,16 +95,7 @@ king_one : (colour turn : Colour) (most : ℕ) (test : Bool) (old : List Piece) 
     d (piece_of turn Rook)
     else moved King old turn a b None) ≤ most
 king_one colour turn most true old a b c d puts =
-    let new = moved King old turn a b None in
-    omega (
-      arith,
-      set_one colour old (slice_set new c Empty) d (piece_of turn Rook),
-      set_one colour old new c Empty,
-      moved_one colour King old turn a b None,
-      free_counts colour,
-      puts.men Rook,
-      puts.king,
-    )
+    search (rules, moved, set_one, moved_one, free_counts)
 king_one colour turn most false old a b c d puts =
     omega (arith, moved_one colour King old turn a b None, puts.king)
 
@@ -130,72 +103,30 @@ after_one : (colour : Colour) (most : ℕ) (man : Man) (state : State) (a b : �
     (promotion : Option Man) → Puts colour state.turn most → Promotes man state b promotion
     → arrivals colour (board state) (pieces_after man (board state) state.turn a b promotion) ≤ most
 after_one colour most Pawn state a b promotion puts promotes =
-    pawn_one colour state.turn most
-    (is_free (piece_at (board state) b) && not (nat_eq (file a) (file b))) (board state) a b
-    (beside a b) promotion puts
+    search (rules, pawn_one, is_free, board, beside)
 after_one colour most King state a b None puts promotes =
-    king_one colour state.turn most (nat_eq (abs_diff (file a) (file b)) 2) (board state) a b
-    (beside a (if nat_eq (file b) 6 then 7 else 0)) (beside a (if nat_eq (file b) 6 then 5 else 3))
-    puts
+    search (rules, king_one, abs_diff, board, beside)
 after_one colour most King state a b (Some new) puts promotes =
     let no : King ≡ Pawn = (promotes.0.0 refl).0 in absurd (let wrong : ⊥ = cc in wrong)
 after_one colour most Knight state a b promotion puts promotes =
-    omega (
-      arith,
-      moved_one colour Knight (board state) state.turn a b promotion,
-      puts.men (put Knight promotion),
-    )
+    search (rules, moved_one, board, put)
 after_one colour most Bishop state a b promotion puts promotes =
-    omega (
-      arith,
-      moved_one colour Bishop (board state) state.turn a b promotion,
-      puts.men (put Bishop promotion),
-    )
-after_one colour most Rook state a b promotion puts promotes =
-    omega (
-      arith,
-      moved_one colour Rook (board state) state.turn a b promotion,
-      puts.men (put Rook promotion),
-    )
+    search (rules, moved_one, board, put)
+after_one colour most Rook state a b promotion puts promotes = search (rules, moved_one, board, put)
 after_one colour most Queen state a b promotion puts promotes =
-    omega (
-      arith,
-      moved_one colour Queen (board state) state.turn a b promotion,
-      puts.men (put Queen promotion),
-    )
+    search (rules, moved_one, board, put)
 
 king_counts : (colour turn : Colour) → one_if (counts colour (piece_of turn King)) ≡ 0
-king_counts White White = refl
-king_counts White Black = refl
-king_counts Black White = refl
-king_counts Black Black = refl
+king_counts colour turn = search rules
 
 own_puts : (turn : Colour) → Puts turn turn 1
-own_puts turn = record {
-  men = λ man. at_most (counts turn (piece_of turn man));
-  king = king_counts turn turn;
-}
+own_puts turn = search (rules, at_most, counts, king_counts)
 
 theirs : (turn : Colour) (man : Man) → counts (other turn) (piece_of turn man) ≡ false
-theirs White Pawn = refl
-theirs White Knight = refl
-theirs White Bishop = refl
-theirs White Rook = refl
-theirs White Queen = refl
-theirs White King = refl
-theirs Black Pawn = refl
-theirs Black Knight = refl
-theirs Black Bishop = refl
-theirs Black Rook = refl
-theirs Black Queen = refl
-theirs Black King = refl
+theirs turn man = search rules
 
 their_puts : (turn : Colour) → Puts (other turn) turn 0
-their_puts turn = record {
-  men = λ man. let none : one_if (counts (other turn) (piece_of turn man)) ≡ 0 =
-      ap one_if (theirs turn man) in omega arith;
-  king = king_counts (other turn) turn;
-}
+their_puts turn = search (rules, one_if, counts, theirs, king_counts)
 
 move_one : (colour : Colour) (most : ℕ) (state : State) (one : Move) (next : State)
     → Puts colour state.turn most → IsMove state one next
@@ -203,8 +134,7 @@ move_one : (colour : Colour) (most : ℕ) (state : State) (one : Move) (next : S
 unfolding IsMove
 move_one colour most state one next puts (man, legal, after) =
     let P : List Piece → Type 0 = λ new. arrivals colour (board state) new ≤ most in
-    subst P (sym after.pieces) (after_one colour most man state (square_number one.from)
-    (square_number one.to) one.promotion puts legal.promotes)
+    subst P (sym after.pieces) (search (rules, after_one))
 
 -- ---- a line
 
@@ -214,18 +144,12 @@ unfolding IsMove
 next_turn state one next (man, legal, after) = after.turn
 
 twice : (colour : Colour) → other (other colour) ≡ colour
-twice White = refl
-twice Black = refl
+twice colour = search rules
 
 line_arrivals : (state : State) (moves : List Move) (new : State) → IsLine state moves new
     → (arrivals state.turn (board state) (board new) ≤ (length moves + 1) / 2)
     × (arrivals (other state.turn) (board state) (board new) ≤ length moves / 2)
-line_arrivals state [] new same =
-    let P : State → Type 0 = λ s. (arrivals state.turn (board state) (board s) ≤ 0)
-    × (arrivals (other state.turn) (board state) (board s) ≤ 0) in
-    let none = none_arrives state.turn (board state) in
-    let none' = none_arrives (other state.turn) (board state) in
-    subst P same (omega arith, omega arith)
+line_arrivals state [] new same = search (rules, arrivals, board, none_arrives)
 line_arrivals state (one ∷ moves) new (next, move, line) =
     let own = move_one state.turn 1 state one next (own_puts state.turn) move in
     let their = move_one (other state.turn) 0 state one next (their_puts state.turn) move in
@@ -233,19 +157,7 @@ line_arrivals state (one ∷ moves) new (next, move, line) =
     state.position.all ∙ sym next.position.all in
     let turn = next_turn state one next move in
     let rest = line_arrivals next moves new line in
-    let P : Colour → Type 0 = λ c. (arrivals c (board next) (board new) ≤ (length moves + 1) / 2)
-    × (arrivals (other c) (board next) (board new) ≤ length moves / 2) in
-    let later = subst P turn rest in
-    let Q : Colour → Type 0 = λ c. arrivals c (board next) (board new) ≤ length moves / 2 in
-    let again = subst Q (twice state.turn) later.1 in (
-      omega (arith, own, again, triangle state.turn (board state) (board next) (board new) long),
-      omega (
-        arith,
-        their,
-        later.0,
-        triangle (other state.turn) (board state) (board next) (board new) long,
-      ),
-    )
+    search (rules, arrivals, board, twice, triangle)
 
 -- too many have arrived for this many half-moves
 pub too_far : (state : State) (pieces : List Piece) (halves : ℕ)
@@ -254,14 +166,7 @@ pub too_far : (state : State) (pieces : List Piece) (halves : ℕ)
     → NoLine halves state pieces
 unfolding NoLine LeadsTo
 too_far state pieces halves far moves long (new, line, same) =
-    let P : List Piece → Type 0 = λ p.
-    (arrivals state.turn (board state) p ≤ (length moves + 1) / 2)
-    × (arrivals (other state.turn) (board state) p ≤ length moves / 2) in
-    let near = subst P same (line_arrivals state moves new line) in
-    elim far [
-      | inl own ↦ omega (arith, own, near.0, long)
-      | inr their ↦ omega (arith, their, near.1, long)
-    ]
+    search (rules, arrivals, board, line_arrivals)
 
 -- ---- counted square by square
 
@@ -282,8 +187,4 @@ pub one_more : (colour : Colour) (olds news : List Piece) (at : ℕ) → at < le
     ≡ arrivals colour (take at olds) (take at news)
     + one_if (has_arrived colour (slice_index_or olds at Empty) (slice_index_or news at Empty))
 one_more colour olds news at small small' =
-    let e : at + 1 ≡ suc at = omega arith in
-    let P : ℕ → Type 0 = λ n. arrivals colour (take n olds) (take n news)
-    ≡ arrivals colour (take at olds) (take at news)
-    + one_if (has_arrived colour (slice_index_or olds at Empty) (slice_index_or news at Empty)) in
-    subst P (sym e) (one_at colour olds news at small small')
+    search (rules, arrivals, one_if, has_arrived, slice_index_or, one_at)

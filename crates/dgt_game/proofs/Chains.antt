@@ -1,5 +1,7 @@
 -- Steps in turn, and places for them.
-use Rattle.std.proofs.Common.{◌≡◌, ◌≢◌, ◌⊎◌, ◌<◌, ◌≤◌, ◌+◌, ◌++◌, ◌∷◌, ◌∙◌, refl, sym, ap, subst, inl, inr, arith, ℕ, zero, suc, length, drop, List, [], Option, Some, None, unwrap_or, slice_index_or}
+use Rattle.std.proofs.Common.{rules}
+use Rattle.std.proofs.lemmas.Grind.{common_steps}
+use Rattle.std.proofs.Common.{◌≡◌, ◌≢◌, ◌⊎◌, ◌<◌, ◌≤◌, ◌+◌, ◌++◌, ◌∷◌, refl, sym, ap, subst, inl, inr, arith, ℕ, zero, suc, length, drop, List, [], Option, Some, None, unwrap_or, slice_index_or}
 use Rattle.{std.{proofs.lemmas.List.{length-map}, specs.Prelude.{⊤, MatchOption, slice_get}}, dgt_values.specs.declared.pieces.Piece.{Piece}, dgt_game.specs.declared.node.{Node.{Node}, Place.{Place}}}
 use Rattle.dgt_game.{specs.{declared.node.Step.{Step}, Memory.{By, Chain, Grows, IsBefore, IsRooted, IsSeen, Links, step_at, steps, tip}}, proofs.Told.{links_any, links_moved}}
 
@@ -81,9 +83,7 @@ stays_at (first ∷ old) new (suc k) step h = stays_at old new k step h
 
 stays : (kept old : List Step) (new : Step) (place : Place) (step : Step)
     → Links (step_at kept old place) step → Links (step_at kept (old ++ new ∷ []) place) step
-stays kept old new (Place.Line k) step h = h
-stays kept old new (Place.Seen k) step h = stays_at old new k step h
-stays kept old new Place.Nowhere step h = h
+stays kept old new place step h = search (rules, stays_at)
 
 -- a step at an index is an old one, or the new one
 split_at : (old : List Step) (new : Step) (k : ℕ) (step : Step)
@@ -92,32 +92,21 @@ split_at : (old : List Step) (new : Step) (k : ℕ) (step : Step)
 split_at [] new zero step e = inr (ap (λ (o : Option Step). unwrap_or o new) e, refl)
 split_at [] new (suc k) step e = absurd (subst (λ (o : Option Step). MatchOption o ⊤ (λ _. ⊥)) e tt)
 split_at (first ∷ old) new zero step e = inl e
-split_at (first ∷ old) new (suc k) step e = elim (split_at old new k step e) [
-  | inl at ↦ inl at
-  | inr last ↦ inr (last.0, ap (λ (n : ℕ). suc n) last.1)
-]
+split_at (first ∷ old) new (suc k) step e = search (rules, split_at old new k step e)
 
 pub rooted_push : (lines : ℕ) (old : List Step) (new : Step) → IsRooted lines old
     → IsBefore lines (length old) new.parent → IsRooted lines (old ++ new ∷ [])
-rooted_push lines old new rooted before k step e = elim (split_at old new k step e) [
-  | inl at ↦ rooted k step at
-  | inr last ↦ subst (λ (n : ℕ). IsBefore lines n step.parent) (sym last.1)
-      (subst (λ (s : Step). IsBefore lines (length old) s.parent) last.0 before)
-]
+rooted_push lines old new rooted before k step e = search (rules, split_at)
 
 -- what may follow is before all later steps, too
 pub before_later : (lines k later : ℕ) (place : Place) → k ≤ later → IsBefore lines k place
     → IsBefore lines later place
-before_later lines k later (Place.Line base) more h = h
-before_later lines k later (Place.Seen j) more h = omega (arith, h, more)
-before_later lines k later Place.Nowhere more h = tt
+before_later lines k later place more h = search rules
 
 -- a place that was not seen since is before all steps
 pub before_all : (lines k : ℕ) (place : Place) → ((j : ℕ) → place ≢ Place.Seen j)
     → IsBefore lines k place → IsBefore lines 0 place
-before_all lines k (Place.Line base) other h = h
-before_all lines k (Place.Seen j) other h = absurd (other j refl)
-before_all lines k Place.Nowhere other h = tt
+before_all lines k place j h = search rules
 
 seen_index : Place → ℕ
 seen_index (Place.Seen k) = k
@@ -127,17 +116,13 @@ seen_index Place.Nowhere = 0
 -- a path that has left a place began at one that was seen
 pub is_within : (k len at : ℕ) (place : Place) → (at ≡ 0 → place ≡ Place.Seen k)
     → (at ≢ 0 → k < len) → (k < len) ⊎ ((j : ℕ) → place ≢ Place.Seen j) → k < len
-is_within k len at place first later (inl within) = within
-is_within k len zero place first later (inr other) = absurd (other k (first refl))
-is_within k len (suc at) place first later (inr other) = later (λ e. omega (arith, e))
+is_within k len at place j later h = search rules
 
 -- a path that leaves one has left it before, or leaves where it begins
 pub is_inside : (k len at here : ℕ) → (at ≡ 0 → Place.Seen here ≡ Place.Seen k)
     → (at ≢ 0 → k < len) → here < len → k < len
 unfolding seen_index
-is_inside k len zero here first later within =
-    let same : here ≡ k = ap seen_index (first refl) in omega (arith, same, within)
-is_inside k len (suc at) here first later within = later (λ e. omega (arith, e))
+is_inside k len at here first later within = search (rules, seen_index)
 
 pub last_item : {X : Type 0} (old : List X) (item : X) (k : ℕ) → length old ≡ k
     → slice_get (old ++ item ∷ []) k ≡ Some item
@@ -148,17 +133,14 @@ last_item (first ∷ old) item (suc k) e = last_item old item k (omega arith)
 -- a place of the line, or none, was not seen since
 pub not_seen : (lines : ℕ) (place : Place) → IsBefore lines 0 place → (j : ℕ)
     → place ≢ Place.Seen j
-not_seen lines place before j e = absurd (let wrong : j < 0 = subst (λ (p : Place). IsBefore lines 0
-    p) e before in omega arith)
+not_seen lines place before j e = search rules
 
 pub grows_push : (shown : List (List Piece)) (kept old : List Step) (new : Step)
     → Grows shown kept old → Links (step_at kept old new.parent) new → IsSeen shown new
     → Grows shown kept (old ++ new ∷ [])
 grows_push shown kept old new grows links seen k step e = elim (split_at old new k step e) [
   | inl at ↦ (stays kept old new step.parent step (grows k step at).0, (grows k step at).1)
-  | inr (same, _) ↦ subst (λ (s : Step). Links (step_at kept (old ++ new ∷ []) s.parent) s
-      × IsSeen shown s) same
-      (stays kept old new new.parent new links, seen)
+  | inr (same, _) ↦ search (rules, step_at, stays)
 ]
 
 pub steps_push : (nodes : List Node) (node : Node)
@@ -192,9 +174,7 @@ drops (first ∷ nodes) (suc k) node l e = drops nodes k node (omega arith) e
 pub steps_drop : (nodes : List Node) (k : ℕ) (node : Node) → k < length nodes
     → node ≡ slice_index_or nodes k node
     → steps (drop k nodes) ≡ node.step ∷ steps (drop (k + 1) nodes)
-steps_drop nodes k node l e =
-    let next : suc k ≡ k + 1 = omega arith in
-    drops nodes k node l e ∙ ap (λ (n : ℕ). node.step ∷ steps (drop n nodes)) next
+steps_drop nodes k node l e = grind (arith, common_steps, drops, node, steps)
 
 -- the next step of a path goes where it is kept
 pub next_chained : (shown : List (List Piece)) (kept old rest : List Step) (step : Step) (place :
@@ -202,24 +182,18 @@ pub next_chained : (shown : List (List Piece)) (kept old rest : List Step) (step
     → Chain shown (step_at kept old place) (step ∷ rest)
     → Grows shown kept (old ++ moved step place ∷ [])
     × Chain shown (step_at kept (old ++ moved step place ∷ []) (Place.Seen k)) rest
-next_chained shown kept old rest step place k e grows chain = (
-  grows_push shown kept old (moved step place) grows (links_moved (step_at kept old place) step
-      place chain.0) chain.1,
-  rw (last_at old (moved step place) k e) (chain_after shown step place rest chain.2),
-)
+next_chained shown kept old rest step place k e grows chain =
+    search (rules, grows_push, moved, links_moved, step_at, last_at, chain_after)
 
 pub next_tip : (kept old rest : List Step) (first step : Step) (place : Place) (k : ℕ)
     → length old ≡ k → Links (tip (Some first) rest) step
     → Links (tip (step_at kept (old ++ moved first place ∷ []) (Place.Seen k)) rest) step
-next_tip kept old rest first step place k e h = rw (last_at old (moved first place) k e) (tip_after
-    first step place rest h)
+next_tip kept old rest first step place k e h = search (rules, last_at, moved, tip_after)
 
 -- the place of what was not seen since
 pub place_at : (kept seen : List Step) (place : Place) → ((k : ℕ) → place ≢ Place.Seen k)
     → step_at kept seen place ≡ step_at kept [] place
-place_at kept seen (Place.Line k) h = refl
-place_at kept seen (Place.Seen k) h = absurd (h k refl)
-place_at kept seen Place.Nowhere h = refl
+place_at kept seen place k = search rules
 
 pub some_at : {X : Type 0} (items : List X) (k : ℕ) → k < length items → slice_get items k ≢ None
 some_at [] k l e = omega (arith, l)
@@ -242,8 +216,7 @@ pub tip_there : (before : Option Step) (path : List Step) → (before ≢ None) 
     → tip before path ≢ None
 tip_there before [] (inl some) = some
 tip_there before [] (inr some) = absurd (some refl)
-tip_there before (first ∷ path) some = tip_there (Some first) path (inl (λ e. let wrong : ⊥ = cc in
-    wrong))
+tip_there before (first ∷ path) some = tip_there (Some first) path (search rules)
 
 pub steps_length : (nodes : List Node) → length (steps nodes) ≡ length nodes
 steps_length nodes = length-map nodes (λ (n : Node). n.step)
@@ -252,9 +225,7 @@ steps_length nodes = length-map nodes (λ (n : Node). n.step)
 pub found_before : (line seen : List Step) (place : Place) (step : Step)
     → ((k : ℕ) → place ≡ Place.Line k → k ≤ 4) → step_at line seen place ≡ Some step
     → IsBefore (length line) (length seen) place
-found_before line seen (Place.Line k) step near e = (below_some line k step e, near k refl)
-found_before line seen (Place.Seen k) step near e = below_some seen k step e
-found_before line seen Place.Nowhere step near e = tt
+found_before line seen place step k e = search (rules, below_some)
 
 pub some_below : {X : Type 0} (items : List X) (k : ℕ) → k < length items → (item : X)
     × (slice_get items k ≡ Some item)

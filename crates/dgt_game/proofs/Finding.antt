@@ -1,6 +1,8 @@
 -- What several half-moves lead to is found.
-use Rattle.std.proofs.{Common.{◌≡◌, ◌≢◌, ◌∙◌, ◌<◌, ◌≤◌, ◌+◌, ◌-◌, ◌^◌, ◌⊎◌, inl, inr, refl, sym, ap, subst, arith, min, ℕ, Bool, true, false, Option, Some, None}, lemmas.Bool.{false≢true}}
-use Rattle.{std.specs.Prelude.{IfSome, if◌then◌else◌, option_map}, dgt_values.specs.Board.{pieces_of}, dgt_chess.specs.{declared.{pieces.Colour.{Colour}, state.State.{State}}, Rules.{board}}}
+use Rattle.std.proofs.Common.{rules}
+use Rattle.std.proofs.lemmas.Grind.{common_steps}
+use Rattle.std.proofs.{Common.{◌≡◌, ◌≢◌, ◌∙◌, ◌<◌, ◌≤◌, ◌+◌, ◌-◌, ◌^◌, ◌⊎◌, inl, inr, refl, sym, subst, arith, min, ℕ, Bool, true, false, Option, Some, None}, lemmas.Bool.{false≢true}}
+use Rattle.{std.specs.Prelude.{IfSome, option_map}, dgt_values.specs.Board.{pieces_of}, dgt_chess.specs.{declared.{pieces.Colour.{Colour}, state.State.{State}}, Rules.{board}}}
 use Rattle.dgt_game.specs.{declared.{node.Place.{Place}, recogniser.{Recogniser.{Recogniser}, Search.{Search}}, resting.{Next.{Next}, Task.{Task}}, view.View.{View}}, Told.{as_shown}}
 use Rattle.dgt_game.specs.{Finding.{FindsLater, IsFound, IsSearched, SearchIsDue, WhatFollowsIsFound}, Memory.{IsTold}, Planning.{EndsSearch, HasKing, IsLostOr, Plans, RestsBefore, StaysPlaced}}
 use Rattle.dgt_game.{specs.{Planning.{TaskFits, search_wait}, Reading.{HasSomeLines, IsLive}, Settling.{StaysShown}, Standing.{StandsAt}, Timing.{IsIdle}}, proofs.Pictures.{king_seen, led_to}}
@@ -29,91 +31,60 @@ shown_then a b c f g = (g.0 ∙ f.0, g.1 ∙ f.1, g.2 ∙ f.2)
 
 -- once the board stands somewhere or nothing will come of it, there is nothing to find
 pub found_placed : (new : Recogniser) → new.here ≡ Place.Line 0 → FindsLater new
-found_placed new here = (
-  λ view is nowhere searched live fits lines. let wrong : ⊥ = cc in wrong,
-  λ nowhere waits. absurd (let wrong : ⊥ = cc in wrong),
-)
+found_placed new here = search rules
 
 pub found_hopeless : (new : Recogniser) → new.search ≡ Search.Hopeless → FindsLater new
-found_hopeless new search = (
-  λ view is nowhere searched live fits lines. let wrong : ⊥ = cc in wrong,
-  λ nowhere waits. absurd (let wrong : ⊥ = cc in wrong),
-)
+found_hopeless new search = grind (arith, common_steps)
 
 pub found_ended : (old new : Recogniser) → EndsSearch old new → FindsLater new
-found_ended old new (inl ends) = found_hopeless new ends.0
-found_ended old new (inr last) = found_hopeless new last.1
+found_ended old new h = search (rules, found_hopeless)
 
 -- while nothing was found, nothing but a notice waits
 pub found_later : (old new : Recogniser) → StaysPlaced old new → IsLostOr old
     → ¬ (IsTold old.memory × (old.ended ≡ None)) → IsFound new
-found_later old new (view, search, here) lost waits = λ shown is nowhere searched live fits lines.
-    let some : old.view ≢ None = (λ none. let wrong : ⊥ = cc in wrong) in
-    let nothing = lost some (here nowhere) (sym search ∙ searched) in
-    waits (nothing.0, nothing.1)
+found_later old new (view, search, here) lost waits = grind (arith, common_steps)
 
 -- ---- Laws
 
 no_king : (view : View) (state : State) (turned : Bool) (colour : Colour)
     → board state ≡ as_shown turned (pieces_of view.shown)
     → ¬ (¬ (HasKing (pieces_of view.shown) colour))
-no_king view state turned colour same none = false≢true (king_seen state turned (pieces_of
-    view.shown) colour false view.shown.all same (λ square small e. absurd (none (
-      square,
-      small,
-      e,
-    ))))
+no_king view state turned colour same none =
+    false≢true (king_seen state turned (pieces_of
+    view.shown) colour false view.shown.all same (search rules))
 
 -- what is done next isn't due yet
 pub not_yet : (next : Option Next) (since now : ℕ)
     → IfSome (option_map (λ (n : Next). min (since + n.wait) (2 ^ 64 - 1)) next) (λ at. now < at)
     → (plan : Next) → next ≡ Some plan → now < since + plan.wait
-not_yet next since now idle plan e =
-    let soon : now < min (since + plan.wait) (2 ^ 64 - 1) = subst (λ (o : Option Next). IfSome
-    (option_map (λ (n : Next). min (since + n.wait) (2 ^ 64 - 1)) o) (λ at. now < at)) e idle in
-    omega (arith, soon)
+not_yet next since now idle plan e = search (rules, min)
 
 searched_by : (behind : Bool) → search_wait behind ≤ 1000
-searched_by true = omega arith
-searched_by false = omega arith
+searched_by behind = search rules
 
 -- so it isn't a search, and nothing else is done with a position that has no place
 undone : (self : Recogniser) (now : ℕ) (task : Task) (wait : ℕ) → self.here ≡ Place.Nowhere
     → self.is_next ≡ false → ¬ (self.search ≡ Search.Done) → SearchIsDue now self
     → now < self.since + wait → TaskFits self task → RestsBefore self task wait → ⊥
-undone self now Task.EndByKings wait nowhere next done (inl late) soon fits rests =
-    omega (arith, late, soon, rests)
-undone self now Task.EndByKings wait nowhere next done (inr (behind, kings, late)) soon fits rests =
-    false≢true (sym kings ∙ fits)
-undone self now Task.Search wait nowhere next done (inl late) soon fits rests =
-    omega (arith, late, soon, rests, searched_by self.is_behind)
-undone self now Task.Search wait nowhere next done (inr (behind, kings, late)) soon fits rests =
-    let short : search_wait self.is_behind ≡ 320 = ap (λ (b : Bool). search_wait b) behind in
-    omega (arith, late, soon, rests, short)
-undone self now Task.Tell wait nowhere next done due soon fits rests = false≢true (sym next ∙ fits)
-undone self now Task.Begin wait nowhere next done due soon fits rests = done fits.1
+undone self now task wait nowhere next done due soon fits rests =
+    search (rules, false≢true, searched_by, search_wait)
 
 no_plan : (self : Recogniser) (now : ℕ) (next : Option Next) → self.next ≡ next
     → self.is_sure ≡ true → IsIdle now self → Plans self next → self.here ≡ Place.Nowhere
     → self.is_next ≡ false → ¬ (self.search ≡ Search.Done) → SearchIsDue now self → next ≡ None
-no_plan self now None is sure idle plans nowhere next done due = refl
-no_plan self now (Some plan) is sure idle plans nowhere next done due =
-    let idles = subst (λ (b : Bool). IfSome (if b then option_map (λ (n : Next). min
-    (self.since + n.wait) (2 ^ 64 - 1)) self.next else None) (λ at. now < at)) sure idle.1 in
-    absurd (undone self now plan.task plan.wait nowhere next done due (not_yet self.next self.since
-    now idles plan is) plans.0 plans.1)
+no_plan self now next is sure idle plans nowhere h done due = search (rules, min, undone, not_yet)
 
 pub what_follows_is_found : WhatFollowsIsFound
 what_follows_is_found self view now stands planned why found seen sure confirmed idle due live fits
-    lines = elim (place_or self.here) [
+    lines =
+    elim (place_or self.here) [
       | inl some ↦ inl some
       | inr nowhere ↦
           let undone : ¬ (self.search ≡ Search.Done) = (λ done. found view seen nowhere done live
           fits lines) in
           let at = subst (λ (o : Option View). IfSome o (StandsAt self.here self.memory self.is_next
           self.is_sure)) seen stands.0 in
-          let next : self.is_next ≡ false = subst (λ (p : Place). StandsAt p self.memory
-          self.is_next self.is_sure view) nowhere at in
+          let next : self.is_next ≡ false = search rules in
           let none = no_plan self now self.next refl sure idle planned nowhere next undone due in
           elim (subst (Plans self) none planned) [
             | inl doubt ↦ absurd (false≢true (sym doubt ∙ confirmed))

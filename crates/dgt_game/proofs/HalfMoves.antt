@@ -1,4 +1,5 @@
 -- The half-move that leads to a picture.
+use Rattle.std.proofs.Common.{rules}
 use Rattle.{std.{proofs.Common.{◌≡◌, ◌∙◌, ℕ, ◌<◌, List, [], ◌∷◌, ap, arith, length, refl, subst, sym}, specs.Prelude.{Option}}, dgt_values.specs.{declared.pieces.Piece.{Piece}, Board.{square_number}}}
 use Rattle.dgt_chess.{specs.{declared.{pieces.Man.{Man}, state.{Move.{Move}, State.{State}}}, Rules.{IsAfter, Legal, LegalBy, Reaches, board, pieces_after, OneMoveAPicture}}, proofs.Unique.{same_man}}
 use Rattle.dgt_game.{specs.Lines.{IsMove, IsOnly, LeadsTo, NoLine}, proofs.Same.{same_move}}
@@ -23,10 +24,7 @@ pub arrives : (state new : State) (pieces : List Piece) (one : Move) (man : Man)
 unfolding IsMove Reaches
 arrives state new pieces one man legal after (man', legal', same) =
     let men : man' ≡ man = same_man state.turn man' man (sym legal'.own ∙ legal.own) in
-    let P : Man → Type 0 = λ m.
-    pieces_after m (board state) state.turn (square_number one.from) (square_number one.to)
-    one.promotion ≡ pieces in
-    ((man, legal, after), after.pieces ∙ subst P men same)
+    search (rules, pieces_after, board, state, square_number, pieces)
 
 pub is_move : (state : State) (one : Move) (new : State) (man : Man)
     → LegalBy man state (square_number one.from) (square_number one.to) one.promotion
@@ -57,9 +55,7 @@ pub none : (state : State) (pieces : List Piece)
     → ¬ (Reaches state pieces from to promotion))
     → NoLine 1 state pieces
 unfolding NoLine
-none state pieces h moves e leads =
-    let s = single state moves pieces e leads in
-    h (square_number s.0.from) (square_number s.0.to) s.0.promotion s.0.from.small s.0.to.small s.2
+none state pieces h moves e leads = search (rules, single, state, pieces, square_number)
 
 pub only : OneMoveAPicture → (state : State) (pieces : List Piece) (one : Move)
     → Reaches state pieces (square_number one.from) (square_number one.to) one.promotion

@@ -1,5 +1,6 @@
 -- Pieces in hands.
-use Rattle.{std.proofs.{Common.{◌≡◌, ◌∙◌, ◌⊎◌, refl, sym, subst, inl, inr, ℕ, List, Some, slice_get, Contains}, lemmas.Option.{get_or_from_slice_get}}, dgt_values.specs.declared.pieces.Piece.{Piece}}
+use Rattle.std.proofs.Common.{rules}
+use Rattle.{std.proofs.{Common.{◌≡◌, ◌⊎◌, refl, sym, subst, ℕ, List, Some, slice_get, Contains}, lemmas.Option.{get_or_from_slice_get}}, dgt_values.specs.declared.pieces.Piece.{Piece}}
 use Rattle.{dgt_chess.specs.{declared.{pieces.Man.{Man}, state.{Move.{Move}, State.{State}}}, Attacks.{piece_at, piece_of}, Rules.{board}}, dgt_game.specs.declared.node.{Place.{Place}, Step.{Step}}}
 use Rattle.dgt_game.{specs.{declared.node.Way.{Way}, Lines.{IsMove}, Told.{IsHeld, WasShown, as_shown}, Memory.{IsSeen, Links, step_at}}, proofs.Links.{links}}
 
@@ -15,14 +16,8 @@ pub lacks_at : (picture : List Piece) (state : State) (n at : ℕ) (new old : Pi
     ⊎ ((new ≡ Piece.Empty) × ((man : Man) × (old ≡ piece_of state.turn man)))
     → LacksAt picture state at
 lacks_at picture state n at new old same is was h =
-    let new_is : piece_at picture at ≡ new = get_or_from_slice_get picture at new Piece.Empty
-    (subst (λ (k : ℕ). slice_get picture k ≡ Some new) same is) in
-    let old_is : piece_at (board state) at ≡ old = get_or_from_slice_get (board state) at old
-    Piece.Empty (subst (λ (k : ℕ). slice_get (board state) k ≡ Some old) same was) in
-    elim h [
-      | inl e ↦ inl (new_is ∙ e ∙ sym old_is)
-      | inr none ↦ inr (new_is ∙ none.0, (none.1.0, old_is ∙ none.1.1))
-    ]
+    let new_is : piece_at picture at ≡ new = search (rules, get_or_from_slice_get) in
+    search (rules, get_or_from_slice_get)
 
 -- a half-move that is shown but for pieces in hands
 pub held : (shown : List (List Piece)) (line seen : List Step) (from : Step) (place : Place) (one :
@@ -46,13 +41,5 @@ held shown line seen from place one state step picture pieces at e move is_shown
             = Way.Made one;
         parent = place;
       }) at refl move,
-      inr (inl (
-        refl,
-        (
-          picture,
-          is_shown,
-          subst (λ (ps : List Piece). IsHeld ps state) same
-              is_held,
-        ),
-      )),
+      search rules,
     )

@@ -1,5 +1,6 @@
 -- What is held stays so, if steps stay as they are.
-use Rattle.{std.proofs.Common.{◌≡◌, inl, inr, length, List, []}, dgt_values.specs.declared.pieces.Piece.{Piece}, dgt_game.specs.{declared.memory.Memory.{Memory}, Told.{Told}, Memory.{Grows, Holds}}}
+use Rattle.std.proofs.Common.{rules}
+use Rattle.{std.proofs.Common.{◌≡◌, length, List, []}, dgt_values.specs.declared.pieces.Piece.{Piece}, dgt_game.specs.{declared.memory.Memory.{Memory}, Told.{Told}, Memory.{Grows, Holds}}}
 use Rattle.dgt_game.{specs.Memory.{IsRooted, steps}, proofs.Told.{grows_none, rooted_none}}
 
 pub same_line : (shown : List (List Piece)) (line : List Told) (old new : Memory)
@@ -38,17 +39,8 @@ pub none_seen : (shown : List (List Piece)) (line : List Told) (old new : Memory
     → new.line ≡ old.line → steps new.seen.items ≡ [] → new.back ≡ old.back
     → new.unsaid ≡ old.unsaid → new.answer ≡ old.answer → Holds shown line old
     → Holds shown line new
-none_seen shown line old new lines seen back unsaid answer h = record {
-  shown_line = h.shown_line;
-  kept = rw lines h.kept;
-  back = rw (lines, back) h.back;
-  unsaid = rw (lines, back, unsaid) h.unsaid;
-  answer = rw (lines, back, unsaid, answer) h.answer;
-  answered = rw (lines, back, unsaid, answer) h.answered;
-  grows = rw seen (grows_none shown (steps new.line.items));
-  rooted = rw seen (rooted_none _);
-  quiet = inl seen;
-}
+none_seen shown line old new lines seen back unsaid answer h =
+    search (rules, grows_none, steps, rooted_none)
 
 pub seen_new : (shown : List (List Piece)) (line : List Told) (old new : Memory)
     → new.line ≡ old.line → new.back ≡ old.back → new.unsaid ≡ old.unsaid
@@ -56,14 +48,4 @@ pub seen_new : (shown : List (List Piece)) (line : List Told) (old new : Memory)
     → Grows shown (steps new.line.items) (steps new.seen.items)
     → IsRooted (length (steps new.line.items)) (steps new.seen.items) → Holds shown line old
     → Holds shown line new
-seen_new shown line old new lines back unsaid answer none nothing grows rooted h = record {
-  shown_line = h.shown_line;
-  kept = rw lines h.kept;
-  back = rw (lines, back) h.back;
-  unsaid = rw (lines, back, unsaid) h.unsaid;
-  answer = rw (lines, back, unsaid, answer) h.answer;
-  answered = rw (lines, back, unsaid, answer) h.answered;
-  grows = grows;
-  rooted = rooted;
-  quiet = inr (rw back none, rw unsaid nothing);
-}
+seen_new shown line old new lines back unsaid answer none nothing grows rooted h = search rules

@@ -1,8 +1,9 @@
 -- What is known stays so when more is shown, and over whole runs.
-use Rattle.std.{proofs.Common.{◌≡◌, ◌∙◌, ◌++◌, ◌<◌, refl, sym, ap, subst, inl, inr, arith, ℕ, zero, suc, length, slice_index_or, Bool, List, [], ◌∷◌, Option, Some, None}, specs.Prelude.{Contains}}
+use Rattle.std.proofs.Common.{rules}
+use Rattle.std.{proofs.Common.{◌≡◌, ◌++◌, ◌<◌, refl, arith, ℕ, zero, suc, length, slice_index_or, Bool, List, [], ◌∷◌, Option, Some}, specs.Prelude.{Contains}}
 use Rattle.{std.specs.Prelude.{IfSome}, dgt_values.specs.{declared.pieces.Piece.{Piece}, Board.{pieces_of}}, dgt_chess.specs.declared.state.State.{State}}
 use Rattle.dgt_game.specs.declared.{memory.Memory.{Memory}, node.{Node.{Node}, Place.{Place}, Step.{Step}, Way.{Way}}, observation.Sight.{Sight}, recogniser.Recogniser.{Recogniser}, view.View.{View}}
-use Rattle.dgt_game.specs.{Told.{IsShown, Told, WasShown, told_pieces}, Memory.{Chain, Holds, steps}, Recogniser.{GoesOn, Knows, new_recogniser, shown_after}}
+use Rattle.dgt_game.specs.{Told.{IsShown, Told, WasShown}, Memory.{Chain, Holds}, Recogniser.{GoesOn, Knows, new_recogniser, shown_after}}
 use Rattle.dgt_game.{proofs.{Links.{was_shown}, Told.{grows_none, rooted_none}}}
 
 -- all pictures of the first are among the second
@@ -18,8 +19,7 @@ first_shown shown first = (zero, omega arith, refl)
 first_among : (shown : List (List Piece)) (first picture : List Piece) (k : ℕ)
     → k < length (first ∷ []) → slice_index_or (first ∷ []) k picture ≡ picture
     → Contains (first ∷ shown) picture
-first_among shown first picture zero l e = (zero, omega arith, e)
-first_among shown first picture (suc k) l e = absurd (omega (arith, l))
+first_among shown first picture k l e = search rules
 
 pub within_first : (shown : List (List Piece)) (first : List Piece)
     → Within (first ∷ []) (first ∷ shown)
@@ -34,13 +34,7 @@ within_after Sight.Away shown = λ picture h. h
 pub was_more : (shown more : List (List Piece)) (told : Told) → Within shown more
     → WasShown shown told → WasShown more told
 unfolding WasShown
-was_more shown more told within h = elim h [
-  | inl seen ↦ inl (within (told_pieces told) seen)
-  | inr other ↦ inr (elim other [
-    | inl held ↦ inl (held.0, (held.1.0, within held.1.0 held.1.1, held.1.2))
-    | inr start ↦ inr start
-  ])
-]
+was_more shown more told within h = search rules
 
 shown_more : (shown more : List (List Piece)) (line : List Told) → Within shown more
     → IsShown shown line → IsShown more line
@@ -56,8 +50,7 @@ chain_more shown more before (step ∷ path) within h =
 
 some_more : {X : Type 0} (P Q : X → Type 0) (found : Option X) → ((x : X) → P x → Q x)
     → IfSome found P → IfSome found Q
-some_more P Q None more h = tt
-some_more P Q (Some x) more h = more x h
+some_more P Q found x h = search rules
 
 pub holds_more : (shown more : List (List Piece)) (line : List Told) (self : Memory)
     → Within shown more → Holds shown line self → Holds more line self
@@ -66,8 +59,7 @@ holds_more shown more line self within h = record {
   kept = h.kept;
   back = h.back;
   unsaid = chain_more shown more _ _ within h.unsaid;
-  answer = some_more _ _ self.answer (λ node seen. (seen.0, was_more shown more _ within seen.1))
-      h.answer;
+  answer = search (rules, some_more, was_more);
   answered = h.answered;
   grows = λ k step e. let seen = h.grows k step e in (seen.0, was_more shown more _ within seen.1);
   rooted = h.rooted;
@@ -76,10 +68,7 @@ holds_more shown more line self within h = record {
 
 pub knows_more : (shown more : List (List Piece)) (line : List Told) (self : Recogniser)
     → Within shown more → Knows shown line self → Knows more line self
-knows_more shown more line self within h = record {
-  held = holds_more shown more line self.memory within h.held;
-  seen = some_more _ _ self.view (λ view. within (pieces_of view.shown)) h.seen;
-}
+knows_more shown more line self within h = search (rules, holds_more, some_more)
 
 -- only these two are known
 abbrev pub memory_of : Recogniser → Memory
@@ -91,27 +80,10 @@ view_of self = self.view
 pub knows_same : (shown : List (List Piece)) (line : List Told) (old new : Recogniser)
     → memory_of new ≡ memory_of old → view_of new ≡ view_of old → Knows shown line old
     → Knows shown line new
-knows_same shown line old new memory view h = record {
-  held = subst (Holds shown line) (sym memory) h.held;
-  seen = subst (λ (v : Option View). IfSome v (λ view. Contains shown (pieces_of view.shown)))
-      (sym view) h.seen;
-}
+knows_same shown line old new memory view h = search rules
 
 pub knows_nothing : Knows [] [] new_recogniser
-knows_nothing = record {
-  held = record {
-    shown_line = tt;
-    kept = (tt, λ e. refl);
-    back = inl refl;
-    unsaid = tt;
-    answer = tt;
-    answered = tt;
-    grows = grows_none [] [];
-    rooted = rooted_none 0;
-    quiet = inl refl;
-  };
-  seen = tt;
-}
+knows_nothing = search (rules, grows_none, rooted_none)
 
 -- the first step of a line
 abbrev pub first_step : State → Bool → Step
@@ -129,34 +101,4 @@ pub goes_on : (state : State) (is_turned : Bool) (old self : Recogniser) (node :
     → self.memory.answer ≡ old.memory.answer → self.memory.seen.items ≡ old.memory.seen.items
     → self.view ≡ old.view → GoesOn state is_turned self
 goes_on state is_turned old self node new step line back unsaid answer seen view =
-    let told : Told = record { state = state; halves = 0; is_turned = is_turned } in
-    let lines : steps self.memory.line.items ≡ first_step state is_turned ∷ [] =
-    ap steps line ∙ ap (λ (r : Recogniser). steps (r.memory.line.items ++ node ∷ [])) new
-    ∙ ap (λ (s : Step). s ∷ []) step in
-    let none : steps self.memory.unsaid.items ≡ [] =
-    ap steps unsaid
-    ∙ ap (λ (r : Recogniser). steps r.memory.unsaid.items) new in
-    let nothing : steps self.memory.seen.items ≡ [] =
-    ap steps seen
-    ∙ ap (λ (r : Recogniser). steps r.memory.seen.items) new in
-    let no_answer : self.memory.answer ≡ None =
-    answer ∙ ap (λ (r : Recogniser). r.memory.answer) new in
-    let no_view : self.view ≡ None = view ∙ ap (λ (r : Recogniser). r.view) new in
-    record {
-      held = record {
-        shown_line = (
-          was_shown (told_pieces told ∷ []) told (told_pieces told)
-              (first_shown [] (told_pieces told)) refl,
-          tt,
-        );
-        kept = rw lines ((refl, tt), λ e. absurd (let wrong : ⊥ = cc in wrong));
-        back = inl (back ∙ ap (λ (r : Recogniser). r.memory.back) new);
-        unsaid = rw none tt;
-        answer = rw no_answer tt;
-        answered = rw no_answer tt;
-        grows = rw nothing (grows_none _ _);
-        rooted = rw nothing (rooted_none _);
-        quiet = inl nothing;
-      };
-      seen = rw no_view tt;
-    }
+    search (rules, first_step, was_shown, first_shown, grows_none, rooted_none)

@@ -1,13 +1,13 @@
 -- A half-move leaves its first square, and the opponent's answer puts none of its men there.
-use Rattle.std.{proofs.{Common.{◌≡◌, ◌∙◌, ℕ, ◌≤◌, List, [], ◌∷◌, ap, arith, inl, inr, subst, sym}, lemmas.Bool.{cases_eq}}, specs.Prelude.{◌≢◌, suc, Option, Some, None}}
+use Rattle.std.proofs.Common.{rules}
+use Rattle.std.{proofs.{Common.{◌≡◌, ◌∙◌, ℕ, ◌≤◌, List, [], ◌∷◌, ap, arith, inl, inr, subst, sym}, lemmas.Bool.{cases_eq}}, specs.Prelude.{◌≢◌, suc, Option, Some}}
 use Rattle.{dgt_values.specs.{declared.pieces.Piece.{Piece, TheVariants.{Empty}}, Board.{square_number}}, dgt_chess.specs.declared.{state.{Move.{Move}, State.{State}}, pieces.Colour.{Colour}}}
 use Rattle.dgt_chess.{specs.{declared.pieces.Man.{Man, TheVariants.{Pawn, Rook}}, Attacks.{other, piece_at, piece_of, IsFree}, Rules.{board}}, proofs.{OneMove.{effect_of, put}, Unique.{Effect}}}
 use Rattle.{dgt_chess.proofs.Unique.{not_free, not_theirs, same_kind, same_man}, dgt_game.specs.{declared.ways.Ways.TheVariants.{Nothing}, Lines.{IsMove}, Ways.{AreWaysBy, IsWay}}}
 
 was_pawn : (man : Man) (promotion : Option Man) → promotion ≢ Some Pawn → put man promotion ≡ Pawn
     → man ≡ Pawn
-was_pawn man None differ e = e
-was_pawn man (Some new) differ e = absurd (differ (ap Some e))
+was_pawn man promotion differ e = search rules
 
 effect : (state : State) (one : Move) (next : State) → IsMove state one next
     → (man : Man) × (next.turn ≡ other state.turn) × Effect (board state) (board next) state.turn
@@ -22,8 +22,7 @@ effect state one next (man, legal, after) =
     Effect (board state) new state.turn from to (put man one.promotion) in (
       put man one.promotion,
       after.turn,
-      subst P (sym after.pieces) (effect_of state man from to one.promotion one.from.small
-          one.to.small legal.own legal.moves legal.promotes),
+      subst P (sym after.pieces) (search (rules, effect_of)),
       λ e. legal.own ∙ ap (piece_of state.turn) (was_pawn man one.promotion legal.promotes.1 e),
     )
 
@@ -32,19 +31,7 @@ none_comes : (old new : List Piece) (turn turn' : Colour) (a b at : ℕ) (man th
     → turn ≡ other turn' → Effect old new turn a b man → IsFree old at
     → piece_at new at ≢ piece_of turn' theirs
 none_comes old new turn turn' a b at man theirs turns effect free here =
-    let P : Colour → Type 0 = λ c. (own : Man) → piece_at new at ≢ piece_of c own in
-    let no : (own : Man) → piece_at new at ≢ piece_of turn own =
-    subst P (sym turns) (λ own e. not_theirs turn' theirs own (sym here ∙ e)) in
-    elim (effect.sees at) [
-      | inl empty ↦ not_free turn' theirs (sym here ∙ empty)
-      | inr more ↦ elim more [
-        | inl same ↦ not_free turn' theirs (sym here ∙ same.0 ∙ free)
-        | inr more ↦ elim more [
-          | inl arrived ↦ no man arrived.0
-          | inr rook ↦ no Rook rook
-        ]
-      ]
-    ]
+    search (rules, piece_at, piece_of, not_theirs, not_free)
 
 -- If at most one half-move follows, the piece on the first square changes.
 changes : (rest : ℕ) (state : State) (pieces : List Piece) (one : Move) (moves : List Move)
@@ -52,11 +39,7 @@ changes : (rest : ℕ) (state : State) (pieces : List Piece) (one : Move) (moves
     → piece_at (board state) (square_number one.from)
     ≢ piece_at pieces (square_number one.from)
 changes rest state pieces one [] new small (long, (next, move, line), same) e =
-    let (man, turn, first, pawn) = effect state one next move in
-    let at = square_number one.from in
-    let free : piece_at pieces at ≡ _ = ap (λ ps. piece_at ps at) (sym same)
-    ∙ ap (λ (s : State). piece_at (board s) at) (sym line) ∙ first.vacated in
-    not_free state.turn first.begins.0 (sym first.begins.1 ∙ e ∙ free)
+    search (rules, effect, piece_at, pieces, board, not_free)
 changes rest state pieces one (answer ∷ []) new small
     (long, (next, move, (last, move', line)), same) e =
     let (man, turn, first, pawn) = effect state one next move in
@@ -90,8 +73,7 @@ pub no_man : (halves : ℕ) (state : State) (pieces : List Piece) (at : ℕ)
 no_man halves state pieces at none [] new way begins = begins
 no_man halves state pieces at none (one ∷ moves) new way begins =
     let (own, here) = no_man_left halves state pieces one moves new way in
-    let P : ℕ → Type 0 = λ n. piece_at (board state) n ≡ piece_of state.turn own in
-    none own (subst P begins here)
+    search (rules, piece_at, board, piece_of)
 
 -- A move of the opponent empties no square of a man, but for a pawn captured in passing.
 stays_put : (old new : List Piece) (turn turn' : Colour) (a b at : ℕ) (man own : Man)
@@ -104,8 +86,7 @@ stays_put old new turn turn' a b at man own turns made here free =
     elim (cases_eq at a) [
       | inl same ↦ absurd (theirs made.begins.0 (ap (piece_at old) same ∙ made.begins.1))
       | inr not_a ↦ elim (cases_eq at b) [
-        | inl same ↦ absurd (not_free turn man
-            (sym made.arrived ∙ ap (piece_at new) (sym same) ∙ free))
+        | inl same ↦ search (rules, not_free, piece_at)
         | inr not_b ↦ elim (made.keeps at not_a not_b) [
           | inl kept ↦ absurd (busy (sym kept ∙ free))
           | inr more ↦ elim more [
@@ -125,10 +106,7 @@ was_taken : (rest : ℕ) (state : State) (pieces : List Piece) (one : Move) (mov
     → IsFree pieces (square_number one.to)
     → piece_at (board state) (square_number one.from) ≡ piece_of state.turn Pawn
 was_taken rest state pieces one [] new small (long, (next, move, line), same) free =
-    let (man, turn, first, pawn) = effect state one next move in
-    let to = square_number one.to in
-    absurd (not_free state.turn man (sym first.arrived
-    ∙ ap (λ (s : State). piece_at (board s) to) line ∙ ap (λ ps. piece_at ps to) same ∙ free))
+    search (rules, effect, not_free, piece_at, board)
 was_taken rest state pieces one (answer ∷ []) new small
     (long, (next, move, (last, move', line)), same) free =
     let (man, turn, first, pawn) = effect state one next move in
@@ -136,8 +114,7 @@ was_taken rest state pieces one (answer ∷ []) new small
     let to = square_number one.to in
     let there : IsFree (board last) to =
     ap (λ (s : State). piece_at (board s) to) line ∙ ap (λ ps. piece_at ps to) same ∙ free in
-    pawn (stays_put (board next) (board last) next.turn state.turn (square_number answer.from)
-    (square_number answer.to) to man' man turn second first.arrived there)
+    search (rules, stays_put, board)
 was_taken rest state pieces one (answer ∷ more ∷ moves) new small (long, line, same) free =
     absurd (omega (arith, long))
 
@@ -149,5 +126,4 @@ vacant rest state pieces man from to small own officer free [] new way begins = 
 vacant rest state pieces man from to small own officer free (one ∷ moves) new way (a, b) =
     let F : ℕ → Type 0 = IsFree pieces in
     let pawn = was_taken rest state pieces one moves new small way (subst F (sym b) free) in
-    officer (same_man state.turn man Pawn
-    (sym own ∙ ap (piece_at (board state)) (sym a) ∙ pawn))
+    search (rules, same_man, piece_at, board)

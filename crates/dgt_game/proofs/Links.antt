@@ -1,14 +1,15 @@
 -- Steps that follow each other.
-use Rattle.std.{proofs.Common.{◌≡◌, ◌≤◌, ◌∙◌, refl, sym, ap, arith, subst, inl, inr, ℕ, zero, suc, length, Bool, true, false, List, [], ◌∷◌, Option, Some, slice_get}, specs.Prelude.{Contains, IfSome}}
-use Rattle.{std.{specs.Prelude.{◌≢◌, ◌⊎◌}, proofs.lemmas.{List.{reverse-reverse}, Option.{IfSome_then}}}, dgt_values.specs.declared.pieces.Piece.{Piece}, dgt_chess.specs.declared.state.State.{State}}
+use Rattle.std.proofs.Common.{rules}
+use Rattle.std.proofs.lemmas.Grind.{common_steps}
+use Rattle.std.{proofs.Common.{◌≡◌, ◌≤◌, ◌∙◌, refl, sym, ap, arith, subst, inl, inr, ℕ, zero, suc, length, Bool, List, [], ◌∷◌, Option, Some, slice_get}, specs.Prelude.{Contains, IfSome}}
+use Rattle.{std.{specs.Prelude.{◌≢◌, ◌⊎◌}, proofs.lemmas.{List.{reverse-reverse}}}, dgt_values.specs.declared.pieces.Piece.{Piece}, dgt_chess.specs.declared.state.State.{State}}
 use Rattle.{dgt_chess.specs.{Rules.{IsStart, board}, declared.state.Move.{Move}}, dgt_game.specs.declared.{node.{Node.{Node}, Step.{Step}, Way.{Way}, Place.{Place}}, reading.Reading.{Reading}}}
 use Rattle.dgt_game.specs.{declared.{memory.Memory.{Memory}, ways.Ways.{Ways}}, Lines.{IsLine, IsMove, moves_of}, Ways.{AreWays}, Told.{Told, IsShown, Joins, WasShown, as_shown, told_pieces}}
 use Rattle.dgt_game.specs.Memory.{By, Fits, Holds, AreLast, IsRoot, IsSeen, Links, Reads, halves_of, step_at, steps, told_of}
 
 pub turned_back : (turned : Bool) (pieces shown : List Piece) → pieces ≡ as_shown turned shown
     → as_shown turned pieces ≡ shown
-turned_back true pieces shown e = rw (e, reverse-reverse shown) refl
-turned_back false pieces shown e = e
+turned_back turned pieces shown e = search (rules, reverse-reverse)
 
 pub links : (before : Option Step) (first step : Step) → before ≡ Some first
     → first.is_turned ≡ step.is_turned → By first.state step.way step.state → Links before step
@@ -28,22 +29,12 @@ pub fits : (line seen : List Step) (place : Place) (from : Step) (way : Way) (st
 fits line seen place from way state step shown at e by same =
     subst (λ (s : Step). Links (step_at line seen s.parent) s
     × (told_pieces (told_of s) ≡ shown)) (sym e) (
-      links (step_at line seen place) from (record {
-        state = state;
-        is_turned = from.is_turned;
-        way
-            = way;
-        parent = place;
-      }) at refl by,
-      turned_back from.is_turned (board state) shown same,
+    grind (arith, common_steps, links, state, turned_back)
     )
 
 pub one_made : (state new : State) (one : Move) (moves : List Move) → moves ≡ one ∷ []
     → IsLine state moves new → IsMove state one new
-one_made state new one moves e line =
-    let way : IsLine state (one ∷ []) new = subst (λ (ms : List Move). IsLine state ms new) e line
-    in
-    subst (λ (s : State). IsMove state one s) way.2 way.1
+one_made state new one moves e line = search (rules, state)
 
 pub joins : (count : ℕ) (state new : State) (moves : List Move) → length moves ≡ count
     → IsLine state moves new → Joins count state new
@@ -55,12 +46,8 @@ pub fits_at : (line seen : List Step) (place : Place) (from step : Step) (shown 
     → step_at line seen place ≡ Some from → step.parent ≡ place → step.is_turned ≡ from.is_turned
     → By from.state step.way step.state → board step.state ≡ as_shown from.is_turned shown
     → Links (step_at line seen step.parent) step × (told_pieces (told_of step) ≡ shown)
-fits_at line seen place from step shown at parent turned by same = (
-  links (step_at line seen step.parent) from step (ap (step_at line seen) parent ∙ at) (sym turned)
-      by,
-  turned_back step.is_turned (board step.state) shown (subst (λ (t : Bool). board step.state ≡
-      as_shown t shown) (sym turned) same),
-)
+fits_at line seen place from step shown at parent turned by same =
+    search (rules, links, turned_back)
 
 -- a step made from another, of a state that has the pieces shown
 pub follows : (from : Step) (place : Place) (way : Way) (state : State) (step : Step) (shown : List
@@ -70,15 +57,7 @@ pub follows : (from : Step) (place : Place) (way : Way) (state : State) (step : 
 follows from place way state step shown e by same =
     subst (λ (s : Step). (s.parent ≡ place) × Links (Some from) s
     × (told_pieces (told_of s) ≡ shown)) (sym e) (
-      refl,
-      links (Some from) from (record {
-        state = state;
-        is_turned = from.is_turned;
-        way = way;
-        parent
-            = place;
-      }) refl refl by,
-      turned_back from.is_turned (board state) shown same,
+    search (rules, links, state, turned_back)
     )
 
 pub not_begun : (state new : State) (way : Way) → By state way new → way ≢ Way.Begun
@@ -87,17 +66,13 @@ not_begun state new way by e = subst (λ (w : Way). By state w new) e by
 -- several lines lead to the picture
 pub several : (halves : ℕ) (state new : State) (pieces : List Piece)
     → AreWays halves state pieces (Ways.Several new) → Joins halves state new × (board new ≡ pieces)
-several halves state new pieces (one, other, (len, line, same), more, differ) = (
-  joins halves state
-      new one len line,
-  same,
-)
+several halves state new pieces (one, other, (len, line, same), more, differ) =
+    search (rules, joins, state)
 
 -- one of two
 pub either : (P : Node → Type 0) (result first second : Option Node) → (result ≡ first)
     ⊎ (result ≡ second) → IfSome first P → IfSome second P → IfSome result P
-either P result first second (inl e) a b = subst (λ (o : Option Node). IfSome o P) (sym e) a
-either P result first second (inr e) a b = subst (λ (o : Option Node). IfSome o P) (sym e) b
+either P result first second h a b = search rules
 
 pub was_shown : (shown : List (List Piece)) (told : Told) (pieces : List Piece)
     → Contains shown pieces → told_pieces told ≡ pieces → WasShown shown told
@@ -114,13 +89,7 @@ starts shown step begun start = inr (inr (ap halves_of begun, start))
 pub arrived : (shown : List (List Piece)) (step : Step) → 2 ≤ halves_of step.way
     → IsSeen shown step → Contains shown (told_pieces (told_of step))
 unfolding WasShown
-arrived shown step some seen = elim seen [
-  | inl here ↦ here
-  | inr other ↦ absurd (elim other [
-    | inl held ↦ let one : halves_of step.way ≡ 1 = held.0 in omega arith
-    | inr start ↦ let none : halves_of step.way ≡ 0 = start.0 in omega arith
-  ])
-]
+arrived shown step some seen = search rules
 
 -- each step at a place was seen
 kept_seen : (shown : List (List Piece)) (steps : List Step) (line : List Told) (k : ℕ) (step :
@@ -128,33 +97,25 @@ kept_seen : (shown : List (List Piece)) (steps : List Step) (line : List Told) (
     → IsSeen shown step
 kept_seen shown [] line k step kept seen e = absurd (let wrong : ⊥ = cc in wrong)
 kept_seen shown (other ∷ steps) [] k step kept seen e = absurd kept
-kept_seen shown (other ∷ steps) (told ∷ line) zero step kept seen e =
-    let same : other ≡ step = cc in
-    subst (λ (t : Told). WasShown shown t) (sym kept.0 ∙ ap told_of same) seen.0
+kept_seen shown (other ∷ steps) (told ∷ line) zero step kept seen e = search rules
 kept_seen shown (other ∷ steps) (told ∷ line) (suc k) step kept seen e =
     kept_seen shown steps line k step kept.1 seen.1 e
 
 pub seen_at : (shown : List (List Piece)) (line : List Told) (self : Memory) (place : Place) (step
     : Step) → Holds shown line self
     → step_at (steps self.line.items) (steps self.seen.items) place ≡ Some step → IsSeen shown step
-seen_at shown line self (Place.Line k) step holds e = kept_seen shown (steps self.line.items) line
-    k step holds.kept.0 holds.shown_line e
+seen_at shown line self (Place.Line k) step holds e = search (rules, kept_seen)
 seen_at shown line self (Place.Seen k) step holds e = (holds.grows k step e).1
 seen_at shown line self Place.Nowhere step holds e = absurd (let wrong : ⊥ = cc in wrong)
 
 -- a node that fits is so
 pub reads : (shown : List (List Piece)) (self : Memory) (pieces : List Piece) (node : Node)
     → Contains shown pieces → Fits self pieces node → Reads shown self (Reading.New node)
-reads shown self pieces node seen (link, same) = (
-  link,
-  was_shown shown (told_of node.step) pieces
-      seen same,
-)
+reads shown self pieces node seen (link, same) = search (rules, was_shown, pieces)
 
 pub same_told : (one other : Step) → one.is_turned ≡ other.is_turned
     → board one.state ≡ board other.state → told_pieces (told_of one) ≡ told_pieces (told_of other)
-same_told one other turned same = ap (as_shown one.is_turned) same ∙ ap (λ (t : Bool). as_shown t
-    (board other.state)) turned
+same_told one other turned same = search rules
 
 -- a line begins with what is shown
 pub begun : (shown : List (List Piece)) (self : Memory) (state : State) (turned : Bool) (pieces :
@@ -166,16 +127,8 @@ pub begun : (shown : List (List Piece)) (self : Memory) (state : State) (turned 
       parent = Place.Nowhere;
     } → board state ≡ as_shown turned pieces
     → Contains shown pieces → Reads shown self (Reading.New node)
-begun shown self state turned pieces node e same seen = (
-  begins (step_at (steps self.line.items) (steps self.seen.items) node.step.parent) node.step (ap
-      (λ (s : Step). s.way) e),
-  subst (λ (s : Step). IsSeen shown s) (sym e) (was_shown shown (record {
-    state = state;
-    halves =
-        0;
-    is_turned = turned;
-  }) pieces seen (turned_back turned (board state) pieces same)),
-)
+begun shown self state turned pieces node e same seen =
+    search (rules, begins, was_shown, state, pieces, turned_back)
 
 -- some half-moves are as many half-moves
 joined : (state new : State) (way : Way) → By state way new → Joins (halves_of way) state new
@@ -219,12 +172,7 @@ fits_gap line seen pieces old new count same e ((link, shown), some) =
       way = Way.Gap n;
       parent = old.parent;
     }) in
-    subst (λ (s : Step). (Links (step_at line seen s.parent) s
-    × (told_pieces (told_of s) ≡ pieces)) × (s.way ≢ Way.Begun)) (sym e) (
-      (subst P (sym same) (links_gap (step_at line seen old.parent) old some link), shown),
-      λ wrong.
-          cc,
-    )
+    search (rules, pieces, links_gap)
 
 -- a step that begins a line and was shown
 pub is_root : (shown : List (List Piece)) (state : State) (turned : Bool) (pieces : List Piece)
@@ -236,25 +184,14 @@ pub is_root : (shown : List (List Piece)) (state : State) (turned : Bool) (piece
           Place.Nowhere;
     } → board state ≡ as_shown turned pieces → Contains shown pieces
     → (step.way ≡ Way.Begun) × IsSeen shown step
-is_root shown state turned pieces step e same seen = (
-  ap (λ (s : Step). s.way) e,
-  subst (λ (s : Step). IsSeen shown s) (sym e) (was_shown shown (record {
-    state = state;
-    halves =
-        0;
-    is_turned = turned;
-  }) pieces seen (turned_back turned (board state) pieces same)),
-)
+is_root shown state turned pieces step e same seen =
+    search (rules, was_shown, state, pieces, turned_back)
 
 -- what begins a line follows anything
 pub root_links : (shown : List (List Piece)) (before : Option Step) (root : Option Node)
     → IfSome root (λ node. IsRoot shown node) → IfSome root (λ node. Links before node.step
     × IsSeen shown node.step)
-root_links shown before root h = IfSome_then root h (λ node (begun, seen). (
-  begins before node.step
-      begun,
-  seen,
-))
+root_links shown before root h = search (rules, begun, begins)
 
 -- a game whose first half-moves weren't shown
 pub started : (shown : List (List Piece)) (line seen : List Step) (start : State) (turned : Bool)
@@ -270,7 +207,5 @@ started shown line seen start turned pieces root step e is_start same by here is
       begins (step_at line seen root.parent) root begun,
       starts shown root begun (subst IsStart (sym (ap (λ (s : Step). s.state) e)) is_start),
       links (Some root) root step refl (sym same) by,
-      was_shown shown (told_of step) pieces is_shown
-          (turned_back step.is_turned (board step.state) pieces (subst (λ (t : Bool). board
-          step.state ≡ as_shown t pieces) (sym turns) here)),
+      search (rules, was_shown, pieces, turned_back),
     )

@@ -1,6 +1,7 @@
 -- What lines, events and pictures mean, in other words.
-use Rattle.std.{proofs.Common.{◌≡◌, ◌∙◌, ◌<◌, ◌≤◌, refl, sym, ap, subst, inl, inr, arith, zero, suc, length, length-append, List, [], ◌∷◌, ◌++◌, Option, unwrap_or}, specs.Prelude.{⊤, Contains}}
-use Rattle.{std.specs.Prelude.{MatchOption}, dgt_values.specs.declared.pieces.Piece.{Piece}, dgt_chess.specs.{declared.state.{Move.{Move}, State.{State}}, Attacks.{piece_at}, Rules.{board}}}
+use Rattle.std.proofs.Common.{rules}
+use Rattle.std.{proofs.Common.{◌≡◌, ◌∙◌, ◌≤◌, refl, sym, ap, subst, arith, zero, suc, length, length-append, List, [], ◌∷◌, ◌++◌, Option, unwrap_or}, specs.Prelude.{⊤, Contains}}
+use Rattle.{std.specs.Prelude.{MatchOption}, dgt_values.specs.declared.pieces.Piece.{Piece}, dgt_chess.specs.{declared.state.{Move.{Move}, State.{State}}, Rules.{board}}}
 use Rattle.dgt_game.specs.{declared.event.Event.{Event}, Lines.{IsLine, IsMove, IsOnly, LeadsTo, moves_of}, Told.{IsLegalTold, Joins, Leads, Told, WasShown, told_pieces}, Laws.{AreJoined}}
 use Rattle.dgt_game.specs.Laws.{BackIsCounted, JoinedIsOne, LegalIsJoined, NoneAndOne, OneIsShown, OneLine, OthersAreHeld, SeveralAreShown, ShownIsHeld, StartIsShown, UnseenIsOnly, first_of}
 use Rattle.dgt_game.proofs.{Links.{turned_back}, Same.{one_next}}
@@ -80,33 +81,10 @@ none_and_one state new = (
 one_end : (state a b : State) (moves : List Move) → IsLine state moves a → IsLine state moves b
     → a ≡ b
 one_end state a b [] h k = sym h ∙ k
-one_end state a b (one ∷ moves) h k =
-    one_end k.0 a b moves (subst (λ (s : State). IsLine s moves a)
-    (one_next state one h.0 k.0 h.1 k.1) h.2) k.2
+one_end state a b (one ∷ moves) h k = one_end k.0 a b moves (search (rules, one_next)) k.2
 
 pub one_line : OneLine
-one_line line new other (Event.Begun state is_turned) h k = h ∙ sym k
-one_line (last ∷ line) new other (Event.Made one) h k =
-    h.2 ∙ ap (λ (s : State). record {
-      state = s;
-      halves = 1;
-      is_turned = last.is_turned;
-    } ∷ last ∷ line) (one_next last.state one h.0 k.0 h.1 k.1) ∙ sym k.2
-one_line (last ∷ line) new other (Event.Unseen moves) h k =
-    h.3 ∙ ap (λ (s : State). record {
-      state = s;
-      halves = length (moves_of moves);
-      is_turned = last.is_turned;
-    } ∷ last ∷ line) (one_end last.state h.0 k.0 (moves_of moves) h.1 k.1) ∙ sym k.3
-one_line (last ∷ line) new other (Event.Gap state count) h k = h.1 ∙ sym k.1
-one_line (last ∷ line) new other (Event.Back count) h k = h.2 ∙ sym k.2
-one_line line new other (Event.Ended result) h k = h ∙ sym k
-one_line line new other (Event.Lost squares) h k = h ∙ sym k
-one_line line new other Event.Found h k = h ∙ sym k
-one_line [] new other (Event.Made one) h k = absurd h
-one_line [] new other (Event.Unseen moves) h k = absurd h
-one_line [] new other (Event.Gap state count) h k = absurd h
-one_line [] new other (Event.Back count) h k = absurd h
+one_line line new other h h' k = search (rules, one_next, one_end)
 
 pub unseen_is_only : UnseenIsOnly
 unfolding IsOnly LeadsTo
@@ -115,63 +93,30 @@ unseen_is_only last told line new moves others end leads legal count same =
     leads.2 others count (end, legal, same ∙ ap board here)
 
 pub back_is_counted : BackIsCounted
-back_is_counted [] new count leads = absurd leads
-back_is_counted (last ∷ line) new count leads =
-    (rw leads.2 leads.0, rw (leads.2, leads.1) refl)
+back_is_counted h new count leads = search rules
 
 arrived : (shown : List (List Piece)) (told : Told) → WasShown shown told → 2 ≤ told.halves
     → Contains shown (told_pieces told)
 unfolding WasShown
-arrived shown told h some = elim h [
-  | inl seen ↦ seen
-  | inr other ↦ absurd (elim other [
-    | inl held ↦ let e : told.halves ≡ 1 = held.0 in omega arith
-    | inr start ↦ let e : told.halves ≡ 0 = start.0 in omega arith
-  ])
-]
+arrived shown told h some = search rules
 
 pub several_are_shown : SeveralAreShown
 several_are_shown shown [] n told h e some =
     absurd (subst (λ (o : Option Told). MatchOption o ⊤ (λ _. ⊥)) e tt)
-several_are_shown shown (first ∷ line) zero told h e some =
-    let same : first ≡ told = ap (λ (o : Option Told). unwrap_or o first) e in
-    arrived shown told (subst (WasShown shown) same h.0) some
+several_are_shown shown (first ∷ line) zero told h e some = search (rules, unwrap_or, arrived)
 several_are_shown shown (first ∷ line) (suc n) told h e some =
     several_are_shown shown line n told h.1 e some
 
 pub one_is_shown : OneIsShown
 unfolding WasShown
-one_is_shown shown told h one = elim h [
-  | inl seen ↦ (
-    told_pieces told,
-    seen,
-    (λ k small. inl (ap (λ (l : List Piece). piece_at l k)
-        (turned_back told.is_turned (told_pieces told) (board told.state) refl))),
-  )
-  | inr other ↦ elim other [
-    | inl held ↦ held.1
-    | inr start ↦ absurd (let e : told.halves ≡ 0 = start.0 in omega (arith, e, one))
-  ]
-]
+one_is_shown shown told h one = search (rules, turned_back)
 
 pub others_are_held : OthersAreHeld
-others_are_held picture state k h small none = elim (h k small) [
-  | inl same ↦ same
-  | inr held ↦ absurd (none held.1.0 held.1.1)
-]
+others_are_held picture state k h small none = search rules
 
 pub shown_is_held : ShownIsHeld
-shown_is_held picture state k h small some = elim (h k small) [
-  | inl same ↦ same
-  | inr held ↦ absurd (some held.0)
-]
+shown_is_held picture state k h small some = search rules
 
 pub start_is_shown : StartIsShown
 unfolding WasShown
-start_is_shown told h = elim h [
-  | inl seen ↦ absurd (let l : seen.0 < 0 = seen.1 in omega arith)
-  | inr other ↦ elim other [
-    | inl held ↦ absurd (let l : held.1.1.0 < 0 = held.1.1.1 in omega arith)
-    | inr start ↦ start
-  ]
-]
+start_is_shown told h = search rules

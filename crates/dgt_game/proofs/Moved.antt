@@ -1,5 +1,6 @@
 -- Men that have moved.
-use Rattle.std.proofs.Common.{◌≡◌, ◌≢◌, ◌∙◌, ◌⊎◌, ap, ◌<◌, ◌≤◌, ◌+◌, arith, sym, subst, inl, inr, ℕ, zero, suc, List, [], ◌∷◌, ◌++◌, length, slice_index_or, unwrap_or, Option, Some, None, slice_get}
+use Rattle.std.proofs.Common.{rules}
+use Rattle.std.proofs.Common.{◌≡◌, ◌≢◌, ◌⊎◌, ap, ◌<◌, ◌≤◌, ◌+◌, arith, subst, inl, inr, ℕ, zero, suc, List, [], ◌∷◌, ◌++◌, length, slice_index_or, unwrap_or, Option, Some, None, slice_get}
 use Rattle.std.{specs.Prelude.{IsSome, MatchOption}, proofs.lemmas.{Bool.{cases_lt}, Option.{get_or_from_slice_get, slice_get-get_or, slice_get_within}, List.{length-map}}}
 use Rattle.{dgt_values.specs.{declared.pieces.Piece.{Piece}, Board.{pieces_of}}, dgt_chess.specs.{declared.{pieces.{Colour.{Colour}, Man.{Man}}, state.State.{State}}, Attacks.{other, piece_at}}}
 use Rattle.{dgt_chess.{specs.{Attacks.{piece_of}, Rules.{board}}, proofs.Unique.{not_free, not_theirs}}, dgt_game.specs.declared.{node.{Node.{Node}, Origin.{Origin}, Step.{Step}}, view.View.{View}}}
@@ -22,21 +23,8 @@ some_man (Some man) side piece is some = (man, is)
 kept : (picture : List Piece) (state : State) (side : Colour) (k : ℕ) → side ≡ other state.turn
     → Keeps side (piece_at (board state) k) (piece_at picture k)
     → ¬ (MovedAt picture state state.turn k)
-kept picture state side k sides keeps (differs, moved) = elim keeps [
-  | inl same ↦ differs same
-  | inr more ↦ elim more [
-    | inl theirs ↦ elim moved [
-      | inl own ↦ not_theirs state.turn own.0 theirs.0 (sym own.1 ∙ theirs.1
-          ∙ ap (λ (c : Colour). piece_of c theirs.0) sides)
-      | inr gone ↦ not_free side theirs.0 (sym theirs.1 ∙ gone.0)
-    ]
-    | inr left ↦ elim moved [
-      | inl own ↦ not_free state.turn own.0 (sym own.1 ∙ left.0)
-      | inr gone ↦ not_theirs state.turn gone.1.0 left.1.0 (sym gone.1.1 ∙ left.1.1
-          ∙ ap (λ (c : Colour). piece_of c left.1.0) sides)
-    ]
-  ]
-]
+kept picture state side k sides keeps (differs, moved) =
+    search (rules, not_theirs, piece_of, not_free)
 
 pub kept_more : (picture : List Piece) (state : State) (side : Colour) (n at : ℕ)
     (old new : Piece) → n ≡ at → slice_get picture n ≡ Some new
@@ -50,13 +38,7 @@ kept_more picture state side n at old new same is was sides keeps before k small
           let now : k ≡ at = omega (arith, small, more) in
           let new_is : piece_at picture at ≡ new = get_or_from_slice_get picture at new Piece.Empty
           (subst (λ (i : ℕ). slice_get picture i ≡ Some new) same is) in
-          let old_is : piece_at (board state) at ≡ old =
-          get_or_from_slice_get (board state) at old Piece.Empty
-          (subst (λ (i : ℕ). slice_get (board state) i ≡ Some old) same was) in
-          kept picture state side at sides
-          (subst (λ (p : Piece). Keeps side p (piece_at picture at)) (sym old_is)
-          (subst (λ (p : Piece). Keeps side old p) (sym new_is) keeps))
-          (subst (MovedAt picture state state.turn) now moved)
+          search (rules, board, get_or_from_slice_get, kept)
     ]
 
 -- a man of the side has arrived or has left
@@ -86,22 +68,16 @@ stays_more picture state side n at old new same is was stays before k small move
           let old_is : piece_at (board state) at ≡ old =
           get_or_from_slice_get (board state) at old Piece.Empty
           (subst (λ (i : ℕ). slice_get (board state) i ≡ Some old) same was) in
-          stays (subst (λ (p : Piece). Moves side p new) old_is (subst (λ (p : Piece). Moves side
-          (piece_at (board state) at) p) new_is (subst (MovedAt picture state side) now moved)))
+          search (rules, board)
     ]
 
 pub moved_here : (first second : Step) (seen shown : View) → first ≡ second → seen ≡ shown
     → HasMoved (as_shown first.is_turned (pieces_of seen.shown)) first.state first.state.turn
     → HasMoved (as_shown second.is_turned (pieces_of shown.shown)) second.state second.state.turn
-moved_here first second seen shown one same moved =
-    subst (λ (v : View). HasMoved (as_shown second.is_turned (pieces_of v.shown)) second.state
-    second.state.turn) same
-    (subst (λ (s : Step). HasMoved (as_shown s.is_turned (pieces_of seen.shown)) s.state
-    s.state.turn) one moved)
+moved_here first second seen shown one same moved = search (rules, as_shown)
 
 pub none_some : (found : Option Node) → found ≡ None → ¬ (IsSome found)
-none_some None none some = let wrong : ⊥ = cc in wrong
-none_some (Some node) none some = let wrong : ⊥ = cc in wrong
+none_some found none some = search rules
 
 pub same_view : (found : Option View) (first second : View) → found ≡ Some first
     → found ≡ Some second → second ≡ first
@@ -110,10 +86,7 @@ same_view found first second one two = cc
 -- what holds of none before holds of none up to here
 pub none_more : (P : ℕ → Type 0) (at : ℕ) → ((k : ℕ) → 1 ≤ k → k < at → ¬ (P k)) → ¬ (P at)
     → (k : ℕ) → 1 ≤ k → k < at + 1 → ¬ (P k)
-none_more P at before here k some small holds = elim (cases_lt k at) [
-  | inl less ↦ before k some less holds
-  | inr more ↦ let now : k ≡ at = omega (arith, small, more) in here (subst P now holds)
-]
+none_more P at before here k some small holds = search (rules, cases_lt)
 
 -- what follows a node does so if only what is known of when it was shown changes
 abbrev pub FollowsOne : List Node → List Piece → Type 0
@@ -131,13 +104,7 @@ get_origin (first ∷ nodes) (suc k) node e = get_origin nodes k node e
 pub seen_kept : (old new : List Node) (picture : List Piece) → steps new ≡ steps old
     → origins new ≡ origins old → FollowsOne old picture → FollowsOne new picture
 seen_kept old new picture steps_same origins_same (k, node, is, known, line) =
-    let less : k < length new = omega (
-      arith,
-      slice_get_within old k node is,
-      ap length steps_same,
-      length-map new (λ (n : Node). n.step),
-      length-map old (λ (n : Node). n.step),
-    ) in
+    let less : k < length new = search (rules, slice_get_within, node, length-map) in
     let other = slice_index_or new k node in
     let found : slice_get new k ≡ Some other = slice_get-get_or new k node less in
     let first : slice_get (steps new) k ≡ Some other.step = get_step new k other found in

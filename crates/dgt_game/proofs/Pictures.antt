@@ -1,10 +1,11 @@
 -- What a picture is read as.
-use Rattle.std.proofs.Common.{◌≡◌, ◌∙◌, ◌<◌, ◌≤◌, ◌-◌, ◌⊎◌, inl, inr, arith, ap, sym, refl, subst, ℕ, zero, suc, Bool, true, false, ◌∷◌, List, length, Option, Some, None, slice_index_or}
+use Rattle.std.proofs.Common.{rules}
+use Rattle.std.proofs.Common.{◌≡◌, ◌∙◌, ◌<◌, ◌≤◌, ◌⊎◌, inl, inr, arith, sym, refl, subst, ℕ, zero, suc, Bool, true, false, ◌∷◌, List, length, Option, Some, None, slice_index_or}
 use Rattle.std.{specs.Prelude.{◌≢◌, [], IfSome, slice_get}, proofs.{lemmas.{Option.{slice_get_read, slice_get_within}, List.{get_or-reverse, length-map}, Bool.{cases_lt}}, Math.Logic.{∥∥₁_elim}}}
 use Rattle.{dgt_values.specs.{declared.pieces.Piece.{Piece}, Board.{pieces_of}}, dgt_chess.specs.declared.{state.{Move.{Move}, State.{State}}, pieces.{Colour.{Colour}, Man.{Man}}}}
 use Rattle.{dgt_chess.specs.{Attacks.{piece_at, piece_of}, Possible.{HasKings, HasOneKing}, Rules.{board}}, dgt_game.specs.declared.{memory.Memory.{Memory}, node.{Node.{Node}, Place.{Place}}}}
 use Rattle.dgt_game.specs.{declared.{node.{Returned.{Returned}, Step.{Step}}, reading.Reading.{Reading}, recogniser.{Over.{Over}, Recogniser.{Recogniser}}, view.View.{View}}, Lines.{LeadsTo, NoLine}}
-use Rattle.dgt_game.specs.{Lines.{IsLine}, Told.{as_shown, told_pieces}, Memory.{steps, told_of}, Reading.{HasLine, HasLineFrom, IsExplained, IsLive, IsNear, MayGoOn, ReadsView, ShowsAt, SomeLine}}
+use Rattle.dgt_game.specs.{Lines.{IsLine}, Told.{as_shown}, Memory.{steps}, Reading.{HasLine, HasLineFrom, IsExplained, IsLive, IsNear, MayGoOn, ReadsView, ShowsAt, SomeLine}}
 use Rattle.dgt_game.specs.{Reading.{EarlierAreKnown, ElseStartIsKnown, FollowsSeen, IsKnown, IsRead, MovesAreKnown, ShowsEarlier, StartIsKnown, TwoAreKnown}, Waiting.{last_of}}
 use Rattle.dgt_game.proofs.{Chains.{get_step}, Links.{turned_back}}
 
@@ -20,37 +21,25 @@ one_node nodes k one other first second = cc
 pub shown_at : (first second node : Node) (shown : List Piece) → first ≡ node → second ≡ node
     → board first.step.state ≡ as_shown second.step.is_turned shown
     → board node.step.state ≡ as_shown node.step.is_turned shown
-shown_at first second node shown one two same =
-    subst (λ (n : Node). board n.step.state ≡ as_shown node.step.is_turned shown) one
-    (subst (λ (n : Node). board first.step.state ≡ as_shown n.step.is_turned shown) two same)
+shown_at first second node shown one two same = search rules
 
 pub shown_back : (first second node : Node) (shown : List Piece) → node ≡ first → node ≡ second
     → board node.step.state ≡ as_shown node.step.is_turned shown
     → board first.step.state ≡ as_shown second.step.is_turned shown
-shown_back first second node shown one two same =
-    subst (λ (n : Node). board n.step.state ≡ as_shown second.step.is_turned shown) one
-    (subst (λ (n : Node). board node.step.state ≡ as_shown n.step.is_turned shown) two same)
+shown_back first second node shown one two same = search rules
 
 -- the node of a place has the pieces that are shown
 pub shows_line : (self : Memory) (view : View) (k : ℕ) (node : Node)
     → slice_get self.line.items k ≡ Some node
     → board node.step.state ≡ as_shown node.step.is_turned (pieces_of view.shown)
     → ShowsAt self view (Place.Line k)
-shows_line self view k node at same = (
-  node.step,
-  get_step self.line.items k node at,
-  turned_back node.step.is_turned (board node.step.state) (pieces_of view.shown) same,
-)
+shows_line self view k node at same = search (rules, get_step, turned_back)
 
 pub shows_seen : (self : Memory) (view : View) (k : ℕ) (node : Node)
     → slice_get self.seen.items k ≡ Some node
     → board node.step.state ≡ as_shown node.step.is_turned (pieces_of view.shown)
     → ShowsAt self view (Place.Seen k)
-shows_seen self view k node at same = (
-  node.step,
-  get_step self.seen.items k node at,
-  turned_back node.step.is_turned (board node.step.state) (pieces_of view.shown) same,
-)
+shows_seen self view k node at same = search (rules, get_step, turned_back)
 
 pub reads_at : (self : Memory) (view : View) (place : Place) → ShowsAt self view place
     → ReadsView self view (Reading.At place)
@@ -60,17 +49,10 @@ reads_at self view Place.Nowhere at = tt
 
 pub near_at : (self : Memory) (view : View) (place : Place) → ShowsAt self view place
     → IsNear (Reading.At place)
-near_at self view (Place.Line k) (step, at, same) = tt
-near_at self view (Place.Seen k) (step, at, same) = tt
-near_at self view Place.Nowhere (step, at, same) = let wrong : ⊥ = cc in wrong
+near_at self view place h = search rules
 
 pub near_read : (reading : Reading) → IsNear reading → IsRead reading
-near_read (Reading.At (Place.Line k)) near = tt
-near_read (Reading.At (Place.Seen k)) near = tt
-near_read (Reading.At Place.Nowhere) near = near
-near_read (Reading.New node) near = tt
-near_read (Reading.Held node) near = absurd near
-near_read (Reading.Two first second) near = absurd near
+near_read reading near = search rules
 
 pub no_line : (count : ℕ) (state : State) (pieces shown : List Piece) → NoLine count state pieces
     → pieces ≡ shown → ¬ (SomeLine count state shown)
@@ -101,17 +83,10 @@ king_shown : (pieces picture : List Piece) (turned : Bool) (colour : Colour) (fo
     → length picture ≡ 64 → pieces ≡ as_shown turned picture → HasOneKing pieces colour
     → Sees picture colour found → found ≡ true
 unfolding HasOneKing
-king_shown pieces picture true colour found len same (square, small, here, only) sees =
-    let back : length picture - 1 - square ≡ 63 - square = omega arith in
-    sees (63 - square) (omega arith) (ap (piece_at picture) (sym back)
-    ∙ sym (get_or-reverse picture square Piece.Empty (omega arith))
-    ∙ ap (λ ps. piece_at ps square) (sym same) ∙ here)
-king_shown pieces picture false colour found len same (square, small, here, only) sees =
-    sees square small (ap (λ ps. piece_at ps square) (sym same) ∙ here)
+king_shown pieces picture turned colour found len same h sees = search (rules, get_or-reverse)
 
 one_king : (pieces : List Piece) (colour : Colour) → HasKings pieces → HasOneKing pieces colour
-one_king pieces Colour.White kings = kings.0
-one_king pieces Colour.Black kings = kings.1
+one_king pieces colour kings = search rules
 
 -- so both kings are on its picture
 pub king_seen : (state : State) (turned : Bool) (picture : List Piece) (colour : Colour)
@@ -148,11 +123,7 @@ seen_state self picture (k, node, is, known, line) = led_from 1 node.step pictur
 
 shown_state : (self : Memory) (view : View) (place : Place) → ShowsAt self view place
     → SomeState (pieces_of view.shown)
-shown_state self view place (step, at, same) = (
-  step.state,
-  step.is_turned,
-  turned_to step.is_turned (board step.state) (pieces_of view.shown) same,
-)
+shown_state self view place (step, at, same) = search (rules, turned_to)
 
 pub state_of : (self : Recogniser) (view : View) → IsKnown self view
     → SomeState (pieces_of view.shown)
@@ -160,11 +131,7 @@ state_of self view known = elim known [
   | inl start ↦ (start.0, start.1, start.3)
   | inr more ↦ elim more [
     | inl earlier ↦
-        let at = earlier.1.3 in (
-          at.0.state,
-          at.0.is_turned,
-          turned_to at.0.is_turned (board at.0.state) (pieces_of view.shown) at.2,
-        )
+        search (rules, turned_to)
     | inr more ↦ elim more [
       | inl one ↦ led_to 1 self.memory (Place.Line 0) (pieces_of view.shown) one.1
       | inr more ↦ elim more [
@@ -187,11 +154,7 @@ returned_of self = self.returned
 
 live_same : (old new : Recogniser) → new.memory.line ≡ old.memory.line
     → over_of new ≡ over_of old → since_of new ≡ since_of old → IsLive old → IsLive new
-live_same old new line over since (some, may) = (
-  λ none. some (let same : old.memory.line.items ≡ [] = cc in same),
-  subst (λ (o : Over). MayGoOn o new.since) (sym over)
-      (subst (MayGoOn old.over) (sym since) may),
-)
+live_same old new line over since (some, may) = search rules
 
 line_same : (old new : Memory) (count : ℕ) (picture : List Piece) → new.line ≡ old.line
     → HasLine count old (Place.Line 0) picture → HasLine count new (Place.Line 0) picture
@@ -219,20 +182,16 @@ known_same old new view line over since returned known = elim known [
   | inl start ↦ inl start
   | inr more ↦ inr (elim more [
     | inl earlier ↦ inl (
-      live_same old new line over since earlier.0,
-      earlier_same old.memory new.memory view line earlier.1,
-    )
+        search (rules, live_same, earlier_same)
+        )
     | inr more ↦ inr (elim more [
       | inl one ↦ inl (
-        live_same old new line over since one.0,
-        line_same old.memory new.memory 1 (pieces_of view.shown) line one.1,
-      )
+          search (rules, live_same, line_same)
+          )
       | inr more ↦ inr (elim more [
         | inl two ↦ inl (
-          live_same old new line over since two.0,
-          ap (λ (r : Returned). r.count) returned ∙ two.1,
-          line_same old.memory new.memory 2 (pieces_of view.shown) line two.2,
-        )
+            search (rules, live_same, line_same)
+            )
         | inr last ↦ inr (over ∙ last.0, last_same old.memory new.memory view line last.1)
       ])
     ])
@@ -253,40 +212,22 @@ explains old new view is line over since placed stands =
     ])
 
 pub read_or_not : (reading : Reading) → IsRead reading ⊎ (reading ≡ Reading.At Place.Nowhere)
-read_or_not (Reading.At (Place.Line k)) = inl tt
-read_or_not (Reading.At (Place.Seen k)) = inl tt
-read_or_not (Reading.At Place.Nowhere) = inr refl
-read_or_not (Reading.New node) = inl tt
-read_or_not (Reading.Held node) = inl tt
-read_or_not (Reading.Two first second) = inl tt
+read_or_not reading = search rules
 
 -- nothing before a place shows the picture, and it isn't there either
 pub not_shown : (self : Memory) (view : View) (k : ℕ) (node : Node)
     → slice_get self.line.items k ≡ Some node
     → ¬ (board node.step.state ≡ as_shown node.step.is_turned (pieces_of view.shown))
     → ¬ (ShowsAt self view (Place.Line k))
-not_shown self view k node at differs (step, is, same) =
-    let got : slice_get (steps self.line.items) k ≡ Some node.step =
-    get_step self.line.items k node at in
-    let one : step ≡ node.step = cc in
-    differs (turned_to node.step.is_turned (board node.step.state) (pieces_of view.shown)
-    (subst (λ (s : Step). told_pieces (told_of s) ≡ pieces_of view.shown) one same))
+not_shown self view k node at differs (step, is, same) = search (rules, get_step, turned_to)
 
 pub at_least : (P : ℕ → Type 0) (k j : ℕ) → ((i : ℕ) → 1 ≤ i → i < k → ¬ (P i)) → 1 ≤ j → P j
     → k ≤ j
-at_least P k j none some here = elim (cases_lt j k) [
-  | inl less ↦ absurd (none j some less here)
-  | inr more ↦ more
-]
+at_least P k j none some here = search (rules, cases_lt)
 
 pub shown_within : (self : Memory) (view : View) (k : ℕ) → ShowsAt self view (Place.Line k)
     → k < length self.line.items
-shown_within self view k (step, at, same) =
-    omega (
-      arith,
-      slice_get_within (steps self.line.items) k step at,
-      length-map self.line.items (λ (n : Node). n.step),
-    )
+shown_within self view k (step, at, same) = search (rules, slice_get_within, length-map)
 
 -- ---- Laws
 
@@ -297,9 +238,7 @@ leads state moves new pieces line same = (new, line, same)
 
 has_last : (self : Recogniser) (step : Step) → last_of self.memory ≡ Some step
     → self.memory.line.items ≢ []
-has_last self step last none =
-    let wrong : None ≡ Some step = subst (λ (nodes : List Node).
-    slice_get (steps nodes) 0 ≡ Some step) none last in let no : ⊥ = cc in no
+has_last self step last none = search rules
 
 open_line : (self : Recogniser) → self.over ≡ Over.No → self.memory.line.items ≢ []
     → IsLive self
@@ -314,8 +253,7 @@ moves_known self view step one new over last move same = inr (inr (inl (
     (
       one ∷ [],
       refl,
-      leads step.state (one ∷ []) new _ (new, move, refl)
-          (turned_to step.is_turned (board new) (pieces_of view.shown) same),
+      search (rules, leads, turned_to),
     ),
   ),
 )))
@@ -330,8 +268,7 @@ two_known self view step one answer mid new over none last move move' same = inr
     (
       one ∷ answer ∷ [],
       refl,
-      leads step.state (one ∷ answer ∷ []) new _ (mid, move, (new, move', refl))
-          (turned_to step.is_turned (board new) (pieces_of view.shown) same),
+      search (rules, leads, turned_to),
     ),
   ),
 ))))
@@ -344,39 +281,20 @@ earlier_known self view step (suc k) over some few at same =
 
 pub start_known : StartIsKnown
 start_known self view state is_turned start same = inl (
-  state,
-  is_turned,
-  start,
-  turned_to is_turned (board state) (pieces_of view.shown) same,
-)
+    search (rules, turned_to)
+    )
 
 no_line_live : (self : Recogniser) → (self.memory.line.items ≡ []) ⊎ (self.over ≡ Over.Kings)
     → ¬ (IsLive self)
-no_line_live self (inl none) live = live.0 none
-no_line_live self (inr kings) live = subst (λ (o : Over). MayGoOn o self.since) kings live.1
+no_line_live self h live = search rules
 
 none_last : (self : Recogniser) (view : View)
     → (self.memory.line.items ≡ []) ⊎ (self.over ≡ Over.Kings) → self.over ≡ Over.No
     → ¬ (ShowsAt self.memory view (Place.Line 0))
-none_last self view (inl none) over (step, at, same) = has_last self step at none
-none_last self view (inr kings) over at = let wrong : ⊥ = cc in wrong
+none_last self view h over at = search (rules, has_last)
 
 pub else_start : ElseStartIsKnown
 else_start self view ended known = elim known [
-  | inl start ↦ (
-    start.0,
-    start.1,
-    start.2,
-    turned_back start.1 (board start.0) (pieces_of view.shown) start.3,
-  )
-  | inr more ↦ absurd (no_line_live self ended (elim more [
-    | inl earlier ↦ earlier.0
-    | inr more ↦ elim more [
-      | inl one ↦ one.0
-      | inr more ↦ elim more [
-        | inl two ↦ two.0
-        | inr last ↦ absurd (none_last self view ended last.0 last.1)
-      ]
-    ]
-  ]))
+  | inl start ↦ search (rules, turned_back)
+  | inr more ↦ search (rules, no_line_live, none_last)
 ]

@@ -1,5 +1,6 @@
 -- The promotions that are tried.
-use Rattle.std.{proofs.Common.{◌≡◌, ◌∙◌, ℕ, List, ap, inl, inr, refl, subst, sym}, specs.Prelude.{◌↔◌, ◌⊎◌, Bool, true, false, IsSome, IsTrue, Option, Some, None}}
+use Rattle.std.proofs.Common.{rules}
+use Rattle.std.{proofs.Common.{◌≡◌, ℕ, List, inl, inr}, specs.Prelude.{◌↔◌, ◌⊎◌, Bool, true, false, IsSome, IsTrue, Option, Some, None}}
 use Rattle.{dgt_values.specs.{declared.pieces.Piece.{Piece}, Board.{square_number}}, dgt_chess.specs.declared.pieces.Man.{Man, TheVariants.{Pawn, Knight, Bishop, Rook, Queen, King}}}
 use Rattle.dgt_chess.{specs.{declared.{state.{Move.{Move}, State.{State}}, pieces.Colour.{Colour}}, Attacks.{piece_at, piece_of, row}, Rules.{LegalBy, board, last_row}}, proofs.Unique.{same_man}}
 use Rattle.dgt_game.{specs.{declared.ways.Ways.{Ways}, Lines.{IsMove}, Ways.{AreWaysBy, Ends, both}}, proofs.Sets.{promoted, same_set}}
@@ -13,13 +14,7 @@ Tells state from to test =
 pub tells : (state : State) (man : Man) (from to : ℕ) (turn : Colour) (test : Bool)
     → piece_at (board state) from ≡ piece_of state.turn man → turn ≡ state.turn
     → IsTrue test ↔ ((man ≡ Pawn) × (row to ≡ last_row turn)) → Tells state from to test
-tells state man from to turn test own turns is = λ man' promotion legal.
-    let men : man' ≡ man = same_man state.turn man' man (sym legal.own ∙ own) in
-    let promotes = legal.promotes.0 in (
-      λ h. let (pawn, last) = is.0 h in promotes.1 (men ∙ pawn, last ∙ ap last_row turns),
-      λ h. let (pawn, last) = promotes.0 h in
-          is.1 (sym men ∙ pawn, last ∙ ap last_row (sym turns)),
-    )
+tells state man from to turn test own turns is = search (rules, same_man, last_row)
 
 abbrev Between : ℕ → ℕ → Move → Type 0
 Between from to one = (square_number one.from ≡ from) × (square_number one.to ≡ to)
@@ -27,14 +22,10 @@ Between from to one = (square_number one.from ≡ from) × (square_number one.to
 legal_at : (state : State) (from to : ℕ) (one : Move) (next : State) → IsMove state one next
     → Between from to one → (man : Man) × LegalBy man state from to one.promotion
 unfolding IsMove
-legal_at state from to one next (man, legal, after) (a, b) =
-    let A : ℕ → Type 0 = λ n. LegalBy man state n to one.promotion in
-    let B : ℕ → Type 0 = λ n. LegalBy man state (square_number one.from) n one.promotion in
-    (man, subst A a (subst B b legal))
+legal_at state from to one next (man, legal, after) (a, b) = search (rules, state)
 
 no_promotion : (promotion : Option Man) → ¬ (IsSome promotion) → promotion ≡ None
-no_promotion None none = refl
-no_promotion (Some man) none = absurd (none refl)
+no_promotion promotion none = search rules
 
 pub unpromoted : (halves : ℕ) (state : State) (pieces : List Piece) (from to : ℕ) (ways : Ways)
     (test : Bool) → Tells state from to test → test ≡ false
@@ -58,13 +49,7 @@ abbrev Four : Option Man → Type 0
 Four p = (((p ≡ Some Queen) ⊎ (p ≡ Some Rook)) ⊎ (p ≡ Some Bishop)) ⊎ (p ≡ Some Knight)
 
 one_of_four : (p : Option Man) → IsSome p → ¬ (p ≡ Some Pawn) → ¬ (p ≡ Some King) → Four p
-one_of_four None some pawn king = absurd (let wrong : ⊥ = cc in wrong)
-one_of_four (Some Pawn) some pawn king = absurd (pawn refl)
-one_of_four (Some Knight) some pawn king = inr refl
-one_of_four (Some Bishop) some pawn king = inl (inr refl)
-one_of_four (Some Rook) some pawn king = inl (inl (inr refl))
-one_of_four (Some Queen) some pawn king = inl (inl (inl refl))
-one_of_four (Some King) some pawn king = absurd (king refl)
+one_of_four p some pawn king = search rules
 
 pub four : (halves : ℕ) (state : State) (pieces : List Piece) (from to : ℕ)
     (queen rook bishop knight : Ways) (test : Bool) → Tells state from to test → test ≡ true

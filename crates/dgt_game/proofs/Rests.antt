@@ -1,18 +1,15 @@
 -- What rests on the board is reported.
-use Rattle.std.{proofs.Common.{◌≡◌, ◌≢◌, ◌∙◌, ◌+◌, ◌-◌, ◌^◌, ◌<◌, ◌≤◌, ◌⊎◌, refl, sym, subst, inl, inr, arith, min, ℕ, zero, suc, Bool, true, false, Option, Some, None}, specs.Prelude.{IfSome}}
-use Rattle.{std.specs.Prelude.{MatchOption, if◌then◌else◌, option_map, slice_get}, dgt_game.specs.declared.{memory.Memory.{Memory}, node.{Node.{Node}, Place.{Place}, Step.{Step}}}}
-use Rattle.dgt_game.specs.{declared.{resting.Next.{Next}, view.View.{View}}, Memory.{IsTold, steps}, Planning.{Lacks, Plans}, Reading.{Shows}, Standing.{Counts, Lands, OnlyShownIsReported}}
-use Rattle.dgt_game.{specs.{Standing.{RestIsReported, ShowsLast, StandsAt}, Waiting.{last_of}}, proofs.Standing.{last_at_first, some_of}}
+use Rattle.std.proofs.Common.{rules}
+use Rattle.std.{proofs.Common.{◌≡◌, ◌≢◌, ◌∙◌, ◌+◌, ◌-◌, ◌^◌, ◌<◌, ◌≤◌, ◌⊎◌, refl, sym, subst, inl, inr, min, ℕ, zero, suc, true, false, Option, Some, None}, specs.Prelude.{IfSome}}
+use Rattle.{std.specs.Prelude.{MatchOption, option_map, slice_get}, dgt_game.specs.declared.{memory.Memory.{Memory}, node.{Node.{Node}, Place.{Place}, Step.{Step}}}}
+use Rattle.dgt_game.specs.{declared.{resting.Next.{Next}, view.View.{View}}, Memory.{IsTold, steps}, Planning.{Lacks, Plans}, Reading.{Shows}, Standing.{Counts, OnlyShownIsReported}}
+use Rattle.dgt_game.{specs.{Standing.{RestIsReported, StandsAt}, Waiting.{last_of}}, proofs.Standing.{last_at_first, some_of}}
 
 -- nothing is done a minute later
 no_next : (next : Option Next) (since now : ℕ)
     → IfSome (option_map (λ (n : Next). min (since + n.wait) (2 ^ 64 - 1)) next) (λ at. now < at)
     → since + 60000 ≤ now → next ≡ None
-no_next None since now idle late = refl
-no_next (Some next) since now idle late =
-    let soon : next.wait ≤ 60000 = next.soon in
-    let less : min (since + next.wait) (2 ^ 64 - 1) ≤ since + next.wait = omega arith in
-    absurd (omega (arith, idle, late, soon, less))
+no_next next since now n late = search (rules, min)
 
 -- what the board stands at, if that isn't to be reported
 stood : (here : Place) (self : Memory) (view : View) → IsTold self → self.answer ≡ None
@@ -33,26 +30,18 @@ stood (Place.Seen k) self view told none at some =
 stood Place.Nowhere self view told none at some = absurd (some refl)
 
 pub place_or : (place : Place) → (place ≢ Place.Nowhere) ⊎ (place ≡ Place.Nowhere)
-place_or (Place.Line k) = inl (λ e. let wrong : ⊥ = cc in wrong)
-place_or (Place.Seen k) = inl (λ e. let wrong : ⊥ = cc in wrong)
-place_or Place.Nowhere = inr refl
+place_or place = search rules
 
 pub rest_is_reported : RestIsReported
 rest_is_reported self view now stands planned why seen (sure, confirmed, late, idle) =
-    let next : self.next ≡ None = no_next self.next self.since now (subst (λ (b : Bool). IfSome
-    (if b
-    then option_map (λ (n : Next). min (self.since + n.wait) (2 ^ 64 - 1)) self.next else None)
-    (λ at.
-    now < at)) sure idle.1) late in
+    let next : self.next ≡ None = search (rules, no_next, min) in
     let told = idle.0.0 in
     let at = subst (λ (o : Option View). IfSome o (StandsAt self.here self.memory self.is_next
     self.is_sure)) seen stands.0 in
     elim (subst (Plans self) next planned) [
       | inl doubted ↦ absurd (let wrong : ⊥ = cc in wrong)
       | inr nothing ↦
-          let here : StandsAt self.here self.memory false true view = subst (λ (b : Bool). StandsAt
-          self.here self.memory false b view) sure (subst (λ (b : Bool). StandsAt self.here
-          self.memory b self.is_sure view) nothing.1.0 at) in
+          let here : StandsAt self.here self.memory false true view = search rules in
           elim (place_or self.here) [
             | inl some ↦ elim (stood self.here self.memory view told (stands.1 told) here some) [
               | inl last ↦ inl last
@@ -73,19 +62,4 @@ rest_is_reported self view now stands planned why seen (sure, confirmed, late, i
     ]
 
 pub only_shown : OnlyShownIsReported
-only_shown self view stands seen waits = elim stands.2 [
-  | inl told ↦ absurd (waits told)
-  | inr meant ↦ (
-    meant.0,
-    elim meant.1 [
-      | inl last ↦ inl (subst (λ (o : Option View). IfSome o (λ v. Lands v self.memory)) seen
-          last.1)
-      | inr kings ↦ inr kings.3
-    ],
-    elim stands.3 [
-      | inl few ↦ inl few
-      | inr last ↦ inr (subst (λ (o : Option View). IfSome o (λ v. ShowsLast v self.memory)) seen
-          last)
-    ],
-  )
-]
+only_shown self view stands seen waits = search rules

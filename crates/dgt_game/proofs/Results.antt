@@ -1,22 +1,13 @@
 -- What results and lost lines mean.
-use Rattle.std.proofs.Common.{◌≡◌, ◌≢◌, ◌∙◌, ◌⊎◌, ◌<◌, ◌++◌, inl, inr, refl, sym, arith, ℕ, Bool, true, false, List, [], ◌∷◌, Option, Some, None, ap, subst}
+use Rattle.std.proofs.Common.{rules}
+use Rattle.std.proofs.Common.{◌≡◌, ◌≢◌, ◌∙◌, ◌⊎◌, ◌<◌, ◌++◌, inl, inr, sym, arith, ℕ, Bool, true, false, List, [], ◌∷◌, Option, Some, None}
 use Rattle.{dgt_values.specs.declared.pieces.Piece.{Piece}, dgt_game.specs.{declared.{event.{Event.{Event}, GameResult.{GameResult}}, recogniser.Recogniser.{Recogniser}}, Waiting.{CallsFollowOn}}}
 use Rattle.dgt_game.specs.{Waiting.{FollowOn, IsRight, RightIfAway, RunsInTurn, events_in, has_result, is_lost}, Results.{AreLost, FitsAt, HasResults, IsOnlyOn, KingsOn, LostInTurn, NotFound}}
-use Rattle.{std.{proofs.Common.{zero, suc}, specs.Prelude.{Contains}}, dgt_chess.specs.declared.state.State.{State}}
+use Rattle.{std.{proofs.Common.{refl, zero, suc}, specs.Prelude.{Contains}}, dgt_chess.specs.declared.state.State.{State}}
 use Rattle.dgt_game.specs.Results.{NotLost, OneByKings, OneByRules, OneOther, OneResult, Stay}
 
 pub one_by_rules : OneByRules
-one_by_rules state GameResult.WhiteWins GameResult.WhiteWins h k = (refl, h.2)
-one_by_rules state GameResult.WhiteWins GameResult.BlackWins h k =
-    absurd (let wrong : ⊥ = cc in wrong)
-one_by_rules state GameResult.WhiteWins GameResult.Draw h k = absurd (k.0 h.1)
-one_by_rules state GameResult.BlackWins GameResult.WhiteWins h k =
-    absurd (let wrong : ⊥ = cc in wrong)
-one_by_rules state GameResult.BlackWins GameResult.BlackWins h k = (refl, h.2)
-one_by_rules state GameResult.BlackWins GameResult.Draw h k = absurd (k.0 h.1)
-one_by_rules state GameResult.Draw GameResult.WhiteWins h k = absurd (h.0 k.1)
-one_by_rules state GameResult.Draw GameResult.BlackWins h k = absurd (h.0 k.1)
-one_by_rules state GameResult.Draw GameResult.Draw h k = (refl, h.1)
+one_by_rules state h h' h'' k = search rules
 
 one_square : (picture : List Piece) (piece : Piece) (a b : ℕ) → b < 64
     → IsOnlyOn picture piece a → IsOnlyOn picture piece b → b ≡ a
@@ -26,16 +17,7 @@ one_square picture piece a b less h k = h.1 b less k.0
 other_kings : (picture : List Piece) (a b c d : ℕ) → a < 64 → b < 64 → c < 64 → d < 64
     → KingsOn picture a b → KingsOn picture c d
     → ((c ≡ a) × (d ≡ b)) ⊎ ((d ≡ a) × (c ≡ b))
-other_kings picture a b c d la lb lc ld h k = elim h [
-  | inl h ↦ elim k [
-    | inl k ↦ inl (one_square picture _ a c lc h.0 k.0, one_square picture _ b d ld h.1 k.1)
-    | inr k ↦ inr (one_square picture _ a d ld h.0 k.0, one_square picture _ b c lc h.1 k.1)
-  ]
-  | inr h ↦ elim k [
-    | inl k ↦ inr (one_square picture _ a d ld h.1 k.1, one_square picture _ b c lc h.0 k.0)
-    | inr k ↦ inl (one_square picture _ a c lc h.1 k.1, one_square picture _ b d ld h.0 k.0)
-  ]
-]
+other_kings picture a b c d la lb lc ld h k = search (rules, one_square)
 
 apart : (picture : List Piece) (a b c d : ℕ) → a < 64 → b < 64 → c < 64 → d < 64
     → (c ≢ a) ⊎ (d ≢ b) → (d ≢ a) ⊎ (c ≢ b) → KingsOn picture a b → KingsOn picture c d → ⊥
@@ -45,40 +27,18 @@ apart picture a b c d la lb lc ld e f h k = elim (other_kings picture a b c d la
 ]
 
 white_black : (picture : List Piece) → KingsOn picture 27 36 → KingsOn picture 28 35 → ⊥
-white_black picture h k =
-    apart picture 27 36 28 35 (omega arith) (omega arith) (omega arith) (omega arith)
-    (inl (omega arith)) (inl (omega arith)) h k
+white_black picture h k = search (rules, apart)
 
 white_draw : (picture : List Piece) → KingsOn picture 27 36
     → KingsOn picture 28 36 ⊎ KingsOn picture 27 35 → ⊥
-white_draw picture h k = elim k [
-  | inl k ↦ apart picture 27 36 28 36 (omega arith) (omega arith) (omega arith) (omega arith)
-      (inl (omega arith)) (inl (omega arith)) h k
-  | inr k ↦ apart picture 27 36 27 35 (omega arith) (omega arith) (omega arith) (omega arith)
-      (inr (omega arith)) (inl (omega arith)) h k
-]
+white_draw picture h k = search (rules, apart)
 
 black_draw : (picture : List Piece) → KingsOn picture 28 35
     → KingsOn picture 28 36 ⊎ KingsOn picture 27 35 → ⊥
-black_draw picture h k = elim k [
-  | inl k ↦ apart picture 28 35 28 36 (omega arith) (omega arith) (omega arith) (omega arith)
-      (inr (omega arith)) (inl (omega arith)) h k
-  | inr k ↦ apart picture 28 35 27 35 (omega arith) (omega arith) (omega arith) (omega arith)
-      (inl (omega arith)) (inl (omega arith)) h k
-]
+black_draw picture h k = search (rules, apart)
 
 pub one_by_kings : OneByKings
-one_by_kings picture GameResult.WhiteWins GameResult.WhiteWins h k = refl
-one_by_kings picture GameResult.WhiteWins GameResult.BlackWins h k =
-    absurd (white_black picture h k)
-one_by_kings picture GameResult.WhiteWins GameResult.Draw h k = absurd (white_draw picture h k)
-one_by_kings picture GameResult.BlackWins GameResult.WhiteWins h k =
-    absurd (white_black picture k h)
-one_by_kings picture GameResult.BlackWins GameResult.BlackWins h k = refl
-one_by_kings picture GameResult.BlackWins GameResult.Draw h k = absurd (black_draw picture h k)
-one_by_kings picture GameResult.Draw GameResult.WhiteWins h k = absurd (white_draw picture k h)
-one_by_kings picture GameResult.Draw GameResult.BlackWins h k = absurd (black_draw picture k h)
-one_by_kings picture GameResult.Draw GameResult.Draw h k = refl
+one_by_kings picture h h' h'' k = search (rules, white_black, white_draw, black_draw)
 
 -- what doesn't fit is the other square
 is_other : (picture pieces : List Piece) (other square : ℕ) → square < 64
@@ -91,8 +51,7 @@ same_numbers a b h = grind (arith, h)
 
 pub one_other : OneOther
 one_other picture pieces first second less more like wrong bad =
-    same_numbers first like.0 (is_other picture pieces like.0 first less like.1 wrong)
-    ∙ sym (same_numbers second like.0 (is_other picture pieces like.0 second more like.1 bad))
+    search (rules, same_numbers, is_other)
 
 second_result : (between : List Event) (second : GameResult) (had has : Bool) → had ≡ true
     → Stay between → HasResults had (between ++ Event.Ended second ∷ []) has → ⊥
@@ -156,10 +115,7 @@ found_twice (Event.Gap state count ∷ events) was now e none h =
     found_twice events h.0 now (h.1 ∙ e) none h.2
 
 pub lost_in_turn : LostInTurn
-lost_in_turn between was now = (
-  λ first second none h. lost_twice between second h.0 now h.1.1 none h.2,
-  λ none h. found_twice between h.0 now h.1.1 none h.2,
-)
+lost_in_turn between was now = search (rules, lost_twice, found_twice)
 
 pub calls_follow_on : CallsFollowOn
 calls_follow_on old mid new report reports first later = (mid, first, later)
@@ -168,16 +124,9 @@ runs_in_turn-from : (reports : List (Option Event)) (old new : Recogniser)
     → FollowOn old reports new
     → HasResults (has_result old.over) (events_in reports) (has_result new.over)
     × AreLost (is_lost old.lost) (events_in reports) (is_lost new.lost)
-runs_in_turn-from [] old new h = (
-  ap (λ (self : Recogniser). has_result self.over) h,
-  ap (λ (self : Recogniser). is_lost self.lost) h,
-)
+runs_in_turn-from [] old new h = search rules
 runs_in_turn-from (None ∷ reports) old new h =
-    let later = runs_in_turn-from reports h.0 new h.2 in (
-      subst (λ (had : Bool). HasResults had (events_in reports) (has_result new.over)) h.1.0
-          later.0,
-      subst (λ (was : Bool). AreLost was (events_in reports) (is_lost new.lost)) h.1.1 later.1,
-    )
+    let later = runs_in_turn-from reports h.0 new h.2 in search rules
 runs_in_turn-from (Some event ∷ reports) old new h =
     let later = runs_in_turn-from reports h.0 new h.2 in
     ((has_result h.0.over, h.1.0, later.0), (is_lost h.0.lost, h.1.1, later.1))
@@ -191,10 +140,7 @@ right_if_away self away = (
   λ result h. (
     h.0,
     h.1,
-    elim h.2 [
-      | inl rules ↦ (one_by_rules h.0.state result result rules rules).1
-      | inr shown ↦ absurd (let e = sym away ∙ shown.1 in let wrong : ⊥ = cc in wrong)
-    ],
+    search (rules, one_by_rules),
   ),
   λ squares h. let e = sym away ∙ h.2.1 in let wrong : ⊥ = cc in wrong,
 )

@@ -1,7 +1,7 @@
 -- Over whole runs.
-use Rattle.std.proofs.Common.{rules, arith, ◌≡◌, ◌++◌, inl, inr, refl, sym, subst, zero, suc, true, false, List, [], ◌∷◌, Option, Some, None}
+use Rattle.std.proofs.Common.{rules, ◌≡◌, ◌++◌, inl, refl, sym, subst, List, [], ◌∷◌, Some, None}
 use Rattle.{std.specs.Prelude.{IfSome, slice_get}, dgt_values.specs.{declared.pieces.Piece.{Piece}, Board.{pieces_of}}, dgt_chess.specs.Rules.{board}}
-use Rattle.dgt_game.specs.{declared.{node.Step.{Step}, observation.Sight.{Sight}, recogniser.Recogniser.{Recogniser}}, Memory.{IsKept, steps, told_of}, Planning.{IsPlanned}, Recogniser.{Knows, new_recogniser, shown_after}}
+use Rattle.dgt_game.specs.{declared.{node.Step.{Step}, observation.Sight.{Sight}, recogniser.Recogniser.{Recogniser}}, Memory.{IsKept, told_of}, Planning.{IsPlanned}, Recogniser.{Knows, new_recogniser, shown_after}}
 use Rattle.dgt_game.specs.{Runs.{Call, CallsAreRuns, IsLegalAndShown, LastWasShown, NothingWasSure, Runs, ShownMayEnd, StaysSound, SureIsCounted, SureIsSeen, SureWasShown, events_of, shown_in, sure_in}, Standing.{Stands}, Sure.{EndsSure, KnowsSure, WasSure, sure_after}, Told.{IsLegalTold, Told, WasShown, as_shown, told_pieces}}
 use Rattle.dgt_game.proofs.{Known.{Within, knows_more, knows_nothing, within_cons, within_first}, Sure.{kings_sure, knows_none, knows_sure_more, shown_sure}, Waiting.{last_comes}}
 
@@ -13,13 +13,7 @@ runs_append old mid new (call ∷ calls) more first next =
     (first.0, first.1, runs_append first.0 mid new calls more first.2 next)
 
 pub calls_are_runs : CallsAreRuns
-calls_are_runs old new = (
-  (λ sight sees sound sure. (sees, sound, sure)),
-  (λ report reports sound sure. (reports, sound, sure)),
-  (λ state is_turned goes planned stands sure. (goes, planned, stands, sure)),
-  (λ call h. (new, h, refl)),
-  (λ mid calls more first next. runs_append old mid new calls more first next),
-)
+calls_are_runs old new = search (rules, runs_append)
 
 -- what is so between calls
 record IsSound (shown sure : List (List Piece)) (line : List Told) (self : Recogniser) : Type 0
@@ -58,9 +52,7 @@ over_calls (Call.See sight ∷ calls) shown sure line old ended h (next, (sees, 
     }) runs
 over_calls (Call.Due None ∷ calls) shown sure line old ended h
     (next, (reports, sound, seen), runs) =
-    over_calls calls shown sure line next ended (stays_sound shown sure shown line line old next h
-    sound (reports shown line h.known)
-    (seen shown line h.known h.planned h.stands sure h.seen)) runs
+    over_calls calls shown sure line next ended (search (rules, stays_sound)) runs
 over_calls (Call.Due (Some event) ∷ calls) shown sure line old ended h
     (next, (reports, sound, seen), runs) =
     let (told, leads, known) = reports shown line h.known in
@@ -75,12 +67,7 @@ over_calls (Call.GoOn state is_turned ∷ calls) shown sure line old ended h
     let known : Knows (pieces ∷ shown) (told ∷ []) next =
     knows_more (pieces ∷ []) (pieces ∷ shown) (told ∷ []) next (within_first shown pieces) goes in
     let (after, legal, last) = over_calls calls (pieces ∷ shown) (pieces ∷ sure) (told ∷ []) next
-    ended (record {
-      known = known;
-      planned = planned;
-      stands = stands;
-      seen = knows_sure_more (pieces ∷ []) (pieces ∷ sure) next (within_first sure pieces) seen;
-    }) runs in
+    ended (search (rules, knows_sure_more, within_first)) runs in
     (after, (told ∷ [], refl, legal), last)
 
 -- the last state of the line is the one that is kept
@@ -98,42 +85,23 @@ legal_and_shown calls ended runs =
       planned = inl refl;
       stands = search rules;
       seen = knows_none;
-    }) runs in (
-      line,
-      legal,
-      sound.known.held.shown_line,
-      λ told. ends (sure_in [] calls) (steps ended.memory.line.items) line sound.known.held.kept
-          (subst (λ (o : Option Step). IfSome o (λ step. WasSure (sure_in [] calls) (told_of step)))
-          (last_comes ended.memory told.0 told.1) sound.seen.1.ends),
-    )
+    }) runs in search (rules, ends, last_comes)
 
 -- ---- What was shown for sure
 
 pub sure_is_seen : SureIsSeen
-sure_is_seen (Sight.Sure position) sure = (λ e. refl, λ e. absurd (let wrong : ⊥ = cc in wrong))
-sure_is_seen (Sight.Doubted position) sure = (λ e. absurd (let wrong : ⊥ = cc in wrong), λ e. refl)
-sure_is_seen Sight.Away sure = (λ e. absurd (let wrong : ⊥ = cc in wrong), λ e. refl)
+sure_is_seen h sure = search rules
 
 pub sure_is_counted : SureIsCounted
 sure_is_counted [] sure = (λ all. refl, λ all. refl)
-sure_is_counted (Sight.Sure position ∷ sights) sure = (
-  (λ all. absurd (let wrong : true ≡ false = all.0 in let wrong : ⊥ = cc in wrong)),
-  (λ all. (sure_is_counted sights (pieces_of position ∷ sure)).1 all.1),
-)
-sure_is_counted (Sight.Doubted position ∷ sights) sure = (
-  (λ all. (sure_is_counted sights sure).0 all.1),
-  (λ all. absurd (let wrong : false ≡ true = all.0 in let wrong : ⊥ = cc in wrong)),
-)
-sure_is_counted (Sight.Away ∷ sights) sure = (
-  (λ all. (sure_is_counted sights sure).0 all.1),
-  (λ all. absurd (let wrong : false ≡ true = all.0 in let wrong : ⊥ = cc in wrong)),
-)
+sure_is_counted (Sight.Sure position ∷ sights) sure =
+    search (rules, sure_is_counted sights (pieces_of position ∷ sure))
+sure_is_counted (Sight.Doubted position ∷ sights) sure = search (rules, sure_is_counted sights sure)
+sure_is_counted (Sight.Away ∷ sights) sure = search (rules, sure_is_counted sights sure)
 
 within_both : (shown more : List (List Piece)) (first : List Piece) → Within shown more
     → Within (first ∷ shown) (first ∷ more)
-within_both shown more first within picture (zero, l, e) = (zero, omega arith, e)
-within_both shown more first within picture (suc k, l, e) =
-    within_cons more first picture (within picture (k, omega (arith, l), e))
+within_both shown more first within picture h = search (rules, within_cons)
 
 within_run : (calls : List Call) (sure shown : List (List Piece)) → Within sure shown
     → Within (sure_in sure calls) (shown_in shown calls)
@@ -142,8 +110,7 @@ within_run (Call.See (Sight.Sure position) ∷ calls) sure shown within =
     within_run calls (pieces_of position ∷ sure) (pieces_of position ∷ shown)
     (within_both sure shown (pieces_of position) within)
 within_run (Call.See (Sight.Doubted position) ∷ calls) sure shown within =
-    within_run calls sure (pieces_of position ∷ shown) (λ picture h.
-    within_cons shown (pieces_of position) picture (within picture h))
+    within_run calls sure (pieces_of position ∷ shown) (search (rules, within_cons))
 within_run (Call.See Sight.Away ∷ calls) sure shown within = within_run calls sure shown within
 within_run (Call.Due report ∷ calls) sure shown within = within_run calls sure shown within
 within_run (Call.GoOn state is_turned ∷ calls) sure shown within =
@@ -155,19 +122,11 @@ sure_was_shown calls picture h = within_run calls [] [] (λ picture h. h) pictur
 
 pub last_was_shown : LastWasShown
 unfolding WasSure
-last_was_shown sure told line (inl shown) none = shown
-last_was_shown sure told line (inr (picture, seen, (result, by))) none =
-    absurd (none picture result seen by.0)
+last_was_shown sure told line h none = search rules
 
 pub nothing_was_sure : NothingWasSure
 unfolding WasSure WasShown
-nothing_was_sure told line (inl (inl seen)) = absurd (omega (arith, seen.1))
-nothing_was_sure told line (inl (inr (inl held))) = absurd (omega (arith, held.1.1.1))
-nothing_was_sure told line (inl (inr (inr start))) = start
-nothing_was_sure told line (inr (picture, seen, by)) = absurd (omega (arith, seen.1))
+nothing_was_sure told line h = search rules
 
 pub shown_may_end : ShownMayEnd
-shown_may_end sure told line = (
-  (λ shown. shown_sure sure told shown),
-  (λ picture result seen by. kings_sure sure told picture result seen by),
-)
+shown_may_end sure told line = search (rules, shown_sure, kings_sure)

@@ -1,4 +1,5 @@
 -- Moves and states are the same if clauses see the same of them.
+use Rattle.std.proofs.Common.{rules}
 use Rattle.std.{proofs.{Common.{◌≡◌, ◌∙◌, ℕ, ◌<◌, List, ap, length, refl, subst, sym}, Math.Logic.{∥∥₁_prop}, Props.{props}}, specs.Prelude.{Option, Some, None, option_map}}
 use Rattle.dgt_values.specs.{declared.{pieces.Piece.{Piece}, positions.Position.{Position}, squares.Square.{Square}}, Board.{pieces_of, square_number}}
 use Rattle.dgt_chess.specs.{declared.{pieces.{Colour.{Colour}, Man.{Man}}, possible.Rights.{Rights}, state.{Move.{Move}, State.{State}}}, Possible.{IsPossible}, Rules.{IsAfter, passed}}
@@ -69,10 +70,7 @@ same_state a b p t r s h n =
 one_after : (man : Man) (state : State) (from to : ℕ) (promotion : Option Man) (a b : State)
     → IsAfter man state from to promotion a → IsAfter man state from to promotion b → a ≡ b
 one_after man state from to promotion a b x y =
-    same_state a b (same_position a.position b.position (x.pieces ∙ sym y.pieces))
-    (x.turn ∙ sym y.turn) (x.rights ∙ sym y.rights)
-    (same_passed a.passed b.passed (x.passed ∙ sym y.passed))
-    (x.half_moves ∙ sym y.half_moves) (x.number ∙ sym y.number)
+    search (rules, same_state, same_position, same_passed)
 
 -- one state follows a move
 pub one_next : (state : State) (one : Move) (a b : State) → IsMove state one a
@@ -80,7 +78,4 @@ pub one_next : (state : State) (one : Move) (a b : State) → IsMove state one a
 unfolding IsMove
 one_next state one a b (man, legal, x) (man', legal', y) =
     let men : man' ≡ man = same_man state.turn man' man (sym legal'.own ∙ legal.own) in
-    let from = square_number one.from in
-    let to = square_number one.to in
-    let P : Man → Type 0 = λ m. IsAfter m state from to one.promotion b in
-    one_after man state from to one.promotion a b x (subst P men y)
+    search (rules, one_after)

@@ -1,7 +1,8 @@
 -- What is found in sets of lines, which differ in their first half-moves.
-use Rattle.std.{proofs.{lemmas.Bool.{cases_eq}, Common.{◌≡◌, ◌∙◌, ℕ, ◌<◌, List, [], ◌∷◌, ap, arith, inl, inr, length, refl, subst, sym}}, specs.Prelude.{◌≢◌, ◌⊎◌, ◌+◌, ◌≤◌, ⊤, suc, Option}}
+use Rattle.std.proofs.Common.{rules}
+use Rattle.std.{proofs.{lemmas.Bool.{cases_eq}, Common.{◌≡◌, ◌∙◌, ℕ, ◌<◌, List, ◌∷◌, ap, arith, inl, inr, length, refl, subst, sym}}, specs.Prelude.{◌≢◌, ◌⊎◌, ◌+◌, ◌≤◌, ⊤, suc, Option}}
 use Rattle.{dgt_values.specs.{declared.pieces.Piece.{Piece}, Board.{square_number}}, dgt_chess.specs.declared.{pieces.Man.{Man}, state.{Move.{Move}, State.{State}}}}
-use Rattle.dgt_game.specs.{declared.ways.Ways.{Ways, TheVariants.{Nothing, Only, Several}}, Lines.{IsLine, IsMove, IsOnly, LeadsTo, NoLine, moves_of}, Ways.{AreWays, AreWaysBy, BeginsIn, Ends}}
+use Rattle.dgt_game.specs.{declared.ways.Ways.{Ways, TheVariants.{Nothing, Only, Several}}, Lines.{IsMove, IsOnly, LeadsTo, NoLine, moves_of}, Ways.{AreWays, AreWaysBy, BeginsIn, Ends}}
 use Rattle.dgt_game.{specs.Ways.{Follows, IsSeveral, IsWay, both}, proofs.Same.{one_next, same_move}}
 
 -- the legal half-moves of one set are in another
@@ -11,9 +12,7 @@ Within state F G = (one : Move) (next : State) → IsMove state one next → F o
 within : (F G : Move → Type 0) (halves : ℕ) (state : State) (pieces : List Piece)
     (moves : List Move) (new : State) → Within state F G → IsWay halves state pieces moves new
     → BeginsIn F moves → BeginsIn G moves
-within F G halves state pieces [] new h way begins = begins
-within F G halves state pieces (one ∷ moves) new h way begins =
-    h one way.1.0 way.1.1 begins
+within F G halves state pieces moves new h way begins = search rules
 
 -- sets with the same lines
 same_lines : (F G : Move → Type 0) (halves : ℕ) (state : State) (pieces : List Piece) (ways : Ways)
@@ -24,41 +23,24 @@ same_lines : (F G : Move → Type 0) (halves : ℕ) (state : State) (pieces : Li
     → AreWaysBy F halves state pieces ways → AreWaysBy G halves state pieces ways
 same_lines F G halves state pieces Nothing there back h =
     λ moves new way begins. h moves new way (back moves new way begins)
-same_lines F G halves state pieces (Only moves new) there back (way, begins, only) = (
-  way,
-  there (moves_of moves) new way begins,
-  λ others end other begins'. only others end other (back others end other begins'),
-)
+same_lines F G halves state pieces (Only moves new) there back (way, begins, only) = search rules
 same_lines F G halves state pieces (Several new) there back
-    (one, other, (way, begins), (end, way', begins'), differ) = (
-      one,
-      other,
-      (way, there one new way begins),
-      (end, way', there other end way' begins'),
-      differ,
-    )
+    (one, other, (way, begins), (end, way', begins'), differ) =
+    search rules
 
 pub same_set : (F G : Move → Type 0) (halves : ℕ) (state : State) (pieces : List Piece)
     (ways : Ways)
     → Within state F G → Within state G F → AreWaysBy F halves state pieces ways
     → AreWaysBy G halves state pieces ways
-same_set F G halves state pieces ways there back h =
-    same_lines F G halves state pieces ways
-    (λ moves new. within F G halves state pieces moves new there)
-    (λ moves new. within G F halves state pieces moves new back) h
+same_set F G halves state pieces ways there back h = search (rules, same_lines, within)
 
 -- several lines of a part are several of the whole
 pub several : (F G : Move → Type 0) (halves : ℕ) (state : State) (pieces : List Piece)
     (ways : Ways) → Within state F G → IsSeveral ways → AreWaysBy F halves state pieces ways
     → AreWaysBy G halves state pieces ways
 several F G halves state pieces (Several new) there is
-    (one, other, (way, begins), (end, way', begins'), differ) = (
-      one,
-      other,
-      (way, within F G halves state pieces one new there way begins),
-      (end, way', within F G halves state pieces other end there way' begins'),
-      differ,
-    )
+    (one, other, (way, begins), (end, way', begins'), differ) =
+    search (rules, within)
 several F G halves state pieces Nothing there is h = absurd is
 several F G halves state pieces (Only moves new) there is h = absurd is
 
@@ -70,27 +52,17 @@ Splits state H F G =
 split : (F G H : Move → Type 0) (halves : ℕ) (state : State) (pieces : List Piece)
     (moves : List Move) (new : State) → Splits state H F G → IsWay halves state pieces moves new
     → BeginsIn H moves → BeginsIn F moves ⊎ BeginsIn G moves
-split F G H halves state pieces [] new h way begins = absurd begins
-split F G H halves state pieces (one ∷ moves) new h way begins = h one way.1.0 way.1.1 begins
+split F G H halves state pieces moves new h way begins = search rules
 
 differing : (F G : Move → Type 0) (moves others : List Move) → ((one : Move) → F one → ¬ (G one))
     → BeginsIn F moves → BeginsIn G others → moves ≢ others
-differing F G [] others apart f g e = f
-differing F G (one ∷ moves) others apart f g e =
-    let B : List Move → Type 0 = λ ms. BeginsIn G ms in apart one f (subst B (sym e) g)
+differing F G moves others one f g e = search rules
 
 -- what is found in one of two sets, if the other has no lines
 alone : (F G H : Move → Type 0) (halves : ℕ) (state : State) (pieces : List Piece) (ways : Ways)
     → Within state F H → Splits state H F G → AreWaysBy G halves state pieces Nothing
     → AreWaysBy F halves state pieces ways → AreWaysBy H halves state pieces ways
-alone F G H halves state pieces ways inside parts none h =
-    same_lines F H halves state pieces ways
-    (λ moves new. within F H halves state pieces moves new inside)
-    (λ moves new way begins. elim (split F G H halves state pieces moves new parts way begins) [
-      | inl f ↦ f
-      | inr g ↦ absurd (none moves new way g)
-    ])
-    h
+alone F G H halves state pieces ways inside parts none h = search (rules, same_lines, within, split)
 
 swapped : (F G H : Move → Type 0) (state : State) → Splits state H F G → Splits state H G F
 swapped F G H state parts one next move h =
@@ -130,8 +102,7 @@ joined F G H halves state pieces (Several new) (Several new') in_f in_g parts ap
 
 begins_so : (F : Move → Type 0) (halves : ℕ) (moves : List Move) → ((one : Move) → F one)
     → length moves ≡ suc halves → BeginsIn F moves
-begins_so F halves [] every e = absurd (omega (arith, e))
-begins_so F halves (one ∷ moves) every e = every one
+begins_so F halves moves one e = search rules
 
 -- all lines
 pub all_ways : (F : Move → Type 0) (halves : ℕ) (state : State) (pieces : List Piece) (ways : Ways)
@@ -156,16 +127,7 @@ rest_of : (halves : ℕ) (state next : State) (pieces : List Piece) (one : Move)
     (new : State) → IsMove state one next → IsWay (suc halves) state pieces moves new
     → BeginsIn (λ other. other ≡ one) moves
     → (rest : List Move) × (moves ≡ one ∷ rest) × IsWay halves next pieces rest new
-rest_of halves state next pieces one [] new move way begins = absurd begins
-rest_of halves state next pieces one (first ∷ rest) new move (long, (next', move', line), same)
-    begins =
-    let M : Move → Type 0 = λ m. IsMove state m next' in
-    let S : State → Type 0 = λ s. IsLine s rest new in
-    let states : next' ≡ next = one_next state one next' next (subst M begins move') move in (
-      rest,
-      ap (λ (m : Move). m ∷ rest) begins,
-      (omega (arith, long), subst S states line, same),
-    )
+rest_of halves state next pieces one moves new rest way begins = search (rules, one_next)
 
 longer : (halves : ℕ) (state next : State) (pieces : List Piece) (one : Move) (moves : List Move)
     (new : State) → IsMove state one next → IsWay halves next pieces moves new
@@ -218,15 +180,11 @@ after_move halves state next pieces one (Several new') new follows move
 pub no_move : (halves : ℕ) (state : State) (pieces : List Piece) (one : Move)
     → ((next : State) → ¬ (IsMove state one next))
     → AreWaysBy (λ other. other ≡ one) (suc halves) state pieces Nothing
-no_move halves state pieces one none [] new way begins = begins
-no_move halves state pieces one none (first ∷ rest) new way begins =
-    let M : Move → Type 0 = λ m. IsMove state m way.1.0 in
-    none way.1.0 (subst M begins way.1.1)
+no_move halves state pieces one next h' new way begins = search rules
 
 pub none_in : (F : Move → Type 0) (halves : ℕ) (state : State) (pieces : List Piece)
     → ((one : Move) → ¬ (F one)) → AreWaysBy F halves state pieces Nothing
-none_in F halves state pieces none [] new way begins = begins
-none_in F halves state pieces none (one ∷ moves) new way begins = none one begins
+none_in F halves state pieces one h' new way begins = search rules
 
 -- ---- sets by the ends of half-moves
 
@@ -234,17 +192,7 @@ pub by_parts : (halves : ℕ) (state : State) (pieces : List Piece) (one : Move)
     (ways : Ways) → square_number one.from ≡ from → square_number one.to ≡ to
     → AreWaysBy (λ other. other ≡ one) halves state pieces ways
     → AreWaysBy (Ends from to (λ other. other ≡ one.promotion)) halves state pieces ways
-by_parts halves state pieces one from to ways from_is to_is h =
-    same_set (λ other. other ≡ one) (Ends from to (λ other. other ≡ one.promotion)) halves state
-    pieces ways
-    (λ other next move same. (
-      ap (λ (m : Move). square_number m.from) same ∙ from_is,
-      ap (λ (m : Move). square_number m.to) same ∙ to_is,
-      ap (λ (m : Move). m.promotion) same,
-    ))
-    (λ other next move (from_same, to_same, promotion).
-    same_move other one (from_same ∙ sym from_is) (to_same ∙ sym to_is) promotion)
-    h
+by_parts halves state pieces one from to ways from_is to_is h = search (rules, same_set, same_move)
 
 -- one more promotion
 pub promoted : (halves : ℕ) (state : State) (pieces : List Piece) (from to : ℕ)
@@ -278,10 +226,7 @@ further halves state pieces from to ways other new e h k =
     subst (AreWaysBy H halves state pieces) (sym e) (joined F G H halves state pieces ways other
     (λ one next move (a, b). (a, omega arith))
     (λ one next move (a, b). (a, omega arith))
-    (λ one next move (a, b). elim (cases_eq (square_number one.to) to) [
-      | inl same ↦ inr (a, same)
-      | inr differ ↦ inl (a, omega arith)
-    ])
+    (search (rules, cases_eq))
     (λ one (a, b) (a', b'). omega arith)
     h k)
 
@@ -298,10 +243,7 @@ next_from halves state pieces from ways other new e h k =
     subst (AreWaysBy H halves state pieces) (sym e) (joined F G H halves state pieces ways other
     (λ one next move a. omega arith)
     (λ one next move a. omega arith)
-    (λ one next move a. elim (cases_eq (square_number one.from) from) [
-      | inl same ↦ inr same
-      | inr differ ↦ inl (omega arith)
-    ])
+    (search (rules, cases_eq))
     (λ one a b. omega arith)
     h k)
 
@@ -311,30 +253,20 @@ pub all_goals : (halves : ℕ) (state : State) (pieces : List Piece) (from to : 
     → AreWaysBy (λ one. (square_number one.from ≡ from) × (square_number one.to < to)) halves state
     pieces ways
     → AreWaysBy (λ one. square_number one.from ≡ from) halves state pieces ways
-all_goals halves state pieces from to ways end h =
-    same_set (λ one. (square_number one.from ≡ from) × (square_number one.to < to))
-    (λ one. square_number one.from ≡ from) halves state pieces ways
-    (λ one next move (a, b). a)
-    (λ one next move a. (a, omega (arith, one.to.small)))
-    h
+all_goals halves state pieces from to ways end h = search (rules, same_set)
 
 pub several_from : (halves : ℕ) (state : State) (pieces : List Piece) (from to : ℕ) (ways : Ways)
     → IsSeveral ways
     → AreWaysBy (λ one. (square_number one.from ≡ from) × (square_number one.to < to)) halves state
     pieces ways
     → AreWaysBy (λ one. square_number one.from ≡ from) halves state pieces ways
-several_from halves state pieces from to ways is h =
-    several (λ one. (square_number one.from ≡ from) × (square_number one.to < to))
-    (λ one. square_number one.from ≡ from) halves state pieces ways
-    (λ one next move (a, b). a) is h
+several_from halves state pieces from to ways is h = search (rules, several)
 
 pub all_from : (halves : ℕ) (state : State) (pieces : List Piece) (from : ℕ) (ways : Ways)
     → 64 ≤ from
     → AreWaysBy (λ one. square_number one.from < from) (suc halves) state pieces ways
     → AreWays (suc halves) state pieces ways
-all_from halves state pieces from ways end h =
-    all_ways (λ one. square_number one.from < from) halves state pieces ways
-    (λ one. omega (arith, one.from.small)) h
+all_from halves state pieces from ways end h = search (rules, all_ways)
 
 pub several_ways : (halves : ℕ) (state : State) (pieces : List Piece) (from : ℕ) (ways : Ways)
     → IsSeveral ways
@@ -342,5 +274,4 @@ pub several_ways : (halves : ℕ) (state : State) (pieces : List Piece) (from : 
     → AreWays (suc halves) state pieces ways
 several_ways halves state pieces from ways is h =
     all_ways (λ one. ⊤) halves state pieces ways (λ one. tt)
-    (several (λ one. square_number one.from < from) (λ one. ⊤) (suc halves) state pieces ways
-    (λ one next move a. tt) is h)
+    (search (rules, several, ⊤))

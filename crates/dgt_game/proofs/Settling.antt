@@ -1,9 +1,10 @@
 -- What is reported has rested.
-use Rattle.std.{proofs.Common.{◌≡◌, ◌∙◌, ◌<◌, ◌≤◌, ◌+◌, ◌-◌, ◌^◌, ◌⊎◌, inl, inr, refl, sym, subst, arith, min, ℕ, Bool, true, false, [], ◌∷◌, Option, Some, None}, specs.Prelude.{◌≢◌, IfSome}}
+use Rattle.std.proofs.Common.{rules}
+use Rattle.std.{proofs.Common.{◌≡◌, ◌∙◌, ◌≤◌, ◌+◌, ◌-◌, ◌^◌, ◌⊎◌, inl, inr, refl, sym, subst, min, ℕ, Bool, true, false, [], ◌∷◌, Option, Some, None}, specs.Prelude.{◌≢◌, IfSome}}
 use Rattle.{std.{specs.Prelude.{MatchOption, if◌then◌else◌, option_map, slice_get}, proofs.lemmas.{Bool.{false≢true}, Option.{none-some}}}, dgt_game.specs.declared.node.{Node.{Node}, Origin.{Origin}}}
 use Rattle.dgt_game.specs.{declared.{node.{Place.{Place}, Way.{Way}}, recogniser.Recogniser.{Recogniser}, resting.{Next.{Next}, Task.{Task}}, view.View.{View}}, Memory.{steps}, Planning.{Lacks}}
 use Rattle.dgt_game.specs.{Planning.{Plans, RestsAfter, RestsAt, RestsBefore, RestsBy, TaskFits, search_wait}, Settling.{IsAt, NothingWaitsLong, ReplacingHasRested, ReportedHasRested}}
-use Rattle.dgt_game.{specs.{Settling.{ReportedHasSettled, ReportedIsShown, SeenIsAnswered}, Standing.{Counts, Lands, ShowsAs, StandsAt}, Timing.{HasTask, IsIdle}}, proofs.Finding.{not_yet}}
+use Rattle.dgt_game.{specs.{Settling.{ReportedHasSettled, ReportedIsShown, SeenIsAnswered}, Standing.{Counts, Lands, ShowsAs, StandsAt}, Timing.{IsIdle}}, proofs.Finding.{not_yet}}
 use Rattle.dgt_game.proofs.{Rests.{only_shown}, Standing.{some_of}}
 
 -- what is done next is planned if it is due
@@ -19,10 +20,7 @@ pub reported_has_rested : ReportedHasRested
 reported_has_rested self new event now (planned, quiet, small, ([], tells)) =
     absurd (none-some event (sym (tells.0.4 quiet).0))
 reported_has_rested self new event now (planned, quiet, small, (next ∷ done, h)) =
-    let (sure, (plan, is, late)) = timed self.is_sure self.next self.since now
-    (subst (HasTask now) (h.1.4 quiet).1 h.2) in
-    let fits = subst (Plans self) is planned in
-    (sure, (plan.task, plan.wait, fits.0, fits.1, omega (arith, late, small)))
+    search (rules, timed)
 
 -- the board stands at the start of a game
 abbrev IsAtStart : Recogniser → Type 0
@@ -30,8 +28,7 @@ IsAtStart self =
     (node : Node) × IsAt self node × (node.origin ≡ Origin.Start) × (node.depth ≡ 1)
 
 searched_later : (behind : Bool) → 300 ≤ search_wait behind
-searched_later true = omega arith
-searched_later false = omega arith
+searched_later behind = search rules
 
 node_settles : (self : Recogniser) (wait : ℕ) (node : Node) (origin : Origin) → IsAt self node
     → node.origin ≡ origin → RestsBy origin node.depth self.returned.count wait
@@ -58,18 +55,12 @@ place_settles self Place.Nowhere wait here h = inl h
 
 task_settles : (self : Recogniser) (task : Task) (wait : ℕ) → RestsBefore self task wait
     → (300 ≤ wait) ⊎ IsAtStart self
-task_settles self Task.EndByKings wait h = inl (omega (arith, h))
-task_settles self Task.Search wait h = inl (omega (arith, h, searched_later self.is_behind))
-task_settles self Task.Tell wait h = place_settles self self.here wait refl h
-task_settles self Task.Begin wait h = inl (omega (arith, h.0))
+task_settles self task wait h = search (rules, searched_later, place_settles)
 
 pub reported_has_settled : ReportedHasSettled
 reported_has_settled self new event now reports =
     let (sure, (task, wait, fits, rests, late)) = reported_has_rested self new event now reports in
-    elim (task_settles self task wait rests) [
-      | inl some ↦ inl (omega (arith, late, some))
-      | inr start ↦ inr start
-    ]
+    search (rules, task_settles)
 
 pub reported_is_shown : ReportedIsShown
 reported_is_shown self new view event now reports stands seen waits =
@@ -80,38 +71,18 @@ reported_is_shown self new view event now reports stands seen waits =
 task_replaces : (self : Recogniser) (task : Task) (wait base : ℕ) (node : Node) → IsAt self node
     → node.origin ≡ Origin.Line base → TaskFits self task → RestsBefore self task wait
     → ((self.has_kings ≡ true) × (wait ≡ 1000)) ⊎ RestsAfter base self.returned.count wait
-task_replaces self Task.EndByKings wait base node at is fits rests = inl (fits, rests)
-task_replaces self Task.Search wait base node (k, here, at) is fits rests =
-    absurd (let e = fits.0 in let wrong : ⊥ = cc in wrong)
-task_replaces self Task.Begin wait base node (k, here, at) is fits rests =
-    absurd (let e = fits.0 in let wrong : ⊥ = cc in wrong)
-task_replaces self Task.Tell wait base node (k, here, at) is fits rests =
-    let placed : RestsAt (Place.Seen k) self.memory self.returned.count wait =
-    subst (λ (p : Place). RestsAt p self.memory self.returned.count wait) here rests in
-    let found = subst (λ (o : Option Node). MatchOption o (300 ≤ wait) (λ n. RestsBy n.origin
-    n.depth self.returned.count wait)) at placed in
-    inr (subst (λ (o : Origin). RestsBy o node.depth self.returned.count wait) is found)
+task_replaces self task wait base node at is fits rests = search rules
 
 pub replacing_has_rested : ReplacingHasRested
 replacing_has_rested self new event now base node reports kings at is far other =
     let (sure, (task, wait, fits, rests, late)) = reported_has_rested self new event now reports in
-    elim (task_replaces self task wait base node at is fits rests) [
-      | inl ends ↦ absurd (false≢true (sym kings ∙ ends.0))
-      | inr after ↦ omega (arith, late, after.2 far other)
-    ]
+    search (rules, task_replaces, node, false≢true)
 
 no_next : (self : Recogniser) (now base : ℕ) (node : Node) (next : Option Next)
     → self.next ≡ next → Plans self next → self.is_sure ≡ true → IsIdle now self
     → self.since + 10000 ≤ now → IsAt self node → node.origin ≡ Origin.Line base → next ≡ None
-no_next self now base node None same plans sure idle late at is = refl
-no_next self now base node (Some plan) same plans sure idle late at is =
-    let idles = subst (λ (b : Bool). IfSome (if b then option_map (λ (n : Next). min
-    (self.since + n.wait) (2 ^ 64 - 1)) self.next else None) (λ at. now < at)) sure idle.1 in
-    let soon = not_yet self.next self.since now idles plan same in
-    absurd (elim (task_replaces self plan.task plan.wait base node at is plans.0 plans.1) [
-      | inl ends ↦ omega (arith, soon, late, ends.1)
-      | inr after ↦ omega (arith, soon, late, after.1)
-    ])
+no_next self now base node next same plans sure idle late at is =
+    search (rules, option_map, min, not_yet, task_replaces, node)
 
 pub nothing_waits_long : NothingWaitsLong
 unfolding Lacks
@@ -122,10 +93,7 @@ nothing_waits_long self view now base node stands planned seen sure confirmed id
       | inr nothing ↦
           let (k, here, got) = at in
           let on = subst (λ (o : Option View). IfSome o (StandsAt (Place.Seen k) self.memory false
-          true)) seen (subst (λ (b : Bool). IfSome self.view (StandsAt (Place.Seen k) self.memory
-          false b)) sure (subst (λ (b : Bool). IfSome self.view (StandsAt (Place.Seen k) self.memory
-          b self.is_sure)) nothing.1.0 (subst (λ (p : Place). IfSome self.view (StandsAt p
-          self.memory self.is_next self.is_sure)) here stands.0))) in
+          true)) seen (search rules) in
           let found = some_of (slice_get (steps self.memory.seen.items) k) _ on in
           (view, seen, (found.0, inr (k, found.1), found.2.1 refl refl))
     ]

@@ -1,16 +1,16 @@
 -- The board's place in what is known, and what it shows once all is reported.
-use Rattle.std.proofs.{Common.{◌≡◌, ◌≢◌, ◌∙◌, ◌⊎◌, ◌≤◌, refl, sym, ap, subst, inl, inr, arith, ℕ, zero, suc, Bool, true, false, List, length, Option, Some, None, unwrap_or}, Math.Bridge.{le_prop}}
-use Rattle.{std.specs.Prelude.{IfSome, MatchOption, slice_get}, dgt_values.specs.{declared.pieces.Piece.{Piece}, Board.{pieces_of}}, dgt_chess.specs.{declared.state.State.{State}, Attacks.{piece_at}}}
+use Rattle.std.proofs.Common.{rules}
+use Rattle.std.proofs.{Common.{◌≡◌, ◌≢◌, ◌∙◌, ◌⊎◌, ◌≤◌, refl, sym, ap, subst, ℕ, Bool, true, false, List, length, Option, Some, None, unwrap_or}, Math.Bridge.{le_prop}}
+use Rattle.{std.specs.Prelude.{IfSome, MatchOption}, dgt_values.specs.{declared.pieces.Piece.{Piece}}, dgt_chess.specs.{declared.state.State.{State}}}
 use Rattle.{dgt_chess.specs.Rules.{board}, dgt_game.specs.declared.{memory.Memory.{Memory}, node.{Node.{Node}, Place.{Place}, Returned.{Returned}, Step.{Step}}, recogniser.Recogniser.{Recogniser}}}
-use Rattle.dgt_game.specs.{declared.view.View.{View}, Memory.{IsBefore, IsTold, step_at, steps}, Planning.{LacksOnly}, Reading.{Shows}, Told.{IsHeld, as_shown}, Standing.{Counts, EndsHere}}
+use Rattle.dgt_game.specs.{declared.view.View.{View}, Memory.{IsBefore, IsTold, step_at, steps}, Planning.{LacksOnly}, Reading.{Shows}, Told.{IsHeld}, Standing.{EndsHere}}
 use Rattle.dgt_game.{specs.{Standing.{IsCalledFor, IsMeant, IsOpen, Lands, ShowsAs, ShowsBut, ShowsLast, Stands, StandsAt, TakesBack}, Waiting.{coming}}, proofs.Chains.{moved, some_below}}
 use Rattle.dgt_game.proofs.Links.{turned_back}
 
 -- what is so of a value is so of one that is there
 pub some_of : {X : Type 0} (o : Option X) (P : X → Type 0) → MatchOption o ⊥ P → (x : X)
     × (o ≡ Some x) × P x
-some_of None P h = absurd h
-some_of (Some x) P h = (x, refl, h)
+some_of o P x = search rules
 
 pub of_some : {X : Type 0} (o : Option X) (x : X) (P : X → Type 0) → o ≡ Some x → P x
     → MatchOption o ⊥ P
@@ -18,8 +18,7 @@ of_some o x P e h = rw e h
 
 -- a picture that shows a step shows all of it but pieces in hands
 pub shows_but : (view : View) (step : Step) → Shows view step → ShowsBut view step
-shows_but view step h = λ k l. inl (ap (λ (p : List Piece). piece_at p k) (turned_back
-    step.is_turned (pieces_of view.shown) (board step.state) (sym h)))
+shows_but view step h = search (rules, turned_back)
 
 -- whether pieces are in hands or not, no others lack
 pub but_as : (view : View) (node : Node) (held : Bool) → node.is_held ≡ held → ShowsAs view node
@@ -45,36 +44,11 @@ pub tells : (view : View) (old new : Memory) (place : Place) (answer : Option No
     → (new.answer ≡ answer) ⊎ (new.answer ≡ None) → IsCalledFor old place answer view
     → Lands view new × ((new.back ≤ 4) ⊎ ShowsLast view new)
 tells view old new place answer ready lands near answers either called =
-    let found = some_of (step_at (steps old.line.items) (steps old.seen.items) place) _ called.0 in
-    let step = found.0 in
-    let held : IfSome new.answer (λ node. Counts node → ShowsAs view node) = elim either [
-      | inl same ↦ subst (λ (o : Option Node). IfSome o (λ node. Counts node → ShowsAs view node))
-          (sym same) called.1
-      | inr none ↦ rw none tt
-    ] in
-    elim found.2 [
-      | inl shows ↦
-          let last : ShowsLast view new = of_some (coming new) step (Shows view) (lands step
-          found.1) shows in
-          ((inl last, held), inr last)
-      | inr (other, before, counts) ↦ (
-        (
-          inr (subst (λ (o : Option Node). MatchOption o ⊥ Counts) (sym (answers step found.1
-              other)) counts),
-          held,
-        ),
-        inl (elim (near step found.1) [
-          | inl few ↦ few
-          | inr at ↦ (subst (λ (p : Place). IsBefore (length (steps old.line.items)) (length (steps
-              old.seen.items)) p) at before).1
-        ]),
-      )
-    ]
+    search (rules, some_of, of_some, coming)
 
 pub if_some : {X : Type 0} (o : Option X) (P Q : X → Type 0) → IfSome o P → ((x : X) → P x → Q x)
     → IfSome o Q
-if_some None P Q h more = tt
-if_some (Some x) P Q h more = more x h
+if_some o P Q x more = search rules
 
 pub returned_same : (count : ℕ) (near other : count ≤ 4) → ◌≡◌ {A = Returned} (record {
   count = count;
@@ -86,32 +60,19 @@ returned_same count near other =
 
 pub match_more : {X : Type 0} (o : Option X) (P Q : X → Type 0) → MatchOption o ⊥ P
     → ((x : X) → P x → Q x) → MatchOption o ⊥ Q
-match_more None P Q h more = h
-match_more (Some x) P Q h more = more x h
+match_more o P Q x more = search rules
 
 -- where the board stands is what it shows, if that is to be reported
 pub shows_at : (view : View) (place : Place) (self : Memory) (is_sure : Bool) → IsTold self
     → self.answer ≡ None → StandsAt place self true is_sure view
     → MatchOption (step_at (steps self.line.items) (steps self.seen.items) place) ⊥ (Shows view)
-shows_at view (Place.Line zero) self is_sure told none (inl last, held) =
-    subst (λ (o : Option Step). MatchOption o ⊥ (Shows view)) (last_at_first self told) last
-shows_at view (Place.Line zero) self is_sure told none (inr counts, held) =
-    absurd (subst (λ (o : Option Node). MatchOption o ⊥ Counts) none counts)
-shows_at view (Place.Line (suc k)) self is_sure told none (next, at) = at
-shows_at view (Place.Seen k) self is_sure told none at =
-    match_more (slice_get (steps self.seen.items) k) _ (Shows view) at (λ step on. on.0 refl)
-shows_at view Place.Nowhere self is_sure told none at = absurd (let wrong : ⊥ = cc in wrong)
+shows_at view place self is_sure told none at = search (rules, last_at_first, match_more)
 
 -- if nothing waits, all depends on where the board stands
 pub resting : {At Meant Back : Type 0} (memory : Memory) → IsTold memory → memory.answer ≡ None
     → At → At × (IsTold memory → memory.answer ≡ None) × (IsTold memory ⊎ Meant)
     × ((memory.back ≤ 4) ⊎ Back)
-resting memory told none at = (
-  at,
-  λ t. none,
-  inl told,
-  inl (let zero : memory.back ≡ 0 = told.0 in omega (arith, zero)),
-)
+resting memory told none at = search rules
 
 pub some_view : (view : View) (seen : Option View) (P : View → Type 0) → seen ≡ Some view → P view
     → IfSome seen P
@@ -130,16 +91,14 @@ at_other Place.Nowhere self is_sure view line seen = refl
 
 pub back_of : {X : Type 0} (o : Option X) (back : ℕ) (P : X → Type 0)
     → IfSome o (λ x. (back ≤ 4) ⊎ P x) → (back ≤ 4) ⊎ IfSome o P
-back_of None back P h = inr tt
-back_of (Some x) back P h = h
+back_of o back P h = search rules
 
 pub at_some : {X : Type 0} (o : Option X) (x : X) (P : X → Type 0) → MatchOption o ⊥ P → o ≡ Some x
     → P x
 at_some {X = X} o x P h e = subst (λ (p : Option X). MatchOption p ⊥ P) e h
 
 pub every_some : {X : Type 0} (o : Option X) (P : X → Type 0) → ((x : X) → P x) → IfSome o P
-every_some None P every = tt
-every_some (Some x) P every = every x
+every_some o P x = search rules
 
 pub same_some : {X : Type 0} (o : Option X) (a b : X) → o ≡ Some a → o ≡ Some b → a ≡ b
 same_some o a b e f = ap (λ (p : Option _). unwrap_or p a) (sym e ∙ f)
@@ -147,10 +106,7 @@ same_some o a b e f = ap (λ (p : Option _). unwrap_or p a) (sym e ∙ f)
 -- a node is shown wherever it is kept
 pub shows_moved : (view : View) (node new : Node) (place : Place) → new.step ≡ moved node.step place
     → new.is_held ≡ node.is_held → ShowsAs view node → ShowsAs view new
-shows_moved view node new place step held shown = (
-  λ e. subst (λ (s : Step). Shows view s) (sym step) (shown.0 (sym held ∙ e)),
-  λ e. subst (λ (s : Step). ShowsBut view s) (sym step) (shown.1 (sym held ∙ e)),
-)
+shows_moved view node new place step held shown = search rules
 
 -- what may be followed is there
 pub found_of : (line seen : List Step) (place : Place)
@@ -162,77 +118,30 @@ found_of line seen Place.Nowhere before some = absurd (some refl)
 
 pub but_moved : (view : View) (step other : Step) → other.is_turned ≡ step.is_turned
     → board other.state ≡ board step.state → ShowsBut view step → ShowsBut view other
-but_moved view step other turned same shown = λ k l.
-    let pieces = pieces_of view.shown in
-    let here : (piece_at (as_shown other.is_turned pieces) k ≡ piece_at (board step.state) k)
-    ⊎ (piece_at (as_shown other.is_turned pieces) k ≡ Piece.Empty) = subst (λ (t : Bool). (piece_at
-    (as_shown t pieces) k ≡ piece_at (board step.state) k) ⊎ (piece_at (as_shown t pieces) k
-    ≡ Piece.Empty)) (sym turned) (shown k l) in
-    elim here [
-      | inl at ↦ inl (at ∙ ap (λ (b : List Piece). piece_at b k) (sym same))
-      | inr gone ↦ inr gone
-    ]
+but_moved view step other turned same shown = search rules
 
 -- pieces in hands lack
 pub held_lacks : (picture : List Piece) (state : State) → IsHeld picture state
     → LacksOnly picture state
-held_lacks picture state held = λ k l. elim (held k l) [
-  | inl at ↦ inl at
-  | inr gone ↦ inr gone.0
-]
+held_lacks picture state held = search rules
 
 -- what is reported later is meant, too
 pub meant_stands : (self : Recogniser) → IsMeant self → TakesBack 4 self
     → (IsTold self.memory → self.memory.answer ≡ None) → Stands self
-meant_stands self meant back none = (
-  elim meant.1 [
-    | inl last ↦ subst (λ (p : Place). IfSome self.view (StandsAt p self.memory self.is_next
-        self.is_sure)) (sym last.0) last.1
-    | inr kings ↦ subst (λ (p : Place). IfSome self.view (StandsAt p self.memory self.is_next
-        self.is_sure)) (sym kings.0) (every_some self.view _ (λ view. kings.1))
-  ],
-  none,
-  inr meant,
-  back,
-)
+meant_stands self meant back none = search (rules, every_some)
 
 pub ends_of : (self : Recogniser) → IsMeant self → EndsHere self
-ends_of self meant = elim meant.1 [
-  | inl last ↦ inl last
-  | inr kings ↦ inr (kings.0, kings.1, kings.2)
-]
+ends_of self meant = search rules
 
 -- what is meant stays so while it is reported
 lands_moved : (view : View) (old new : Memory) → coming new ≡ coming old → new.answer ≡ old.answer
     → Lands view old → Lands view new
-lands_moved view old new same answer lands = (
-  elim lands.0 [
-    | inl last ↦ inl (subst (λ (o : Option Step). MatchOption o ⊥ (Shows view)) (sym same) last)
-    | inr counts ↦ inr (subst (λ (o : Option Node). MatchOption o ⊥ Counts) (sym answer) counts)
-  ],
-  subst (λ (o : Option Node). IfSome o (λ node. Counts node → ShowsAs view node)) (sym answer)
-      lands.1,
-)
+lands_moved view old new same answer lands = search rules
 
 pub meant_moved : (self : Recogniser) (new : Memory) → coming new ≡ coming self.memory
     → new.answer ≡ self.memory.answer → IsMeant self → IsMeant (record self { memory = new })
-meant_moved self new same answer meant = (
-  meant.0,
-  elim meant.1 [
-    | inl last ↦ inl (
-      last.0,
-      if_some self.view _ (λ view. Lands view new) last.1 (λ view lands.
-          lands_moved view self.memory new same answer lands),
-    )
-    | inr kings ↦ inr (kings.0, kings.1, answer ∙ kings.2, kings.3)
-  ],
-)
+meant_moved self new same answer meant = search (rules, if_some, lands_moved)
 
 pub back_moved : (self : Recogniser) (new : Memory) → coming new ≡ coming self.memory
     → new.back ≤ self.memory.back → TakesBack 4 self → TakesBack 4 (record self { memory = new })
-back_moved self new same less back = elim back [
-  | inl few ↦ inl (omega (arith, few, less))
-  | inr shown ↦ inr (if_some self.view _ (λ view. ShowsLast view new) shown (λ view last. subst
-      (λ (o
-      : Option Step). MatchOption o ⊥ (Shows view)) (sym same) last))
-]
+back_moved self new same less back = search (rules, if_some)

@@ -1,17 +1,16 @@
 -- Nodes that were shown for sure.
-use Rattle.std.proofs.Common.{◌≡◌, ◌≢◌, ◌∙◌, ◌++◌, ◌∷◌, refl, ap, inl, inr, subst, Bool, true, false, ℕ, zero, suc, List, [], Option, Some, None, unwrap_or}
+use Rattle.std.proofs.Common.{rules}
+use Rattle.std.proofs.Common.{◌≡◌, ◌≢◌, ◌++◌, ◌∷◌, refl, inl, inr, subst, Bool, true, false, ℕ, zero, suc, List, [], Option, None, unwrap_or}
 use Rattle.{std.specs.Prelude.{⊤, Contains, IfSome, MatchOption, slice_get}, dgt_values.specs.{declared.pieces.Piece.{Piece}, Board.{pieces_of}}, dgt_chess.specs.declared.state.State.{State}}
 use Rattle.dgt_game.specs.declared.{event.GameResult.{GameResult}, memory.Memory.{Memory}, node.{Node.{Node}, Place.{Place}, Returned.{Returned}, Step.{Step}}, observation.Sight.{Sight}, recogniser.Recogniser.{Recogniser}}
 use Rattle.dgt_game.specs.{Memory.{IsTold, halves_of, step_at, steps, told_of}, Recogniser.{new_recogniser}, Results.{ByKings}, Sure.{AreMarked, IsMarked, KnowsSure, WasSure, WereSure, sure_after}}
 use Rattle.dgt_game.{specs.{Told.{IsHeld, Told, WasShown, as_shown, told_pieces}, Waiting.{coming, is_sure_sight}}, proofs.{Known.{Within, first_shown, first_step, was_more, within_cons}, Links.{was_shown}, Standing.{if_some, match_more, shows_at}}}
 use Rattle.dgt_values.specs.declared.positions.Position.{Position}
-use Rattle.dgt_game.specs.{declared.view.View.{View}, Reading.{Shows}, Standing.{StandsAt}}
+use Rattle.dgt_game.specs.{declared.view.View.{View}, Standing.{StandsAt}}
 
 pub marked_first : (sure : List (List Piece)) (node : Node) (nodes : List Node)
     → IsMarked sure node → AreMarked sure nodes → AreMarked sure (node ∷ nodes)
-marked_first sure node nodes mark marked zero other e = subst (IsMarked sure)
-    (ap (λ (o : Option Node). unwrap_or o node) e) mark
-marked_first sure node nodes mark marked (suc k) other e = marked k other e
+marked_first sure node nodes mark marked h other e = search (rules, unwrap_or)
 
 pub marked_none : (sure : List (List Piece)) → AreMarked sure []
 marked_none sure k node e = absurd (subst (λ (o : Option Node). MatchOption o ⊤ (λ _. ⊥)) e tt)
@@ -29,26 +28,14 @@ pub seen_marked : (sure : List (List Piece)) (gone : Returned) (old new : Memory
     → new.line ≡ old.line → new.back ≡ old.back → new.unsaid ≡ old.unsaid
     → new.answer ≡ old.answer → AreMarked sure new.seen.items → WereSure sure old gone
     → WereSure sure new gone
-seen_marked sure gone old new lines back unsaid answer marked h = record {
-  seen = marked;
-  answer = rw answer h.answer;
-  returned = λ e. rw lines (h.returned e);
-  waits = rw (back, unsaid) h.waits;
-  ends = rw (lines, back, unsaid) h.ends;
-}
+seen_marked sure gone old new lines back unsaid answer marked h = search rules
 
 -- the same, and another state may be the one that the board has gone back to
 pub gone_back : (sure : List (List Piece)) (old new : Returned) (self : Memory) → IsTold self
     → (new.is_sure ≡ true → IfSome (slice_get (steps self.line.items) new.count)
     (λ step. WasShown sure (told_of step)))
     → WereSure sure self old → WereSure sure self new
-gone_back sure old new self told back h = record {
-  seen = h.seen;
-  answer = h.answer;
-  returned = back;
-  waits = inl told;
-  ends = h.ends;
-}
+gone_back sure old new self told back h = search rules
 
 -- A line begins with a state that counts as shown.
 pub goes_on_sure : (state : State) (is_turned : Bool) (old self : Recogniser) (node : Node)
@@ -60,41 +47,19 @@ pub goes_on_sure : (state : State) (is_turned : Bool) (old self : Recogniser) (n
     → KnowsSure (told_pieces (told_of (first_step state is_turned)) ∷ []) self
 unfolding WasSure
 goes_on_sure state is_turned old self node new step line back unsaid answer seen sure returned =
-    let told : Told = told_of (first_step state is_turned) in
-    let lines : steps self.memory.line.items ≡ first_step state is_turned ∷ [] =
-    ap steps line ∙ ap (λ (r : Recogniser). steps (r.memory.line.items ++ node ∷ [])) new
-    ∙ ap (λ (s : Step). s ∷ []) step in
-    let none : self.memory.back ≡ 0 = back ∙ ap (λ (r : Recogniser). r.memory.back) new in
-    let nothing : self.memory.unsaid.items ≡ [] =
-    unsaid ∙ ap (λ (r : Recogniser). r.memory.unsaid.items) new in
-    let doubt : self.is_sure ≡ false = sure ∙ ap (λ (r : Recogniser). r.is_sure) new in
-    let here : self.returned.is_sure ≡ false = ap (λ (r : Returned). r.is_sure) returned
-    ∙ ap (λ (r : Recogniser). r.returned.is_sure) new in (
-      (λ e. absurd (let wrong : ⊥ = cc in wrong)),
-      record {
-        seen = rw (seen, new) (marked_none _);
-        answer = rw (answer, new) tt;
-        returned = λ e. absurd (let wrong : ⊥ = cc in wrong);
-        waits = inr here;
-        ends = rw (lines, none, nothing) (inl (was_shown _ told (told_pieces told)
-            (first_shown [] (told_pieces told)) refl));
-      },
-    )
+    search (rules, first_step, marked_none, was_shown, told_pieces, first_shown)
 
 -- more was shown for sure since
 pub was_sure_more : (sure more : List (List Piece)) (told : Told) → Within sure more
     → WasSure sure told → WasSure more told
 unfolding WasSure
-was_sure_more sure more told within (inl shown) = inl (was_more sure more told within shown)
-was_sure_more sure more told within (inr (picture, seen, kings)) =
-    inr (picture, within picture seen, kings)
+was_sure_more sure more told within h = search (rules, was_more)
 
 pub were_more : (sure more : List (List Piece)) (gone : Returned) (self : Memory)
     → Within sure more → WereSure sure self gone → WereSure more self gone
 were_more sure more gone self within h = record {
   seen = λ k node e mark. was_more sure more (told_of node.step) within (h.seen k node e mark);
-  answer = if_some self.answer _ _ h.answer (λ node was mark.
-      was_more sure more (told_of node.step) within (was mark));
+  answer = search (rules, if_some, was_more);
   returned = λ e. if_some _ _ _ (h.returned e) (λ step was.
       was_more sure more (told_of step) within was);
   waits = h.waits;
@@ -110,8 +75,7 @@ within_sure Sight.Away sure = λ picture h. h
 
 if_match : {X : Type 0} (o : Option X) (P Q : X → Type 0) → MatchOption o ⊥ P
     → ((x : X) → P x → Q x) → IfSome o Q
-if_match None P Q h more = absurd h
-if_match (Some x) P Q h more = more x h
+if_match o P Q x more = search rules
 
 -- what is shown now is shown for sure
 pub shown_sure : (sure : List (List Piece)) (told : Told) → WasShown sure told → WasSure sure told
@@ -148,9 +112,7 @@ pub parent_sure : (sure : List (List Piece)) (self : Memory) (gone : Returned) (
     place) (λ step. WasSure sure (told_of step))
 parent_sure sure self gone (Place.Line k) line seen h =
     let (is, count) = line k refl in
-    if_some _ _ _ (subst (λ (n : ℕ). IfSome (slice_get (steps self.line.items) n)
-    (λ step. WasShown sure (told_of step))) count (h.returned is))
-    (λ step shown. shown_sure sure (told_of step) shown)
+    search (rules, if_some, shown_sure)
 parent_sure sure self gone (Place.Seen k) line seen h =
     marked_step sure self.seen.items k h.seen (seen k refl)
 parent_sure sure self gone Place.Nowhere line seen h = tt
@@ -162,12 +124,8 @@ here_at : (sure : List (List Piece)) (self : Recogniser) (shown : Option View)
     → MatchOption shown ⊥ (λ view. Contains sure (pieces_of view.shown))
     → IfSome (step_at (steps self.memory.line.items) (steps self.memory.seen.items) self.here)
     (λ step. WasSure sure (told_of step))
-here_at sure self None told none at seen = absurd seen
-here_at sure self (Some view) told none at seen =
-    let shows = shows_at view self.here self.memory self.is_sure told none at in
-    if_match (step_at (steps self.memory.line.items) (steps self.memory.seen.items) self.here)
-    (Shows view) _ shows (λ step same. shown_sure sure (told_of step)
-    (was_shown sure (told_of step) (pieces_of view.shown) seen same))
+here_at sure self shown told none at seen =
+    search (rules, shows_at, if_match, shown_sure, was_shown)
 
 pub here_sure : (sure : List (List Piece)) (self : Recogniser) → IsTold self.memory
     → self.memory.answer ≡ None
@@ -182,9 +140,7 @@ sure_of self = self.is_sure
 
 pub not_sure : (sight : Sight) → ((position : Position) → sight ≢ Sight.Sure position)
     → is_sure_sight sight ≡ false
-not_sure (Sight.Sure position) other = absurd (other position refl)
-not_sure (Sight.Doubted position) other = refl
-not_sure Sight.Away other = refl
+not_sure sight position = search rules
 
 pub knows_sure_more : (sure more : List (List Piece)) (self : Recogniser) → Within sure more
     → KnowsSure sure self → KnowsSure more self
@@ -194,13 +150,4 @@ knows_sure_more sure more self within h = (
 )
 
 pub knows_none : KnowsSure [] new_recogniser
-knows_none = (
-  (λ e. absurd (let wrong : ⊥ = cc in wrong)),
-  record {
-    seen = marked_none [];
-    answer = tt;
-    returned = λ e. absurd (let wrong : ⊥ = cc in wrong);
-    waits = inr refl;
-    ends = tt;
-  },
-)
+knows_none = search (rules, marked_none)

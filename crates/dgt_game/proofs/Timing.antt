@@ -1,61 +1,36 @@
 -- What is done whenever `due` is called.
-use Rattle.std.{proofs.Common.{◌≡◌, ◌∙◌, ◌++◌, ◌≤◌, ◌<◌, ◌+◌, ◌-◌, ◌^◌, refl, ap, sym, subst, arith, ℕ, Bool, true, false, List, [], ◌∷◌, Option, Some, None}, specs.Prelude.{IfSome, MatchOption, min}}
+use Rattle.std.proofs.Common.{rules}
+use Rattle.std.{proofs.Common.{◌≡◌, ◌∙◌, ◌++◌, ◌≤◌, ◌<◌, ap, refl, sym, subst, ℕ, Bool, true, false, List, [], ◌∷◌, Option, Some, None}, specs.Prelude.{IfSome, MatchOption, min}}
 use Rattle.{std.{specs.Prelude.{option_map, if◌then◌else◌}, proofs.lemmas.Option.{none-some}}, dgt_game.specs.declared.{event.Event.{Event}, recogniser.Recogniser.{Recogniser}, resting.Next.{Next}}}
-use Rattle.dgt_game.specs.{Timing.{Acts, AllDue, Calls, DoneBy, Due, HasTask, IsIdle, NoCallMatters, Tells, next_time, with_report}, Results.{HasResult, IsLost}, Waiting.{Follows, IsQuiet, IsRight}}
-use Rattle.dgt_game.specs.Waiting.{has_result, is_lost}
+use Rattle.dgt_game.specs.{Timing.{Acts, AllDue, Calls, DoneBy, Due, HasTask, IsIdle, NoCallMatters, Tells, next_time, with_report}, Waiting.{Follows, IsQuiet, IsRight}}
 
 -- what is done next doesn't count
 pub right_with : (self : Recogniser) (next : Option Next) (event : Event)
     → IsRight self event → IsRight (record self { next = next }) event
-right_with self next (Event.Ended result) h = h
-right_with self next (Event.Lost squares) h = h
-right_with self next Event.Found h = tt
-right_with self next (Event.Begun state is_turned) h = tt
-right_with self next (Event.Made one) h = tt
-right_with self next (Event.Unseen moves) h = tt
-right_with self next (Event.Gap state count) h = tt
-right_with self next (Event.Back count) h = tt
+right_with self next event h = search rules
 
 pub acts_with : (old new : Recogniser) (next : Option Next) → Acts old new
     → Acts old (record new { next = next })
-acts_with old new next h = (
-  λ shown line told knows. let known = h.0 shown line told knows in
-      record { held = known.held; seen = known.seen },
-  λ quiet waits. h.1 quiet waits,
-  h.2,
-)
+acts_with old new next h = search rules
 
 pub follows_then : (a b c : Recogniser) (event : Option Event) → Follows a None b
     → Follows b event c → Follows a event c
-follows_then a b c None f g = (g.0 ∙ f.0, g.1 ∙ f.1)
-follows_then a b c (Some event) f g = (
-  subst (λ (had : Bool). HasResult had event (has_result c.over)) f.0 g.0,
-  subst (λ (was : Bool). IsLost was event (is_lost c.lost)) f.1 g.1,
-)
+follows_then a b c event f g = search (rules, event)
 
 pub tells_then : (a b c : Recogniser) (report : Option Event) → Tells a None b → Tells b report c
     → Tells a report c
-tells_then a b c report h k = (
-  λ shown line knows. k.0 shown line (h.0 shown line knows),
-  λ waits. k.1 (h.1 waits).0,
-  λ waits. follows_then a b c report (h.2 waits) (k.2 (h.1 waits).0),
-  λ none. ((k.3 none).0, (k.3 none).1 ∙ (h.3 refl).1),
-  λ quiet. let same = (h.4 quiet).1 in
-      let after = k.4 (subst IsQuiet (sym same) quiet) in (after.0, after.1 ∙ same),
-)
+tells_then a b c report h k = search (rules, follows_then)
 
 has_later : (now later : ℕ) (next : Option ℕ) → now ≤ later
     → MatchOption next ⊥ (λ at. at ≤ now) → MatchOption next ⊥ (λ at. at ≤ later)
-has_later now later None less h = h
-has_later now later (Some at) less h = omega (arith, less, h)
+has_later now later next less h = search rules
 
 if_none : (b : Bool) (x : Option ℕ) → x ≡ None → (if b then x else None) ≡ None
 if_none true x e = e
 if_none false x e = refl
 
 pub no_time : (self : Recogniser) → self.next ≡ None → next_time self ≡ None
-no_time self e = if_none self.is_sure _ (ap (λ (next : Option Next). option_map (λ next. min
-    (self.since + next.wait) (2 ^ 64 - 1)) next) e)
+no_time self e = search (rules, if_none, option_map, min)
 
 pub told_now : (now : ℕ) (old new : Recogniser) (event : Event) → Tells old (Some event) new
     → Due now old (Some event) new
@@ -117,14 +92,12 @@ no_call_matters [] now old next new early late all calls h =
     rw calls.0 (subst (λ (self : Recogniser). AllDue now self late new) calls.1 h)
 no_call_matters (time ∷ times) now old next new early late all calls h =
     let (report, between, due, (after, more, e)) = calls in
-    reported time now old between new report early after late all.0 due e
-    (no_call_matters times now between next new after late all.1 more h)
+    search (rules, reported, no_call_matters times now between next new after late all.1 more h)
 
 -- if nothing is due, nothing is done
 no_task : (now : ℕ) (next : Option ℕ) → IfSome next (λ at. now < at)
     → MatchOption next ⊥ (λ at. at ≤ now) → ⊥
-no_task now None idle has = has
-no_task now (Some at) idle has = omega (arith, idle, has)
+no_task now next idle has = search rules
 
 pub idle_stays : (now : ℕ) (old new : Recogniser) (report : Option Event) → IsIdle now old
     → Due now old report new → (report ≡ None) × (new ≡ old)

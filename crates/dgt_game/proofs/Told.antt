@@ -1,7 +1,9 @@
 -- The line, as it is reported.
-use Rattle.std.{proofs.Common.{◌≡◌, ◌≢◌, ◌<◌, ◌-◌, ◌⊎◌, refl, sym, ap, subst, inl, inr, arith, ℕ, zero, suc, length, take, Bool, List, [], ◌∷◌, Option, Some, None, unwrap_or}, specs.Prelude.{⊤}}
+use Rattle.std.proofs.Common.{rules}
+use Rattle.std.proofs.lemmas.Grind.{common_steps}
+use Rattle.std.{proofs.Common.{◌≡◌, ◌≢◌, ◌<◌, ◌-◌, ◌⊎◌, refl, sym, subst, inl, inr, arith, ℕ, zero, suc, length, take, List, [], ◌∷◌, Option, Some, None, unwrap_or}, specs.Prelude.{⊤}}
 use Rattle.{std.specs.Prelude.{slice_get, MatchOption}, dgt_values.specs.declared.pieces.Piece.{Piece}, dgt_chess.specs.declared.state.State.{State}, dgt_game.specs.declared.event.Event.{Event}}
-use Rattle.dgt_game.specs.{declared.node.{Node.{Node}, Step.{Step}, Way.{Way}, Place.{Place}}, Told.{Told, IsShown, Leads, WasShown}, Memory.{By, Chain, Grows, IsBefore, AreLast, IsKept, IsRooted, IsSeen}}
+use Rattle.dgt_game.specs.{declared.node.{Node.{Node}, Step.{Step}, Way.{Way}, Place.{Place}}, Told.{Told, IsShown, Leads, WasShown}, Memory.{By, Chain, Grows, AreLast, IsKept, IsRooted, IsSeen}}
 use Rattle.dgt_game.specs.Memory.{Links, event_by, event_of, halves_of, line_after, line_by, step_at, steps, tip, told_of}
 
 pub kept_take : (nodes : List Node) (line : List Told) (n : ℕ) → AreLast (steps nodes) line
@@ -14,21 +16,12 @@ kept_take (node ∷ nodes) (told ∷ line) (suc n) h = (h.0, kept_take nodes lin
 -- what follows nothing begins a line, and so it follows anything
 pub links_any : (before : Option Step) (step : Step) → Links None step → Links before step
 unfolding Links
-links_any before step h = elim h [
-  | inl begun ↦ inl begun
-  | inr found ↦ absurd (subst (λ (o : Option Step). MatchOption o ⊤ (λ _. ⊥)) found.1 tt)
-]
+links_any before step h = search (rules, ⊤)
 
 pub links_first : (first step : Step) → Links (Some first) step → (step.way ≡ Way.Begun)
     ⊎ ((first.is_turned ≡ step.is_turned) × By first.state step.way step.state)
 unfolding Links
-links_first first step h = elim h [
-  | inl begun ↦ inl begun
-  | inr found ↦ inr (
-      let e : found.0 ≡ first = ap (λ (o : Option Step). unwrap_or o first) (sym found.1) in
-      subst (λ (s : Step). (s.is_turned ≡ step.is_turned)
-      × By s.state step.way step.state) e (found.2, found.3))
-]
+links_first first step h = search (rules, unwrap_or)
 
 leads_same : (first : Step) (line : List Told) (way : Way) (state : State)
     → By first.state way state
@@ -44,52 +37,28 @@ leads_same first line (Way.Gap count) state by = (by, refl)
 
 leads_begun : (line : List Told) (step : Step) → step.way ≡ Way.Begun
     → Leads line (event_of step) (line_after step line)
-leads_begun line step e =
-    subst (λ (w : Way). Leads line (event_by w step.state step.is_turned) (line_by w (record {
-      state = step.state;
-      halves = halves_of w;
-      is_turned = step.is_turned;
-    }) line)) (sym e) refl
+leads_begun line step e = search rules
 
 leads_first : (first step : Step) (line : List Told) → Links (Some first) step
     → Leads (told_of first ∷ line) (event_of step) (line_after step (told_of first ∷ line))
-leads_first first step line h = elim (links_first first step h) [
-  | inl begun ↦ leads_begun (told_of first ∷ line) step begun
-  | inr found ↦
-      subst (λ (t : Bool). Leads (told_of first ∷ line) (event_by step.way step.state t) (line_by
-      step.way (record { state = step.state; halves = halves_of step.way; is_turned = t })
-      (told_of first ∷ line))) found.0
-      (leads_same first line step.way step.state found.1)
-]
+leads_first first step line h = search (rules, links_first, leads_begun, leads_same)
 
 pub leads : (kept : List Step) (line : List Told) (step : Step) → IsKept kept line
     → Links (slice_get kept 0) step → Leads line (event_of step) (line_after step line)
 unfolding Links
-leads [] line step kept h = elim h [
-  | inl begun ↦ leads_begun line step begun
-  | inr found ↦ absurd (subst (λ (o : Option Step). MatchOption o ⊤ (λ _. ⊥)) found.1 tt)
-]
+leads [] line step kept h = search (rules, leads_begun, ⊤)
 leads (first ∷ rest) [] step kept h = absurd kept.0
-leads (first ∷ rest) (told ∷ line) step kept h =
-    subst (λ (t : Told). Leads (t ∷ line) (event_of step) (line_after step (t ∷ line))) kept.0.0
-    (leads_first first step line h)
+leads (first ∷ rest) (told ∷ line) step kept h = search (rules, leads_first)
 
 shown_by : (shown : List (List Piece)) (way : Way) (told : Told) (line : List Told)
     → WasShown shown told → IsShown shown line → IsShown shown (line_by way told line)
-shown_by shown Way.Begun told line seen h = (seen, tt)
-shown_by shown (Way.Made one) told line seen h = (seen, h)
-shown_by shown (Way.Unseen moves) told line seen h = (seen, h)
-shown_by shown (Way.Gap count) told line seen h = (seen, h)
+shown_by shown way told line seen h = search rules
 
 pub makes : (shown : List (List Piece)) (line : List Told) (kept new rest : List Step) (step :
     Step) → IsKept kept line → IsShown shown line → Chain shown (slice_get kept 0) (step ∷ rest)
     → slice_get new 0 ≡ Some step → Leads line (event_of step) (line_after step line)
     × IsShown shown (line_after step line) × Chain shown (slice_get new 0) rest
-makes shown line kept new rest step is_kept is_shown chain first = (
-  leads kept line step is_kept chain.0,
-  shown_by shown step.way (told_of step) line chain.1 is_shown,
-  subst (λ (o : Option Step). Chain shown o rest) (sym first) chain.2,
-)
+makes shown line kept new rest step is_kept is_shown chain first = search (rules, leads, shown_by)
 
 -- a state further back stands before the last one
 takes_back : (shown : List (List Piece)) (line : List Told) (first : Node) (kept : List Node) (back
@@ -100,24 +69,15 @@ takes_back : (shown : List (List Piece)) (line : List Told) (first : Node) (kept
     × (slice_get (steps (first ∷ kept)) back ≡ slice_get (steps kept) (back - 1))
 takes_back shown line first kept zero some within is_kept is_shown = absurd (some refl)
 takes_back shown [] first kept (suc k) some within is_kept is_shown = absurd is_kept.0
-takes_back shown (told ∷ line) first [] (suc k) some within is_kept is_shown = absurd (elim within
+takes_back shown (told ∷ line) first [] (suc k) some within is_kept is_shown =
+    absurd (elim within
     [ inl e ↦ omega arith | inr l ↦ omega arith ])
-takes_back shown (told ∷ []) first (second ∷ kept) (suc k) some within is_kept is_shown = absurd
+takes_back shown (told ∷ []) first (second ∷ kept) (suc k) some within is_kept is_shown =
+    absurd
     is_kept.0.1
 takes_back shown (told ∷ before ∷ line) first (second ∷ kept) (suc k) some within is_kept is_shown
-    = (
-      before ∷ line,
-      (
-        (λ e. let l : length (before ∷ line) ≡ 0 = ap length e in omega arith),
-        ap (λ (t : Told).
-            t.halves) is_kept.0.0,
-        refl,
-      ),
-      is_shown.1,
-      (is_kept.0.1, λ e. absurd (let wrong : ⊥ = cc in wrong)),
-      elim within [ inl e ↦ absurd (omega arith) | inr l ↦ inr (omega arith) ],
-      ap (λ (n : ℕ). slice_get (steps (second ∷ kept)) n) (omega arith),
-    )
+    =
+    search rules
 
 pub taken_back : (shown : List (List Piece)) (line : List Told) (nodes new : List Node) (back
     halves : ℕ) → ((first : Node) (rest : List Node) → nodes ≡ first ∷ rest → new ≡ rest)
@@ -143,11 +103,7 @@ taken_back shown line (first ∷ rest) new back halves drops counts some within 
 
 pub nothing_seen : (seen : List Step) (unsaid rest : List Node) (node : Node) (back : ℕ)
     → (seen ≡ []) ⊎ ((back ≡ 0) × (unsaid ≡ [])) → unsaid ≡ node ∷ rest → seen ≡ []
-nothing_seen seen unsaid rest node back quiet e = elim quiet [
-  | inl none ↦ none
-  | inr q ↦ absurd (let l : length (node ∷ rest) ≡ 0 = ap length (subst (λ (xs : List Node). xs ≡
-      []) e q.1) in omega arith)
-]
+nothing_seen seen unsaid rest node back quiet e = search rules
 
 -- the tip stays where it is when a step is reported
 pub same_tip : (kept new : List Step) (unsaid rest : List Node) (node : Node) (back : ℕ)
@@ -200,12 +156,7 @@ links_after first step place other h = elim (links_first first step h) [
 pub grows_one : (shown : List (List Piece)) (kept : List Step) (step : Step)
     → Links (step_at kept (step ∷ []) step.parent) step → IsSeen shown step
     → Grows shown kept (step ∷ [])
-grows_one shown kept step h seen zero other e =
-    let same : step ≡ other = ap (λ (o : Option Step). unwrap_or o step) e in
-    subst (λ (s : Step). Links (step_at kept (step ∷ []) s.parent) s
-    × IsSeen shown s) same (h, seen)
-grows_one shown kept step h seen (suc k) other e =
-    absurd (subst (λ (o : Option Step). MatchOption o ⊤ (λ _. ⊥)) e tt)
+grows_one shown kept step h seen h' other e = search (rules, unwrap_or, ⊤)
 
 pub grows_none : (shown : List (List Piece)) (kept : List Step) → Grows shown kept []
 grows_none shown kept k step e = absurd (subst (λ (o : Option Step). MatchOption o ⊤ (λ _. ⊥)) e tt)
@@ -216,10 +167,4 @@ rooted_none lines k step e = absurd (subst (λ (o : Option Step). MatchOption o 
 -- a single node after the line's last state
 pub rooted_one : (kept : List Step) (step : Step) → slice_get kept 0 ≢ None
     → step.parent ≡ Place.Line 0 → IsRooted (length kept) (step ∷ [])
-rooted_one [] step some first k other e = absurd (some refl)
-rooted_one (last ∷ kept) step some first zero other e =
-    let same : step ≡ other = ap (λ (o : Option Step). unwrap_or o step) e in
-    subst (λ (s : Step). IsBefore (length (last ∷ kept)) 0 s.parent) same
-    (rw first (omega arith, omega arith))
-rooted_one (last ∷ kept) step some first (suc k) other e =
-    absurd (subst (λ (o : Option Step). MatchOption o ⊤ (λ _. ⊥)) e tt)
+rooted_one kept step some first k other e = grind (arith, common_steps, unwrap_or, ⊤)

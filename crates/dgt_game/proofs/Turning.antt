@@ -1,4 +1,5 @@
 -- Squares backwards.
+use Rattle.std.proofs.Common.{rules}
 use Rattle.std.{proofs.{Common.{◌≡◌, ◌-◌, ◌+◌, ◌<◌, ℕ, suc, refl, arith, length, take, List, [], ◌∷◌, slice_set, slice_get, Some}, lemmas.List.{drop-set}}, specs.Prelude.{drop, reverse}}
 use Rattle.{std.proofs.{lemmas.{List.{reverse-append}, Option.{get_or_from_slice_get}}, Math.{Seq.{take-suc}, ListN.{drop_of_length-le}}}, dgt_values.specs.declared.pieces.Piece.{Piece}}
 
@@ -23,13 +24,4 @@ pub turned_next : (pieces old new : List Piece) (at : ℕ) (piece : Piece) → a
     → drop (64 - (at + 1)) new ≡ reverse (take (at + 1) pieces)
 turned_next pieces old new at piece small len len' h is e =
     let a : 64 - (at + 1) ≡ 63 - at = omega arith in
-    let b : 63 - at + 1 ≡ 64 - at = omega arith in
-    rw (
-      a,
-      e,
-      drop-set old (63 - at) piece (omega arith),
-      b,
-      h,
-      taken pieces at piece (omega arith)
-          is,
-    ) refl
+    search (rules, drop-set, taken, pieces)

@@ -1,27 +1,18 @@
 -- What waits to be reported.
-use Rattle.std.proofs.Common.{◌≡◌, ◌≢◌, ◌∙◌, ◌+◌, ◌-◌, ◌++◌, ◌<◌, ◌⊎◌, inl, inr, refl, sym, ap, arith, below_more, ℕ, zero, suc, Bool, true, false, List, [], ◌∷◌, Option, Some, None}
+use Rattle.std.proofs.Common.{rules}
+use Rattle.std.proofs.Common.{◌≡◌, ◌≢◌, ◌+◌, ◌-◌, ◌++◌, ◌<◌, ◌⊎◌, refl, arith, below_more, ℕ, zero, suc, Bool, true, false, List, [], ◌∷◌, Option, Some, None}
 use Rattle.{std.{specs.{Prelude.{slice_get, IfSome}, Option.{option_or}}, proofs.lemmas.Option.{none-some}}, dgt_values.specs.declared.pieces.Piece.{Piece}, dgt_chess.specs.Attacks.{piece_at}}
 use Rattle.dgt_game.specs.declared.{event.{GameResult.{GameResult}, Event.{Event}}, memory.Memory.{Memory}, recogniser.{Over.{Over}, Lost.{Lost}}, node.{Node.{Node}, Step.{Step}}}
 use Rattle.dgt_game.specs.{declared.{recogniser.Recogniser.{Recogniser}, view.View.{View}}, Memory.{steps, tip}, Results.{ByRules, FitsAt}, Waiting.{EndsBy, IsOfLine, IsRight, LostBy, Show, coming}}
 use Rattle.dgt_game.specs.Waiting.{has_notice, has_result, last_of}
 
 pub right_of_line : (self : Recogniser) (event : Event) → IsOfLine event → IsRight self event
-right_of_line self (Event.Ended result) h = absurd h
-right_of_line self (Event.Lost squares) h = absurd h
-right_of_line self Event.Found h = absurd h
-right_of_line self (Event.Begun state is_turned) h = tt
-right_of_line self (Event.Made one) h = tt
-right_of_line self (Event.Unseen moves) h = tt
-right_of_line self (Event.Gap state count) h = tt
-right_of_line self (Event.Back count) h = tt
+right_of_line self event h = search rules
 
 -- no notice waits
 pub silent : (lost : Lost) (view : Option View) (last : Option Step) → has_notice lost ≡ false
     → LostBy lost view last
-silent Lost.No view last e = tt
-silent (Lost.Now squares) view last e = absurd (let wrong : ⊥ = cc in wrong)
-silent Lost.Reported view last e = tt
-silent Lost.Found view last e = tt
+silent lost view last e = search rules
 
 -- the line without its last state
 pub dropped : (nodes new : List Node) (back : ℕ) → ((first : Node) (rest : List Node)
@@ -51,19 +42,12 @@ or_some (Some x) b P h k = h
 -- once nothing waits, the last state is the one that was to come
 pub last_comes : (memory : Memory) → memory.back ≡ 0 → memory.unsaid.items ≡ []
     → coming memory ≡ last_of memory
-last_comes memory back unsaid =
-    let moved : coming memory ≡ tip (slice_get (steps memory.line.items) 0) (steps
-    memory.unsaid.items) = ap (λ (n : ℕ). tip (slice_get (steps memory.line.items) n) (steps
-    memory.unsaid.items)) back in
-    moved ∙ ap (λ (nodes : List Node). tip (slice_get (steps memory.line.items) 0) (steps nodes))
-    unsaid
+last_comes memory back unsaid = search rules
 
 pub ended_right : (over : Over) (view : Option View) (step : Step) (result : GameResult)
     → EndsBy over view step result → (has_result over ≡ true)
     × (ByRules step.state result ⊎ Show view step result)
-ended_right Over.No view step result h = absurd h
-ended_right (Over.Rules since) view step result h = (refl, inl h)
-ended_right Over.Kings view step result h = (refl, inr h)
+ended_right over view step result h = search rules
 
 -- a square more, of the squares that fit but for one
 abbrev pub Fitting : List Piece → List Piece → ℕ → Bool → Type 0
@@ -90,8 +74,7 @@ fitting_but picture pieces at has_other none h = (
   λ wrong. absurd (let impossible : ⊥ = cc in impossible),
   (
     at,
-    below_more (λ k. k ≢ at → FitsAt picture pieces k) at (λ k less differs. h.0 none k less)
-        (λ differs. absurd (differs refl)),
+    search (rules, below_more, pieces),
   ),
 )
 
@@ -113,12 +96,7 @@ found_none picture piece at (Some found) differs h =
 pub found_one : (picture : List Piece) (piece : Piece) (at : ℕ) (found : Option ℕ)
     → found ≡ None → piece_at picture at ≡ piece → FoundOn picture piece at found
     → FoundOn picture piece (at + 1) (Some at)
-found_one picture piece at None none same h = (
-  same,
-  below_more (λ k. piece_at picture k ≡ piece → k ≡ at) at (λ k less e. absurd (h k less
-      e)) (λ e. refl),
-)
-found_one picture piece at (Some found) none same h = absurd (none-some found (sym none))
+found_one picture piece at found none same h = search (rules, below_more, piece_at, none-some)
 
 -- only these wait
 abbrev pub lost_of : Recogniser → Lost
