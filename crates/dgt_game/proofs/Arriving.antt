@@ -1,11 +1,9 @@
 -- On how many squares men arrive in a half-move, and in a line.
-use Rattle.std.proofs.Common.{rules}
-use Rattle.std.{proofs.{lemmas.Bool.{cases_eq}, Common.{◌≡◌, ◌∙◌, ℕ, ◌<◌, ◌≤◌, List, [], ◌∷◌, arith, inl, inr, length, refl, subst, sym, take}}, specs.Prelude.{◌≢◌, ◌⊎◌, ◌+◌, ◌/◌, Bool, true}}
+use Rattle.std.{proofs.{Common.{rules, ◌≡◌, ◌∙◌, ℕ, ◌<◌, ◌≤◌, List, [], ◌∷◌, arith, inl, inr, length, refl, subst, sym, take}, lemmas.Bool.{cases_eq}}, specs.Prelude.{◌≢◌, ◌⊎◌, ◌+◌, ◌/◌, Bool, true}}
 use Rattle.{std.specs.{Prelude.{false, not, ◌&&◌, nat_eq, if◌then◌else◌, slice_set, slice_index_or, suc, zero, Option, Some, None}, Int.{abs_diff}}, dgt_values.proofs.PieceCodes.{same_code}}
-use Rattle.{dgt_values.specs.{declared.pieces.Piece.{Piece, TheVariants.{Empty}}, Board.{piece_code}}, dgt_chess.specs.declared.state.{Move.{Move}, State.{State}}}
-use Rattle.dgt_chess.specs.{declared.pieces.{Colour.{Colour}, Man.{Man, TheVariants.{Pawn, Knight, Bishop, Rook, Queen, King}}}, Attacks.{other, piece_of}}
-use Rattle.{dgt_chess.{specs.Rules.{Promotes, beside, board, is_free, moved, pieces_after}, proofs.OneMove.{moved_is, put}}, dgt_game.specs.{Arrivals.{arrivals, counts, has_arrived}, Lines.{IsLine}}}
-use Rattle.dgt_game.specs.Lines.{IsMove, LeadsTo, NoLine}
+use Rattle.{dgt_values.specs.{declared.pieces.Piece.{Piece, TheVariants.{Empty}}, Board.{piece_code}}, dgt_chess.specs.declared.{state.{Move.{Move}, State.{State}}, pieces.Colour.{Colour}}}
+use Rattle.dgt_chess.specs.{declared.pieces.Man.{Man, TheVariants.{Pawn, Knight, Bishop, Rook, Queen, King}}, Attacks.{other, piece_of}, Rules.{Promotes, beside, board, is_free, moved, pieces_after}}
+use Rattle.{dgt_chess.proofs.OneMove.{moved_is, put}, dgt_game.specs.{Arrivals.{arrivals, counts, has_arrived}, Lines.{IsLine, IsMove, LeadsTo, NoLine}}}
 
 -- at most one man arrives on a square
 abbrev one_if : Bool → ℕ
@@ -57,10 +55,8 @@ set_one : (colour : Colour) (old new : List Piece) (at : ℕ) (piece : Piece)
     ≤ arrivals colour old new + one_if (counts colour piece)
 set_one colour [] new at piece = omega arith
 set_one colour (x ∷ old) [] at piece = omega arith
-set_one colour (x ∷ old) (y ∷ new) zero piece =
-    omega (arith, arrives_at_most colour x piece)
-set_one colour (x ∷ old) (y ∷ new) (suc at) piece =
-    omega (arith, set_one colour old new at piece)
+set_one colour (x ∷ old) (y ∷ new) zero piece = omega (arith, arrives_at_most colour x piece)
+set_one colour (x ∷ old) (y ∷ new) (suc at) piece = omega (arith, set_one colour old new at piece)
 
 -- ---- a half-move
 
@@ -81,16 +77,14 @@ record Puts (colour turn : Colour) (most : ℕ) : Type 0 where
   pub king : one_if (counts colour (piece_of turn King)) ≡ 0
 
 pawn_one : (colour turn : Colour) (most : ℕ) (test : Bool) (old : List Piece) (a b c : ℕ)
-    (promotion : Option Man) → Puts colour turn most
-    → arrivals colour old
+    (promotion : Option Man) → Puts colour turn most → arrivals colour old
     (if test then slice_set (moved Pawn old turn a b promotion) c Empty
     else moved Pawn old turn a b promotion) ≤ most
 pawn_one colour turn most test old a b c promotion puts =
     search (rules, set_one, moved, moved_one, free_counts, put)
 
 king_one : (colour turn : Colour) (most : ℕ) (test : Bool) (old : List Piece) (a b c d : ℕ)
-    → Puts colour turn most
-    → arrivals colour old
+    → Puts colour turn most → arrivals colour old
     (if test then slice_set (slice_set (moved King old turn a b None) c Empty)
     d (piece_of turn Rook)
     else moved King old turn a b None) ≤ most
@@ -162,16 +156,14 @@ line_arrivals state (one ∷ moves) new (next, move, line) =
 -- too many have arrived for this many half-moves
 pub too_far : (state : State) (pieces : List Piece) (halves : ℕ)
     → ((halves + 1) / 2 < arrivals state.turn (board state) pieces)
-    ⊎ (halves / 2 < arrivals (other state.turn) (board state) pieces)
-    → NoLine halves state pieces
+    ⊎ (halves / 2 < arrivals (other state.turn) (board state) pieces) → NoLine halves state pieces
 unfolding NoLine LeadsTo
 too_far state pieces halves far moves long (new, line, same) =
     search (rules, arrivals, board, line_arrivals)
 
 -- ---- counted square by square
 
-one_at : (colour : Colour) (olds news : List Piece) (at : ℕ) → at < length olds
-    → at < length news
+one_at : (colour : Colour) (olds news : List Piece) (at : ℕ) → at < length olds → at < length news
     → arrivals colour (take (suc at) olds) (take (suc at) news)
     ≡ arrivals colour (take at olds) (take at news)
     + one_if (has_arrived colour (slice_index_or olds at Empty) (slice_index_or news at Empty))
@@ -182,8 +174,7 @@ one_at colour (x ∷ olds) (y ∷ news) (suc at) small small' =
     omega (arith, one_at colour olds news at (omega (arith, small)) (omega (arith, small')))
 
 pub one_more : (colour : Colour) (olds news : List Piece) (at : ℕ) → at < length olds
-    → at < length news
-    → arrivals colour (take (at + 1) olds) (take (at + 1) news)
+    → at < length news → arrivals colour (take (at + 1) olds) (take (at + 1) news)
     ≡ arrivals colour (take at olds) (take at news)
     + one_if (has_arrived colour (slice_index_or olds at Empty) (slice_index_or news at Empty))
 one_more colour olds news at small small' =

@@ -1,9 +1,8 @@
 -- Steps in turn, and places for them.
-use Rattle.std.proofs.Common.{rules}
-use Rattle.std.proofs.lemmas.Grind.{common_steps}
-use Rattle.std.proofs.Common.{◌≡◌, ◌≢◌, ◌⊎◌, ◌<◌, ◌≤◌, ◌+◌, ◌++◌, ◌∷◌, refl, sym, ap, subst, inl, inr, arith, ℕ, zero, suc, length, drop, List, [], Option, Some, None, unwrap_or, slice_index_or}
-use Rattle.{std.{proofs.lemmas.List.{length-map}, specs.Prelude.{⊤, MatchOption, slice_get}}, dgt_values.specs.declared.pieces.Piece.{Piece}, dgt_game.specs.declared.node.{Node.{Node}, Place.{Place}}}
-use Rattle.dgt_game.{specs.{declared.node.Step.{Step}, Memory.{By, Chain, Grows, IsBefore, IsRooted, IsSeen, Links, step_at, steps, tip}}, proofs.Told.{links_any, links_moved}}
+use Rattle.std.proofs.Common.{rules, ◌≡◌, ◌≢◌, ◌⊎◌, ◌<◌, ◌≤◌, ◌+◌, ◌++◌, ◌∷◌, refl, sym, ap, subst, inl, inr, arith, ℕ, zero, suc, length, drop, List, [], Option, Some, None, unwrap_or}
+use Rattle.{std.{proofs.{Common.{slice_index_or}, lemmas.{Grind.{common_steps}, List.{length-map}}}, specs.Prelude.{⊤, MatchOption, slice_get}}, dgt_values.specs.declared.pieces.Piece.{Piece}}
+use Rattle.dgt_game.{specs.{declared.node.{Node.{Node}, Place.{Place}, Step.{Step}}, Memory.{By, Chain, Grows, IsBefore, IsRooted, IsSeen, Links, step_at, steps, tip}}, proofs.Told.{links_any}}
+use Rattle.dgt_game.proofs.Told.{links_moved}
 
 abbrev pub moved : Step → Place → Step
 moved step place = record {
@@ -103,11 +102,6 @@ pub before_later : (lines k later : ℕ) (place : Place) → k ≤ later → IsB
     → IsBefore lines later place
 before_later lines k later place more h = search rules
 
--- a place that was not seen since is before all steps
-pub before_all : (lines k : ℕ) (place : Place) → ((j : ℕ) → place ≢ Place.Seen j)
-    → IsBefore lines k place → IsBefore lines 0 place
-before_all lines k place j h = search rules
-
 seen_index : Place → ℕ
 seen_index (Place.Seen k) = k
 seen_index (Place.Line k) = 0
@@ -131,8 +125,7 @@ last_item (first ∷ old) item zero e = absurd (omega arith)
 last_item (first ∷ old) item (suc k) e = last_item old item k (omega arith)
 
 -- a place of the line, or none, was not seen since
-pub not_seen : (lines : ℕ) (place : Place) → IsBefore lines 0 place → (j : ℕ)
-    → place ≢ Place.Seen j
+pub not_seen : (lines : ℕ) (place : Place) → IsBefore lines 0 place → (j : ℕ) → place ≢ Place.Seen j
 not_seen lines place before j e = search rules
 
 pub grows_push : (shown : List (List Piece)) (kept old : List Step) (new : Step)
@@ -157,8 +150,7 @@ node_at (first ∷ nodes) (suc k) node l e = node_at nodes k node (omega arith) 
 
 -- what leads to a step leads to the one before it, too
 pub path_first : (shown : List (List Piece)) (kept seen path : List Step) (k : ℕ) (step : Step)
-    → slice_get seen k ≡ Some step → Grows shown kept seen
-    → Chain shown (slice_get seen k) path
+    → slice_get seen k ≡ Some step → Grows shown kept seen → Chain shown (slice_get seen k) path
     → Chain shown (step_at kept seen step.parent) (step ∷ path)
 path_first shown kept seen path k step at grows chain =
     let new = grows k step at in
@@ -204,8 +196,7 @@ pub below_some : {X : Type 0} (items : List X) (k : ℕ) (item : X) → slice_ge
     → k < length items
 below_some [] k item e = absurd (let wrong : ⊥ = cc in wrong)
 below_some (first ∷ items) zero item e = omega arith
-below_some (first ∷ items) (suc k) item e =
-    let l = below_some items k item e in omega (arith, l)
+below_some (first ∷ items) (suc k) item e = let l = below_some items k item e in omega (arith, l)
 
 pub steps_some : (nodes : List Node) → nodes ≢ [] → steps nodes ≢ []
 steps_some [] some e = some refl

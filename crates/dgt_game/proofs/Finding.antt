@@ -1,12 +1,10 @@
 -- What several half-moves lead to is found.
-use Rattle.std.proofs.Common.{rules}
-use Rattle.std.proofs.lemmas.Grind.{common_steps}
-use Rattle.std.proofs.{Common.{◌≡◌, ◌≢◌, ◌∙◌, ◌<◌, ◌≤◌, ◌+◌, ◌-◌, ◌^◌, ◌⊎◌, inl, inr, refl, sym, subst, arith, min, ℕ, Bool, true, false, Option, Some, None}, lemmas.Bool.{false≢true}}
-use Rattle.{std.specs.Prelude.{IfSome, option_map}, dgt_values.specs.Board.{pieces_of}, dgt_chess.specs.{declared.{pieces.Colour.{Colour}, state.State.{State}}, Rules.{board}}}
-use Rattle.dgt_game.specs.{declared.{node.Place.{Place}, recogniser.{Recogniser.{Recogniser}, Search.{Search}}, resting.{Next.{Next}, Task.{Task}}, view.View.{View}}, Told.{as_shown}}
-use Rattle.dgt_game.specs.{Finding.{FindsLater, IsFound, IsSearched, SearchIsDue, WhatFollowsIsFound}, Memory.{IsTold}, Planning.{EndsSearch, HasKing, IsLostOr, Plans, RestsBefore, StaysPlaced}}
-use Rattle.dgt_game.{specs.{Planning.{TaskFits, search_wait}, Reading.{HasSomeLines, IsLive}, Settling.{StaysShown}, Standing.{StandsAt}, Timing.{IsIdle}}, proofs.Pictures.{king_seen, led_to}}
-use Rattle.dgt_game.proofs.Rests.{place_or}
+use Rattle.std.proofs.{Common.{rules, ◌≡◌, ◌≢◌, ◌∙◌, ◌<◌, ◌≤◌, ◌+◌, ◌-◌, ◌^◌, ◌⊎◌, inl, inr, refl, sym, subst, arith, min, ℕ, Bool, true, false, Option, Some, None}, lemmas.Grind.{common_steps}}
+use Rattle.{std.{proofs.lemmas.Bool.{false≢true}, specs.Prelude.{IfSome, option_map}}, dgt_values.specs.Board.{pieces_of}, dgt_chess.specs.declared.{pieces.Colour.{Colour}, state.State.{State}}}
+use Rattle.{dgt_chess.specs.Rules.{board}, dgt_game.specs.declared.{node.Place.{Place}, recogniser.{Recogniser.{Recogniser}, Search.{Search}}, resting.{Next.{Next}, Task.{Task}}, view.View.{View}}}
+use Rattle.dgt_game.specs.{Told.{as_shown}, Finding.{FindsLater, IsFound, IsSearched, SearchIsDue, WhatFollowsIsFound}, Memory.{IsTold}, Planning.{EndsSearch, HasKing, IsLostOr, Plans, RestsBefore}}
+use Rattle.dgt_game.{specs.{Planning.{StaysPlaced, TaskFits, search_wait}, Reading.{HasSomeLines, IsLive}, Settling.{StaysShown}, Standing.{StandsAt}, Timing.{IsIdle}}, proofs.Pictures.{king_seen}}
+use Rattle.dgt_game.proofs.{Pictures.{led_to}, Rests.{place_or}}
 
 -- what is looked for is found, if nothing else has changed
 pub found_by_search : (old new : Recogniser) → ((view : View) → old.view ≡ Some view → IsLive old
@@ -76,8 +74,7 @@ no_plan self now next is sure idle plans nowhere h done due = search (rules, min
 
 pub what_follows_is_found : WhatFollowsIsFound
 what_follows_is_found self view now stands planned why found seen sure confirmed idle due live fits
-    lines =
-    elim (place_or self.here) [
+    lines = elim (place_or self.here) [
       | inl some ↦ inl some
       | inr nowhere ↦
           let undone : ¬ (self.search ≡ Search.Done) = (λ done. found view seen nowhere done live

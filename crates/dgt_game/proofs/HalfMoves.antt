@@ -1,8 +1,7 @@
 -- The half-move that leads to a picture.
-use Rattle.std.proofs.Common.{rules}
-use Rattle.{std.{proofs.Common.{◌≡◌, ◌∙◌, ℕ, ◌<◌, List, [], ◌∷◌, ap, arith, length, refl, subst, sym}, specs.Prelude.{Option}}, dgt_values.specs.{declared.pieces.Piece.{Piece}, Board.{square_number}}}
-use Rattle.dgt_chess.{specs.{declared.{pieces.Man.{Man}, state.{Move.{Move}, State.{State}}}, Rules.{IsAfter, Legal, LegalBy, Reaches, board, pieces_after, OneMoveAPicture}}, proofs.Unique.{same_man}}
-use Rattle.dgt_game.{specs.Lines.{IsMove, IsOnly, LeadsTo, NoLine}, proofs.Same.{same_move}}
+use Rattle.{std.{proofs.Common.{rules, ◌≡◌, ◌∙◌, ℕ, ◌<◌, List, [], ◌∷◌, ap, arith, length, refl, subst, sym}, specs.Prelude.{Option}}, dgt_values.specs.declared.pieces.Piece.{Piece}}
+use Rattle.{dgt_values.specs.Board.{square_number}, dgt_chess.specs.{declared.{pieces.Man.{Man}, state.{Move.{Move}, State.{State}}}, Rules.{IsAfter, Legal, LegalBy, Reaches, board, pieces_after}}}
+use Rattle.{dgt_chess.{specs.Rules.{OneMoveAPicture}, proofs.Unique.{same_man}}, dgt_game.{specs.Lines.{IsMove, IsOnly, LeadsTo, NoLine}, proofs.Same.{same_move}}}
 
 reaches : (state : State) (one : Move) (new : State) (pieces : List Piece) → IsMove state one new
     → board new ≡ pieces
@@ -40,8 +39,7 @@ made_by state one new (man, legal, after) = (man, legal)
 
 -- a line of one half-move that leads to the pieces
 single : (state : State) (moves : List Move) (pieces : List Piece) → length moves ≡ 1
-    → LeadsTo state moves pieces
-    → (one : Move) × (moves ≡ one ∷ [])
+    → LeadsTo state moves pieces → (one : Move) × (moves ≡ one ∷ [])
     × Reaches state pieces (square_number one.from) (square_number one.to) one.promotion
 unfolding LeadsTo
 single state [] pieces e leads = absurd (omega (arith, e))
@@ -52,8 +50,7 @@ single state (one ∷ other ∷ moves) pieces e leads = absurd (omega (arith, e)
 
 pub none : (state : State) (pieces : List Piece)
     → ((from to : ℕ) (promotion : Option Man) → from < 64 → to < 64
-    → ¬ (Reaches state pieces from to promotion))
-    → NoLine 1 state pieces
+    → ¬ (Reaches state pieces from to promotion)) → NoLine 1 state pieces
 unfolding NoLine
 none state pieces h moves e leads = search (rules, single, state, pieces, square_number)
 

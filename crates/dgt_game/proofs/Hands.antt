@@ -1,6 +1,5 @@
 -- Pieces in hands.
-use Rattle.std.proofs.Common.{rules}
-use Rattle.{std.proofs.{Common.{◌≡◌, ◌⊎◌, refl, sym, subst, ℕ, List, Some, slice_get, Contains}, lemmas.Option.{get_or_from_slice_get}}, dgt_values.specs.declared.pieces.Piece.{Piece}}
+use Rattle.{std.proofs.{Common.{rules, ◌≡◌, ◌⊎◌, refl, sym, subst, ℕ, List, Some, slice_get, Contains}, lemmas.Option.{get_or_from_slice_get}}, dgt_values.specs.declared.pieces.Piece.{Piece}}
 use Rattle.{dgt_chess.specs.{declared.{pieces.Man.{Man}, state.{Move.{Move}, State.{State}}}, Attacks.{piece_at, piece_of}, Rules.{board}}, dgt_game.specs.declared.node.{Place.{Place}, Step.{Step}}}
 use Rattle.dgt_game.{specs.{declared.node.Way.{Way}, Lines.{IsMove}, Told.{IsHeld, WasShown, as_shown}, Memory.{IsSeen, Links, step_at}}, proofs.Links.{links}}
 
@@ -22,8 +21,7 @@ lacks_at picture state n at new old same is was h =
 -- a half-move that is shown but for pieces in hands
 pub held : (shown : List (List Piece)) (line seen : List Step) (from : Step) (place : Place) (one :
     Move) (state : State) (step : Step) (picture pieces : List Piece)
-    → step_at line seen place ≡ Some from
-    → step ≡ record {
+    → step_at line seen place ≡ Some from → step ≡ record {
       state = state;
       is_turned = from.is_turned;
       way = Way.Made one;

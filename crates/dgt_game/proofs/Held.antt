@@ -1,6 +1,5 @@
 -- What is held stays so, if steps stay as they are.
-use Rattle.std.proofs.Common.{rules}
-use Rattle.{std.proofs.Common.{◌≡◌, length, List, []}, dgt_values.specs.declared.pieces.Piece.{Piece}, dgt_game.specs.{declared.memory.Memory.{Memory}, Told.{Told}, Memory.{Grows, Holds}}}
+use Rattle.{std.proofs.Common.{rules, ◌≡◌, length, List, []}, dgt_values.specs.declared.pieces.Piece.{Piece}, dgt_game.specs.{declared.memory.Memory.{Memory}, Told.{Told}, Memory.{Grows, Holds}}}
 use Rattle.dgt_game.{specs.Memory.{IsRooted, steps}, proofs.Told.{grows_none, rooted_none}}
 
 pub same_line : (shown : List (List Piece)) (line : List Told) (old new : Memory)

@@ -1,10 +1,8 @@
 -- What is known stays so when more is shown, and over whole runs.
-use Rattle.std.proofs.Common.{rules}
-use Rattle.std.{proofs.Common.{◌≡◌, ◌++◌, ◌<◌, refl, arith, ℕ, zero, suc, length, slice_index_or, Bool, List, [], ◌∷◌, Option, Some}, specs.Prelude.{Contains}}
-use Rattle.{std.specs.Prelude.{IfSome}, dgt_values.specs.{declared.pieces.Piece.{Piece}, Board.{pieces_of}}, dgt_chess.specs.declared.state.State.{State}}
-use Rattle.dgt_game.specs.declared.{memory.Memory.{Memory}, node.{Node.{Node}, Place.{Place}, Step.{Step}, Way.{Way}}, observation.Sight.{Sight}, recogniser.Recogniser.{Recogniser}, view.View.{View}}
-use Rattle.dgt_game.specs.{Told.{IsShown, Told, WasShown}, Memory.{Chain, Holds}, Recogniser.{GoesOn, Knows, new_recogniser, shown_after}}
-use Rattle.dgt_game.{proofs.{Links.{was_shown}, Told.{grows_none, rooted_none}}}
+use Rattle.std.{proofs.Common.{rules, ◌≡◌, ◌++◌, ◌<◌, refl, arith, ℕ, zero, suc, length, slice_index_or, Bool, List, [], ◌∷◌, Option, Some}, specs.Prelude.{Contains, IfSome}}
+use Rattle.{dgt_values.specs.{declared.pieces.Piece.{Piece}, Board.{pieces_of}}, dgt_chess.specs.declared.state.State.{State}, dgt_game.specs.declared.{memory.Memory.{Memory}, node.Node.{Node}}}
+use Rattle.dgt_game.specs.{declared.{node.{Place.{Place}, Step.{Step}, Way.{Way}}, observation.Sight.{Sight}, recogniser.Recogniser.{Recogniser}, view.View.{View}}, Told.{IsShown, Told, WasShown}}
+use Rattle.dgt_game.{specs.{Memory.{Chain, Holds}, Recogniser.{GoesOn, Knows, new_recogniser, shown_after}}, proofs.{Links.{was_shown}, Told.{grows_none, rooted_none}}}
 
 -- all pictures of the first are among the second
 abbrev pub Within : List (List Piece) → List (List Piece) → Type 0

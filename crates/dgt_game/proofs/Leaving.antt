@@ -1,6 +1,5 @@
 -- A half-move leaves its first square, and the opponent's answer puts none of its men there.
-use Rattle.std.proofs.Common.{rules}
-use Rattle.std.{proofs.{Common.{◌≡◌, ◌∙◌, ℕ, ◌≤◌, List, [], ◌∷◌, ap, arith, inl, inr, subst, sym}, lemmas.Bool.{cases_eq}}, specs.Prelude.{◌≢◌, suc, Option, Some}}
+use Rattle.std.{proofs.{Common.{rules, ◌≡◌, ◌∙◌, ℕ, ◌≤◌, List, [], ◌∷◌, ap, arith, inl, inr, subst, sym}, lemmas.Bool.{cases_eq}}, specs.Prelude.{◌≢◌, suc, Option, Some}}
 use Rattle.{dgt_values.specs.{declared.pieces.Piece.{Piece, TheVariants.{Empty}}, Board.{square_number}}, dgt_chess.specs.declared.{state.{Move.{Move}, State.{State}}, pieces.Colour.{Colour}}}
 use Rattle.dgt_chess.{specs.{declared.pieces.Man.{Man, TheVariants.{Pawn, Rook}}, Attacks.{other, piece_at, piece_of, IsFree}, Rules.{board}}, proofs.{OneMove.{effect_of, put}, Unique.{Effect}}}
 use Rattle.{dgt_chess.proofs.Unique.{not_free, not_theirs, same_kind, same_man}, dgt_game.specs.{declared.ways.Ways.TheVariants.{Nothing}, Lines.{IsMove}, Ways.{AreWaysBy, IsWay}}}
@@ -12,8 +11,7 @@ was_pawn man promotion differ e = search rules
 effect : (state : State) (one : Move) (next : State) → IsMove state one next
     → (man : Man) × (next.turn ≡ other state.turn) × Effect (board state) (board next) state.turn
     (square_number one.from) (square_number one.to) man
-    × (man ≡ Pawn
-    → piece_at (board state) (square_number one.from) ≡ piece_of state.turn Pawn)
+    × (man ≡ Pawn → piece_at (board state) (square_number one.from) ≡ piece_of state.turn Pawn)
 unfolding IsMove
 effect state one next (man, legal, after) =
     let from = square_number one.from in

@@ -1,11 +1,9 @@
 -- Steps that follow each other.
-use Rattle.std.proofs.Common.{rules}
-use Rattle.std.proofs.lemmas.Grind.{common_steps}
-use Rattle.std.{proofs.Common.{◌≡◌, ◌≤◌, ◌∙◌, refl, sym, ap, arith, subst, inl, inr, ℕ, zero, suc, length, Bool, List, [], ◌∷◌, Option, Some, slice_get}, specs.Prelude.{Contains, IfSome}}
-use Rattle.{std.{specs.Prelude.{◌≢◌, ◌⊎◌}, proofs.lemmas.{List.{reverse-reverse}}}, dgt_values.specs.declared.pieces.Piece.{Piece}, dgt_chess.specs.declared.state.State.{State}}
+use Rattle.std.proofs.{Common.{rules, ◌≡◌, ◌≤◌, ◌∙◌, refl, sym, ap, arith, subst, inl, inr, ℕ, zero, suc, length, Bool, List, [], ◌∷◌, Option, Some, slice_get}, lemmas.Grind.{common_steps}}
+use Rattle.{std.{specs.Prelude.{Contains, IfSome, ◌≢◌, ◌⊎◌}, proofs.lemmas.List.{reverse-reverse}}, dgt_values.specs.declared.pieces.Piece.{Piece}, dgt_chess.specs.declared.state.State.{State}}
 use Rattle.{dgt_chess.specs.{Rules.{IsStart, board}, declared.state.Move.{Move}}, dgt_game.specs.declared.{node.{Node.{Node}, Step.{Step}, Way.{Way}, Place.{Place}}, reading.Reading.{Reading}}}
-use Rattle.dgt_game.specs.{declared.{memory.Memory.{Memory}, ways.Ways.{Ways}}, Lines.{IsLine, IsMove, moves_of}, Ways.{AreWays}, Told.{Told, IsShown, Joins, WasShown, as_shown, told_pieces}}
-use Rattle.dgt_game.specs.Memory.{By, Fits, Holds, AreLast, IsRoot, IsSeen, Links, Reads, halves_of, step_at, steps, told_of}
+use Rattle.dgt_game.specs.{declared.{memory.Memory.{Memory}, ways.Ways.{Ways}}, Lines.{IsLine, moves_of}, Ways.{AreWays}, Told.{Told, IsShown, Joins, WasShown, as_shown, told_pieces}, Memory.{By}}
+use Rattle.dgt_game.specs.Memory.{Fits, Holds, AreLast, IsRoot, IsSeen, Links, Reads, halves_of, step_at, steps, told_of}
 
 pub turned_back : (turned : Bool) (pieces shown : List Piece) → pieces ≡ as_shown turned shown
     → as_shown turned pieces ≡ shown
@@ -31,10 +29,6 @@ fits line seen place from way state step shown at e by same =
     × (told_pieces (told_of s) ≡ shown)) (sym e) (
     grind (arith, common_steps, links, state, turned_back)
     )
-
-pub one_made : (state new : State) (one : Move) (moves : List Move) → moves ≡ one ∷ []
-    → IsLine state moves new → IsMove state one new
-one_made state new one moves e line = search (rules, state)
 
 pub joins : (count : ℕ) (state new : State) (moves : List Move) → length moves ≡ count
     → IsLine state moves new → Joins count state new
@@ -122,8 +116,7 @@ pub begun : (shown : List (List Piece)) (self : Memory) (state : State) (turned 
     List Piece) (node : Node) → node.step ≡ record {
       state = state;
       is_turned = turned;
-      way =
-          Way.Begun;
+      way = Way.Begun;
       parent = Place.Nowhere;
     } → board state ≡ as_shown turned pieces
     → Contains shown pieces → Reads shown self (Reading.New node)
@@ -154,13 +147,11 @@ links_gap before step some h = elim h [
 
 -- the same step, with as many half-moves in no certain order
 pub fits_gap : (line seen : List Step) (pieces : List Piece) (old new : Step) (count : ℕ)
-    → count ≡ halves_of old.way
-    → new ≡ record {
+    → count ≡ halves_of old.way → new ≡ record {
       state = old.state;
       is_turned = old.is_turned;
       way = Way.Gap count;
-      parent =
-          old.parent;
+      parent = old.parent;
     } → (Links (step_at line seen old.parent) old
     × (told_pieces (told_of old) ≡ pieces)) × (old.way ≢ Way.Begun)
     → (Links (step_at line seen new.parent) new × (told_pieces (told_of new) ≡ pieces))
@@ -180,8 +171,7 @@ pub is_root : (shown : List (List Piece)) (state : State) (turned : Bool) (piece
       state = state;
       is_turned = turned;
       way = Way.Begun;
-      parent =
-          Place.Nowhere;
+      parent = Place.Nowhere;
     } → board state ≡ as_shown turned pieces → Contains shown pieces
     → (step.way ≡ Way.Begun) × IsSeen shown step
 is_root shown state turned pieces step e same seen =

@@ -1,10 +1,8 @@
 -- What lines, events and pictures mean, in other words.
-use Rattle.std.proofs.Common.{rules}
-use Rattle.std.{proofs.Common.{◌≡◌, ◌∙◌, ◌≤◌, refl, sym, ap, subst, arith, zero, suc, length, length-append, List, [], ◌∷◌, ◌++◌, Option, unwrap_or}, specs.Prelude.{⊤, Contains}}
-use Rattle.{std.specs.Prelude.{MatchOption}, dgt_values.specs.declared.pieces.Piece.{Piece}, dgt_chess.specs.{declared.state.{Move.{Move}, State.{State}}, Rules.{board}}}
-use Rattle.dgt_game.specs.{declared.event.Event.{Event}, Lines.{IsLine, IsMove, IsOnly, LeadsTo, moves_of}, Told.{IsLegalTold, Joins, Leads, Told, WasShown, told_pieces}, Laws.{AreJoined}}
-use Rattle.dgt_game.specs.Laws.{BackIsCounted, JoinedIsOne, LegalIsJoined, NoneAndOne, OneIsShown, OneLine, OthersAreHeld, SeveralAreShown, ShownIsHeld, StartIsShown, UnseenIsOnly, first_of}
-use Rattle.dgt_game.proofs.{Links.{turned_back}, Same.{one_next}}
+use Rattle.std.{proofs.Common.{rules, ◌≡◌, ◌∙◌, ◌≤◌, refl, sym, ap, subst, arith, zero, suc, length, length-append, List, [], ◌∷◌, ◌++◌, Option, unwrap_or}, specs.Prelude.{⊤, Contains, MatchOption}}
+use Rattle.{dgt_values.specs.declared.pieces.Piece.{Piece}, dgt_chess.specs.{declared.state.{Move.{Move}, State.{State}}, Rules.{board}}, dgt_game.specs.{declared.event.Event.{Event}, Lines.{IsLine}}}
+use Rattle.dgt_game.specs.{Lines.{IsMove, IsOnly, LeadsTo, moves_of}, Told.{IsLegalTold, Joins, Leads, Told, WasShown, told_pieces}, Laws.{AreJoined, BackIsCounted, JoinedIsOne, LegalIsJoined}}
+use Rattle.dgt_game.{specs.Laws.{NoneAndOne, OneIsShown, OneLine, OthersAreHeld, SeveralAreShown, ShownIsHeld, StartIsShown, UnseenIsOnly, first_of}, proofs.{Links.{turned_back}, Same.{one_next}}}
 
 rest_joined : (told : Told) (line : List Told) → AreJoined (told ∷ line) → AreJoined line
 rest_joined told [] h = tt

@@ -1,6 +1,5 @@
 -- Men that have moved.
-use Rattle.std.proofs.Common.{rules}
-use Rattle.std.proofs.Common.{◌≡◌, ◌≢◌, ◌⊎◌, ap, ◌<◌, ◌≤◌, ◌+◌, arith, subst, inl, inr, ℕ, zero, suc, List, [], ◌∷◌, ◌++◌, length, slice_index_or, unwrap_or, Option, Some, None, slice_get}
+use Rattle.std.proofs.Common.{rules, ◌≡◌, ◌≢◌, ◌⊎◌, ap, ◌<◌, ◌≤◌, ◌+◌, arith, subst, inl, inr, ℕ, zero, suc, List, [], ◌∷◌, ◌++◌, length, slice_index_or, unwrap_or, Option, Some, None, slice_get}
 use Rattle.std.{specs.Prelude.{IsSome, MatchOption}, proofs.lemmas.{Bool.{cases_lt}, Option.{get_or_from_slice_get, slice_get-get_or, slice_get_within}, List.{length-map}}}
 use Rattle.{dgt_values.specs.{declared.pieces.Piece.{Piece}, Board.{pieces_of}}, dgt_chess.specs.{declared.{pieces.{Colour.{Colour}, Man.{Man}}, state.State.{State}}, Attacks.{other, piece_at}}}
 use Rattle.{dgt_chess.{specs.{Attacks.{piece_of}, Rules.{board}}, proofs.Unique.{not_free, not_theirs}}, dgt_game.specs.declared.{node.{Node.{Node}, Origin.{Origin}, Step.{Step}}, view.View.{View}}}
@@ -97,8 +96,7 @@ FollowsOne nodes picture =
 get_origin : (nodes : List Node) (k : ℕ) (node : Node) → slice_get nodes k ≡ Some node
     → slice_get (origins nodes) k ≡ Some node.origin
 get_origin [] k node e = let wrong : ⊥ = cc in absurd wrong
-get_origin (first ∷ nodes) zero node e =
-    ap (λ (o : Option Node). Some (unwrap_or o first).origin) e
+get_origin (first ∷ nodes) zero node e = ap (λ (o : Option Node). Some (unwrap_or o first).origin) e
 get_origin (first ∷ nodes) (suc k) node e = get_origin nodes k node e
 
 pub seen_kept : (old new : List Node) (picture : List Piece) → steps new ≡ steps old

@@ -1,13 +1,12 @@
 -- What a picture is read as.
-use Rattle.std.proofs.Common.{rules}
-use Rattle.std.proofs.Common.{◌≡◌, ◌∙◌, ◌<◌, ◌≤◌, ◌⊎◌, inl, inr, arith, sym, refl, subst, ℕ, zero, suc, Bool, true, false, ◌∷◌, List, length, Option, Some, None, slice_index_or}
+use Rattle.std.proofs.Common.{rules, ◌≡◌, ◌∙◌, ◌<◌, ◌≤◌, ◌⊎◌, inl, inr, arith, sym, refl, subst, ℕ, zero, suc, Bool, true, false, ◌∷◌, List, length, Option, Some, None, slice_index_or}
 use Rattle.std.{specs.Prelude.{◌≢◌, [], IfSome, slice_get}, proofs.{lemmas.{Option.{slice_get_read, slice_get_within}, List.{get_or-reverse, length-map}, Bool.{cases_lt}}, Math.Logic.{∥∥₁_elim}}}
 use Rattle.{dgt_values.specs.{declared.pieces.Piece.{Piece}, Board.{pieces_of}}, dgt_chess.specs.declared.{state.{Move.{Move}, State.{State}}, pieces.{Colour.{Colour}, Man.{Man}}}}
 use Rattle.{dgt_chess.specs.{Attacks.{piece_at, piece_of}, Possible.{HasKings, HasOneKing}, Rules.{board}}, dgt_game.specs.declared.{memory.Memory.{Memory}, node.{Node.{Node}, Place.{Place}}}}
 use Rattle.dgt_game.specs.{declared.{node.{Returned.{Returned}, Step.{Step}}, reading.Reading.{Reading}, recogniser.{Over.{Over}, Recogniser.{Recogniser}}, view.View.{View}}, Lines.{LeadsTo, NoLine}}
-use Rattle.dgt_game.specs.{Lines.{IsLine}, Told.{as_shown}, Memory.{steps}, Reading.{HasLine, HasLineFrom, IsExplained, IsLive, IsNear, MayGoOn, ReadsView, ShowsAt, SomeLine}}
-use Rattle.dgt_game.specs.{Reading.{EarlierAreKnown, ElseStartIsKnown, FollowsSeen, IsKnown, IsRead, MovesAreKnown, ShowsEarlier, StartIsKnown, TwoAreKnown}, Waiting.{last_of}}
-use Rattle.dgt_game.proofs.{Chains.{get_step}, Links.{turned_back}}
+use Rattle.dgt_game.specs.{Lines.{IsLine}, Told.{as_shown}, Memory.{steps}, Reading.{HasLine, HasLineFrom, IsExplained, IsLive, IsNear, MayGoOn, ReadsView, ShowsAt, SomeLine, EarlierAreKnown}}
+use Rattle.dgt_game.{specs.{Reading.{ElseStartIsKnown, FollowsSeen, IsKnown, IsRead, MovesAreKnown, ShowsEarlier, StartIsKnown, TwoAreKnown}, Waiting.{last_of}}, proofs.Chains.{get_step}}
+use Rattle.dgt_game.proofs.Links.{turned_back}
 
 pub read_at : (nodes : List Node) (k : ℕ) (node : Node) → k < length nodes
     → node ≡ slice_index_or nodes k node → slice_get nodes k ≡ Some node
@@ -47,10 +46,6 @@ reads_at self view (Place.Line k) at = at
 reads_at self view (Place.Seen k) at = at
 reads_at self view Place.Nowhere at = tt
 
-pub near_at : (self : Memory) (view : View) (place : Place) → ShowsAt self view place
-    → IsNear (Reading.At place)
-near_at self view place h = search rules
-
 pub near_read : (reading : Reading) → IsNear reading → IsRead reading
 near_read reading near = search rules
 
@@ -62,8 +57,7 @@ no_line count state pieces shown none same (moves, long, leads) =
 
 -- the step at a place is known
 pub from_here : (here : Option Step) (from : Step) (count : ℕ) (picture : List Piece)
-    → here ≡ Some from
-    → ((step : Step) × (here ≡ Some step) × HasLineFrom count step picture)
+    → here ≡ Some from → ((step : Step) × (here ≡ Some step) × HasLineFrom count step picture)
     → HasLineFrom count from picture
 from_here here from count picture is (step, at, line) =
     let same : step ≡ from = cc in subst (λ (s : Step). HasLineFrom count s picture) same line
@@ -75,8 +69,7 @@ none_here here count picture none (step, at, line) = let wrong : ⊥ = cc in wro
 -- a test sees each king of the colour
 abbrev pub Sees : List Piece → Colour → Bool → Type 0
 Sees picture colour found =
-    (square : ℕ) → square < 64 → piece_at picture square ≡ piece_of colour Man.King
-    → found ≡ true
+    (square : ℕ) → square < 64 → piece_at picture square ≡ piece_of colour Man.King → found ≡ true
 
 -- a king of a state is on the board, from whichever side that is seen
 king_shown : (pieces picture : List Piece) (turned : Bool) (colour : Colour) (found : Bool)
@@ -101,8 +94,7 @@ king_seen state turned picture colour false len same sees =
 
 -- the state that is shown
 abbrev pub SomeState : List Piece → Type 0
-SomeState picture =
-    (state : State) × (turned : Bool) × (board state ≡ as_shown turned picture)
+SomeState picture = (state : State) × (turned : Bool) × (board state ≡ as_shown turned picture)
 
 turned_to : (turned : Bool) (pieces shown : List Piece) → as_shown turned pieces ≡ shown
     → pieces ≡ as_shown turned shown
@@ -240,8 +232,7 @@ has_last : (self : Recogniser) (step : Step) → last_of self.memory ≡ Some st
     → self.memory.line.items ≢ []
 has_last self step last none = search rules
 
-open_line : (self : Recogniser) → self.over ≡ Over.No → self.memory.line.items ≢ []
-    → IsLive self
+open_line : (self : Recogniser) → self.over ≡ Over.No → self.memory.line.items ≢ [] → IsLive self
 open_line self over some = (some, subst (λ (o : Over). MayGoOn o self.since) (sym over) tt)
 
 pub moves_known : MovesAreKnown

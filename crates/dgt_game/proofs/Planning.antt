@@ -1,15 +1,13 @@
 -- What is planned, and how much is left to do.
-use Rattle.std.proofs.Common.{rules}
-use Rattle.std.proofs.lemmas.Grind.{common_steps}
-use Rattle.std.proofs.Common.{◌≡◌, ◌∙◌, ◌⊎◌, ◌<◌, ◌≤◌, ◌+◌, inl, inr, refl, sym, ap, subst, arith, ℕ, zero, suc, Bool, true, false, List, [], ◌∷◌, Option, Some, None, Result, Ok, Err, length}
-use Rattle.std.{proofs.{Common.{unwrap_or, slice_get, slice_index_or}, lemmas.Option.{get_or_from_slice_get}}, specs.{Prelude.{⊤, ◌↔◌, MatchOption, MatchResult, option_map}, Result.{result_ok}}}
-use Rattle.{std.proofs.{lemmas.Option.{none-some, slice_get_read}, Math.Logic.{∥∥₁_elim}}, dgt_values.specs.{declared.pieces.Piece.{Piece}, Board.{pieces_of, square_number}}}
-use Rattle.dgt_chess.specs.{declared.{pieces.Colour.{Colour}, possible.{Impossible.{Impossible}, Rights.{Rights}}, state.State.{State}}, Attacks.{other, piece_at}, Possible.{HasKings}}
-use Rattle.{dgt_chess.specs.{Possible.{HasNoExtra, HasNoStray, HasPassed, HasRights, IsPossible, Refuses}, Rules.{board}}, dgt_game.specs.declared.event.{Event.{Event}, GameResult.{GameResult}}}
+use Rattle.std.proofs.Common.{rules, ◌≡◌, ◌∙◌, ◌⊎◌, ◌<◌, ◌≤◌, ◌+◌, inl, inr, refl, sym, ap, subst, arith, ℕ, zero, suc, Bool, true, false, List, [], ◌∷◌, Option, Some, None, Result, Ok, Err, length}
+use Rattle.std.{proofs.{Common.{unwrap_or, slice_get, slice_index_or}, lemmas.{Grind.{common_steps}, Option.{get_or_from_slice_get, none-some, slice_get_read}}}, specs.Prelude.{⊤, ◌↔◌, MatchOption}}
+use Rattle.{std.{specs.{Prelude.{MatchResult, option_map}, Result.{result_ok}}, proofs.Math.Logic.{∥∥₁_elim}}, dgt_values.specs.{declared.pieces.Piece.{Piece}, Board.{pieces_of, square_number}}}
+use Rattle.dgt_chess.specs.{declared.{pieces.Colour.{Colour}, possible.{Impossible.{Impossible}, Rights.{Rights}}, state.State.{State}}, Attacks.{other, piece_at}, Possible.{HasKings, HasNoExtra}}
+use Rattle.{dgt_chess.specs.{Possible.{HasNoStray, HasPassed, HasRights, IsPossible, Refuses}, Rules.{board}}, dgt_game.specs.declared.event.{Event.{Event}, GameResult.{GameResult}}}
 use Rattle.dgt_game.specs.declared.{memory.Memory.{Memory}, node.{Node.{Node}, Origin.{Origin}, Place.{Place}, Step.{Step}}, recogniser.{Lost.{Lost}, Over.{Over}, Recogniser.{Recogniser}}}
 use Rattle.dgt_game.specs.{declared.{recogniser.Search.{Search}, resting.{Next.{Next}, Task.{Task}}, view.View.{View}}, Told.{as_shown}, Memory.{steps}, Waiting.{has_notice, last_of}}
-use Rattle.dgt_game.specs.Planning.{AddsNone, EndsSearch, HasNothing, IsAtLast, IsPlanned, IsRefused, IsSettled, Lacks, LacksOnly, LostIsReported, NothingFits, OneFits, PossibleIsHopeful, SaysLost}
-use Rattle.dgt_game.{specs.Planning.{Plans, PlansPosition, RestsAt, RestsBefore, RestsBy, StaysPlaced, TaskFits, WhyHopeless, of_kings, of_place, of_search, todo}, proofs.Chains.{get_step}}
+use Rattle.dgt_game.specs.Planning.{HasNothing, IsPlanned, IsRefused, IsSettled, Lacks, LacksOnly, LostIsReported, NothingFits, OneFits, PossibleIsHopeful, SaysLost, Plans, RestsAt, RestsBefore}
+use Rattle.dgt_game.{specs.Planning.{RestsBy, StaysPlaced, TaskFits, WhyHopeless, of_kings, of_place, of_search, todo}, proofs.Chains.{get_step}}
 
 -- ---- Pieces that are gone
 
@@ -153,14 +151,6 @@ pub planned_then : (self new : Recogniser) (report : Option Event)
 planned_then self new None told h = planned_quiet self new told h
 planned_then self new (Some event) told h = told
 
-pub plans_of : (self : Recogniser) (plan : Option Next) → PlansPosition self plan
-    → (plan ≡ None → (self.has_kings ≡ false) ⊎ (self.is_confirmed ≡ false)) → Plans self plan
-plans_of self None h kings = elim h [
-  | inl doubt ↦ inl doubt
-  | inr settled ↦ elim (kings refl) [ inl none ↦ inr (none, settled) | inr doubt ↦ inl doubt ]
-]
-plans_of self (Some plan) h kings = h
-
 pub rests_here : (memory : Memory) (read : List Node) (place : Place) (returned wait k : ℕ)
     (node : Node) (origin : Origin) → place ≡ Place.Seen k → read ≡ memory.seen.items
     → k < length read → node ≡ slice_index_or read k node → node.origin ≡ origin
@@ -173,25 +163,14 @@ rests_here memory read place returned wait k node origin here same less is by h 
 kings_most : (has : Bool) → of_kings has ≤ 1
 kings_most has = search rules
 
-kings_less : (new old : Bool) → (new ≡ true → old ≡ true) → of_kings new ≤ of_kings old
-kings_less new old h = search rules
-
 search_most : (search : Search) → of_search search ≤ 1
 search_most search = grind (arith, common_steps)
 
 place_most : (is_next : Bool) (here : Place) (search : Search) → of_place is_next here search ≤ 1
 place_most is_next here search = grind (arith, common_steps)
 
-place_hopeless : (here : Place) → of_place false here Search.Hopeless ≡ 0
-place_hopeless here = search rules
-
 pub todo_most : (self : Recogniser) → todo self ≤ 3
 todo_most self = search (rules, kings_most, search_most, place_most)
-
-pub fewer_by_kings : (old : Recogniser) → old.has_kings ≡ true
-    → todo (record old { has_kings = false }) < todo old
-fewer_by_kings old kings =
-    let one : of_kings old.has_kings ≡ 1 = ap (λ (b : Bool). of_kings b) kings in omega (arith, one)
 
 none_added : (has : Bool) → (has ≡ true → false ≡ true) → of_kings has ≡ 0
 none_added has h = search rules
@@ -201,23 +180,6 @@ pub fewer_by_result : (old : Recogniser) (has : Bool) → old.has_kings ≡ true
     → (has ≡ true → false ≡ true) → of_kings has + of_search Search.Hopeless
     + of_place false Place.Nowhere Search.Hopeless < todo old
 fewer_by_result old has kings none = search (rules, of_kings, none_added)
-
-pub fewer_by_search : (old new : Recogniser) → TaskFits old Task.Search
-    → AddsNone (record old { search = Search.Done }) new → todo new < todo old
-fewer_by_search old new fits adds = search (rules, kings_less, of_search, of_place, place_most)
-
-last_settled : (new : Recogniser) → new.is_next ≡ false → new.here ≡ Place.Line 0
-    → of_place new.is_next new.here new.search ≡ 0
-last_settled new next here = rw (next, here) refl
-
-pub fewer_by_tell : (old new : Recogniser) → old.is_next ≡ true
-    → IsAtLast (record old { is_next = false }) new → todo new < todo old
-fewer_by_tell old new next last = search (rules, of_kings, of_search, of_place, last_settled)
-
-pub fewer_by_begin : (old new : Recogniser) → TaskFits old Task.Begin → EndsSearch old new
-    → todo new < todo old
-fewer_by_begin old new fits h =
-    search (rules, of_place, of_kings, of_search, place_hopeless, last_settled)
 
 no_kings : (has : Bool) → of_kings has ≡ 0 → has ≡ false
 no_kings has e = search rules
@@ -245,20 +207,19 @@ pub lost_is_reported : LostIsReported
 lost_is_reported self why seen here done quiet on line lifted = search (rules, said_quietly)
 
 pub possible_is_hopeful : PossibleIsHopeful
-possible_is_hopeful self view why e here hopeless kings possible =
-    elim (why view e here hopeless) [
-      | inl missing ↦ absurd (missing.1 (kings missing.0))
-      | inr other ↦ elim other [
-        | inl (running, turned, cannot) ↦
-            let (white, board, turn) = possible turned Colour.White in
-            let (black, board', turn') = possible turned Colour.Black in
-            absurd (elim (cannot Colour.White) [
-              | inl w ↦ elim (cannot Colour.Black) [
-                | inl b ↦ let wrong : ⊥ = cc in wrong
-                | inr refused ↦ refused black board' turn'
-              ]
-              | inr refused ↦ refused white board turn
-            ])
-        | inr shows ↦ shows
-      ]
-    ]
+possible_is_hopeful self view why e here hopeless kings possible = elim (why view e here hopeless) [
+  | inl missing ↦ absurd (missing.1 (kings missing.0))
+  | inr other ↦ elim other [
+    | inl (running, turned, cannot) ↦
+        let (white, board, turn) = possible turned Colour.White in
+        let (black, board', turn') = possible turned Colour.Black in
+        absurd (elim (cannot Colour.White) [
+          | inl w ↦ elim (cannot Colour.Black) [
+            | inl b ↦ let wrong : ⊥ = cc in wrong
+            | inr refused ↦ refused black board' turn'
+          ]
+          | inr refused ↦ refused white board turn
+        ])
+    | inr shows ↦ shows
+  ]
+]

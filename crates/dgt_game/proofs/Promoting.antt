@@ -1,8 +1,7 @@
 -- The promotions that are tried.
-use Rattle.std.proofs.Common.{rules}
-use Rattle.std.{proofs.Common.{◌≡◌, ℕ, List, inl, inr}, specs.Prelude.{◌↔◌, ◌⊎◌, Bool, true, false, IsSome, IsTrue, Option, Some, None}}
-use Rattle.{dgt_values.specs.{declared.pieces.Piece.{Piece}, Board.{square_number}}, dgt_chess.specs.declared.pieces.Man.{Man, TheVariants.{Pawn, Knight, Bishop, Rook, Queen, King}}}
-use Rattle.dgt_chess.{specs.{declared.{state.{Move.{Move}, State.{State}}, pieces.Colour.{Colour}}, Attacks.{piece_at, piece_of, row}, Rules.{LegalBy, board, last_row}}, proofs.Unique.{same_man}}
+use Rattle.{std.{proofs.Common.{rules, ◌≡◌, ℕ, List, inl, inr}, specs.Prelude.{◌↔◌, ◌⊎◌, Bool, true, false, IsSome, IsTrue, Option, Some, None}}, dgt_values.specs.declared.pieces.Piece.{Piece}}
+use Rattle.{dgt_values.specs.Board.{square_number}, dgt_chess.specs.declared.{pieces.Man.{Man, TheVariants.{Pawn, Knight, Bishop, Rook, Queen, King}}, state.{Move.{Move}, State.{State}}}}
+use Rattle.dgt_chess.{specs.{declared.pieces.Colour.{Colour}, Attacks.{piece_at, piece_of, row}, Rules.{LegalBy, board, last_row}}, proofs.Unique.{same_man}}
 use Rattle.dgt_game.{specs.{declared.ways.Ways.{Ways}, Lines.{IsMove}, Ways.{AreWaysBy, Ends, both}}, proofs.Sets.{promoted, same_set}}
 
 -- whether a legal half-move between two squares promotes

@@ -1,9 +1,8 @@
 -- What rests on the board is reported.
-use Rattle.std.proofs.Common.{rules}
-use Rattle.std.{proofs.Common.{◌≡◌, ◌≢◌, ◌∙◌, ◌+◌, ◌-◌, ◌^◌, ◌<◌, ◌≤◌, ◌⊎◌, refl, sym, subst, inl, inr, min, ℕ, zero, suc, true, false, Option, Some, None}, specs.Prelude.{IfSome}}
-use Rattle.{std.specs.Prelude.{MatchOption, option_map, slice_get}, dgt_game.specs.declared.{memory.Memory.{Memory}, node.{Node.{Node}, Place.{Place}, Step.{Step}}}}
-use Rattle.dgt_game.specs.{declared.{resting.Next.{Next}, view.View.{View}}, Memory.{IsTold, steps}, Planning.{Lacks, Plans}, Reading.{Shows}, Standing.{Counts, OnlyShownIsReported}}
-use Rattle.dgt_game.{specs.{Standing.{RestIsReported, StandsAt}, Waiting.{last_of}}, proofs.Standing.{last_at_first, some_of}}
+use Rattle.std.{proofs.Common.{rules, ◌≡◌, ◌≢◌, ◌∙◌, ◌+◌, ◌-◌, ◌^◌, ◌<◌, ◌≤◌, ◌⊎◌, refl, sym, subst, inl, inr, min, ℕ, zero, suc, true, false, Option, Some, None}, specs.Prelude.{IfSome, MatchOption}}
+use Rattle.{std.specs.Prelude.{option_map, slice_get}, dgt_game.specs.declared.{memory.Memory.{Memory}, node.{Node.{Node}, Place.{Place}, Step.{Step}}, resting.Next.{Next}, view.View.{View}}}
+use Rattle.dgt_game.specs.{Memory.{IsTold, steps}, Planning.{Lacks, Plans}, Reading.{Shows}, Standing.{Counts, OnlyShownIsReported, RestIsReported, StandsAt}, Waiting.{last_of}}
+use Rattle.dgt_game.proofs.Standing.{last_at_first, some_of}
 
 -- nothing is done a minute later
 no_next : (next : Option Next) (since now : ℕ)

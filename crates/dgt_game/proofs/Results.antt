@@ -1,10 +1,8 @@
 -- What results and lost lines mean.
-use Rattle.std.proofs.Common.{rules}
-use Rattle.std.proofs.Common.{◌≡◌, ◌≢◌, ◌∙◌, ◌⊎◌, ◌<◌, ◌++◌, inl, inr, sym, arith, ℕ, Bool, true, false, List, [], ◌∷◌, Option, Some, None}
+use Rattle.std.{proofs.Common.{rules, ◌≡◌, ◌≢◌, ◌∙◌, ◌⊎◌, ◌<◌, ◌++◌, inl, inr, sym, arith, ℕ, Bool, true, false, List, [], ◌∷◌, Option, Some, None, refl, zero, suc}, specs.Prelude.{Contains}}
 use Rattle.{dgt_values.specs.declared.pieces.Piece.{Piece}, dgt_game.specs.{declared.{event.{Event.{Event}, GameResult.{GameResult}}, recogniser.Recogniser.{Recogniser}}, Waiting.{CallsFollowOn}}}
 use Rattle.dgt_game.specs.{Waiting.{FollowOn, IsRight, RightIfAway, RunsInTurn, events_in, has_result, is_lost}, Results.{AreLost, FitsAt, HasResults, IsOnlyOn, KingsOn, LostInTurn, NotFound}}
-use Rattle.{std.{proofs.Common.{refl, zero, suc}, specs.Prelude.{Contains}}, dgt_chess.specs.declared.state.State.{State}}
-use Rattle.dgt_game.specs.Results.{NotLost, OneByKings, OneByRules, OneOther, OneResult, Stay}
+use Rattle.{dgt_game.specs.Results.{NotLost, OneByKings, OneByRules, OneOther, OneResult, Stay}, dgt_chess.specs.declared.state.State.{State}}
 
 pub one_by_rules : OneByRules
 one_by_rules state h h' h'' k = search rules
@@ -15,8 +13,7 @@ one_square picture piece a b less h k = h.1 b less k.0
 
 -- kings on two squares stand on no other two
 other_kings : (picture : List Piece) (a b c d : ℕ) → a < 64 → b < 64 → c < 64 → d < 64
-    → KingsOn picture a b → KingsOn picture c d
-    → ((c ≡ a) × (d ≡ b)) ⊎ ((d ≡ a) × (c ≡ b))
+    → KingsOn picture a b → KingsOn picture c d → ((c ≡ a) × (d ≡ b)) ⊎ ((d ≡ a) × (c ≡ b))
 other_kings picture a b c d la lb lc ld h k = search (rules, one_square)
 
 apart : (picture : List Piece) (a b c d : ℕ) → a < 64 → b < 64 → c < 64 → d < 64
@@ -55,8 +52,7 @@ one_other picture pieces first second less more like wrong bad =
 
 second_result : (between : List Event) (second : GameResult) (had has : Bool) → had ≡ true
     → Stay between → HasResults had (between ++ Event.Ended second ∷ []) has → ⊥
-second_result [] second had has e stay h =
-    let none = h.1.0 in let wrong : ⊥ = cc in wrong
+second_result [] second had has e stay h = let none = h.1.0 in let wrong : ⊥ = cc in wrong
 second_result (Event.Begun state is_turned ∷ events) second had has e stay h = stay
 second_result (Event.Back count ∷ events) second had has e stay h = stay
 second_result (Event.Ended result ∷ events) second had has e stay h =
@@ -167,7 +163,8 @@ not_found (Event.Found ∷ events) none = absurd (none (first_has _ _))
 pub not_lost : (events : List Event)
     → ((squares : ℕ) → ¬ (Contains events (Event.Lost squares))) → NotLost events
 not_lost [] none = tt
-not_lost (Event.Begun state is_turned ∷ events) none = not_lost events (λ n. rest_not _ _ _ (none n))
+not_lost (Event.Begun state is_turned ∷ events) none =
+    not_lost events (λ n. rest_not _ _ _ (none n))
 not_lost (Event.Made one ∷ events) none = not_lost events (λ n. rest_not _ _ _ (none n))
 not_lost (Event.Unseen moves ∷ events) none = not_lost events (λ n. rest_not _ _ _ (none n))
 not_lost (Event.Gap state count ∷ events) none = not_lost events (λ n. rest_not _ _ _ (none n))
@@ -176,12 +173,12 @@ not_lost (Event.Ended result ∷ events) none = not_lost events (λ n. rest_not 
 not_lost (Event.Lost squares ∷ events) none = absurd (none squares (first_has _ _))
 not_lost (Event.Found ∷ events) none = not_lost events (λ n. rest_not _ _ _ (none n))
 
-pub stays : (events : List Event)
-    → ((count : ℕ) → ¬ (Contains events (Event.Back count)))
+pub stays : (events : List Event) → ((count : ℕ) → ¬ (Contains events (Event.Back count)))
     → ((state : State) (is_turned : Bool) → ¬ (Contains events (Event.Begun state is_turned)))
     → Stay events
 stays [] back begun = tt
-stays (Event.Begun state is_turned ∷ events) back begun = absurd (begun state is_turned (first_has _ _))
+stays (Event.Begun state is_turned ∷ events) back begun =
+    absurd (begun state is_turned (first_has _ _))
 stays (Event.Made one ∷ events) back begun =
     stays events (λ n. rest_not _ _ _ (back n)) (λ s t. rest_not _ _ _ (begun s t))
 stays (Event.Unseen moves ∷ events) back begun =

@@ -1,6 +1,5 @@
 -- Moves and states are the same if clauses see the same of them.
-use Rattle.std.proofs.Common.{rules}
-use Rattle.std.{proofs.{Common.{◌≡◌, ◌∙◌, ℕ, ◌<◌, List, ap, length, refl, subst, sym}, Math.Logic.{∥∥₁_prop}, Props.{props}}, specs.Prelude.{Option, Some, None, option_map}}
+use Rattle.std.{proofs.{Common.{rules, ◌≡◌, ◌∙◌, ℕ, ◌<◌, List, ap, length, refl, subst, sym}, Math.Logic.{∥∥₁_prop}, Props.{props}}, specs.Prelude.{Option, Some, None, option_map}}
 use Rattle.dgt_values.specs.{declared.{pieces.Piece.{Piece}, positions.Position.{Position}, squares.Square.{Square}}, Board.{pieces_of, square_number}}
 use Rattle.dgt_chess.specs.{declared.{pieces.{Colour.{Colour}, Man.{Man}}, possible.Rights.{Rights}, state.{Move.{Move}, State.{State}}}, Possible.{IsPossible}, Rules.{IsAfter, passed}}
 use Rattle.{dgt_chess.proofs.Unique.{same_man}, dgt_game.specs.Lines.{IsMove}}

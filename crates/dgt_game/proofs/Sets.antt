@@ -1,9 +1,8 @@
 -- What is found in sets of lines, which differ in their first half-moves.
-use Rattle.std.proofs.Common.{rules}
-use Rattle.std.{proofs.{lemmas.Bool.{cases_eq}, Common.{◌≡◌, ◌∙◌, ℕ, ◌<◌, List, ◌∷◌, ap, arith, inl, inr, length, refl, subst, sym}}, specs.Prelude.{◌≢◌, ◌⊎◌, ◌+◌, ◌≤◌, ⊤, suc, Option}}
+use Rattle.std.{proofs.{Common.{rules, ◌≡◌, ◌∙◌, ℕ, ◌<◌, List, ◌∷◌, ap, arith, inl, inr, length, refl, subst, sym}, lemmas.Bool.{cases_eq}}, specs.Prelude.{◌≢◌, ◌⊎◌, ◌+◌, ◌≤◌, ⊤, suc, Option}}
 use Rattle.{dgt_values.specs.{declared.pieces.Piece.{Piece}, Board.{square_number}}, dgt_chess.specs.declared.{pieces.Man.{Man}, state.{Move.{Move}, State.{State}}}}
-use Rattle.dgt_game.specs.{declared.ways.Ways.{Ways, TheVariants.{Nothing, Only, Several}}, Lines.{IsMove, IsOnly, LeadsTo, NoLine, moves_of}, Ways.{AreWays, AreWaysBy, BeginsIn, Ends}}
-use Rattle.dgt_game.{specs.Ways.{Follows, IsSeveral, IsWay, both}, proofs.Same.{one_next, same_move}}
+use Rattle.dgt_game.specs.{declared.ways.Ways.{Ways, TheVariants.{Nothing, Only, Several}}, Lines.{IsMove, IsOnly, LeadsTo, NoLine, moves_of}, Ways.{AreWays, AreWaysBy, BeginsIn, Ends, Follows}}
+use Rattle.dgt_game.{specs.Ways.{IsSeveral, IsWay, both}, proofs.Same.{one_next, same_move}}
 
 -- the legal half-moves of one set are in another
 abbrev pub Within : State → (Move → Type 0) → (Move → Type 0) → Type 0
@@ -25,12 +24,10 @@ same_lines F G halves state pieces Nothing there back h =
     λ moves new way begins. h moves new way (back moves new way begins)
 same_lines F G halves state pieces (Only moves new) there back (way, begins, only) = search rules
 same_lines F G halves state pieces (Several new) there back
-    (one, other, (way, begins), (end, way', begins'), differ) =
-    search rules
+    (one, other, (way, begins), (end, way', begins'), differ) = search rules
 
 pub same_set : (F G : Move → Type 0) (halves : ℕ) (state : State) (pieces : List Piece)
-    (ways : Ways)
-    → Within state F G → Within state G F → AreWaysBy F halves state pieces ways
+    (ways : Ways) → Within state F G → Within state G F → AreWaysBy F halves state pieces ways
     → AreWaysBy G halves state pieces ways
 same_set F G halves state pieces ways there back h = search (rules, same_lines, within)
 
@@ -39,15 +36,13 @@ pub several : (F G : Move → Type 0) (halves : ℕ) (state : State) (pieces : L
     (ways : Ways) → Within state F G → IsSeveral ways → AreWaysBy F halves state pieces ways
     → AreWaysBy G halves state pieces ways
 several F G halves state pieces (Several new) there is
-    (one, other, (way, begins), (end, way', begins'), differ) =
-    search (rules, within)
+    (one, other, (way, begins), (end, way', begins'), differ) = search (rules, within)
 several F G halves state pieces Nothing there is h = absurd is
 several F G halves state pieces (Only moves new) there is h = absurd is
 
 -- a set of half-moves whose legal ones are in two others
 abbrev pub Splits : State → (Move → Type 0) → (Move → Type 0) → (Move → Type 0) → Type 0
-Splits state H F G =
-    (one : Move) (next : State) → IsMove state one next → H one → F one ⊎ G one
+Splits state H F G = (one : Move) (next : State) → IsMove state one next → H one → F one ⊎ G one
 
 split : (F G H : Move → Type 0) (halves : ℕ) (state : State) (pieces : List Piece)
     (moves : List Move) (new : State) → Splits state H F G → IsWay halves state pieces moves new
@@ -182,10 +177,6 @@ pub no_move : (halves : ℕ) (state : State) (pieces : List Piece) (one : Move)
     → AreWaysBy (λ other. other ≡ one) (suc halves) state pieces Nothing
 no_move halves state pieces one next h' new way begins = search rules
 
-pub none_in : (F : Move → Type 0) (halves : ℕ) (state : State) (pieces : List Piece)
-    → ((one : Move) → ¬ (F one)) → AreWaysBy F halves state pieces Nothing
-none_in F halves state pieces one h' new way begins = search rules
-
 -- ---- sets by the ends of half-moves
 
 pub by_parts : (halves : ℕ) (state : State) (pieces : List Piece) (one : Move) (from to : ℕ)
@@ -251,20 +242,17 @@ next_from halves state pieces from ways other new e h k =
 pub all_goals : (halves : ℕ) (state : State) (pieces : List Piece) (from to : ℕ) (ways : Ways)
     → 64 ≤ to
     → AreWaysBy (λ one. (square_number one.from ≡ from) × (square_number one.to < to)) halves state
-    pieces ways
-    → AreWaysBy (λ one. square_number one.from ≡ from) halves state pieces ways
+    pieces ways → AreWaysBy (λ one. square_number one.from ≡ from) halves state pieces ways
 all_goals halves state pieces from to ways end h = search (rules, same_set)
 
 pub several_from : (halves : ℕ) (state : State) (pieces : List Piece) (from to : ℕ) (ways : Ways)
     → IsSeveral ways
     → AreWaysBy (λ one. (square_number one.from ≡ from) × (square_number one.to < to)) halves state
-    pieces ways
-    → AreWaysBy (λ one. square_number one.from ≡ from) halves state pieces ways
+    pieces ways → AreWaysBy (λ one. square_number one.from ≡ from) halves state pieces ways
 several_from halves state pieces from to ways is h = search (rules, several)
 
 pub all_from : (halves : ℕ) (state : State) (pieces : List Piece) (from : ℕ) (ways : Ways)
-    → 64 ≤ from
-    → AreWaysBy (λ one. square_number one.from < from) (suc halves) state pieces ways
+    → 64 ≤ from → AreWaysBy (λ one. square_number one.from < from) (suc halves) state pieces ways
     → AreWays (suc halves) state pieces ways
 all_from halves state pieces from ways end h = search (rules, all_ways)
 

@@ -1,7 +1,6 @@
 -- What is reported has rested.
-use Rattle.std.proofs.Common.{rules}
-use Rattle.std.{proofs.Common.{◌≡◌, ◌∙◌, ◌≤◌, ◌+◌, ◌-◌, ◌^◌, ◌⊎◌, inl, inr, refl, sym, subst, min, ℕ, Bool, true, false, [], ◌∷◌, Option, Some, None}, specs.Prelude.{◌≢◌, IfSome}}
-use Rattle.{std.{specs.Prelude.{MatchOption, if◌then◌else◌, option_map, slice_get}, proofs.lemmas.{Bool.{false≢true}, Option.{none-some}}}, dgt_game.specs.declared.node.{Node.{Node}, Origin.{Origin}}}
+use Rattle.std.{proofs.Common.{rules, ◌≡◌, ◌∙◌, ◌≤◌, ◌+◌, ◌-◌, ◌^◌, ◌⊎◌, inl, inr, refl, sym, subst, min, ℕ, Bool, true, false, [], ◌∷◌, Option, Some, None}, specs.Prelude.{◌≢◌, IfSome, MatchOption}}
+use Rattle.{std.{specs.Prelude.{if◌then◌else◌, option_map, slice_get}, proofs.lemmas.{Bool.{false≢true}, Option.{none-some}}}, dgt_game.specs.declared.node.{Node.{Node}, Origin.{Origin}}}
 use Rattle.dgt_game.specs.{declared.{node.{Place.{Place}, Way.{Way}}, recogniser.Recogniser.{Recogniser}, resting.{Next.{Next}, Task.{Task}}, view.View.{View}}, Memory.{steps}, Planning.{Lacks}}
 use Rattle.dgt_game.specs.{Planning.{Plans, RestsAfter, RestsAt, RestsBefore, RestsBy, TaskFits, search_wait}, Settling.{IsAt, NothingWaitsLong, ReplacingHasRested, ReportedHasRested}}
 use Rattle.dgt_game.{specs.{Settling.{ReportedHasSettled, ReportedIsShown, SeenIsAnswered}, Standing.{Counts, Lands, ShowsAs, StandsAt}, Timing.{IsIdle}}, proofs.Finding.{not_yet}}
@@ -24,8 +23,7 @@ reported_has_rested self new event now (planned, quiet, small, (next ∷ done, h
 
 -- the board stands at the start of a game
 abbrev IsAtStart : Recogniser → Type 0
-IsAtStart self =
-    (node : Node) × IsAt self node × (node.origin ≡ Origin.Start) × (node.depth ≡ 1)
+IsAtStart self = (node : Node) × IsAt self node × (node.origin ≡ Origin.Start) × (node.depth ≡ 1)
 
 searched_later : (behind : Bool) → 300 ≤ search_wait behind
 searched_later behind = search rules

@@ -1,11 +1,9 @@
 -- The board's place in what is known, and what it shows once all is reported.
-use Rattle.std.proofs.Common.{rules}
-use Rattle.std.proofs.{Common.{◌≡◌, ◌≢◌, ◌∙◌, ◌⊎◌, ◌≤◌, refl, sym, ap, subst, ℕ, Bool, true, false, List, length, Option, Some, None, unwrap_or}, Math.Bridge.{le_prop}}
-use Rattle.{std.specs.Prelude.{IfSome, MatchOption}, dgt_values.specs.{declared.pieces.Piece.{Piece}}, dgt_chess.specs.{declared.state.State.{State}}}
-use Rattle.{dgt_chess.specs.Rules.{board}, dgt_game.specs.declared.{memory.Memory.{Memory}, node.{Node.{Node}, Place.{Place}, Returned.{Returned}, Step.{Step}}, recogniser.Recogniser.{Recogniser}}}
-use Rattle.dgt_game.specs.{declared.view.View.{View}, Memory.{IsBefore, IsTold, step_at, steps}, Planning.{LacksOnly}, Reading.{Shows}, Told.{IsHeld}, Standing.{EndsHere}}
-use Rattle.dgt_game.{specs.{Standing.{IsCalledFor, IsMeant, IsOpen, Lands, ShowsAs, ShowsBut, ShowsLast, Stands, StandsAt, TakesBack}, Waiting.{coming}}, proofs.Chains.{moved, some_below}}
-use Rattle.dgt_game.proofs.Links.{turned_back}
+use Rattle.std.{proofs.{Common.{rules, ◌≡◌, ◌≢◌, ◌∙◌, ◌⊎◌, ◌≤◌, refl, sym, ap, ℕ, Bool, true, false, List, length, Option, Some, None, unwrap_or}, Math.Bridge.{le_prop}}, specs.Prelude.{IfSome}}
+use Rattle.{std.specs.Prelude.{MatchOption}, dgt_values.specs.declared.pieces.Piece.{Piece}, dgt_chess.specs.{declared.state.State.{State}, Rules.{board}}}
+use Rattle.dgt_game.specs.declared.{memory.Memory.{Memory}, node.{Node.{Node}, Place.{Place}, Returned.{Returned}, Step.{Step}}, recogniser.Recogniser.{Recogniser}, view.View.{View}}
+use Rattle.dgt_game.specs.{Memory.{IsBefore, IsTold, step_at, steps}, Planning.{LacksOnly}, Reading.{Shows}, Told.{IsHeld}, Standing.{EndsHere, IsCalledFor, IsMeant, IsOpen, Lands, ShowsAs, ShowsBut}}
+use Rattle.dgt_game.{specs.{Standing.{ShowsLast, Stands, StandsAt, TakesBack}, Waiting.{coming}}, proofs.{Chains.{moved, some_below}, Links.{turned_back}}}
 
 -- what is so of a value is so of one that is there
 pub some_of : {X : Type 0} (o : Option X) (P : X → Type 0) → MatchOption o ⊥ P → (x : X)
@@ -92,10 +90,6 @@ at_other Place.Nowhere self is_sure view line seen = refl
 pub back_of : {X : Type 0} (o : Option X) (back : ℕ) (P : X → Type 0)
     → IfSome o (λ x. (back ≤ 4) ⊎ P x) → (back ≤ 4) ⊎ IfSome o P
 back_of o back P h = search rules
-
-pub at_some : {X : Type 0} (o : Option X) (x : X) (P : X → Type 0) → MatchOption o ⊥ P → o ≡ Some x
-    → P x
-at_some {X = X} o x P h e = subst (λ (p : Option X). MatchOption p ⊥ P) e h
 
 pub every_some : {X : Type 0} (o : Option X) (P : X → Type 0) → ((x : X) → P x) → IfSome o P
 every_some o P x = search rules

@@ -1,12 +1,10 @@
 -- Nodes that were shown for sure.
-use Rattle.std.proofs.Common.{rules}
-use Rattle.std.proofs.Common.{◌≡◌, ◌≢◌, ◌++◌, ◌∷◌, refl, inl, inr, subst, Bool, true, false, ℕ, zero, suc, List, [], Option, None, unwrap_or}
-use Rattle.{std.specs.Prelude.{⊤, Contains, IfSome, MatchOption, slice_get}, dgt_values.specs.{declared.pieces.Piece.{Piece}, Board.{pieces_of}}, dgt_chess.specs.declared.state.State.{State}}
-use Rattle.dgt_game.specs.declared.{event.GameResult.{GameResult}, memory.Memory.{Memory}, node.{Node.{Node}, Place.{Place}, Returned.{Returned}, Step.{Step}}, observation.Sight.{Sight}, recogniser.Recogniser.{Recogniser}}
-use Rattle.dgt_game.specs.{Memory.{IsTold, halves_of, step_at, steps, told_of}, Recogniser.{new_recogniser}, Results.{ByKings}, Sure.{AreMarked, IsMarked, KnowsSure, WasSure, WereSure, sure_after}}
-use Rattle.dgt_game.{specs.{Told.{IsHeld, Told, WasShown, as_shown, told_pieces}, Waiting.{coming, is_sure_sight}}, proofs.{Known.{Within, first_shown, first_step, was_more, within_cons}, Links.{was_shown}, Standing.{if_some, match_more, shows_at}}}
-use Rattle.dgt_values.specs.declared.positions.Position.{Position}
-use Rattle.dgt_game.specs.{declared.view.View.{View}, Standing.{StandsAt}}
+use Rattle.std.{proofs.Common.{rules, ◌≡◌, ◌≢◌, ◌++◌, ◌∷◌, refl, inl, inr, subst, Bool, true, false, ℕ, zero, suc, List, [], Option, None, unwrap_or}, specs.Prelude.{⊤, Contains, IfSome, MatchOption}}
+use Rattle.{std.specs.Prelude.{slice_get}, dgt_values.specs.{declared.{pieces.Piece.{Piece}, positions.Position.{Position}}, Board.{pieces_of}}, dgt_chess.specs.declared.state.State.{State}}
+use Rattle.dgt_game.specs.declared.{event.GameResult.{GameResult}, memory.Memory.{Memory}, node.{Node.{Node}, Place.{Place}, Returned.{Returned}, Step.{Step}}, observation.Sight.{Sight}}
+use Rattle.dgt_game.specs.{declared.recogniser.Recogniser.{Recogniser}, Memory.{IsTold, halves_of, step_at, steps, told_of}, Recogniser.{new_recogniser}, Results.{ByKings}, Sure.{AreMarked, IsMarked}}
+use Rattle.dgt_game.{specs.{Sure.{KnowsSure, WasSure, WereSure, sure_after}, Told.{IsHeld, Told, WasShown, as_shown, told_pieces}, Waiting.{coming, is_sure_sight}}, proofs.Known.{Within, first_shown}}
+use Rattle.dgt_game.{proofs.{Known.{first_step, was_more, within_cons}, Links.{was_shown}, Standing.{if_some, match_more, shows_at}}, specs.{declared.view.View.{View}, Standing.{StandsAt}}}
 
 pub marked_first : (sure : List (List Piece)) (node : Node) (nodes : List Node)
     → IsMarked sure node → AreMarked sure nodes → AreMarked sure (node ∷ nodes)
@@ -33,8 +31,7 @@ seen_marked sure gone old new lines back unsaid answer marked h = search rules
 -- the same, and another state may be the one that the board has gone back to
 pub gone_back : (sure : List (List Piece)) (old new : Returned) (self : Memory) → IsTold self
     → (new.is_sure ≡ true → IfSome (slice_get (steps self.line.items) new.count)
-    (λ step. WasShown sure (told_of step)))
-    → WereSure sure self old → WereSure sure self new
+    (λ step. WasShown sure (told_of step))) → WereSure sure self old → WereSure sure self new
 gone_back sure old new self told back h = search rules
 
 -- A line begins with a state that counts as shown.
@@ -67,8 +64,7 @@ were_more sure more gone self within h = record {
       was_sure_more sure more (told_of step) within was);
 }
 
-pub within_sure : (sight : Sight) (sure : List (List Piece))
-    → Within sure (sure_after sight sure)
+pub within_sure : (sight : Sight) (sure : List (List Piece)) → Within sure (sure_after sight sure)
 within_sure (Sight.Sure position) sure = within_cons sure (pieces_of position)
 within_sure (Sight.Doubted position) sure = λ picture h. h
 within_sure Sight.Away sure = λ picture h. h

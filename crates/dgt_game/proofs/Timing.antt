@@ -1,7 +1,6 @@
 -- What is done whenever `due` is called.
-use Rattle.std.proofs.Common.{rules}
-use Rattle.std.{proofs.Common.{◌≡◌, ◌∙◌, ◌++◌, ◌≤◌, ◌<◌, ap, refl, sym, subst, ℕ, Bool, true, false, List, [], ◌∷◌, Option, Some, None}, specs.Prelude.{IfSome, MatchOption, min}}
-use Rattle.{std.{specs.Prelude.{option_map, if◌then◌else◌}, proofs.lemmas.Option.{none-some}}, dgt_game.specs.declared.{event.Event.{Event}, recogniser.Recogniser.{Recogniser}, resting.Next.{Next}}}
+use Rattle.std.{proofs.Common.{rules, ◌≡◌, ◌∙◌, ◌++◌, ◌≤◌, ◌<◌, ap, refl, sym, subst, ℕ, Bool, true, false, List, [], ◌∷◌, Option, Some, None}, specs.Prelude.{IfSome, MatchOption, min, option_map}}
+use Rattle.{std.{specs.Prelude.{if◌then◌else◌}, proofs.lemmas.Option.{none-some}}, dgt_game.specs.declared.{event.Event.{Event}, recogniser.Recogniser.{Recogniser}, resting.Next.{Next}}}
 use Rattle.dgt_game.specs.{Timing.{Acts, AllDue, Calls, DoneBy, Due, HasTask, IsIdle, NoCallMatters, Tells, next_time, with_report}, Waiting.{Follows, IsQuiet, IsRight}}
 
 -- what is done next doesn't count
@@ -105,16 +104,6 @@ idle_stays now old new report idle ([], h) = h.0.4 idle.0
 idle_stays now old new report idle (next ∷ done, h) = absurd (no_task now (next_time old) idle.1
     (subst (HasTask now) (h.1.4 idle.0).1 h.2))
 
-done_last : (now : ℕ) (done : List Recogniser) (old new : Recogniser) (report : Option Event)
-    → report ≡ None → DoneBy now done old report new → IsIdle now new
-done_last now [] old new report none h = h.1 none
-done_last now (next ∷ done) old new report none h = done_last now done next new report none h.4
-
--- once nothing is reported, nothing is due
-pub idle_after : (now : ℕ) (old new : Recogniser) (report : Option Event) → report ≡ None
-    → Due now old report new → IsIdle now new
-idle_after now old new report none due = done_last now due.0 old new report none due.1
-
 -- in doubt nothing is due
 pub idle_in_doubt : (now : ℕ) (self : Recogniser) → self.is_sure ≡ false → IsQuiet self
     → IsIdle now self
@@ -134,12 +123,12 @@ calls_then old mid new [] later early late (none, same) next =
     rw none (subst (λ (self : Recogniser). Calls later self late new) same next)
 calls_then old mid new (now ∷ times) later early late
     (report, self, due, (after, calls, e)) next = (
-  report,
-  self,
-  due,
-  (
-    after ++ late,
-    calls_then self mid new times later after late calls next,
-    ap (λ (events : List Event). events ++ late) e ∙ with_more report after late,
-  ),
-)
+      report,
+      self,
+      due,
+      (
+        after ++ late,
+        calls_then self mid new times later after late calls next,
+        ap (λ (events : List Event). events ++ late) e ∙ with_more report after late,
+      ),
+    )

@@ -1,10 +1,8 @@
 -- The line, as it is reported.
-use Rattle.std.proofs.Common.{rules}
-use Rattle.std.proofs.lemmas.Grind.{common_steps}
-use Rattle.std.{proofs.Common.{◌≡◌, ◌≢◌, ◌<◌, ◌-◌, ◌⊎◌, refl, sym, subst, inl, inr, arith, ℕ, zero, suc, length, take, List, [], ◌∷◌, Option, Some, None, unwrap_or}, specs.Prelude.{⊤}}
-use Rattle.{std.specs.Prelude.{slice_get, MatchOption}, dgt_values.specs.declared.pieces.Piece.{Piece}, dgt_chess.specs.declared.state.State.{State}, dgt_game.specs.declared.event.Event.{Event}}
-use Rattle.dgt_game.specs.{declared.node.{Node.{Node}, Step.{Step}, Way.{Way}, Place.{Place}}, Told.{Told, IsShown, Leads, WasShown}, Memory.{By, Chain, Grows, AreLast, IsKept, IsRooted, IsSeen}}
-use Rattle.dgt_game.specs.Memory.{Links, event_by, event_of, halves_of, line_after, line_by, step_at, steps, tip, told_of}
+use Rattle.std.proofs.Common.{rules, ◌≡◌, ◌≢◌, ◌<◌, ◌-◌, ◌⊎◌, refl, sym, subst, inl, inr, arith, ℕ, zero, suc, length, take, List, [], ◌∷◌, Option, Some, None, unwrap_or}
+use Rattle.{std.{proofs.lemmas.Grind.{common_steps}, specs.Prelude.{⊤, slice_get, MatchOption}}, dgt_values.specs.declared.pieces.Piece.{Piece}, dgt_chess.specs.declared.state.State.{State}}
+use Rattle.dgt_game.specs.{declared.{event.Event.{Event}, node.{Node.{Node}, Step.{Step}, Way.{Way}, Place.{Place}}}, Told.{Told, IsShown, Leads, WasShown}, Memory.{By, Chain, Grows, AreLast, IsKept}}
+use Rattle.dgt_game.specs.Memory.{IsRooted, IsSeen, Links, event_by, event_of, halves_of, line_after, line_by, step_at, steps, tip, told_of}
 
 pub kept_take : (nodes : List Node) (line : List Told) (n : ℕ) → AreLast (steps nodes) line
     → AreLast (steps (take n nodes)) line
@@ -76,8 +74,7 @@ takes_back shown (told ∷ []) first (second ∷ kept) (suc k) some within is_ke
     absurd
     is_kept.0.1
 takes_back shown (told ∷ before ∷ line) first (second ∷ kept) (suc k) some within is_kept is_shown
-    =
-    search rules
+    = search rules
 
 pub taken_back : (shown : List (List Piece)) (line : List Told) (nodes new : List Node) (back
     halves : ℕ) → ((first : Node) (rest : List Node) → nodes ≡ first ∷ rest → new ≡ rest)

@@ -1,7 +1,6 @@
 -- Squares backwards.
-use Rattle.std.proofs.Common.{rules}
-use Rattle.std.{proofs.{Common.{◌≡◌, ◌-◌, ◌+◌, ◌<◌, ℕ, suc, refl, arith, length, take, List, [], ◌∷◌, slice_set, slice_get, Some}, lemmas.List.{drop-set}}, specs.Prelude.{drop, reverse}}
-use Rattle.{std.proofs.{lemmas.{List.{reverse-append}, Option.{get_or_from_slice_get}}, Math.{Seq.{take-suc}, ListN.{drop_of_length-le}}}, dgt_values.specs.declared.pieces.Piece.{Piece}}
+use Rattle.std.{proofs.{Common.{rules, ◌≡◌, ◌-◌, ◌+◌, ◌<◌, ℕ, suc, refl, arith, length, take, List, [], ◌∷◌, slice_set, slice_get, Some}, lemmas.List.{drop-set, reverse-append}}, specs.Prelude.{drop}}
+use Rattle.{std.{specs.Prelude.{reverse}, proofs.{lemmas.Option.{get_or_from_slice_get}, Math.{Seq.{take-suc}, ListN.{drop_of_length-le}}}}, dgt_values.specs.declared.pieces.Piece.{Piece}}
 
 pub turned_first : (pieces : List Piece) → length pieces ≡ 64 → drop 64 pieces ≡ []
 turned_first pieces len = drop_of_length-le pieces {i = 64} (omega arith)

@@ -1,7 +1,6 @@
 -- What waits to be reported.
-use Rattle.std.proofs.Common.{rules}
-use Rattle.std.proofs.Common.{◌≡◌, ◌≢◌, ◌+◌, ◌-◌, ◌++◌, ◌<◌, ◌⊎◌, refl, arith, below_more, ℕ, zero, suc, Bool, true, false, List, [], ◌∷◌, Option, Some, None}
-use Rattle.{std.{specs.{Prelude.{slice_get, IfSome}, Option.{option_or}}, proofs.lemmas.Option.{none-some}}, dgt_values.specs.declared.pieces.Piece.{Piece}, dgt_chess.specs.Attacks.{piece_at}}
+use Rattle.std.{proofs.Common.{rules, ◌≡◌, ◌≢◌, ◌+◌, ◌-◌, ◌++◌, ◌<◌, ◌⊎◌, refl, arith, below_more, ℕ, zero, suc, Bool, true, false, List, [], ◌∷◌, Option, Some, None}, specs.Prelude.{slice_get}}
+use Rattle.{std.{specs.{Prelude.{IfSome}, Option.{option_or}}, proofs.lemmas.Option.{none-some}}, dgt_values.specs.declared.pieces.Piece.{Piece}, dgt_chess.specs.Attacks.{piece_at}}
 use Rattle.dgt_game.specs.declared.{event.{GameResult.{GameResult}, Event.{Event}}, memory.Memory.{Memory}, recogniser.{Over.{Over}, Lost.{Lost}}, node.{Node.{Node}, Step.{Step}}}
 use Rattle.dgt_game.specs.{declared.{recogniser.Recogniser.{Recogniser}, view.View.{View}}, Memory.{steps, tip}, Results.{ByRules, FitsAt}, Waiting.{EndsBy, IsOfLine, IsRight, LostBy, Show, coming}}
 use Rattle.dgt_game.specs.Waiting.{has_notice, has_result, last_of}
@@ -53,8 +52,7 @@ ended_right over view step result h = search rules
 abbrev pub Fitting : List Piece → List Piece → ℕ → Bool → Type 0
 Fitting picture pieces at has_other =
     (has_other ≡ false → (square : ℕ) → square < at → FitsAt picture pieces square)
-    × ((other : ℕ) × ((square : ℕ) → square < at → square ≢ other
-    → FitsAt picture pieces square))
+    × ((other : ℕ) × ((square : ℕ) → square < at → square ≢ other → FitsAt picture pieces square))
 
 pub fitting_more : (picture pieces : List Piece) (at : ℕ) (has_other : Bool)
     → FitsAt picture pieces at → Fitting picture pieces at has_other
@@ -68,8 +66,7 @@ fitting_more picture pieces at has_other fits h = (
 )
 
 pub fitting_but : (picture pieces : List Piece) (at : ℕ) (has_other : Bool)
-    → has_other ≡ false → Fitting picture pieces at has_other
-    → Fitting picture pieces (at + 1) true
+    → has_other ≡ false → Fitting picture pieces at has_other → Fitting picture pieces (at + 1) true
 fitting_but picture pieces at has_other none h = (
   λ wrong. absurd (let impossible : ⊥ = cc in impossible),
   (

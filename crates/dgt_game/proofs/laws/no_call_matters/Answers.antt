@@ -1,5 +1,4 @@
-use Rattle.std.proofs.Common.{refl, []}
-use Rattle.dgt_game.proofs.Timing.{calls_then, no_call_matters}
+use Rattle.{std.proofs.Common.{refl, []}, dgt_game.proofs.Timing.{calls_then, no_call_matters}}
 use Rattle.dgt_game.proofs.laws.no_call_matters.Goals as goal
 
 pub returns-clause-matters : goal.returns-clause-matters

@@ -1,5 +1,6 @@
 use Rattle.{std.{proofs.Common.{◌≢◌, ◌∙◌, ◌++◌, ◌∷◌, [], ℕ, ap, refl, sym, subst, inr, length, List, Option, None}, specs.Prelude.{slice_get, IfSome}}, dgt_game.specs.declared.node.Node.{Node}}
-use Rattle.dgt_game.{specs.{declared.node.{Place.{Place}, Step.{Step}}, Memory.{Grows, IsRooted, IsSeen, Links, steps, tip}}, proofs.{Sure.{marked_first, marked_none}, Told.{grows_one, links_moved, rooted_one}}}
+use Rattle.dgt_game.{specs.{declared.node.{Place.{Place}, Step.{Step}}, Memory.{Grows, IsRooted, IsSeen, Links, steps, tip}}}
+use Rattle.dgt_game.{proofs.{Sure.{marked_first, marked_none}, Told.{grows_one, links_moved, rooted_one}}}
 use Rattle.dgt_game.specs.{Memory.{told_of}, Sure.{IsMarked}, Told.{WasShown}}
 use Rattle.dgt_game.proofs.memory.Memory.take_answer.Goals as goal
 
@@ -11,8 +12,7 @@ returns-clause-holds c = λ shown line back nothing h.
     let new : Step = record {
       state = node.step.state;
       is_turned = node.step.is_turned;
-      way =
-          node.step.way;
+      way = node.step.way;
       parent = Place.Line 0;
     } in
     let answer : Links (tip (slice_get kept m.back) (steps m.unsaid.items)) node.step

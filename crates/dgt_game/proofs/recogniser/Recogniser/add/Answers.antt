@@ -1,7 +1,6 @@
 use Rattle.{std.{proofs.Common.{◌≡◌, ◌∙◌, ap, inl, inr, arith, refl, sym, subst, length, Bool, false, Some}, specs.Prelude.{◌≢◌, IfSome, slice_get}}, dgt_game.specs.declared.node.Node.{Node}}
 use Rattle.dgt_game.specs.{declared.node.{Place.{Place}, Way.{Way}}, Memory.{IsBefore, IsRooted, IsTold, step_at, steps}, Standing.{IsCalledFor, ShowsAs, StandsAt, StandsOn}}
-use Rattle.dgt_game.proofs.{Chains.{before_later, below_some, get_step}, Standing.{but_as, found_of, of_some, resting, same_some, shows_as, shows_but, shows_moved, some_view}}
-use Rattle.dgt_game.proofs.Sure.{parent_sure}
+use Rattle.dgt_game.proofs.{Chains.{before_later, below_some, get_step}, Standing.{but_as, found_of, of_some, resting, same_some, shows_as, shows_but, shows_moved, some_view}, Sure.{parent_sure}}
 use Rattle.dgt_game.proofs.recogniser.Recogniser.add.Goals as goal
 
 pub returns-then-is_answer-clause-stands : goal.returns-then-is_answer-clause-stands

@@ -1,6 +1,5 @@
-use Rattle.{std.{proofs.Common.{rules, ◌∙◌, inl, length}, specs.Prelude.{slice_get}}, dgt_game.specs.{declared.node.Place.{Place}, Memory.{IsBefore, IsRooted, steps}, Standing.{IsCalledFor}}}
-use Rattle.dgt_game.proofs.{Standing.{if_some, of_some, shows_as}, Told.{rooted_none}, Links.{begins, root_links}}
-use Rattle.dgt_game.{specs.Memory.{told_of}, proofs.Sure.{shown_sure}}
+use Rattle.{std.{proofs.Common.{rules, ◌∙◌, inl, length}, specs.Prelude.{slice_get}}, dgt_game.specs.{declared.node.Place.{Place}, Memory.{IsBefore, IsRooted, steps, told_of}, Standing.{IsCalledFor}}}
+use Rattle.dgt_game.proofs.{Standing.{if_some, of_some, shows_as}, Told.{rooted_none}, Links.{begins, root_links}, Sure.{shown_sure}}
 use Rattle.dgt_game.proofs.recogniser.Recogniser.begin.Goals as goal
 
 pub returns-in-Some-push-clause-holds : goal.returns-in-Some-push-clause-holds

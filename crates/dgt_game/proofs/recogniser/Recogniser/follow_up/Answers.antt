@@ -63,8 +63,7 @@ returns-else-is_quiet-clause-stands c = λ meant back.
           (s : Recogniser). IsTold s.memory → s.memory.answer ≡ None) w.self-is (λ told. absurd
           (waits told))))
       | in-Begun w ↦ subst Stands (sym w.self-is) (meant_stands (record c.args.self.now {
-        over =
-            Over.No;
+        over = Over.No;
       }) meant back (subst (λ (s : Recogniser). IsTold s.memory → s.memory.answer ≡ None)
           w.self-is (λ told. absurd (waits told))))
     ]

@@ -1,6 +1,5 @@
-use Rattle.{std.{proofs.Common.{sym, subst, false}, specs.Prelude.{slice_get}}, dgt_game.specs.{declared.{node.Place.{Place}, recogniser.Recogniser.{Recogniser}}, Memory.{steps}, Standing.{Stands}}}
-use Rattle.dgt_game.{specs.Standing.{StandsAt, StandsOn}, proofs.{Standing.{but_moved, held_lacks, of_some, resting, some_view}, recogniser.Recogniser.hold.Goals.{in-Some, in-None}}}
-use Rattle.dgt_game.specs.Memory.{Holds}
+use Rattle.{std.{proofs.Common.{sym, subst, false}, specs.Prelude.{slice_get}}, dgt_game.specs.{declared.{node.Place.{Place}, recogniser.Recogniser.{Recogniser}}, Memory.{steps, Holds}}}
+use Rattle.dgt_game.{specs.Standing.{Stands, StandsAt, StandsOn}, proofs.{Standing.{but_moved, held_lacks, of_some, resting, some_view}, recogniser.Recogniser.hold.Goals.{in-Some, in-None}}}
 use Rattle.dgt_game.proofs.recogniser.Recogniser.hold.Goals as goal
 
 pub returns-clause-stands : goal.returns-clause-stands

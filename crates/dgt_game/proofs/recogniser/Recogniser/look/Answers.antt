@@ -1,8 +1,7 @@
 use Rattle.{std.{proofs.Common.{◌≡◌, ◌∙◌, ◌<◌, inl, inr, Bool, [], length, ap, subst, sym}, specs.Prelude.{Contains}}, dgt_values.specs.Board.{pieces_of}}
-use Rattle.dgt_game.{specs.{declared.memory.Memory.{Memory}, Memory.{Holds, Reads}, Reading.{HasRoom, ReadsView, FollowsSeen}, Standing.{IsOpen}}, proofs.Known.{memory_of, view_of}}
+use Rattle.dgt_game.{specs.{declared.memory.Memory.{Memory}, Memory.{Holds, Reads, IsTold}, Reading.{HasRoom, ReadsView, FollowsSeen}, Standing.{IsOpen}}, proofs.Known.{memory_of, view_of}}
 use Rattle.dgt_game.proofs.{Pictures.{king_seen, over_of, since_of, known_same, read_or_not, returned_of, seen_state, state_of}, recogniser.Recogniser.look.Goals.{then-has_white+then-has_black}}
-use Rattle.{dgt_game.proofs.recogniser.Recogniser.look.Goals.{else-has_white}, dgt_chess.specs.declared.pieces.Colour.{Colour}}
-use Rattle.dgt_game.{specs.Memory.{IsTold}, proofs.Sure.{sure_of}}
+use Rattle.{dgt_game.proofs.{recogniser.Recogniser.look.Goals.{else-has_white}, Sure.{sure_of}}, dgt_chess.specs.declared.pieces.Colour.{Colour}}
 use Rattle.dgt_game.proofs.recogniser.Recogniser.look.Goals as goal
 
 pub returns-clause-holds : goal.returns-clause-holds

@@ -1,10 +1,9 @@
-use Rattle.{std.{proofs.Common.{◌≡◌, ◌∙◌, ◌<◌, inl, None, false, length, sym, ap, subst}, specs.Prelude.{◌≢◌}}, dgt_values.specs.Board.{pieces_of}, dgt_game.specs.declared.node.Place.{Place}}
-use Rattle.dgt_game.specs.{declared.{recogniser.Recogniser.{Recogniser}, memory.Memory.{Memory}}, Reading.{FollowsSeen, IsExplained}, Memory.{Holds}, Planning.{WhyHopeless}, Recogniser.{Knows}}
-use Rattle.dgt_game.{specs.{Recogniser.{shown_after}, declared.recogniser.Lost.{Lost}, Finding.{IsFound}}, proofs.Known.{holds_more, knows_more, knows_same, memory_of, view_of, within_after}}
-use Rattle.dgt_game.{specs.{Settling.{IsAnswered}, Standing.{IsOpen, Stands}, Waiting.{Waits, has_notice}}, proofs.Waiting.{ended_of, lost_of}}
-use Rattle.dgt_game.proofs.recogniser.Recogniser.see.Goals.{then-not-is_same_picture, then-not-self, else-not-self, else-not-is_same_picture+else-is_sure-self}
-use Rattle.dgt_game.{specs.{Memory.{IsTold}, Sure.{KnowsSure, sure_after}, Waiting.{is_sure_sight}}, proofs.{Pictures.{returned_of}, Standing.{match_more}, Sure.{not_sure, were_more, within_sure}}}
-use Rattle.{std.{proofs.Common.{true, Option}, specs.Prelude.{Contains, MatchOption}}, dgt_game.{specs.declared.view.View.{View}, proofs.recogniser.Recogniser.see.Goals.{in-Sure, in_default}}}
+use Rattle.{std.{proofs.Common.{◌≡◌, ◌∙◌, ◌<◌, inl, None, false, length, sym, ap, subst, true, Option}, specs.Prelude.{◌≢◌, Contains, MatchOption}}, dgt_values.specs.Board.{pieces_of}}
+use Rattle.dgt_game.specs.{declared.{node.Place.{Place}, recogniser.Recogniser.{Recogniser}, memory.Memory.{Memory}}, Reading.{FollowsSeen, IsExplained}, Memory.{Holds, IsTold}}
+use Rattle.dgt_game.{specs.{Planning.{WhyHopeless}, Recogniser.{Knows, shown_after}, declared.recogniser.Lost.{Lost}, Finding.{IsFound}}, proofs.Known.{holds_more, knows_more, knows_same, memory_of}}
+use Rattle.dgt_game.{proofs.{Known.{view_of, within_after}, Waiting.{ended_of, lost_of}}, specs.{Settling.{IsAnswered}, Standing.{IsOpen, Stands}, Waiting.{Waits, has_notice, is_sure_sight}}}
+use Rattle.dgt_game.proofs.recogniser.Recogniser.see.Goals.{then-not-is_same_picture, then-not-self, else-not-self, else-not-is_same_picture+else-is_sure-self, in-Sure, in_default}
+use Rattle.dgt_game.{specs.{Sure.{KnowsSure, sure_after}, declared.view.View.{View}}, proofs.{Pictures.{returned_of}, Standing.{match_more}, Sure.{not_sure, were_more, within_sure}}}
 use Rattle.dgt_game.proofs.recogniser.Recogniser.see.Goals as goal
 
 pub returns-clause-seen : goal.returns-clause-seen

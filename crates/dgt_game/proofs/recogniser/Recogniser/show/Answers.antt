@@ -5,8 +5,7 @@ use Rattle.dgt_game.proofs.recogniser.Recogniser.show.Goals as goal
 
 pub returns-in-Some-clause-reads : goal.returns-in-Some-clause-reads
 returns-in-Some-clause-reads c = λ few.
-    let first : memory_of c.match-self.self ≡ memory_of c.args.self.now =
-    elim c.match-self.branch [
+    let first : memory_of c.match-self.self ≡ memory_of c.args.self.now = elim c.match-self.branch [
       | in-Some-Some w ↦ ap memory_of w.self-is
       | in_default w ↦ ap memory_of w.self-is
       | in_default-2 w ↦ ap memory_of w.self-is
@@ -24,8 +23,7 @@ returns-in-Some-clause-reads c = λ few.
 
 pub returns-in-Some-clause-stands : goal.returns-in-Some-clause-stands
 returns-in-Some-clause-stands c = λ ready.
-    let first : memory_of c.match-self.self ≡ memory_of c.args.self.now =
-    elim c.match-self.branch [
+    let first : memory_of c.match-self.self ≡ memory_of c.args.self.now = elim c.match-self.branch [
       | in-Some-Some w ↦ ap memory_of w.self-is
       | in_default w ↦ ap memory_of w.self-is
       | in_default-2 w ↦ ap memory_of w.self-is
@@ -39,8 +37,7 @@ returns-in-Some-clause-stands c = λ ready.
 
 pub returns-in-Some-clause-seen : goal.returns-in-Some-clause-seen
 returns-in-Some-clause-seen c = λ shown is few seen.
-    let first : memory_of c.match-self.self ≡ memory_of c.args.self.now =
-    elim c.match-self.branch [
+    let first : memory_of c.match-self.self ≡ memory_of c.args.self.now = elim c.match-self.branch [
       | in-Some-Some w ↦ ap memory_of w.self-is
       | in_default w ↦ ap memory_of w.self-is
       | in_default-2 w ↦ ap memory_of w.self-is
@@ -58,8 +55,7 @@ returns-in-Some-clause-seen c = λ shown is few seen.
 
 pub returns-in-Some-clause-answers : goal.returns-in-Some-clause-answers
 returns-in-Some-clause-answers c = λ ready.
-    let first : memory_of c.match-self.self ≡ memory_of c.args.self.now =
-    elim c.match-self.branch [
+    let first : memory_of c.match-self.self ≡ memory_of c.args.self.now = elim c.match-self.branch [
       | in-Some-Some w ↦ ap memory_of w.self-is
       | in_default w ↦ ap memory_of w.self-is
       | in_default-2 w ↦ ap memory_of w.self-is

@@ -1,4 +1,5 @@
-use Rattle.{std.{proofs.Common.{sym, subst, ℕ}, specs.Prelude.{IfSome, slice_get}}, dgt_game.{specs.{declared.memory.Memory.{Memory}, Memory.{steps, told_of}, Sure.{WereSure}, Told.{WasShown}}, proofs.Sure.{gone_back}}}
+use Rattle.{std.{proofs.Common.{sym, subst, ℕ}, specs.Prelude.{IfSome, slice_get}}}
+use Rattle.{dgt_game.{specs.{declared.memory.Memory.{Memory}, Memory.{steps, told_of}, Sure.{WereSure}, Told.{WasShown}}, proofs.Sure.{gone_back}}}
 use Rattle.dgt_game.proofs.recogniser.Recogniser.stand_on_line.Goals as goal
 
 pub returns-clause-sure : goal.returns-clause-sure

@@ -1,7 +1,6 @@
-use Rattle.{std.{proofs.Common.{rules, ◌≡◌, subst}, specs.Prelude.{slice_get}}, dgt_game.specs.{declared.{node.Place.{Place}, reading.Reading.{Reading}}, Memory.{steps}, Reading.{ReadsView, Shows}}}
-use Rattle.dgt_game.{specs.Reading.{ShowsAt}, proofs.Standing.{of_some}}
-use Rattle.{std.proofs.Common.{true}, dgt_values.specs.Board.{pieces_of}, dgt_chess.specs.Rules.{IsStart}, dgt_game.specs.{declared.node.Way.{Way}, Memory.{halves_of, told_of}}}
-use Rattle.dgt_game.{specs.{Sure.{MarksStart}, Told.{IsHeld, as_shown}}, proofs.{Links.{starts, was_shown}, Sure.{held_sure}}}
+use Rattle.{std.{proofs.Common.{rules, ◌≡◌, subst, true}, specs.Prelude.{slice_get}}, dgt_game.specs.{declared.{node.Place.{Place}, reading.Reading.{Reading}}, Memory.{steps, halves_of, told_of}}}
+use Rattle.dgt_game.{specs.{Reading.{ReadsView, Shows, ShowsAt}, declared.node.Way.{Way}, Sure.{MarksStart}, Told.{IsHeld, as_shown}}, proofs.{Standing.{of_some}, Links.{starts, was_shown}}}
+use Rattle.{dgt_game.proofs.Sure.{held_sure}, dgt_values.specs.Board.{pieces_of}, dgt_chess.specs.Rules.{IsStart}}
 use Rattle.dgt_game.proofs.recogniser.Recogniser.take.Goals as goal
 
 pub returns-in-At-Line-clause-stands : goal.returns-in-At-Line-clause-stands
