@@ -1,7 +1,5 @@
 """Makes a DGT clock show moves."""
 
-from __future__ import annotations
-
 from .commands import ClockId
 from .events import Ack
 from .names import ClockVersion, Done

@@ -1,7 +1,5 @@
 """A board that dgt-doctor examines, and the person at it."""
 
-from __future__ import annotations
-
 import contextlib
 import os
 import time

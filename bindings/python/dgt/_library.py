@@ -1,7 +1,5 @@
 """Loads the shared library, and declares the calls of dgt.h."""
 
-from __future__ import annotations
-
 import ctypes
 import os
 import sys

@@ -1,7 +1,5 @@
 """The boards of `dgt-livechess` that `dgt-broadcast` publishes to a broker."""
 
-from __future__ import annotations
-
 import asyncio
 import contextlib
 import importlib

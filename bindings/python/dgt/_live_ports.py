@@ -1,7 +1,5 @@
 """The boards of `dgt-livechess` on serial ports."""
 
-from __future__ import annotations
-
 import asyncio
 import contextlib
 import os

@@ -1,7 +1,5 @@
 """A simulated board and its clock on a pseudo-terminal, which a host opens like a serial port."""
 
-from __future__ import annotations
-
 import contextlib
 import os
 import pathlib

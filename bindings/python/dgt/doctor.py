@@ -13,8 +13,6 @@ Exit status: 0 if nothing was found, and 1 if something was, or if the port
 can't be opened.
 """
 
-from __future__ import annotations
-
 import argparse
 import errno
 import os

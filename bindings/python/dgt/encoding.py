@@ -1,7 +1,5 @@
 """Encodes messages and commands, and decodes single ones."""
 
-from __future__ import annotations
-
 from collections.abc import Callable
 from ctypes import byref, c_uint8
 from typing import Any, cast

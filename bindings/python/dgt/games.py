@@ -1,7 +1,5 @@
 """Makes games from the positions and the clock of a board."""
 
-from __future__ import annotations
-
 import time
 from collections import deque
 from collections.abc import Callable, Sequence

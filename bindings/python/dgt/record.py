@@ -10,8 +10,6 @@ pseudo-terminal instead. Let a program open that instead of the board's port:
 the bytes in both directions are passed on and recorded.
 """
 
-from __future__ import annotations
-
 import argparse
 import contextlib
 import os

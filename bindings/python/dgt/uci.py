@@ -18,8 +18,6 @@ Options that the chess program shows in its engine settings:
     Clock    whether the clock shows the other side's moves
 """
 
-from __future__ import annotations
-
 import argparse
 import contextlib
 import errno
