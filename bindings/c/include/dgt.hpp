@@ -486,17 +486,6 @@ inline std::optional<Word> read_word(const dgt_command &command, const std::uint
     return Asked{static_cast<Ask>(command.code)};
 }
 
-/// The bytes that a call of dgt.h sends: `send` gets room and its size. Throws like
-/// Host::send_clock.
-template <class Send> Commands sent(Send &&send) {
-    Commands out;
-    dgt_sent done = send(out.room(), std::size_t{DGT_MAX_ASKING});
-    if (done.status == DGT_TOO_MANY_AWAITED) throw TooManyAwaited();
-    if (done.status != DGT_DONE) throw std::invalid_argument("too many bytes for one command");
-    out.resize(done.bytes);
-    return out;
-}
-
 /// Writes the members of a message, and returns its body.
 struct EventWriter {
     dgt_event &out;
@@ -594,10 +583,13 @@ template <class HearOne, class Tell> void hear(ByteView bytes, HearOne hear_one,
     }
 }
 
-template <class Handle, class Known> std::optional<Position> picture(Handle *handle, Known known) {
-    std::array<std::uint8_t, 64> codes;
-    if (!known(handle, codes.data())) return std::nullopt;
-    return Position(codes);
+/// Has `hear` use the bytes up to the first event. `body` is for what the event carries.
+template <auto Hear, class Handle, class Body, class... Time>
+Heard heard(Handle &handle, Body &body, ByteView bytes, Time... now) {
+    dgt_event event;
+    std::size_t used = Hear(&handle, now..., bytes.data(), bytes.size(), &event, body.data(),
+                            body.size());
+    return {used, read_event(event, body.data())};
 }
 
 /// A time or a period for dgt.h. Throws std::invalid_argument if it is negative.
@@ -606,30 +598,14 @@ inline std::uint64_t count(Milliseconds time) {
     return static_cast<std::uint64_t>(time.count());
 }
 
-inline std::optional<Milliseconds> time(bool is_known, std::uint64_t count) {
-    if (!is_known || count > static_cast<std::uint64_t>(Milliseconds::max().count()))
+/// The time that a call of dgt.h writes, if there is one.
+template <auto Read, class Handle> std::optional<Milliseconds> time(Handle &handle) {
+    std::uint64_t count = 0;
+    if (!Read(&handle, &count) ||
+        count > static_cast<std::uint64_t>(Milliseconds::max().count()))
         return std::nullopt;
     return Milliseconds(static_cast<Milliseconds::rep>(count));
 }
-
-// The calls of dgt.h that send a clock message, under one name for a host and a follower.
-
-#define DGT_OF_BOTH_(call)                                                      \
-    template <class... Given> dgt_sent call(dgt_host *it, Given... given) {     \
-        return dgt_host_##call(it, given...);                                   \
-    }                                                                           \
-    template <class... Given> dgt_sent call(dgt_follower *it, Given... given) { \
-        return dgt_follower_##call(it, given...);                               \
-    }
-DGT_OF_BOTH_(send_display)
-DGT_OF_BOTH_(send_text)
-DGT_OF_BOTH_(send_beep)
-DGT_OF_BOTH_(send_set_and_run)
-DGT_OF_BOTH_(send_icons)
-DGT_OF_BOTH_(send_end)
-DGT_OF_BOTH_(send_button)
-DGT_OF_BOTH_(send_clock_version)
-#undef DGT_OF_BOTH_
 
 } // namespace detail
 
@@ -806,12 +782,15 @@ inline std::optional<std::string> text_of(ByteView bytes) {
     return std::string(bytes.begin(), bytes.end());
 }
 
-// ---- The commands for the clock.
+// ---- What a host and a follower send and know.
+
+class Host;
+class Follower;
 
 /// The messages that a Host and a Follower send to the clock of a board, which acknowledges each by
 /// an Ack. Spaces are added after shorter texts. Throws std::invalid_argument if a text is too long
 /// or contains other characters than those named.
-template <class Sender> class ClockCommands {
+template <class Self> class ClockCommands {
 public:
     /// Shows at most six digits, spaces and hyphens, from left to right.
     Commands send_display(std::string_view text, std::uint8_t dots = 0, std::uint8_t beep = 0) {
@@ -819,9 +798,7 @@ public:
         for (std::uint8_t each : shown)
             if (dgt_segment(each) == DGT_NO_SUCH)
                 throw std::invalid_argument("not a digit, a space or a hyphen");
-        return sent([&](auto *it, auto *out, auto n) {
-            return detail::send_display(it, shown.data(), dots, beep, out, n);
-        });
+        return sent<dgt_host_send_display, dgt_follower_send_display>(shown.data(), dots, beep);
     }
 
     /// Shows at most eight ASCII characters, from left to right.
@@ -829,57 +806,59 @@ public:
         auto shown = padded<8>(text);
         for (std::uint8_t each : shown)
             if (each > 127) throw std::invalid_argument("the text is not ASCII");
-        return sent([&](auto *it, auto *out, auto n) {
-            return detail::send_text(it, shown.data(), beep, out, n);
-        });
+        return sent<dgt_host_send_text, dgt_follower_send_text>(shown.data(), beep);
     }
 
     Commands send_beep(std::uint8_t duration) {
-        return sent([&](auto *it, auto *out, auto n) {
-            return detail::send_beep(it, duration, out, n);
-        });
+        return sent<dgt_host_send_beep, dgt_follower_send_beep>(duration);
     }
 
     /// Sets the times of both sides. The clock interprets the bits of `control`. Throws
     /// std::invalid_argument if a time is out of range, or has flags.
     Commands send_set_and_run(const Time &left, const Time &right, std::uint8_t control) {
         auto one = side(left), other = side(right);
-        return sent([&](auto *it, auto *out, auto n) {
-            return detail::send_set_and_run(it, one.data(), other.data(), control, out, n);
-        });
+        return sent<dgt_host_send_set_and_run, dgt_follower_send_set_and_run>(
+            one.data(), other.data(), control);
     }
 
     /// Shows the icons of these bytes. Throws std::invalid_argument above DGT_MAX_PAYLOAD of them.
     Commands send_icons(ByteView payload) {
-        return sent([&](auto *it, auto *out, auto n) {
-            return detail::send_icons(it, payload.data(), payload.size(), out, n);
-        });
+        return sent<dgt_host_send_icons, dgt_follower_send_icons>(payload.data(), payload.size());
     }
 
     /// Ends the display of a text or icons: the clock shows its times again.
-    Commands send_end() {
-        return sent([](auto *it, auto *out, auto n) { return detail::send_end(it, out, n); });
-    }
+    Commands send_end() { return sent<dgt_host_send_end, dgt_follower_send_end>(); }
 
     /// Requests the state of the clock's buttons.
-    Commands send_button() {
-        return sent([](auto *it, auto *out, auto n) { return detail::send_button(it, out, n); });
-    }
+    Commands send_button() { return sent<dgt_host_send_button, dgt_follower_send_button>(); }
 
     /// Requests the version of the clock.
     Commands send_clock_version() {
-        return sent([](auto *it, auto *out, auto n) {
-            return detail::send_clock_version(it, out, n);
-        });
+        return sent<dgt_host_send_clock_version, dgt_follower_send_clock_version>();
     }
 
 private:
-    friend Sender;
+    friend Self;
+    template <class> friend class Sender;
     ClockCommands() = default;
 
-    template <class Send> Commands sent(Send &&send) {
-        auto *handle = static_cast<Sender &>(*this).handle();
-        return detail::sent([&](auto *out, auto n) { return send(handle, out, n); });
+    /// Makes one of two calls of dgt.h: that for a host, or that for a follower.
+    template <auto OfHost, auto OfFollower, class... Given> auto call(Given... given) {
+        if constexpr (std::is_same_v<Self, Host>)
+            return OfHost(&handle_, given...);
+        else
+            return OfFollower(&handle_, given...);
+    }
+
+    /// The bytes that a call sends. Throws like Sender::send_clock.
+    template <auto OfHost, auto OfFollower, class... Given> Commands sent(Given... given) {
+        Commands out;
+        std::size_t room = DGT_MAX_ASKING;
+        dgt_sent done = call<OfHost, OfFollower>(given..., out.room(), room);
+        if (done.status == DGT_TOO_MANY_AWAITED) throw TooManyAwaited();
+        if (done.status != DGT_DONE) throw std::invalid_argument("too many bytes for one command");
+        out.resize(done.bytes);
+        return out;
     }
 
     template <std::size_t N> static std::array<std::uint8_t, N> padded(std::string_view text) {
@@ -896,27 +875,83 @@ private:
             throw std::invalid_argument("not a time from 0:00:00 to 9:59:59 without flags");
         return {time.hours, time.minutes, time.seconds};
     }
+
+    std::conditional_t<std::is_same_v<Self, Host>, dgt_host, dgt_follower> handle_;
+    std::array<std::uint8_t, DGT_MAX_BODY> body_;
+};
+
+/// The other commands of a Host and a Follower, and what they know of a board. Those of a follower
+/// don't count as its requests. In a follower the mode's command follows a message to the clock and
+/// an LED frame: if a byte of those is lost, the board may read others of them as commands, and
+/// Ask::reset ends its reports.
+template <class Self> class Sender : public ClockCommands<Self> {
+public:
+    /// Throws TooManyAwaited if a reply would have to be awaited.
+    Commands send(Ask ask) {
+        auto code = static_cast<std::uint8_t>(ask);
+        return this->template sent<dgt_host_send, dgt_follower_send>(code);
+    }
+
+    /// Sends the clock message with this id. Throws std::invalid_argument for more than
+    /// DGT_MAX_PAYLOAD bytes.
+    Commands send_clock(ClockId id, ByteView payload) {
+        auto code = static_cast<std::uint8_t>(id);
+        return this->template sent<dgt_host_send_clock, dgt_follower_send_clock>(
+            code, payload.data(), payload.size());
+    }
+
+    /// Sends an LED frame, such as `lighting(one, other).leds`. Throws std::invalid_argument for
+    /// more than DGT_MAX_LEDS bytes.
+    Commands send_leds(ByteView leds) {
+        return this->template sent<dgt_host_send_leds, dgt_follower_send_leds>(leds.data(),
+                                                                               leds.size());
+    }
+
+    /// The pieces on the squares, once a dump was heard. A follower's stay known during requests.
+    std::optional<Position> picture() {
+        std::array<std::uint8_t, 64> codes;
+        if (!this->template call<dgt_host_picture, dgt_follower_picture>(codes.data()))
+            return std::nullopt;
+        return Position(codes);
+    }
+
+    /// The same as the first field of a FEN.
+    std::optional<std::string> placement() {
+        char text[DGT_PLACEMENT_ROOM];
+        if (!this->template call<dgt_host_placement, dgt_follower_placement>(text))
+            return std::nullopt;
+        return std::string(text);
+    }
+
+    /// The clock as last reported, if it was. A follower's is nothing while it shows no digits.
+    std::optional<Clock> clock() {
+        dgt_clock clock;
+        this->template call<dgt_host_clock, dgt_follower_clock>(&clock);
+        return detail::read_clock(clock);
+    }
+
+    /// How many bytes of an unfinished message were heard.
+    std::size_t unread() { return this->template call<dgt_host_unread, dgt_follower_unread>(); }
+
+    /// Reports that the line was lost, with all bytes under way: a host is as new. A follower keeps
+    /// its period, patience and mode, and whether it confirms and identifies.
+    void line_lost() { this->template call<dgt_host_line_lost, dgt_follower_line_lost>(); }
 };
 
 // ---- A host.
 
 /// Sends commands, and tracks the board's position from the messages that it hears. 38 KiB.
-class Host : public ClockCommands<Host> {
+class Host : public Sender<Host> {
 public:
     /// A host that knows nothing and awaits nothing. Throws WrongLibrary.
     Host() {
-        if (!dgt_host_init(&host_)) throw WrongLibrary();
+        if (!dgt_host_init(&handle_)) throw WrongLibrary();
     }
     Host(const Host &) = delete;
     Host &operator=(const Host &) = delete;
 
     /// Hears the bytes up to the first event, or all of them: at least 1, if there are any.
-    Heard hear_one(ByteView bytes) {
-        dgt_event event;
-        std::size_t used = dgt_host_hear(&host_, bytes.data(), bytes.size(), &event, body_.data(),
-                                         body_.size());
-        return {used, detail::read_event(event, body_.data())};
-    }
+    Heard hear_one(ByteView bytes) { return detail::heard<dgt_host_hear>(handle_, body_, bytes); }
 
     /// Hears all bytes, and passes each event to `tell` once it is heard, also with the number of
     /// bytes used by then if `tell` takes a std::size_t.
@@ -925,83 +960,22 @@ public:
     }
 
     /// Requests each change from now on, and all squares. Throws TooManyAwaited.
-    Commands follow() {
-        return detail::sent([&](auto *out, auto n) { return dgt_host_follow(&host_, out, n); });
-    }
+    Commands follow() { return sent<dgt_host_follow, nullptr>(); }
 
     /// The same after zeros, which complete any unfinished command of the board.
-    Commands restart() {
-        return detail::sent([&](auto *out, auto n) { return dgt_host_restart(&host_, out, n); });
-    }
-
-    /// Throws TooManyAwaited if a reply would have to be awaited.
-    Commands send(Ask ask) {
-        auto code = static_cast<std::uint8_t>(ask);
-        return detail::sent([&](auto *out, auto n) { return dgt_host_send(&host_, code, out, n); });
-    }
-
-    /// Sends the clock message with this id. Throws std::invalid_argument for more than
-    /// DGT_MAX_PAYLOAD bytes.
-    Commands send_clock(ClockId id, ByteView payload) {
-        auto code = static_cast<std::uint8_t>(id);
-        return detail::sent([&](auto *out, auto n) {
-            return dgt_host_send_clock(&host_, code, payload.data(), payload.size(), out, n);
-        });
-    }
-
-    /// Sends an LED frame, such as `lighting(one, other).leds`. Throws std::invalid_argument for
-    /// more than DGT_MAX_LEDS bytes.
-    Commands send_leds(ByteView leds) {
-        return detail::sent([&](auto *out, auto n) {
-            return dgt_host_send_leds(&host_, leds.data(), leds.size(), out, n);
-        });
-    }
-
-    /// The pieces on the squares, once a dump was heard.
-    std::optional<Position> picture() {
-        return detail::picture(&host_, [](auto *host, auto *codes) {
-            return dgt_host_picture(host, codes);
-        });
-    }
-
-    /// The same as the first field of a FEN.
-    std::optional<std::string> placement() {
-        char text[DGT_PLACEMENT_ROOM];
-        if (!dgt_host_placement(&host_, text)) return std::nullopt;
-        return std::string(text);
-    }
-
-    /// The clock as last reported, if it was.
-    std::optional<Clock> clock() {
-        dgt_clock clock;
-        dgt_host_clock(&host_, &clock);
-        return detail::read_clock(clock);
-    }
+    Commands restart() { return sent<dgt_host_restart, nullptr>(); }
 
     /// The requests with awaited replies, the next one first.
     std::vector<Ask> awaited() {
         std::uint8_t codes[DGT_MAX_AWAITED];
         std::vector<Ask> asked;
-        std::size_t count = dgt_host_awaited(&host_, codes);
+        std::size_t count = dgt_host_awaited(&handle_, codes);
         for (std::size_t at = 0; at < count; at++) asked.push_back(static_cast<Ask>(codes[at]));
         return asked;
     }
 
     /// Removes all awaited replies from the list, and returns how many there were (see dgt.h).
-    std::size_t give_up_awaited() { return dgt_host_give_up_awaited(&host_); }
-
-    /// How many bytes of an unfinished message were heard.
-    std::size_t unread() { return dgt_host_unread(&host_); }
-
-    /// Reports that the line was lost, with all bytes under way: the host is as new.
-    void line_lost() { dgt_host_line_lost(&host_); }
-
-private:
-    friend ClockCommands<Host>;
-    dgt_host *handle() { return &host_; }
-
-    dgt_host host_;
-    std::array<std::uint8_t, DGT_MAX_BODY> body_;
+    std::size_t give_up_awaited() { return dgt_host_give_up_awaited(&handle_); }
 };
 
 // ---- A follower.
@@ -1009,7 +983,7 @@ private:
 /// A host that requests the whole board again and again, so that its picture becomes right again
 /// after any fault of the line (see dgt.h). Throws std::invalid_argument for a negative time or
 /// period. 39 KiB.
-class Follower : public ClockCommands<Follower> {
+class Follower : public Sender<Follower> {
 public:
     /// `period` is the time from one request to the next. `patience` is how many heartbeats may
     /// follow one another. `confirm` and `identify` are those of set_confirm and set_identify.
@@ -1020,7 +994,7 @@ public:
                       bool identify = false) {
         if (period.count() < DGT_LEAST_PERIOD)
             throw std::invalid_argument("a period is less than a second");
-        if (!dgt_follower_init(&follower_, detail::count(period), patience)) throw WrongLibrary();
+        if (!dgt_follower_init(&handle_, detail::count(period), patience)) throw WrongLibrary();
         set_mode(mode);
         set_confirm(confirm);
         set_identify(identify);
@@ -1030,27 +1004,17 @@ public:
 
     /// The request at this time, empty if none is due.
     Commands ask(Milliseconds now) {
-        auto time = detail::count(now);
-        return detail::sent([&](auto *out, auto n) {
-            return dgt_follower_ask(&follower_, time, out, n);
-        });
+        return sent<nullptr, dgt_follower_ask>(detail::count(now));
     }
 
     /// When to call `ask` next, if nothing is heard before: 0 if a request is due at once. An
     /// answer or the rest of a message may be overdue then, which is a doubt. Nothing if it is out
     /// of range.
-    std::optional<Milliseconds> due_at() {
-        std::uint64_t time = 0;
-        bool is_known = dgt_follower_due_at(&follower_, &time);
-        return detail::time(is_known, time);
-    }
+    std::optional<Milliseconds> due_at() { return detail::time<dgt_follower_due_at>(handle_); }
 
     /// As Host::hear_one and hear, with the time at which the bytes were received.
     Heard hear_one(Milliseconds now, ByteView bytes) {
-        dgt_event event;
-        std::size_t used = dgt_follower_hear(&follower_, detail::count(now), bytes.data(),
-                                             bytes.size(), &event, body_.data(), body_.size());
-        return {used, detail::read_event(event, body_.data())};
+        return detail::heard<dgt_follower_hear>(handle_, body_, bytes, detail::count(now));
     }
     template <class Tell> void hear(Milliseconds now, ByteView bytes, Tell &&tell) {
         detail::hear(bytes, [&](ByteView left) { return hear_one(now, left); }, tell);
@@ -1058,110 +1022,51 @@ public:
 
     /// Hears all bytes, and reports no events.
     void hear(Milliseconds now, ByteView bytes) {
-        dgt_follower_hear_all(&follower_, detail::count(now), bytes.data(), bytes.size());
+        dgt_follower_hear_all(&handle_, detail::count(now), bytes.data(), bytes.size());
     }
 
     /// Makes a request due at once, or once the last one is answered.
-    void ask_now() { dgt_follower_ask_now(&follower_); }
+    void ask_now() { dgt_follower_ask_now(&handle_); }
 
     /// Sets whether a picture that isn't confirmed is requested again: a second after the last
     /// change and after the last request.
-    void set_confirm(bool confirm) { dgt_follower_set_confirm(&follower_, confirm); }
+    void set_confirm(bool confirm) { dgt_follower_set_confirm(&handle_, confirm); }
 
     /// Sets whether the serial number of the board is requested while it is unknown.
-    void set_identify(bool identify) { dgt_follower_set_identify(&follower_, identify); }
+    void set_identify(bool identify) { dgt_follower_set_identify(&handle_, identify); }
 
     /// Which changes the board is asked to report by itself, from the next request on.
-    Mode mode() { return static_cast<Mode>(dgt_follower_mode(&follower_)); }
+    Mode mode() { return static_cast<Mode>(dgt_follower_mode(&handle_)); }
 
     /// Throws std::invalid_argument if it is idle.
     void set_mode(Mode mode) {
-        if (!dgt_follower_set_mode(&follower_, static_cast<std::uint8_t>(mode)))
+        if (!dgt_follower_set_mode(&handle_, static_cast<std::uint8_t>(mode)))
             throw std::invalid_argument("a follower's mode can't be idle");
     }
 
-    /// As Host::send, send_clock and send_leds. They don't count as the follower's requests. The
-    /// mode's command follows a message to the clock and an LED frame: if a byte of those is lost,
-    /// the board may read others of them as commands, and Ask::reset ends its reports.
-    Commands send(Ask ask) {
-        auto code = static_cast<std::uint8_t>(ask);
-        return detail::sent([&](auto *out, auto n) {
-            return dgt_follower_send(&follower_, code, out, n);
-        });
-    }
-    Commands send_clock(ClockId id, ByteView payload) {
-        auto code = static_cast<std::uint8_t>(id);
-        return detail::sent([&](auto *out, auto n) {
-            return dgt_follower_send_clock(&follower_, code, payload.data(), payload.size(), out,
-                                           n);
-        });
-    }
-    Commands send_leds(ByteView leds) {
-        return detail::sent([&](auto *out, auto n) {
-            return dgt_follower_send_leds(&follower_, leds.data(), leds.size(), out, n);
-        });
-    }
-
-    /// The pieces on the squares, once a dump was heard. The picture stays known during requests.
-    std::optional<Position> picture() {
-        return detail::picture(&follower_, [](auto *follower, auto *codes) {
-            return dgt_follower_picture(follower, codes);
-        });
-    }
-
-    /// The same as the first field of a FEN.
-    std::optional<std::string> placement() {
-        char text[DGT_PLACEMENT_ROOM];
-        if (!dgt_follower_placement(&follower_, text)) return std::nullopt;
-        return std::string(text);
-    }
-
-    /// The clock as last reported, if it was. Nothing while the clock shows no digits.
-    std::optional<Clock> clock() {
-        dgt_clock clock;
-        dgt_follower_clock(&follower_, &clock);
-        return detail::read_clock(clock);
-    }
-
-    /// How many bytes of an unfinished message were heard.
-    std::size_t unread() { return dgt_follower_unread(&follower_); }
-
     /// Whether the picture may be wrong.
-    bool in_doubt() { return dgt_follower_in_doubt(&follower_); }
+    bool in_doubt() { return dgt_follower_in_doubt(&handle_); }
 
     /// Whether an awaited dump repeated the picture, without a change or a disturbance since.
-    bool confirmed() { return dgt_follower_confirmed(&follower_); }
+    bool confirmed() { return dgt_follower_confirmed(&handle_); }
 
     /// The serial number of the board, if it was reported.
     std::optional<std::array<std::uint8_t, 5>> serial() {
         std::array<std::uint8_t, 5> serial;
-        if (!dgt_follower_serial(&follower_, serial.data())) return std::nullopt;
+        if (!dgt_follower_serial(&handle_, serial.data())) return std::nullopt;
         return serial;
     }
 
     /// The time of the last whole message, if there was one.
     std::optional<Milliseconds> last_heard() {
-        std::uint64_t time = 0;
-        bool is_known = dgt_follower_last_heard(&follower_, &time);
-        return detail::time(is_known, time);
+        return detail::time<dgt_follower_last_heard>(handle_);
     }
 
     /// How many more heartbeats the patience allows.
-    std::uint32_t heartbeats_left() { return dgt_follower_heartbeats_left(&follower_); }
+    std::uint32_t heartbeats_left() { return dgt_follower_heartbeats_left(&handle_); }
 
     /// Reports that bytes were lost or altered, which is a disturbance.
-    void line_disturbed() { dgt_follower_line_disturbed(&follower_); }
-
-    /// Reports that the line was lost, with all bytes under way: the follower is as new, but keeps
-    /// its period, patience and mode, and whether it confirms and identifies.
-    void line_lost() { dgt_follower_line_lost(&follower_); }
-
-private:
-    friend ClockCommands<Follower>;
-    dgt_follower *handle() { return &follower_; }
-
-    dgt_follower follower_;
-    std::array<std::uint8_t, DGT_MAX_BODY> body_;
+    void line_disturbed() { dgt_follower_line_disturbed(&handle_); }
 };
 
 // ---- A decoder, and a decoder of commands.
@@ -1178,10 +1083,7 @@ public:
 
     /// As Host::hear_one and hear.
     Heard feed_one(ByteView bytes) {
-        dgt_event event;
-        std::size_t used = dgt_decoder_feed(&decoder_, bytes.data(), bytes.size(), &event,
-                                            body_.data(), body_.size());
-        return {used, detail::read_event(event, body_.data())};
+        return detail::heard<dgt_decoder_feed>(decoder_, body_, bytes);
     }
     template <class Tell> void feed(ByteView bytes, Tell &&tell) {
         detail::hear(bytes, [&](ByteView left) { return feed_one(left); }, tell);
@@ -1703,9 +1605,7 @@ public:
 
     /// The first time at which `due` has something to do, if nothing is seen before.
     std::optional<Milliseconds> due_at() {
-        std::uint64_t time = 0;
-        bool is_known = dgt_recogniser_due_at(&recogniser_, &time);
-        return detail::time(is_known, time);
+        return detail::time<dgt_recogniser_due_at>(recogniser_);
     }
 
     /// The events that are due at this time.
