@@ -881,9 +881,9 @@ private:
 };
 
 /// The other commands of a Host and a Follower, and what they know of a board. Those of a follower
-/// don't count as its requests. In a follower the mode's command follows a message to the clock and
-/// an LED frame: if a byte of those is lost, the board may read others of them as commands, and
-/// Ask::reset ends its reports.
+/// don't count as its requests. Its mode's command follows a message to the clock and an LED frame.
+/// If a byte of those is lost, the board may read others of them as commands, and Ask::reset ends
+/// its reports.
 template <class Self> class Sender : public ClockCommands<Self> {
 public:
     /// Throws TooManyAwaited if a reply would have to be awaited.
