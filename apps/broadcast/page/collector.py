@@ -86,8 +86,6 @@ class Now:
 
 @dataclass
 class Removed:
-    """A board was removed."""
-
     board: str
 
 
@@ -301,7 +299,6 @@ class Shelf:
                          (board, number)), None)
 
     def texts(self) -> list[str]:
-        """All games in order."""
         counts: collections.Counter[str] = collections.Counter()
         ordered = []
         for kept in self.games:
@@ -371,7 +368,6 @@ class Shelf:
 
     @property
     def lacks(self) -> bool:
-        """Whether the file lacks something."""
         return bool(self.fault)
 
     def close(self) -> bool:
@@ -438,7 +434,6 @@ class Table:
     due: float = NEVER  # here
 
     def now(self, here: float) -> float:
-        """The board's time."""
         return self.base[0] + min(here - self.base[1], TRUST) - LATE if self.base else self.at
 
     def set_due(self) -> None:

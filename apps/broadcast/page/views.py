@@ -10,7 +10,6 @@ Summary = dict[str, Any]
 
 
 def summary(games: dgt.Games) -> Summary | None:
-    """The summary of the game on a board."""
     game = games.game
     if game is None:
         return None

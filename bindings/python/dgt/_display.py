@@ -59,7 +59,6 @@ class Display:
         self._is_new = self._move is not None or self._is_shown
 
     def show(self, move: str) -> None:
-        """Makes the clock show a move."""
         self._move, self._is_new = move, True
 
     def end(self) -> None:
@@ -79,7 +78,6 @@ class Display:
 
     @property
     def _message(self) -> Message:
-        """The next message for the clock."""
         if self._version is None:
             return ClockId.VERSION, b""
         return message_of(self._move, self._version) if self._move else (ClockId.END, b"")

@@ -44,7 +44,6 @@ def _load() -> ctypes.CDLL:
 
 
 def _declare(library: ctypes.CDLL) -> None:
-    """Declares the parameters and the result of each function."""
     for name, (result, *parameters) in CALLS.items():
         function = getattr(library, name)
         function.restype, function.argtypes = result, parameters

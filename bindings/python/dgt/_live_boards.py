@@ -96,7 +96,6 @@ class Game:
         return told if 1 <= wrong <= _MOST_WRONG else ""
 
     def see(self, view: BoardView, now: float) -> None:
-        """Notes a view of the board."""
         if view.picture is not None and not view.in_doubt and not view.away and self._given:
             self._look(view.picture.letters, self._given.letters, now)
             if self._missing and self.from_white(view.picture.letters) == self._missing[1]:
@@ -210,7 +209,6 @@ class Board:
         return Game(self.own, time.monotonic())
 
     def set_up(self, game: Game, state: GameState) -> None:
-        """Continues a game from this state."""
         now = time.monotonic()
         self._hint_at = now + _LOST_WAIT
         game.set_up(state, now)
@@ -220,7 +218,6 @@ class Board:
     # ---- Its views
 
     def see(self, view: BoardView) -> None:
-        """Notes a view of the board."""
         now = time.monotonic()
         if view.clock != self.view.clock:
             self._clock_at = time.time()

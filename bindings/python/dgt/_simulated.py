@@ -43,7 +43,6 @@ class RunningClock:
 
     @property
     def runs(self) -> int | None:
-        """The side that runs."""
         return None if self.due is None else self.side
 
     def run(self, side: int | None, now: float) -> None:
@@ -61,7 +60,6 @@ class RunningClock:
         return True
 
     def time(self, side: int) -> Time:
-        """The time of a side."""
         left = self.left[side]
         return Time(left // 3600, left // 60 % 60, left % 60)
 
@@ -122,7 +120,6 @@ class PluggedBoard:
             self.write(message)
 
     def hear(self, asked: bytes) -> None:
-        """Answers these bytes of a host."""
         self.send(self.board.answers(asked))
 
     def answer(self) -> None:
@@ -139,7 +136,6 @@ class PluggedBoard:
             self.report()
 
     def hand_clock(self, clock: Clock) -> None:
-        """Sets what the clock shows."""
         with self.lock:
             self.board.hand_clock(clock)
             self.report()
@@ -185,7 +181,6 @@ class PluggedBoards(list[PluggedBoard]):
                     boards[end].answer()
 
     def close(self) -> None:
-        """Unplugs the boards."""
         self.is_open = False
         self.thread.join()
         for board in self:

@@ -295,7 +295,6 @@ class Games(Uncopied):
         self._fallen = fallen
 
     def _learn(self) -> None:
-        """Uses the learned side of the clock."""
         if self.game is None or not self._learns:
             return
         self._learner.look_at(self.game)

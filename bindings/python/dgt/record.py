@@ -48,7 +48,6 @@ def _warn(text: str) -> None:
 
 
 def _follow(port: str, recorder: Recorder, stop: int) -> None:
-    """Follows the board until a signal."""
     away: str | None = None
     with _Recorded(port, recorder) as board:
         while not has_input(stop, 0.0):
