@@ -19,6 +19,7 @@ from typing import Any
 
 import dgt
 from dgt._locks import hold
+from dgt._mqtt import say
 
 import topics
 from corrections import DESK, Entry
@@ -671,7 +672,4 @@ def nothing(_: str) -> None:
     """What `dgt-game` would print."""
 
 
-def report(text: str) -> None:
-    """Prints a line on standard error. Nobody may read it, or its disk may be full."""
-    with contextlib.suppress(OSError):
-        sys.stderr.write(f"{PROGRAM}: {text}\n")
+report = functools.partial(say, PROGRAM)

@@ -3,12 +3,12 @@
 from __future__ import annotations
 
 import asyncio
-import contextlib
-import sys
+import functools
 import time
 from collections.abc import Iterable, Sequence
 from typing import Any, Protocol
 
+from . import _mqtt
 from ._turn import to_put
 from ._watched import Watched
 from .following import BoardView
@@ -309,7 +309,4 @@ def _seconds(time: Time) -> int:
     return 3600 * time.hours + 60 * time.minutes + time.seconds
 
 
-def say(text: str) -> None:
-    """Prints a line on standard error. Nobody may read it, or its disk may be full."""
-    with contextlib.suppress(OSError):
-        print(f"dgt-livechess: {text}", file=sys.stderr, flush=True)
+say = functools.partial(_mqtt.say, "dgt-livechess")
