@@ -4,36 +4,14 @@
 
 import assert from "node:assert/strict";
 import { readFileSync } from "node:fs";
-import { dirname, resolve } from "node:path";
-import { pathToFileURL } from "node:url";
 import { State } from "../chess.js";
 import { BadValue, Closed, load } from "../dgt.js";
 import { Recogniser } from "../recogniser.js";
+import { checkProgram } from "./program.mjs";
 
 const dgt = await load(readFileSync(process.argv[2]));
 const START = State.start(dgt);
 const shown = event => event.state ? { ...event, state: event.state.fen } : event;
-
-// Moves from the initial position, the rest of each in milliseconds, and the events.
-const GAME_ROWS = [
-  ["e2e4 e7e5", 2000, [{ type: "begun", state: START.fen, isTurned: false },
-                       { type: "made", move: "e2e4" }, { type: "made", move: "e7e5" }]],
-];
-for (const [moves, rest, known] of GAME_ROWS) {
-  const recogniser = new Recogniser(dgt), events = [];
-  let state = START, now = 0;
-  events.push(...recogniser.see(now, state.position));
-  for (const move of moves.split(" ")) {
-    state = state.play(move);
-    now += rest;
-    events.push(...recogniser.see(now, state.position));
-  }
-  events.push(...recogniser.due(now + rest));
-  assert.deepEqual(events.map(shown), known, moves);
-  assert.equal(recogniser.state.fen, state.fen);
-  recogniser.goOn(state, true);
-  assert.deepEqual([recogniser.due(now + rest), recogniser.state.fen], [[], state.fen]);
-}
 
 // Placements, null while the board is away, each shown for 12 s, and all events.
 const INITIAL = "rnbqkbnr/pppppppp/8/8/8/8/PPPPPPPP/RNBQKBNR", LIFTED = INITIAL.replace(/k/gi, "1");
@@ -67,6 +45,9 @@ for (let n = 0; n < SHOWN.length; n += 2) {
   const known = events.map(event => event.type === "gap" ?
     { ...event, state: dgt.placement(event.state.position) } : shown(event));
   assert.deepEqual(known, SHOWN[n + 1], `${SHOWN[n]}`);
+  const { state } = recogniser, now = 12_000 * SHOWN[n].length;
+  recogniser.goOn(state, true);
+  assert.deepEqual([recogniser.due(now), recogniser.state.fen], [[], state.fen]);
 }
 
 // A new one, and what is refused.
@@ -82,14 +63,4 @@ recogniser.see(6, position, { isSure: false, isConfirmed: false, running: "black
 recogniser.close();
 assert.throws(() => recogniser.due(7), Closed);
 
-// The program of the page.
-const page = readFileSync(new URL("../README.md", import.meta.url), "utf8");
-const [program] = page.match(/(?<=^```js\n)[^`]*Recogniser[^]*?(?=^```$)/m);
-const folder = pathToFileURL(dirname(resolve(process.argv[2])));
-const found = program.replace(/"dgt-board\/?([^"]*)"/g,
-                              (_, name) => JSON.stringify(`${folder}/${name || "dgt.js"}`));
-const { log } = console, printed = [];
-console.log = (...words) => printed.push(words.join(" "));
-await import(`data:text/javascript,${encodeURIComponent(found)}`);
-console.log = log;
-assert.deepEqual(printed, program.match(/(?<=\/\/ ).*/g));
+await checkProgram(/Recogniser/, process.argv[2]);
