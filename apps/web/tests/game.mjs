@@ -90,3 +90,4 @@ for (const hours of [14, -12]) { // in one of these zones it is another day than
   const day = new Date(Date.now() + 3600e3 * hours).toISOString().slice(0, 10);
   assert.ok(erring.pgn.includes(`[Date "${day.replaceAll("-", ".")}"]`), erring.pgn);
 }
+console.log("gaps and PGN");
