@@ -401,6 +401,12 @@ enum class Mode : std::uint8_t {
 
 namespace detail {
 
+template <std::size_t N> std::array<std::uint8_t, N> copied(const std::uint8_t (&bytes)[N]) {
+    std::array<std::uint8_t, N> copy;
+    std::copy(std::begin(bytes), std::end(bytes), copy.begin());
+    return copy;
+}
+
 inline Time read_time(const dgt_time &time) {
     return Time{time.hours, time.minutes, time.seconds, time.flags};
 }
@@ -410,10 +416,7 @@ inline Times read_times(const dgt_clock &clock) {
 }
 
 inline NoClock read_no_clock(const dgt_clock &clock) {
-    NoClock read;
-    std::copy(std::begin(clock.raw), std::end(clock.raw), read.raw.begin());
-    read.status = clock.status;
-    return read;
+    return NoClock{copied(clock.raw), clock.status};
 }
 
 inline std::optional<Clock> read_clock(const dgt_clock &clock) {
@@ -436,12 +439,6 @@ inline dgt_clock write_clock(const Clock &clock) {
         std::copy(none.raw.begin(), none.raw.end(), std::begin(written.raw));
     }
     return written;
-}
-
-template <std::size_t N> std::array<std::uint8_t, N> copied(const std::uint8_t (&bytes)[N]) {
-    std::array<std::uint8_t, N> copy;
-    std::copy(std::begin(bytes), std::end(bytes), copy.begin());
-    return copy;
 }
 
 /// The event of a struct. Its body is in `room`.
@@ -486,77 +483,54 @@ inline std::optional<Word> read_word(const dgt_command &command, const std::uint
     return Asked{static_cast<Ask>(command.code)};
 }
 
-/// Writes the members of a message, and returns its body.
+/// Writes the members of a message, and notes its body.
 struct EventWriter {
     dgt_event &out;
+    ByteView body{};
 
-    ByteView operator()(const Dump &it) {
+    void operator()(const Dump &it) {
         out.kind = DGT_EVENT_DUMP;
         std::copy(it.position.codes().begin(), it.position.codes().end(), std::begin(out.pieces));
-        return {};
     }
-    ByteView operator()(const Field &it) {
+    void operator()(const Field &it) {
         out.kind = DGT_EVENT_FIELD;
         out.square = it.square.number(), out.piece = static_cast<std::uint8_t>(it.piece);
-        return {};
     }
-    ByteView operator()(const Times &it) {
-        out.kind = DGT_EVENT_TIMES, out.clock = write_clock(it);
-        return {};
-    }
-    ByteView operator()(const NoClock &it) {
+    void operator()(const Times &it) { out.kind = DGT_EVENT_TIMES, out.clock = write_clock(it); }
+    void operator()(const NoClock &it) {
         out.kind = DGT_EVENT_NO_CLOCK, out.clock = write_clock(it);
-        return {};
     }
-    ByteView operator()(const Ack &it) {
+    void operator()(const Ack &it) {
         out.kind = DGT_EVENT_ACK, out.ack_status = it.status;
         std::copy(it.ack.begin(), it.ack.end(), std::begin(out.ack));
-        return {};
     }
-    ByteView operator()(const Serial &it) {
+    void operator()(const Serial &it) {
         out.kind = DGT_EVENT_SERIAL;
         std::copy(it.serial.begin(), it.serial.end(), std::begin(out.serial));
-        return {};
     }
-    ByteView operator()(const Version &it) {
+    void operator()(const Version &it) {
         out.kind = DGT_EVENT_VERSION;
         out.main_number = it.main_number, out.sub_number = it.sub_number;
-        return {};
     }
-    ByteView operator()(const Trademark &it) { return carried(DGT_EVENT_TRADEMARK, it.body); }
-    ByteView operator()(const Battery &it) { return carried(DGT_EVENT_BATTERY, it.body); }
-    ByteView operator()(const LongSerial &it) { return carried(DGT_EVENT_LONG_SERIAL, it.body); }
-    ByteView operator()(const Other &it) {
-        out.code = it.code;
-        return carried(DGT_EVENT_OTHER, it.body);
+    void operator()(const Trademark &it) { out.kind = DGT_EVENT_TRADEMARK, body = it.body; }
+    void operator()(const Battery &it) { out.kind = DGT_EVENT_BATTERY, body = it.body; }
+    void operator()(const LongSerial &it) { out.kind = DGT_EVENT_LONG_SERIAL, body = it.body; }
+    void operator()(const Other &it) {
+        out.kind = DGT_EVENT_OTHER, out.code = it.code, body = it.body;
     }
-    ByteView operator()(const Refused &it) {
+    void operator()(const Refused &it) {
         out.kind = DGT_EVENT_REFUSED, out.code = it.code;
         out.fault = static_cast<std::uint8_t>(it.fault), out.at = it.at;
-        return {};
     }
-    ByteView operator()(const Cut &it) {
-        out.kind = DGT_EVENT_CUT, out.have = it.have;
-        return {};
-    }
-    ByteView operator()(const BadLength &) {
-        out.kind = DGT_EVENT_BAD_LENGTH;
-        return {};
-    }
-    ByteView operator()(const Stray &it) {
-        out.kind = DGT_EVENT_STRAY, out.byte = it.byte;
-        return {};
-    }
-
-private:
-    ByteView carried(std::uint8_t kind, const Bytes &body) {
-        out.kind = kind;
-        return body;
-    }
+    void operator()(const Cut &it) { out.kind = DGT_EVENT_CUT, out.have = it.have; }
+    void operator()(const BadLength &) { out.kind = DGT_EVENT_BAD_LENGTH; }
+    void operator()(const Stray &it) { out.kind = DGT_EVENT_STRAY, out.byte = it.byte; }
 };
 
 inline ByteView write_event(const Event &event, dgt_event &out) {
-    return std::visit(EventWriter{out}, event);
+    EventWriter writer{out};
+    std::visit(writer, event);
+    return writer.body;
 }
 
 /// The bytes that a call of dgt.h encodes: `encode` returns the length, and then fills the room.
@@ -591,6 +565,18 @@ Heard heard(Handle &handle, Body &body, ByteView bytes, Time... now) {
                             body.size());
     return {used, read_event(event, body.data())};
 }
+
+/// The memory of an object of dgt.h, which is never copied.
+template <class Handle> class Owner {
+protected:
+    explicit Owner(bool (*init)(Handle *)) {
+        if (!init(&handle_)) throw WrongLibrary();
+    }
+    Owner(const Owner &) = delete;
+    Owner &operator=(const Owner &) = delete;
+
+    Handle handle_;
+};
 
 /// A time or a period for dgt.h. Throws std::invalid_argument if it is negative.
 inline std::uint64_t count(Milliseconds time) {
@@ -1072,53 +1058,44 @@ public:
 // ---- A decoder, and a decoder of commands.
 
 /// Reports the events in a board's bytes, and keeps no picture. 37 KiB.
-class Decoder {
+class Decoder : detail::Owner<dgt_decoder> {
 public:
     /// A decoder that holds nothing. Throws WrongLibrary.
-    Decoder() {
-        if (!dgt_decoder_init(&decoder_)) throw WrongLibrary();
-    }
-    Decoder(const Decoder &) = delete;
-    Decoder &operator=(const Decoder &) = delete;
+    Decoder() : Owner(dgt_decoder_init) {}
 
     /// As Host::hear_one and hear.
     Heard feed_one(ByteView bytes) {
-        return detail::heard<dgt_decoder_feed>(decoder_, body_, bytes);
+        return detail::heard<dgt_decoder_feed>(handle_, body_, bytes);
     }
     template <class Tell> void feed(ByteView bytes, Tell &&tell) {
         detail::hear(bytes, [&](ByteView left) { return feed_one(left); }, tell);
     }
 
     /// How many bytes of an unfinished message were received.
-    std::size_t unread() { return dgt_decoder_unread(&decoder_); }
+    std::size_t unread() { return dgt_decoder_unread(&handle_); }
 
     /// The same, at the end of the bytes. The decoder is then as new.
-    std::size_t finish() { return dgt_decoder_finish(&decoder_); }
+    std::size_t finish() { return dgt_decoder_finish(&handle_); }
 
     /// Returns it to its initial state.
-    void reset() { dgt_decoder_reset(&decoder_); }
+    void reset() { dgt_decoder_reset(&handle_); }
 
 private:
-    dgt_decoder decoder_;
     std::array<std::uint8_t, DGT_MAX_BODY> body_;
 };
 
 /// Reports the commands in a host's bytes.
-class CommandDecoder {
+class CommandDecoder : detail::Owner<dgt_command_decoder> {
 public:
     /// A decoder that holds nothing. Throws WrongLibrary.
-    CommandDecoder() {
-        if (!dgt_command_decoder_init(&decoder_)) throw WrongLibrary();
-    }
-    CommandDecoder(const CommandDecoder &) = delete;
-    CommandDecoder &operator=(const CommandDecoder &) = delete;
+    CommandDecoder() : Owner(dgt_command_decoder_init) {}
 
     /// Uses the bytes up to the first command or fault, or all of them: at least 1, if there are
     /// any.
     Read feed_one(ByteView bytes) {
         dgt_command command;
         std::uint8_t word[DGT_MAX_WORD];
-        std::size_t used = dgt_command_decoder_feed(&decoder_, bytes.data(), bytes.size(), &command,
+        std::size_t used = dgt_command_decoder_feed(&handle_, bytes.data(), bytes.size(), &command,
                                                     word, sizeof word);
         return {used, detail::read_word(command, word)};
     }
@@ -1133,16 +1110,13 @@ public:
     }
 
     /// How many bytes of an unfinished command were received.
-    std::size_t unread() { return dgt_command_decoder_unread(&decoder_); }
+    std::size_t unread() { return dgt_command_decoder_unread(&handle_); }
 
     /// The same, at the end of the bytes. The decoder is then as new.
-    std::size_t finish() { return dgt_command_decoder_finish(&decoder_); }
+    std::size_t finish() { return dgt_command_decoder_finish(&handle_); }
 
     /// Returns it to its initial state.
-    void reset() { dgt_command_decoder_reset(&decoder_); }
-
-private:
-    dgt_command_decoder decoder_;
+    void reset() { dgt_command_decoder_reset(&handle_); }
 };
 
 // ---- A board.
@@ -1164,13 +1138,11 @@ struct Taken {
 };
 
 /// A simulated board.
-class Board {
+class Board : detail::Owner<dgt_board> {
 public:
     /// A board in the initial position, with a clock that shows 0:00:00 twice, and the identity of
     /// a simulated board. Throws WrongLibrary.
-    Board() {
-        if (!dgt_board_init(&board_)) throw WrongLibrary();
-    }
+    Board() : Owner(dgt_board_init) {}
 
     /// Throws WrongLibrary, and std::invalid_argument if the clock or the identity is out of range.
     Board(const Position &position, const Clock &clock, const Identity &identity) : Board() {
@@ -1182,22 +1154,20 @@ public:
         write_body(identity.battery, written.battery);
         write_body(identity.long_serial, written.long_serial);
         dgt_clock shown = detail::write_clock(clock);
-        if (dgt_board_start(&board_, position.codes().data(), &shown, &written) != DGT_STARTED)
+        if (dgt_board_start(&handle_, position.codes().data(), &shown, &written) != DGT_STARTED)
             throw std::invalid_argument("the clock or the identity is out of range");
     }
-    Board(const Board &) = delete;
-    Board &operator=(const Board &) = delete;
 
     /// Puts a piece, or none, on a square. Throws std::invalid_argument for a piece above 15.
     void change(Square square, Piece piece) {
-        if (!dgt_board_change(&board_, square.number(), static_cast<std::uint8_t>(piece)))
+        if (!dgt_board_change(&handle_, square.number(), static_cast<std::uint8_t>(piece)))
             throw std::invalid_argument("pieces are numbered from 0 to 15");
     }
 
     /// Sets what the clock shows. Throws std::invalid_argument if it is out of range.
     void hand_clock(const Clock &clock) {
         dgt_clock shown = detail::write_clock(clock);
-        if (!dgt_board_hand_clock(&board_, &shown))
+        if (!dgt_board_hand_clock(&handle_, &shown))
             throw std::invalid_argument("the clock is out of range");
     }
 
@@ -1206,7 +1176,7 @@ public:
     Taken take(ByteView bytes) {
         dgt_command command;
         std::uint8_t word[DGT_MAX_WORD];
-        dgt_taken taken = dgt_board_take(&board_, bytes.data(), bytes.size(), &command, word,
+        dgt_taken taken = dgt_board_take(&handle_, bytes.data(), bytes.size(), &command, word,
                                          sizeof word);
         return {taken.busy, taken.used, detail::read_word(command, word)};
     }
@@ -1214,7 +1184,7 @@ public:
     /// The next message to be sent, if there is one. It counts as sent.
     std::optional<Message> poll() {
         Message out;
-        dgt_polled polled = dgt_board_poll(&board_, out.room(), std::size_t{DGT_MAX_SENT});
+        dgt_polled polled = dgt_board_poll(&handle_, out.room(), std::size_t{DGT_MAX_SENT});
         if (polled.status != DGT_WROTE) return std::nullopt;
         out.resize(polled.bytes);
         return out;
@@ -1231,32 +1201,32 @@ public:
     }
 
     /// Whether there is anything to send.
-    bool owes() { return dgt_board_owes(&board_); }
+    bool owes() { return dgt_board_owes(&handle_); }
 
     /// How many replies are owed, at most DGT_MAX_OWED.
-    std::size_t owed_len() { return dgt_board_owed_len(&board_); }
+    std::size_t owed_len() { return dgt_board_owed_len(&handle_); }
 
     /// How many bytes of an unfinished command were received.
-    std::size_t unread() { return dgt_board_unread(&board_); }
+    std::size_t unread() { return dgt_board_unread(&handle_); }
 
-    Mode mode() { return static_cast<Mode>(dgt_board_mode(&board_)); }
+    Mode mode() { return static_cast<Mode>(dgt_board_mode(&handle_)); }
 
     Position position() {
         std::array<std::uint8_t, 64> codes;
-        dgt_board_position(&board_, codes.data());
+        dgt_board_position(&handle_, codes.data());
         return Position(codes);
     }
 
     /// What the clock shows.
     Clock clock() {
         dgt_clock clock;
-        dgt_board_clock(&board_, &clock);
+        dgt_board_clock(&handle_, &clock);
         return detail::read_clock(clock).value();
     }
 
     /// Simulates a lost line, with all bytes under way: the board keeps its squares, its clock and
     /// its identity, and is otherwise as new.
-    void line_lost() { dgt_board_line_lost(&board_); }
+    void line_lost() { dgt_board_line_lost(&handle_); }
 
 private:
     static void write_body(const Bytes &body, dgt_body &written) {
@@ -1264,8 +1234,6 @@ private:
         written.len = body.size();
         std::copy(body.begin(), body.end(), std::begin(written.bytes));
     }
-
-    dgt_board board_;
 };
 
 // ---- The rules of chess.
@@ -1582,14 +1550,10 @@ struct Sight {
 
 /// Recognises the games that are played on a board (see dgt.h). Throws std::invalid_argument for a
 /// negative time. 16 KiB.
-class Recogniser {
+class Recogniser : detail::Owner<dgt_recogniser> {
 public:
     /// A recogniser that has seen nothing. Throws WrongLibrary.
-    Recogniser() {
-        if (!dgt_recogniser_init(&recogniser_)) throw WrongLibrary();
-    }
-    Recogniser(const Recogniser &) = delete;
-    Recogniser &operator=(const Recogniser &) = delete;
+    Recogniser() : Owner(dgt_recogniser_init) {}
 
     /// Takes what the board shows at this time, or nothing while it can't be heard. Returns the
     /// events until then.
@@ -1605,7 +1569,7 @@ public:
 
     /// The first time at which `due` has something to do, if nothing is seen before.
     std::optional<Milliseconds> due_at() {
-        return detail::time<dgt_recogniser_due_at>(recogniser_);
+        return detail::time<dgt_recogniser_due_at>(handle_);
     }
 
     /// The events that are due at this time.
@@ -1618,13 +1582,13 @@ public:
     /// The state that the events so far lead to, once a game has begun.
     std::optional<chess::State> state() {
         dgt_chess_state state;
-        if (!dgt_recogniser_state(&recogniser_, &state)) return std::nullopt;
+        if (!dgt_recogniser_state(&handle_, &state)) return std::nullopt;
         return chess::State(state);
     }
 
     /// Goes on from this state of a game, as if events had led to it, and forgets everything else.
     void go_on(const chess::State &state, bool is_turned = false) {
-        if (dgt_recogniser_go_on(&recogniser_, &state.state_, is_turned) != DGT_CHESS_DONE)
+        if (dgt_recogniser_go_on(&handle_, &state.state_, is_turned) != DGT_CHESS_DONE)
             throw std::invalid_argument("not a state"); // a state is never refused
     }
 
@@ -1637,13 +1601,13 @@ private:
                                           : DGT_SIGHT_DOUBTED;
         const auto running = sight.running ? static_cast<std::uint8_t>(*sight.running)
                                            : std::uint8_t{DGT_NO_SUCH};
-        return dgt_recogniser_see(&recogniser_, detail::count(now), shown.codes().data(),
+        return dgt_recogniser_see(&handle_, detail::count(now), shown.codes().data(),
                                   static_cast<std::uint8_t>(kind), sight.is_confirmed, running);
     }
 
     void add_due(Milliseconds now, std::vector<GameEvent> &events) {
         dgt_game_event event;
-        while (dgt_recogniser_due(&recogniser_, detail::count(now), &event))
+        while (dgt_recogniser_due(&handle_, detail::count(now), &event))
             events.push_back(read(event));
     }
 
@@ -1664,8 +1628,6 @@ private:
         default: return game::Found{};
         }
     }
-
-    dgt_recogniser recogniser_;
 };
 
 } // namespace dgt
