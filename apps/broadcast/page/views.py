@@ -4,6 +4,7 @@ import json
 from typing import Any
 
 import dgt
+from dgt.clock_side import _seconds
 
 SHOWN_MOVES = 12
 Summary = dict[str, Any]
@@ -38,8 +39,7 @@ def written(game: dgt.PgnGame) -> bytes:
     and the player's remaining seconds."""
     moves = list(game.moves)  # the thread of the games may add some
     first = moves[0].before if moves else game.state
-    clocks = [each.clock and 3600 * each.clock.hours + 60 * each.clock.minutes + each.clock.seconds
-              for each in moves]
+    clocks = [each.clock and _seconds(each.clock) for each in moves]
     return json.dumps({
         "number": first.number, "is_white_first": first.white, "result": game.result,
         "moves": [each.san for each in moves], "clocks": clocks,

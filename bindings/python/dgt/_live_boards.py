@@ -11,11 +11,12 @@ from typing import Any, Protocol
 from . import _mqtt
 from ._turn import to_put
 from ._watched import Watched
+from .clock_side import _seconds
 from .following import BoardView
 from .pgn import san
 from .recogniser import Back, Begun, Ended, Found, GameEvent, Gap, Lost, Made, Unseen
 from .rules import GameState
-from .values import Position, Time, Times
+from .values import Position, Times
 
 Json = dict[str, Any]
 _LOST_WAIT = 3.0
@@ -303,10 +304,6 @@ class Board:
         event = {"flipped": game.turned, "board": shown, "clock": self.clock,
                  "match": match}
         return {**event, **({} if moves is None else {"san": moves})}
-
-
-def _seconds(time: Time) -> int:
-    return 3600 * time.hours + 60 * time.minutes + time.seconds
 
 
 say = functools.partial(_mqtt.say, "dgt-livechess")
