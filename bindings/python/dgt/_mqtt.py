@@ -3,6 +3,7 @@
 import contextlib
 import importlib
 import os
+import ssl
 import sys
 from collections.abc import Callable
 from typing import Any
@@ -33,6 +34,15 @@ def load(program: str) -> Any:
         return importlib.import_module("paho.mqtt.client")
     except ImportError:
         sys.exit(f"{program}: no module paho.mqtt (install Debian's package python3-paho-mqtt)")
+
+
+def check_authorities(program: str, cafile: str | None) -> None:
+    """`SystemExit` if the file of --cafile contains no certificates."""
+    if cafile:
+        try:
+            ssl.create_default_context(cafile=cafile)
+        except OSError as fault:
+            sys.exit(f"{program}: {cafile}: {fault.strerror or fault}")
 
 
 def make_client(mqtt: Any, user: str | None, cafile: str | None = None, **how: Any) -> Any:
