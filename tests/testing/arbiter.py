@@ -170,7 +170,6 @@ class Game:
 
 
 def play(dgt, seed):
-    """Plays a game. Returns what was tried."""
     with a_line() as line:
         game = Game(dgt, seed, line)
         try:
@@ -183,7 +182,6 @@ def play(dgt, seed):
 
 
 def check(dgt, pool, count):
-    """Plays `count` games. Returns what was tried."""
     begun, total = time.monotonic(), {}
     for counts in pool.map(lambda seed: play(dgt, seed), range(count)):
         for name, number in counts.items():

@@ -194,7 +194,6 @@ class Result(unittest.TestResult):
 
 
 def run(case: unittest.TestCase) -> Result:
-    """Runs a case once."""
     result = Result(case)
     case.run(result)
     result.seconds = time.monotonic() - result.began

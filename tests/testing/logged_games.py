@@ -352,9 +352,6 @@ class Logs(cases.Case):
                 dgt.LoggingBoard(room=size)
 
 
-# ---- Random games
-
-
 class LoggedTable(tables.AtGame):
     """A table with a second board, which logs what happens, and to which nobody listens."""
 
@@ -456,8 +453,6 @@ def slowly(line):
 
 
 class LogPrograms(cases.Case):
-    """The program, with a board that keeps a log."""
-
     def test_program_log(self):
         """The games of a board's log are printed, and added to a file. The board isn't changed."""
         with a_line() as (line, path):

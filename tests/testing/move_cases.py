@@ -86,7 +86,6 @@ def read_table():
 
 
 def do(hand, step):
-    """Makes a step of the table."""
     number = hand.dgt.square_number
     if step == "turned":
         hand.squares = list(reversed(hand.dgt.Position.start().letters))
@@ -218,9 +217,6 @@ class LiveHand(Hand):
         for game in {self.own, self.client}:
             while (due := game.watched.due) is not None and due <= self.time:
                 game.wait(due)
-
-
-# ---- The cases
 
 
 class Recognition(cases.Case):

@@ -32,13 +32,8 @@ def no_more(what, board, seconds=0.3):
 
 
 class OnALine(cases.Case):
-    """Cases of a board on a line."""
-
     def setUp(self):
         self.line = self.enterContext(a_line())
-
-
-# ---- A port by its name
 
 
 class Ports(OnALine):

@@ -32,9 +32,6 @@ def refusal(what, error, call):
     raise Wrong(f"{what}: {made!r} instead of a {error.__name__}")
 
 
-# ---- Positions
-
-
 class Values(cases.Case):
     def test_position(self):
         position, letters = dgt.Position.parse(START), list(LETTERS)
@@ -124,7 +121,6 @@ class Values(cases.Case):
             wanted("what is said", refusal(said, error, call), said)
 
     def test_copies(self):
-        """Objects that would share a part with their copy can't be copied."""
         for kind in (dgt.World, dgt.Host, dgt.Follower, dgt.Decoder, dgt.CommandDecoder, dgt.Board,
                      dgt.Following, dgt.Games, dgt.PgnFile):
             for how in (copy.copy, copy.deepcopy, pickle.dumps):
@@ -250,8 +246,6 @@ def calls():
         (lambda result: dgt.PgnGame(result=result).text(), "*"),
     ]
 
-
-# ---- Texts
 
 TABLES, _ = worked.read_tables()
 

@@ -135,7 +135,6 @@ class Table:
                            env=os.environ | {"DISPLAY": self.display}, check=False)
 
     def told(self):
-        """The moves that the engine has sent."""
         lines = (self.room.path / "told").read_text().splitlines()
         return [line.split()[1] for line in lines if line.startswith("bestmove")]
 
