@@ -19,6 +19,7 @@ import faulthandler
 import fnmatch
 import functools
 import importlib
+import importlib.machinery
 import importlib.util
 import os
 import pathlib
@@ -51,6 +52,17 @@ def library() -> Any:
     if "DGT_LIBRARY" not in os.environ:
         subprocess.run([ROOT / "bindings/c/build"], check=True)
     return importlib.import_module("dgt")
+
+
+def script(path: str) -> Any:
+    """A script of tests/ as a module."""
+    name = path.rpartition("/")[2]
+    loader = importlib.machinery.SourceFileLoader(name, str(ROOT / "tests" / path))
+    spec = importlib.util.spec_from_loader(name, loader)
+    assert spec
+    module = importlib.util.module_from_spec(spec)
+    loader.exec_module(module)
+    return module
 
 
 def leave_out(reason: str) -> None:
