@@ -24,6 +24,7 @@ import importlib.util
 import os
 import pathlib
 import select
+import shlex
 import shutil
 import signal
 import subprocess
@@ -81,6 +82,17 @@ def skip(reason: str) -> NoReturn:
 def note(text: str) -> None:
     """Adds counts to the last line."""
     NOTES.append(text)
+
+
+def command(*words: object, seconds: float | None = 600, text: bool = True, **how: Any) -> Any:
+    """What a command prints that must not fail: a text, or else bytes."""
+    how = how if "input" in how else {"stdin": subprocess.DEVNULL} | how
+    ran = subprocess.run([str(word) for word in words], capture_output=True, check=False,
+                         timeout=seconds, text=text, **how)
+    if ran.returncode:
+        raise wrong.Wrong(f"{shlex.join(map(str, words))} ended with {ran.returncode}: "
+                          f"{ran.stderr[-4000:]}{ran.stdout[-4000:]}")
+    return ran.stdout
 
 
 def absent(*names: str) -> list[str]:
