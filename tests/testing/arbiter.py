@@ -3,10 +3,8 @@ sends with the move that was made on the board. The board's side moves at random
 plays to win, so most games end with a mate.
 
 A third of the games start from a FEN. In half of them the board plays Black, in some it is turned,
-and in half of them the line loses and alters bytes. Moves are made as people make them. Pieces are
-slid, captured pieces are lifted first or last, and castling starts with the king or the rook. A
-pawn is put on the last rank before the piece that it becomes. Moves are started and taken back, and
-the board's move may be made before the answer was put on the board.
+and in half of them the line loses and alters bytes. Moves are made as people make them, and the
+board's move may be made before the answer was put on the board.
 """
 
 import random

@@ -1,14 +1,13 @@
 """What the scripts of tests/ share: their cases, and what runs them.
 
-A script defines classes of cases, and ends with
+A script defines classes of cases of unittest, and ends with
 
     if __name__ == "__main__":
         cases.main(threads=6)
 
-The cases are those of unittest. `tests/apps/games mates` runs one of them,
-`-k clock` those with this in their names, and `--list` prints all names. Each
-ends what it has started (`addCleanup`, `enterContext`, `start`), so that it can
-run alone. None is tried twice.
+`tests/apps/games mates` runs one of them, `-k clock` those with this in their
+names, and `--list` prints all names. Each ends what it has started, so that it
+can run alone. None is tried twice.
 """
 
 import argparse
