@@ -117,8 +117,7 @@ class Table:
         with open(room.path / "display", "w") as display:
             words = ["Xvfb", "-displayfd", "1", "-screen", "0", SCREEN, "-nolisten", "tcp"]
             room.runs.append(subprocess.Popen(words, stdout=display, stderr=room.log))
-        if not running.holds(lambda: (room.path / "display").read_text().endswith("\n")):
-            raise Wrong("no display")
+        running.wait("a display", lambda: (room.path / "display").read_text().endswith("\n"))
         self.display = ":" + (room.path / "display").read_text().strip()
 
     def start(self, *words, **environment):
