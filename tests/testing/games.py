@@ -69,6 +69,13 @@ class Hand:
 # ---- Random games
 
 
+def played(state, moves):
+    """The state after these moves, by their long names."""
+    for move in moves.split():
+        state = state.after(move)
+    return state
+
+
 def in_any_order(chance, before, after, move, number):
     """The squares that change in a move, each with what is put there, in an order that hands may
     have: a piece that is put down was lifted before."""

@@ -536,9 +536,7 @@ class LogPrograms(cases.Case):
         with a_line(dgt.Board()) as (line, path):
             with subprocess.Popen([*PROGRAM, "game", line.path, "--log"], env=ENVIRONMENT, cwd="/",
                                   stderr=subprocess.PIPE, text=True) as got:
-                end = time.monotonic() + SECONDS
-                while not line.asked and time.monotonic() < end:
-                    time.sleep(0.01)
+                cases.wait("a request", lambda: line.asked)
                 got.send_signal(signal.SIGTERM)
                 wanted("after a signal", (got.wait(SECONDS), got.stderr.read()), (1, ""))
 

@@ -64,9 +64,7 @@ class Ports(OnALine):
             self.line.asked.clear()
             board.light("e2", "e4")
             board.light()
-            end = time.monotonic() + SECONDS
-            while sum(len(asked) for _, asked in self.line.asked) < 14 and time.monotonic() < end:
-                time.sleep(0.01)
+            cases.wait("frames", lambda: sum(len(asked) for _, asked in self.line.asked) >= 14)
             wanted("frames", b"".join(asked for _, asked in self.line.asked).hex(),
                    "600401342400" "44" "600400404000" "44")
 
