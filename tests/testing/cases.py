@@ -38,6 +38,7 @@ import wrong
 
 ROOT = pathlib.Path(__file__).resolve().parents[2]
 sys.path.insert(1, str(ROOT / "bindings/python"))
+sys.dont_write_bytecode = True  # of what the scripts import
 SECONDS = 120  # for what takes one or two: the machine may be busy
 MOST_SECONDS = 2700  # without the end of any case
 # A process of root that may do what any user may, and no more.
