@@ -248,7 +248,6 @@ class Logs(cases.Case):
             wanted(f"games from byte {at} on", games, [])
 
     def test_logging_board(self):
-        """What a board logs, and when."""
         board = dgt.LoggingBoard(clock=dgt.NoClock())
         wanted("a new one", body_of(board), logged("on begin end"))
         board.change("e2", ".")

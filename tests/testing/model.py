@@ -176,7 +176,6 @@ class Decoder:
 
 
 def monitor(data):
-    """What `dgt monitor` writes."""
     decoder, lines = Decoder(), []
     for offset, byte in enumerate(data, 1):
         text = decoder.take(byte)
@@ -240,7 +239,6 @@ def stored(body):
 
 
 def log(data):
-    """What `dgt log` writes."""
     lines, decoder = [], Decoder()
     for offset, byte in enumerate(data, 1):
         decoder.take(byte)
@@ -313,7 +311,6 @@ def word_text(word, kind):
 
 
 def commands(data):
-    """What `dgt commands` writes."""
     word, lines = b"", []
     for offset, byte in enumerate(data, 1):
         word += bytes([byte])

@@ -84,7 +84,6 @@ class Values(cases.Case):
                         raise Wrong(f"{what}: {fault!r}") from fault
 
     def test_refusals(self):
-        """What is said of some of them."""
         for call, error, said in [
             (lambda: dgt.Follower(patience=1.5), dgt.BadValue,
              "patience must be a number from 0 to 4294967295: 1.5"),
