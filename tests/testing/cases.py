@@ -39,6 +39,7 @@ import wrong
 ROOT = pathlib.Path(__file__).resolve().parents[2]
 sys.path.insert(1, str(ROOT / "bindings/python"))
 sys.dont_write_bytecode = True  # of what the scripts import
+PROGRAM = str(ROOT / "crates/dgt/out/dgt")
 SECONDS = 120  # for what takes one or two: the machine may be busy
 MOST_SECONDS = 2700  # without the end of any case
 # A process of root that may do what any user may, and no more.
@@ -144,6 +145,14 @@ class Case(unittest.TestCase):
         ran = subprocess.Popen([*map(str, words)], **how)
         self.addCleanup(end, ran)
         return ran
+
+
+class ProgramCase(Case):
+    """A case of the program. The launcher builds it first if that is needed."""
+
+    @classmethod
+    def setUpClass(cls) -> None:
+        command(ROOT / "dgt", "--help", seconds=None)
 
 
 class AsyncCase(Case, unittest.IsolatedAsyncioTestCase):
