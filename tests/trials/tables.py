@@ -14,6 +14,7 @@ import threading
 import time
 
 import running
+from simulated_board import Hands
 from wrong import Wrong
 
 ROOT = pathlib.Path(__file__).resolve().parent.parent.parent
@@ -33,7 +34,7 @@ class Player(threading.Thread):
         super().__init__(daemon=True)
         self.dgt, self.board, self.asked = dgt, board, asked
         self.chance = random.Random(7)
-        self.letters = list(dgt.Position.start().letters)
+        self.show = Hands(board).set_up
         self.state, self.made, self.is_over = None, [], False
 
     def run(self):
@@ -70,17 +71,6 @@ class Player(threading.Thread):
             if all(state.moves() or not state.check for state in legal[move].moves().values()):
                 break
         return move
-
-    def show(self, letters):
-        """Puts pieces until the board shows this: first those that are taken off."""
-        changed = [square for square in range(64) if self.letters[square] != letters[square]]
-        for wanted in ([(square, ".") for square in changed if self.letters[square] != "."]
-                       + [(square, letters[square]) for square in changed
-                          if letters[square] != "."]):
-            square, letter = wanted
-            self.board.put((self.dgt.SQUARES[square], letter))
-            self.letters[square] = letter
-            time.sleep(0.02)
 
 
 def read_games(dgt, text):
@@ -169,16 +159,23 @@ def compare(dgt, table, text):
     return colours
 
 
-def main(name, doc, needed, play):
-    """Plays, if all that is needed is here."""
+def begin(name, doc, packages):
+    """Reads the words of a trial, and leaves it out if packages are missing. Returns the package
+    for Python."""
     argparse.ArgumentParser(description=doc, allow_abbrev=False,
                             formatter_class=argparse.RawDescriptionHelpFormatter).parse_args()
+    if packages:
+        print(f"{name}: left out, for want of {', '.join(packages)}")
+        sys.exit(os.environ.get("DGT_CHECKS") == "all")
     import dgt
 
     signal.signal(signal.SIGTERM, lambda *_: sys.exit(1))
-    if packages := running.absent(needed):
-        print(f"{name}: left out, for want of {', '.join(packages)}")
-        sys.exit(os.environ.get("DGT_CHECKS") == "all")
+    return dgt
+
+
+def main(name, doc, needed, play):
+    """Plays, if all that is needed is here."""
+    dgt = begin(name, doc, running.absent(needed))
     with running.Room() as room:
         table = Table(dgt, room, name)
         try:
