@@ -115,6 +115,13 @@ class Engine:
         self.expect("readyok")
         return time.monotonic() - begun
 
+    def finish(self):
+        """Waits until it has ended. Returns its status, and what standard error got."""
+        status = self.ran.wait(SECONDS)
+        for thread in self.threads:
+            thread.join(SECONDS)
+        return status, "".join(self.warned)
+
     def end(self, status=0):
         """Ends the engine, and looks through what it has printed."""
         try:
