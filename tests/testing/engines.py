@@ -42,8 +42,8 @@ def check_ends(rows, **how):
 class Engine:
     """An engine, and all lines that it has printed, each with its time."""
 
-    def __init__(self, *words, before=(), command=WORDS, options=()):
-        piped = dict.fromkeys(["stdin", "stdout", "stderr"], subprocess.PIPE)
+    def __init__(self, *words, before=(), command=WORDS, options=(), **how):
+        piped = dict.fromkeys(["stdin", "stdout", "stderr"], subprocess.PIPE) | how
         words = [*before, *command, *map(str, words)]
         self.ran = subprocess.Popen(words, text=True, bufsize=1, env=ENVIRONMENT, cwd="/",
                                     **piped)
@@ -62,7 +62,7 @@ class Engine:
                 raise
 
     def hear(self):
-        for line in self.ran.stdout:
+        for line in self.ran.stdout or ():
             with self.come:
                 self.lines.append((time.monotonic(), line.rstrip("\n")))
                 self.come.notify_all()
