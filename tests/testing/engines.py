@@ -1,6 +1,7 @@
 """A program under test, such as a UCI engine, and what it prints."""
 
 import os
+import pathlib
 import subprocess
 import sys
 import threading
@@ -114,6 +115,16 @@ class Engine:
         self.say("isready")
         self.expect("readyok")
         return time.monotonic() - begun
+
+    def check_rests(self, what):
+        """It takes next to no time of the processor for two seconds."""
+        def used():
+            stat = pathlib.Path(f"/proc/{self.ran.pid}/stat").read_text()
+            return sum(map(int, stat.rpartition(")")[2].split()[11:13]))
+
+        before = used()
+        time.sleep(2)
+        wanted(f"ticks of the processor in 2 s, {what}", used() - before <= 3, True)
 
     def finish(self):
         """Waits until it has ended. Returns its status, and what standard error got."""
