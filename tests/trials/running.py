@@ -13,6 +13,7 @@ import time
 sys.path.append(str(pathlib.Path(__file__).resolve().parents[1] / "testing"))
 import chromium
 import simulated_board
+from wrong import Wrong
 
 EXAMPLES = pathlib.Path(__file__).resolve().parents[2] / "apps/broadcast"
 PYTHON = "/usr/bin/python3"  # Debian's, which has Debian's modules
@@ -34,7 +35,6 @@ def has_module(name, python=PYTHON):
 def missing(is_shown=True):
     """The packages of Debian that aren't here, and that the page needs, or else its server."""
     found = absent({"mosquitto": "mosquitto"})
-    found += absent({"mosquitto-clients": "mosquitto_pub"}) if is_shown else []
     found += [] if has_module("paho.mqtt.client") else ["python3-paho-mqtt"]
     return found + ([] if chromium.find() or not is_shown else ["chromium"])
 
@@ -69,6 +69,12 @@ def family(pid):
     return found
 
 
+def processor(pid):
+    """Seconds of processor time of a process."""
+    tasks = pathlib.Path(f"/proc/{pid}/task").glob("*/schedstat")
+    return sum(int(task.read_text().split()[0]) for task in tasks) / 1e9
+
+
 def alive(pids):
     """Those of these processes that haven't ended."""
     return [pid for pid in pids if os.path.exists(f"/proc/{pid}/exe")]
@@ -82,6 +88,12 @@ def holds(what, seconds=60):
             return False
         time.sleep(0.05)
     return True
+
+
+def wait(what, held, seconds=60):
+    """Waits until this holds, in time."""
+    if not holds(held, seconds):
+        raise Wrong(f"not in time: {what}")
 
 
 class Room:
@@ -136,8 +148,7 @@ class Room:
         text = f"listener {self.broker_port} 127.0.0.1\nallow_anonymous true\n"
         (self.path / "broker.conf").write_text(text)
         self.broker = self.start("mosquitto", "-c", "broker.conf")
-        if not holds(lambda: is_open(self.broker_port)):
-            raise RuntimeError("the broker doesn't start")
+        wait("the broker", lambda: is_open(self.broker_port))
 
     def make_boards(self, count, folder="."):
         self.boards = simulated_board.Boards(self.path / folder, count)
@@ -145,11 +156,6 @@ class Room:
     @property
     def at_broker(self):
         return ["--broker", "127.0.0.1", "--broker-port", self.broker_port]
-
-    def broadcast(self, name, period=10):
-        """Has a board published to the broker, under its number."""
-        words = [self.boards[name - 1].path, name, "--period", period]
-        return self.start(EXAMPLES / "broadcast", *words, *self.at_broker)
 
     def broadcast_all(self, folder, names, period=10):
         """Has all boards of a folder published, under the names of a file."""
