@@ -6,7 +6,6 @@
  * `both` requests both sides' moves. There are 60 ms between two steps; a move is reported when it
  * has rested for 300, and 12 s pass at the end, since moves faster than hands wait for 10 s.
  * Squares in the steps are the board's, and those in reported moves of both sides are the game's.
- * That moves are legal is proved, and not tried here.
  */
 #include "moves.h"
 
@@ -22,6 +21,8 @@ static const char START[] = "rnbqkbnrpppppppp................................PPP
     "h2h4 a7a6 h1h3 a6a5 g2g3 a5a4 f1g2 b7b6 g2d5 b6b5 e2e3 b5b4 d1e2 h7h6 e2f1 h6h5 " \
     "f1g2 g7g6 g2h1 d7d6 g1f3 c7c6 "
 #define BISHOP "e2e4 e7e5 f1c4 g8f6 d2d3 "
+#define FIANCHETTO "e2e4 b7b6 g1f3 c8a6 g2g3 h7h6 f1g2 h6h5 "
+#define CHECK "f2f3 e7e5 a2a3 d8h4 "
 #define PASSING "e2e4 a7a6 e4e5 d7d5 "
 #define SEVENTH "h2h4 g7g5 h4g5 h7h6 g5h6 a7a6 h6h7 a6a5 "
 
@@ -33,6 +34,10 @@ static const struct test_case {
     {"slid over squares", "e2. e3P e3. e4P", "e2e4"},
     {"slid over squares, slowly", "d2d4 a7a6 d1. d2Q 200 d2. d3Q", "d2d4 a7a6 d1d3"},
     {"seen once more while it rests", "e2. e4P 200 seen e4. e2P", "e2e4"},
+    {"no piece goes so", "e2. e5P 900 e5. e4P", "e2e4"},
+    {"no piece jumps but a knight", "a1. a3R 900 a3. a1R g1f3", "g1f3"},
+    {"a knight goes round a corner", "g1. g4N 900 g4. g1N e2e4", "e2e4"},
+    {"a pawn goes far only at first", "e2e3 a7a6 e3. e5P 900 e5. e3P d2d4", "e2e3 a7a6 d2d4"},
 
     {"adjusted", "e2. 900 e2P", ""},
     {"two adjusted at once", "e2. d2. 900 e2P d2P", ""},
@@ -57,6 +62,9 @@ static const struct test_case {
     {"a capture, the taken piece off first", "e2e4 d7d5 d5. e4. d5P", "e2e4 d7d5 e4d5"},
     {"a capture, the own piece off first", "e2e4 d7d5 e4. d5. d5P", "e2e4 d7d5 e4d5"},
     {"a capture, the one put over the other", "e2e4 d7d5 e4. d5P", "e2e4 d7d5 e4d5"},
+    {"no pawn takes before itself", "e2e4 e7e5 e5. e4. e5P 900 e5p e4P g1f3", "e2e4 e7e5 g1f3"},
+    {"a pawn takes beside another", "e2e4 a7a6 e4e5 d7d5 a2a3 d8d6 e5d6 e7d6",
+     "e2e4 a7a6 e4e5 d7d5 a2a3 d8d6 e5d6 e7d6"},
     {"a capture, thought over", "e2e4 d7d5 d5. 5000 e4. 5000 d5P", "e2e4 d7d5 e4d5"},
     {"a capture, taken at once, the taken one off first", "e2e4 d7d5 d5. e4. d5P d5. d8. d5q b1c3",
      "e2e4 d7d5 e4d5 d8d5 b1c3"},
@@ -72,6 +80,7 @@ static const struct test_case {
      "h2h4 g7g5 h4g5 h7h6 h1h5 h6g5"},
     {"slid up to it, and back", "h2h4 g7g5 h4g5 a7a6 h1. h5R h5. h6R h7. h6. h1R h7p a2a3",
      "h2h4 g7g5 h4g5 a7a6 a2a3"},
+    {"nobody takes his own", "d1. d2. d2Q 900 d1Q d2P e2e4", "e2e4"},
 
     {"castling, the king first", ITALIAN "e1. g1K h1. f1R d7d6",
      ITALIAN "e1g1 d7d6"},
@@ -91,12 +100,30 @@ static const struct test_case {
      "d2d4 d7d5 c1f4 c8f5 e2e3 b8c6 g1f3 d8d7 f1e2 e8c8 e1g1"},
     {"half castled, and another adjusted", ITALIAN "e1. g1K 900 a2. 900 a2P 900 h1. f1R d7d6",
      ITALIAN "e1g1 d7d6"},
+    {"a queen doesn't castle",
+     "e2e4 e7e5 e1e2 a7a6 d1e1 a6a5 e2d1 a5a4 f1e2 b7b6 g1f3 b6b5 e1g1 b5b4",
+     "e2e4 e7e5 e1e2 a7a6 d1e1 a6a5 e2d1 a5a4 f1e2 b7b6 g1f3 b6b5 e1g1 b5b4"},
+    {"no castling over a piece", "e1. g1. g1K 900 g1. e1K g1N e2e4", "e2e4"},
+
+    {"no castling through check", FIANCHETTO "e1. g1K 900 h1. f1R 900 g1. e1K f1. h1R 900 d2d3",
+     FIANCHETTO "d2d3"},
+    {"a rook's move that looks like that", FIANCHETTO "h1. f1R 400 h5h4", FIANCHETTO "h1f1 h5h4"},
+    {"no castling after a king's move", ITALIAN "e1e2 a7a6 e2e1 a6a5 e1. g1K 900 g1. e1K d2d3",
+     ITALIAN "e1e2 a7a6 e2e1 a6a5 d2d3"},
+
+    {"no move leaves the king in check", CHECK "b1. c3N 900 c3. b1N g2g3", CHECK "g2g3"},
+    {"no king moves into check", CHECK "e1. f2K 900 f2. e1K g2g3", CHECK "g2g3"},
 
     {"in passing, the taken pawn off last", PASSING "e5. d6P d5. g8f6", PASSING "e5d6 g8f6"},
     {"in passing, the taken pawn off late", PASSING "e5. d6P 900 d5. 900 g8f6",
      PASSING "e5d6 g8f6"},
     {"in passing, the taken pawn off first", PASSING "d5. e5. d6P g8f6", PASSING "e5d6 g8f6"},
     {"in passing, both in hand", PASSING "e5. d5. d6P g8f6", PASSING "e5d6 g8f6"},
+    {"in passing, not later", PASSING "g1f3 a6a5 e5. d6P d5. 900 d6. e5P d5p b1c3",
+     PASSING "g1f3 a6a5 b1c3"},
+    {"in passing, in no other rank",
+     "e2e3 d7d5 a2a3 d5d4 e3e4 a7a6 d4. e4. d5P 900 d5. e4P d4p g1f3",
+     "e2e3 d7d5 a2a3 d5d4 e3e4 a7a6 g1f3"},
     {"in passing, Black's", "h2h3 d7d5 h3h4 d5d4 e2e4 d4. e3p e4. a2a3",
      "h2h3 d7d5 h3h4 d5d4 e2e4 d4e3 a2a3"},
 
@@ -107,6 +134,8 @@ static const struct test_case {
     {"promotion, the pawn left there", SEVENTH "g8. h7. g8P 900 g8. 900 g8Q b7b6",
      SEVENTH "h7g8Q b7b6"},
     {"promotion, the pawn never replaced", SEVENTH "g8. h7. g8P b7b6", SEVENTH "h7g8Q b7b6"},
+    {"no promotion before the last rank", "e2. e4Q 900 e4. e2P d2d4", "d2d4"},
+    {"no piece but a pawn is promoted", "g1. f3B 900 f3. f3N", "g1f3"},
 
     {"taken back", "e2e4 e4e2 d2d4", "e2e4 d2d4"},
     {"the first move, taken back and made again", "e2e4 e4e2 e2e4 e7e5", "e2e4 e2e4 e7e5"},
