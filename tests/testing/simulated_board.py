@@ -16,7 +16,7 @@ from wrong import wanted
 # The first moves of a game, as squares: from and to, twice where White castles.
 GAME = """e2e4 e7e5 g1f3 b8c6 f1b5 a7a6 b5a4 g8f6 e1g1h1f1 f8e7 f1e1 b7b5 a4b3 d7d6""".split()
 INCREMENT = 5  # seconds that a clock adds when it is pressed
-RUNS, WHITE_TURN = 0x01, 0x10  # bits of a clock's status
+RUNS, WHITE_TURN, BLACK_TURN = 0x01, 0x10, 0x08  # bits of a clock's status
 
 
 class Board(PluggedBoard):

@@ -35,6 +35,7 @@ def has_module(name, python=PYTHON):
 def missing(is_shown=True):
     """The packages of Debian that aren't here, and that the page needs, or else its server."""
     found = absent({"mosquitto": "mosquitto"})
+    found += absent({"mosquitto-clients": "mosquitto_pub"}) if is_shown else []
     found += [] if has_module("paho.mqtt.client") else ["python3-paho-mqtt"]
     return found + ([] if chromium.find() or not is_shown else ["chromium"])
 
@@ -156,6 +157,11 @@ class Room:
     @property
     def at_broker(self):
         return ["--broker", "127.0.0.1", "--broker-port", self.broker_port]
+
+    def broadcast(self, name, period=10):
+        """Has a board published to the broker, under its number."""
+        words = [self.boards[name - 1].path, name, "--period", period]
+        return self.start(EXAMPLES / "broadcast", *words, *self.at_broker)
 
     def broadcast_all(self, folder, names, period=10):
         """Has all boards of a folder published, under the names of a file."""
