@@ -5,9 +5,10 @@
 #include <limits.h>
 
 enum {
-    PERIOD = 2000,    /* of the follower: from one request to the next */
-    HEARTBEATS = 6,   /* the most plain requests in a row before the follower starts over */
-    LOOK_AGAIN = 1000 /* between two looks for the port */
+    PERIOD = 2000,     /* of the follower: from one request to the next */
+    HEARTBEATS = 6,    /* the most plain requests in a row before the follower starts over */
+    LOOK_AGAIN = 1000, /* between two looks for the port */
+    WRITE_WAIT = 500   /* for a port that takes no bytes: dgt_port_write waits longer */
 };
 
 long long line_now(void) { return (long long)dgt_port_now(); }
@@ -21,6 +22,21 @@ static bool open_port(line *line) {
     if (line->port >= 0) tcflush(line->port, TCIOFLUSH);
     else if (errno == EWOULDBLOCK) errno = EBUSY;
     return line->port >= 0;
+}
+
+static bool write_all(int port, const uint8_t *bytes, size_t n) {
+    uint64_t end = dgt_port_now() + WRITE_WAIT;
+    while (n > 0) {
+        ssize_t wrote = write(port, bytes, n);
+        if (wrote > 0) {
+            bytes += wrote;
+            n -= (size_t)wrote;
+        } else if ((wrote < 0 && errno != EAGAIN && errno != EINTR) ||
+                   dgt_port_wait_(port, POLLOUT, end) == 0) {
+            return false;
+        }
+    }
+    return true;
 }
 
 /* Notes that the port is lost, with everything in transit, and starts to look for it. */
@@ -37,7 +53,7 @@ static void lose(line *line) {
 static void ask(line *line) {
     uint8_t out[DGT_MAX_ASKING];
     dgt_sent asked = dgt_follower_ask(&line->follower, dgt_port_now(), out, sizeof out);
-    if (!dgt_port_write(line->port, out, asked.bytes)) lose(line);
+    if (!write_all(line->port, out, asked.bytes)) lose(line);
 }
 
 void line_ask_texts(line *line) {
@@ -45,7 +61,7 @@ void line_ask_texts(line *line) {
     for (size_t each = 0; each < sizeof codes && line->port >= 0; each++) {
         uint8_t out[1];
         dgt_sent sent = dgt_follower_send(&line->follower, codes[each], out, sizeof out);
-        if (sent.status == DGT_DONE && !dgt_port_write(line->port, out, sent.bytes)) lose(line);
+        if (sent.status == DGT_DONE && !write_all(line->port, out, sent.bytes)) lose(line);
     }
 }
 

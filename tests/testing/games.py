@@ -20,6 +20,7 @@ PERFT = [
 
 PACE = 0.1  # seconds after each square, as fast as hands are: a bump of the table is faster
 
+
 class Hand:
     """A hand on a board, and what the recogniser reports of it: moves, those taken back with a
     hyphen, and `game` for each beginning. Times are in seconds."""

@@ -1,17 +1,48 @@
-// Tests the page's game: what is said if no move leads to a picture, gaps and PGN. games.mjs plays
-// games.
+// Tests the page's game: random games, what is said if no move leads to a picture, gaps and PGN.
 //
 // node game.mjs MODULE
 
 import assert from "node:assert/strict";
 import { readFileSync } from "node:fs";
+import { State } from "../../../bindings/javascript/chess.js";
 import { load } from "../../../bindings/javascript/dgt.js";
+import { chance } from "../../../bindings/javascript/tests/random.mjs";
 import { Game } from "../game.js";
 
 const dgt = await load(readFileSync(process.argv[2]));
+const START = State.start(dgt);
 const REST = 12000; // milliseconds: the longest rest of moves
+const numbered = (state, move) =>
+  (state.turn === "white" ? `${state.number}. ` : "") + state.san(move);
 const words = ({ pgn }) => pgn.split("\n\n").filter((_, n) => n % 2)
   .map(part => part.replace(/\s+/g, " ").trim());
+
+const GAMES = 20;
+// Each move of a random game is shown as a board shows it: one square after another.
+const random = chance(1);
+let plies = 0;
+for (let round = 0; round < GAMES; round++) {
+  const game = new Game(dgt), texts = [];
+  let state = START, now = 0;
+  game.see(now, state.position);
+  for (let n = 0; n < 120 && state.canMove; n++) {
+    const moves = state.moves(), move = moves[random(moves.length)];
+    texts.push(numbered(state, move));
+    const shown = Array.from(state.position);
+    state = state.play(move);
+    const after = state.position;
+    const changed = dgt.differ(shown, after).sort((a, b) => (after[a] > 0) - (after[b] > 0));
+    for (const at of changed) {
+      shown[at] = after[at];
+      game.see(now += 150, shown);
+    }
+    now += 2500; // a rook's move may be half a castling
+  }
+  game.see(now, state.position);
+  plies += texts.length;
+  assert.deepEqual(game.moves, texts, `game ${round}`);
+  assert.equal(game.result !== "*", !state.canMove, `game ${round}`);
+}
 
 /** A game in which these placements were shown, each for this time. */
 const shown = (placements, time = REST) => {
@@ -90,4 +121,4 @@ for (const hours of [14, -12]) { // in one of these zones it is another day than
   const day = new Date(Date.now() + 3600e3 * hours).toISOString().slice(0, 10);
   assert.ok(erring.pgn.includes(`[Date "${day.replaceAll("-", ".")}"]`), erring.pgn);
 }
-console.log("gaps and PGN");
+console.log(`${GAMES} games, ${plies} moves`);

@@ -772,6 +772,7 @@ inline std::optional<std::string> text_of(ByteView bytes) {
 
 class Host;
 class Follower;
+template <class Self> class Sender;
 
 /// The messages that a Host and a Follower send to the clock of a board, which acknowledges each by
 /// an Ack. Spaces are added after shorter texts. Throws std::invalid_argument if a text is too long
@@ -825,8 +826,10 @@ public:
 
 private:
     friend Self;
-    template <class> friend class Sender;
+    friend Sender<Self>;
     ClockCommands() = default;
+    ClockCommands(const ClockCommands &) = delete;
+    ClockCommands &operator=(const ClockCommands &) = delete;
 
     /// Makes one of two calls of dgt.h: that for a host, or that for a follower.
     template <auto OfHost, auto OfFollower, class... Given> auto call(Given... given) {
@@ -922,6 +925,10 @@ public:
     /// Reports that the line was lost, with all bytes under way: a host is as new. A follower keeps
     /// its period, patience and mode, and whether it confirms and identifies.
     void line_lost() { this->template call<dgt_host_line_lost, dgt_follower_line_lost>(); }
+
+private:
+    friend Self;
+    Sender() = default;
 };
 
 // ---- A host.
@@ -933,8 +940,6 @@ public:
     Host() {
         if (!dgt_host_init(&handle_)) throw WrongLibrary();
     }
-    Host(const Host &) = delete;
-    Host &operator=(const Host &) = delete;
 
     /// Hears the bytes up to the first event, or all of them: at least 1, if there are any.
     Heard hear_one(ByteView bytes) { return detail::heard<dgt_host_hear>(handle_, body_, bytes); }
@@ -985,8 +990,6 @@ public:
         set_confirm(confirm);
         set_identify(identify);
     }
-    Follower(const Follower &) = delete;
-    Follower &operator=(const Follower &) = delete;
 
     /// The request at this time, empty if none is due.
     Commands ask(Milliseconds now) {

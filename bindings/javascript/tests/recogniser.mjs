@@ -13,6 +13,27 @@ const dgt = await load(readFileSync(process.argv[2]));
 const START = State.start(dgt);
 const shown = event => event.state ? { ...event, state: event.state.fen } : event;
 
+// Moves from the initial position, the rest of each in milliseconds, and the events.
+const GAME_ROWS = [
+  ["e2e4 e7e5", 2000, [{ type: "begun", state: START.fen, isTurned: false },
+                       { type: "made", move: "e2e4" }, { type: "made", move: "e7e5" }]],
+];
+for (const [moves, rest, known] of GAME_ROWS) {
+  const recogniser = new Recogniser(dgt), events = [];
+  let state = START, now = 0;
+  events.push(...recogniser.see(now, state.position));
+  for (const move of moves.split(" ")) {
+    state = state.play(move);
+    now += rest;
+    events.push(...recogniser.see(now, state.position));
+  }
+  events.push(...recogniser.due(now + rest));
+  assert.deepEqual(events.map(shown), known, moves);
+  assert.equal(recogniser.state.fen, state.fen);
+  recogniser.goOn(state, true);
+  assert.deepEqual([recogniser.due(now + rest), recogniser.state.fen], [[], state.fen]);
+}
+
 // Placements, null while the board is away, each shown for 12 s, and all events.
 const INITIAL = "rnbqkbnr/pppppppp/8/8/8/8/PPPPPPPP/RNBQKBNR", LIFTED = INITIAL.replace(/k/gi, "1");
 const E4 = "rnbqkbnr/pppppppp/8/8/4P3/8/PPPP1PPP/RNBQKBNR";
