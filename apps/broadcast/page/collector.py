@@ -435,6 +435,7 @@ class Table:
     due: float = NEVER  # here
 
     def now(self, here: float) -> float:
+        """The board's time."""
         return self.base[0] + min(here - self.base[1], TRUST) - LATE if self.base else self.at
 
     def set_due(self) -> None:

@@ -78,6 +78,7 @@ class Display:
 
     @property
     def _message(self) -> Message:
+        """The next message for the clock."""
         if self._version is None:
             return ClockId.VERSION, b""
         return message_of(self._move, self._version) if self._move else (ClockId.END, b"")

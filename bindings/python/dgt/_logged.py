@@ -129,6 +129,7 @@ class LoggedGames:
         self._outside, self._unknown = list[int](), list[str]()
 
     def read(self, body: bytes) -> None:
+        """Makes the games of a complete log."""
         place = 0
         for stored in read_stored(body):
             if isinstance(stored, StoredPiece):
@@ -248,6 +249,7 @@ class LoggedGames:
 
     @property
     def _side(self) -> str:
+        """White's side of the clock."""
         is_learned = self._white_clock == "learn"
         return self._learner.side or SIDES[0] if is_learned else self._white_clock
 

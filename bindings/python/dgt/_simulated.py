@@ -43,6 +43,7 @@ class RunningClock:
 
     @property
     def runs(self) -> int | None:
+        """The side that runs."""
         return None if self.due is None else self.side
 
     def run(self, side: int | None, now: float) -> None:
