@@ -6,7 +6,7 @@ import { pathToFileURL } from "node:url";
 /** Runs the program of the package's page that contains this, and returns its text. */
 export async function runProgram(word, folder) {
   const page = readFileSync(new URL("../README.md", import.meta.url), "utf8");
-  const programs = page.match(/(?<=^```js\n)[^`]*(?=^```$)/gm);
+  const programs = page.match(/(?<=^```js\n)[^]*?(?=^```$)/gm);
   const program = programs.find(text => word.test(text)), place = pathToFileURL(folder);
   const found = program.replace(/"dgt-board\/?([^"]*)"/g,
                                 (_, name) => JSON.stringify(`${place}/${name || "dgt.js"}`));
