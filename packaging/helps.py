@@ -62,7 +62,6 @@ def read_rows(lines: list[str]) -> list[Row]:
 
 
 def parse(text: str) -> Help:
-    """Reads a help text."""
     found = Help()
     for block in re.split(r"\n\s*\n", text.strip("\n")):
         lines = block.splitlines()
@@ -96,7 +95,6 @@ def read_words(help_of: Help) -> list[Row]:
 
 
 def ask(program: str, *words: str) -> str:
-    """The help that a command prints."""
     ran = subprocess.run([program, *words, "--help"], capture_output=True, text=True, check=True)
     return ran.stdout
 

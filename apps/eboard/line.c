@@ -1,82 +1,39 @@
 #define _GNU_SOURCE
 #include "line.h"
 
-#include <errno.h>
-#include <fcntl.h>
+#include "dgt_port.h"
 #include <limits.h>
-#include <poll.h>
-#include <stdio.h>
-#include <string.h>
-#include <sys/file.h>
-#include <sys/ioctl.h>
-#include <termios.h>
-#include <time.h>
-#include <unistd.h>
 
 enum {
     PERIOD = 2000,     /* of the follower: from one request to the next */
     HEARTBEATS = 6,    /* the most plain requests in a row before the follower starts over */
     LOOK_AGAIN = 1000, /* between two looks for the port */
-    WRITE_WAIT = 500   /* for a port that takes no bytes */
+    WRITE_WAIT = 500   /* for a port that takes no bytes: dgt_port_write waits longer */
 };
 
-long long line_now(void) {
-    struct timespec time;
-    clock_gettime(CLOCK_MONOTONIC, &time);
-    return time.tv_sec * 1000LL + time.tv_nsec / 1000000;
-}
+long long line_now(void) { return (long long)dgt_port_now(); }
 
 /* ---- The port */
 
-/* 9600 baud, eight bits, no parity, one stop bit, raw. */
-static bool set_up(int port) {
-    struct termios settings;
-    if (tcgetattr(port, &settings) != 0) return false;
-    cfmakeraw(&settings);
-    settings.c_cflag |= CLOCAL | CREAD;
-    settings.c_cflag &= ~(tcflag_t)(CSTOPB | CRTSCTS);
-    cfsetispeed(&settings, B9600);
-    cfsetospeed(&settings, B9600);
-    return tcsetattr(port, TCSANOW, &settings) == 0;
-}
-
-/* Locks the port for programs that check the lock. False, with EBUSY in errno, if another program
- * holds it. */
-static bool lock_port(int port) {
-    if (flock(port, LOCK_EX | LOCK_NB) == 0) return true;
-    if (errno == EWOULDBLOCK) errno = EBUSY;
-    return false;
-}
-
-/* Opens the port for this process only: TIOCEXCL refuses all later openers but root. Programs that
- * eboard starts, such as an engine, must not inherit the port: O_CLOEXEC. */
-static int open_port(const char *name) {
-    int port = open(name, O_RDWR | O_NOCTTY | O_NONBLOCK | O_CLOEXEC);
-    if (port < 0) return -1;
-    if (lock_port(port) && set_up(port) && ioctl(port, TIOCEXCL) == 0) {
-        tcflush(port, TCIOFLUSH);
-        return port;
-    }
-    int kept = errno;
-    close(port);
-    errno = kept;
-    return -1;
+/* Opens the port for this process only, without what arrived before. False, with EBUSY in errno, if
+ * another program has locked it. */
+static bool open_port(line *line) {
+    line->port = dgt_port_open(line->name);
+    if (line->port >= 0) tcflush(line->port, TCIOFLUSH);
+    else if (errno == EWOULDBLOCK) errno = EBUSY;
+    return line->port >= 0;
 }
 
 static bool write_all(int port, const uint8_t *bytes, size_t n) {
-    long long end = line_now() + WRITE_WAIT;
+    uint64_t end = dgt_port_now() + WRITE_WAIT;
     while (n > 0) {
         ssize_t wrote = write(port, bytes, n);
         if (wrote > 0) {
             bytes += wrote;
             n -= (size_t)wrote;
-        } else if (wrote < 0 && errno != EAGAIN && errno != EINTR) {
+        } else if ((wrote < 0 && errno != EAGAIN && errno != EINTR) ||
+                   dgt_port_wait_(port, POLLOUT, end) == 0) {
             return false;
-        } else {
-            struct pollfd waits = {port, POLLOUT, 0};
-            long long left = end - line_now();
-            if (left <= 0) return false;
-            if (poll(&waits, 1, (int)left) < 0 && errno != EINTR) return false;
         }
     }
     return true;
@@ -92,12 +49,10 @@ static void lose(line *line) {
 
 /* ---- Requests */
 
-static uint64_t now(void) { return (uint64_t)line_now(); }
-
 /* Requests each change and all squares, if that is due. */
 static void ask(line *line) {
     uint8_t out[DGT_MAX_ASKING];
-    dgt_sent asked = dgt_follower_ask(&line->follower, now(), out, sizeof out);
+    dgt_sent asked = dgt_follower_ask(&line->follower, dgt_port_now(), out, sizeof out);
     if (!write_all(line->port, out, asked.bytes)) lose(line);
 }
 
@@ -123,15 +78,14 @@ bool line_open(line *line, const char *name) {
         return false;
     }
     dgt_follower_set_confirm(&line->follower, true);
-    line->port = open_port(name);
-    if (line->port < 0) return false;
+    if (!open_port(line)) return false;
     ask(line);
     return true;
 }
 
 void line_keep(line *line) {
     if (line->port < 0 && line_now() >= line->look) {
-        line->port = open_port(line->name);
+        open_port(line);
         line->look = line_now() + LOOK_AGAIN;
     }
     if (line->port >= 0) ask(line);
@@ -144,10 +98,7 @@ long long line_due(line *line) {
 }
 
 void line_close(line *line) {
-    if (line->port >= 0) {
-        ioctl(line->port, TIOCNXCL); /* it would outlast the close if another has the port open */
-        close(line->port);
-    }
+    if (line->port >= 0) dgt_port_close(line->port);
     line->port = -1;
 }
 
@@ -194,15 +145,11 @@ static void hear(line *line, const dgt_event *event, const uint8_t *body, size_t
 void line_read(line *line, seen *seen) {
     uint8_t bytes[256], body[128];
     dgt_event event;
-    ssize_t got = read(line->port, bytes, sizeof bytes);
-    if (got < 0 && (errno == EAGAIN || errno == EINTR)) return;
-    if (got <= 0) {
-        lose(line);
-        return;
-    }
-    for (size_t at = 0; at < (size_t)got;) {
-        at += dgt_follower_hear(&line->follower, now(), bytes + at, (size_t)got - at, &event, body,
-                                sizeof body);
+    long got = dgt_port_read(line->port, bytes, sizeof bytes, 0);
+    if (got < 0) lose(line);
+    for (long at = 0; at < got;) {
+        at += (long)dgt_follower_hear(&line->follower, dgt_port_now(), bytes + at,
+                                      (size_t)(got - at), &event, body, sizeof body);
         hear(line, &event, body, sizeof body, seen);
     }
 }

@@ -8,11 +8,9 @@
  */
 
 import { BadValue, Closed, Follower, lighting } from "./dgt.js";
+import { Line } from "./line.js";
 
-const SERIAL = { baudRate: 9600, dataBits: 8, stopBits: 1, parity: "none", flowControl: "none",
-                 bufferSize: 4096 };
 const LOOK = 2000; // milliseconds between two looks for a port that has gone
-const LATE = 100; // milliseconds in which bytes from before a fault of the line may still arrive
 const STALE = 1000; // milliseconds after which a view is dropped if there is a newer one
 const LONGEST = 3_600_000; // milliseconds of a timer
 const GONE = "the port has gone; it is looked for every two seconds";
@@ -35,10 +33,8 @@ const SILENT = "the board doesn't answer (switch it off and on)";
  *   opened at first is looked for. `ports` is navigator.serial unless you pass another one: it
  *   finds a port that comes back as another object.
  *
- * @typedef {EventTarget & {readable: ReadableStream<Uint8Array> | null,
- *   writable: WritableStream<Uint8Array> | null, open(options: typeof SERIAL): Promise<void>,
- *   close(): Promise<void>, getInfo?(): object}} BoardPort  what is used of a SerialPort
- * @typedef {EventTarget & {getPorts?(): Promise<BoardPort[]>}} Ports
+ * @typedef {import("./line.js").BoardPort} BoardPort
+ * @typedef {import("./line.js").Ports} Ports
  */
 
 /**
@@ -66,30 +62,16 @@ export class Following {
   #views = [];
   /** @type {Set<() => void>} each ends a `wait` */
   #waiting = new Set();
-  #endPause = () => {};
   #isClosed = false;
   /** @type {unknown} why the port could not be opened */
   #fault = null;
   #wasThere = false;
   /** @type {string | null} why there is no port */
   #missing = null;
-  /** @type {ReadableStreamDefaultReader<Uint8Array> | null} */
-  #reader = null;
-  /** @type {WritableStreamDefaultWriter<Uint8Array> | null} */
-  #writer = null;
-  #unwritten = 0; // requests and other bytes that the line hasn't taken yet
-  /** @type {ReturnType<typeof setTimeout> | undefined} */
-  #timer;
   #askedAt = -Infinity;
   #unansweredAt = -Infinity;
-  #disturbedUntil = 0;
-  /** @type {BoardPort} */
-  #port;
-  /** @type {Ports | undefined} */
-  #ports;
-  /** @type {BoardPort[]} the other ports while this one was there: those of other boards */
-  #others = [];
-  #waits;
+  /** @type {Line} */
+  #line;
   #served;
 
   /**
@@ -99,10 +81,38 @@ export class Following {
   constructor(dgt, port, options = {}) {
     const { ports, waitForPort, ...rest } = options;
     this.follower = new Follower(dgt, rest);
-    this.#port = port;
-    this.#ports = ports ?? /** @type {any} */ (globalThis.navigator)?.serial;
-    this.#waits = Boolean(waitForPort);
-    this.#served = this.#serve();
+    const found = ports ?? /** @type {any} */ (globalThis.navigator)?.serial;
+    this.#line = new Line(this.follower, port, found, LOOK, {
+      opened: () => {
+        this.#wasThere = true;
+        this.#missing = null;
+        this.#note();
+      },
+      refused: error => {
+        if (this.#wasThere || waitForPort) {
+          this.#lose(this.#wasThere ? GONE : error.message);
+        } else {
+          this.#fault = error;
+          this.#line.hasEnded = true;
+        }
+        this.#wake();
+      },
+      lost: () => { if (!this.#isClosed) this.#lose(GONE); },
+      disturbed: () => {},
+      heard: event => {
+        const isZero = event.type === "times" && !this.follower.clock;
+        this.#note(isZero || (event.type === "refused" && event.fault === "badReading"));
+      },
+      asked: (_, now) => {
+        this.#askedAt = now;
+        if (!this.#isUnanswered) this.#unansweredAt = now;
+      },
+      passed: now => {
+        this.#note(); // an answer or the rest of a message may be overdue
+        return now + LONGEST;
+      },
+    });
+    this.#served = this.#line.run();
   }
 
   /**
@@ -161,9 +171,7 @@ export class Following {
    */
   write(bytes) {
     if (this.#isClosed) throw new Closed("this Following is closed");
-    const done = () => { this.#unwritten--; };
-    this.#unwritten++;
-    (this.#writer?.write(bytes) ?? Promise.resolve()).then(done, done);
+    this.#line.write(bytes);
   }
 
   /**
@@ -179,141 +187,13 @@ export class Following {
     this.#isClosed = true;
     this.#views = [];
     this.#wake();
-    this.#endPause();
-    try {
-      await this.#reader?.cancel();
-    } catch { /* the port has disappeared already */ }
+    await this.#line.end();
     await this.#served;
-  }
-
-  async #serve() {
-    for (let isFirst = true; !this.#isClosed && !this.#fault; isFirst = false) {
-      if (!isFirst) await this.#comesBack();
-      if (!this.#isClosed && await this.#open(isFirst)) await this.#talk();
-    }
-    this.follower.close();
-  }
-
-  /** @param {boolean} isFirst */
-  async #open(isFirst) {
-    try {
-      await this.#port.open(SERIAL);
-    } catch (error) {
-      const { name, message } = /** @type {Error} */ (error);
-      if (name !== "InvalidStateError") { // that means: it is open already
-        if (isFirst && !this.#waits) this.#fault = error;
-        else this.#lose(this.#wasThere ? GONE : message);
-        this.#wake();
-        return false;
-      }
-    }
-    this.#wasThere = true;
-    this.#missing = null;
-    this.#note();
-    return true;
-  }
-
-  async #talk() {
-    this.#writer = this.#port.writable?.getWriter() ?? null;
-    this.#unwritten = 0;
-    this.#drive();
-    for (let chunk; (chunk = await this.#next());) this.#hear(chunk);
-    clearTimeout(this.#timer);
-    try {
-      this.#reader?.releaseLock();
-      this.#writer?.releaseLock();
-      await this.#port.close();
-    } catch { /* the port has disappeared */ }
-    this.#reader = this.#writer = null;
-    if (!this.#isClosed) this.#lose(GONE);
-  }
-
-  // Returns the next chunk, or null once the port has disappeared. A fault of the line, such as a
-  // framing error, ends the stream; the port then has a new one.
-  async #next() {
-    for (let stream; this.#port.readable && this.#port.readable !== stream && !this.#isClosed;) {
-      stream = this.#port.readable;
-      this.#reader ??= stream.getReader();
-      try {
-        return (await this.#reader.read()).value ?? null;
-      } catch {
-        this.#reader.releaseLock();
-        this.#reader = null;
-        if (this.#port.readable) this.#disturb();
-      }
-    }
-    return null;
-  }
-
-  // A dump that arrives soon after a fault may be older than it, and must not end the doubt.
-  #disturb() {
-    this.#disturbedUntil = performance.now() + LATE;
-    this.follower.lineDisturbed();
-    this.#drive();
-  }
-
-  /** @param {Uint8Array} chunk */
-  #hear(chunk) {
-    const { follower } = this, now = performance.now();
-    for (const event of follower.hearEach(now, chunk)) {
-      if (now < this.#disturbedUntil) follower.lineDisturbed();
-      const isZero = event.type === "times" && !follower.clock;
-      this.#note(isZero || (event.type === "refused" && event.fault === "badReading"));
-    }
-    this.#drive();
-  }
-
-  // Sends a request if one is due and the line has taken the one before.
-  #drive() {
-    if (this.#isClosed || !this.#writer) return;
-    clearTimeout(this.#timer);
-    const now = performance.now(), bytes = this.#unwritten ? null : this.follower.ask(now);
-    if (bytes) {
-      this.#askedAt = Math.floor(now);
-      if (!this.#isUnanswered) this.#unansweredAt = this.#askedAt;
-      this.write(bytes);
-      this.#seeOthers();
-    }
-    this.#note(); // an answer or the rest of a message may be overdue
-    const left = this.#unwritten ? LATE : Math.ceil(this.follower.dueAt - now);
-    this.#timer = setTimeout(() => this.#drive(), Math.min(LONGEST, Math.max(10, left)));
-  }
-
-  /** The ports that are there, or none if they aren't known. */
-  async #present() {
-    try {
-      return await this.#ports?.getPorts?.() ?? [];
-    } catch {
-      return [];
-    }
-  }
-
-  async #seeOthers() {
-    const all = await this.#present();
-    if (all.includes(this.#port)) this.#others = all.filter(port => port !== this.#port);
-  }
-
-  // Waits until the port may be back, perhaps as another object.
-  async #comesBack() {
-    const over = new AbortController(), { signal } = over;
-    await new Promise((/** @type {(value?: unknown) => void} */ done) => {
-      const timer = setTimeout(done, LOOK);
-      this.#endPause = () => (clearTimeout(timer), done());
-      for (const target of [this.#port, this.#ports]) {
-        target?.addEventListener?.("connect", this.#endPause, { signal });
-      }
-    });
-    over.abort();
-    const info = JSON.stringify(this.#port.getInfo?.()), all = await this.#present();
-    const alike = all.filter(one =>
-      JSON.stringify(one.getInfo?.()) === info && !this.#others.includes(one));
-    if (alike.length && !alike.includes(this.#port)) this.#port = alike[0];
   }
 
   /** @param {string} why */
   #lose(why) {
     this.#missing = why;
-    this.follower.lineLost();
     this.#askedAt = this.#unansweredAt = -Infinity;
     this.#note();
   }

@@ -34,7 +34,6 @@ class Function:
 
 
 def functions_of(source: pathlib.Path) -> list[Function]:
-    """The functions of a source."""
     found: list[Function] = []
     owner, is_trait = "", False
     doc: list[str] = []
@@ -81,5 +80,4 @@ def functions(crate: str) -> list[Function]:
 
 
 def public(crate: str) -> list[Function]:
-    """The functions of a crate that others may call."""
     return [function for function in functions(crate) if function.is_public]

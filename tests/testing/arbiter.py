@@ -3,10 +3,8 @@ sends with the move that was made on the board. The board's side moves at random
 plays to win, so most games end with a mate.
 
 A third of the games start from a FEN. In half of them the board plays Black, in some it is turned,
-and in half of them the line loses and alters bytes. Moves are made as people make them. Pieces are
-slid, captured pieces are lifted first or last, and castling starts with the king or the rook. A
-pawn is put on the last rank before the piece that it becomes. Moves are started and taken back, and
-the board's move may be made before the answer was put on the board.
+and in half of them the line loses and alters bytes. Moves are made as people make them, and the
+board's move may be made before the answer was put on the board.
 """
 
 import random
@@ -170,7 +168,6 @@ class Game:
 
 
 def play(dgt, seed):
-    """Plays a game. Returns what was tried."""
     with a_line() as line:
         game = Game(dgt, seed, line)
         try:
@@ -183,7 +180,6 @@ def play(dgt, seed):
 
 
 def check(dgt, pool, count):
-    """Plays `count` games. Returns what was tried."""
     begun, total = time.monotonic(), {}
     for counts in pool.map(lambda seed: play(dgt, seed), range(count)):
         for name, number in counts.items():

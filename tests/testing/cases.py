@@ -1,14 +1,13 @@
 """What the scripts of tests/ share: their cases, and what runs them.
 
-A script defines classes of cases, and ends with
+A script defines classes of cases of unittest, and ends with
 
     if __name__ == "__main__":
         cases.main(threads=6)
 
-The cases are those of unittest. `tests/apps/games mates` runs one of them,
-`-k clock` those with this in their names, and `--list` prints all names. Each
-ends what it has started (`addCleanup`, `enterContext`, `start`), so that it can
-run alone. None is tried twice.
+`tests/apps/games mates` runs one of them, `-k clock` those with this in their
+names, and `--list` prints all names. Each ends what it has started, so that it
+can run alone. None is tried twice.
 """
 
 import argparse
@@ -19,10 +18,12 @@ import faulthandler
 import fnmatch
 import functools
 import importlib
+import importlib.machinery
 import importlib.util
 import os
 import pathlib
 import select
+import shlex
 import shutil
 import signal
 import subprocess
@@ -37,6 +38,8 @@ import wrong
 
 ROOT = pathlib.Path(__file__).resolve().parents[2]
 sys.path.insert(1, str(ROOT / "bindings/python"))
+sys.dont_write_bytecode = True  # of what the scripts import
+PROGRAM = str(ROOT / "crates/dgt/out/dgt")
 SECONDS = 120  # for what takes one or two: the machine may be busy
 MOST_SECONDS = 2700  # without the end of any case
 # A process of root that may do what any user may, and no more.
@@ -51,6 +54,17 @@ def library() -> Any:
     if "DGT_LIBRARY" not in os.environ:
         subprocess.run([ROOT / "bindings/c/build"], check=True)
     return importlib.import_module("dgt")
+
+
+def script(path: str) -> Any:
+    """A script of tests/ as a module."""
+    name = path.rpartition("/")[2]
+    loader = importlib.machinery.SourceFileLoader(name, str(ROOT / "tests" / path))
+    spec = importlib.util.spec_from_loader(name, loader)
+    assert spec
+    module = importlib.util.module_from_spec(spec)
+    loader.exec_module(module)
+    return module
 
 
 def leave_out(reason: str) -> None:
@@ -69,6 +83,17 @@ def skip(reason: str) -> NoReturn:
 def note(text: str) -> None:
     """Adds counts to the last line."""
     NOTES.append(text)
+
+
+def command(*words: object, seconds: float | None = 600, text: bool = True, **how: Any) -> Any:
+    """What a command prints that must not fail: a text, or else bytes."""
+    how = how if "input" in how else {"stdin": subprocess.DEVNULL} | how
+    ran = subprocess.run([str(word) for word in words], capture_output=True, check=False,
+                         timeout=seconds, text=text, **how)
+    if ran.returncode:
+        raise wrong.Wrong(f"{shlex.join(map(str, words))} ended with {ran.returncode}: "
+                          f"{ran.stderr[-4000:]}{ran.stdout[-4000:]}")
+    return ran.stdout
 
 
 def absent(*names: str) -> list[str]:
@@ -120,6 +145,14 @@ class Case(unittest.TestCase):
         ran = subprocess.Popen([*map(str, words)], **how)
         self.addCleanup(end, ran)
         return ran
+
+
+class ProgramCase(Case):
+    """A case of the program. The launcher builds it first if that is needed."""
+
+    @classmethod
+    def setUpClass(cls) -> None:
+        command(ROOT / "dgt", "--help", seconds=None)
 
 
 class AsyncCase(Case, unittest.IsolatedAsyncioTestCase):
@@ -194,7 +227,6 @@ class Result(unittest.TestResult):
 
 
 def run(case: unittest.TestCase) -> Result:
-    """Runs a case once."""
     result = Result(case)
     case.run(result)
     result.seconds = time.monotonic() - result.began

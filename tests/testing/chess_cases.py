@@ -86,8 +86,6 @@ class Chess(cases.Case):
             self.assertRaises(TypeError, call, None)
 
 
-# ---- States of games
-
 # A text, and the FEN of its state.
 LOOSE = [
     ("4k3/8/8/8/8/8/4P3/4K3", "4k3/8/8/8/8/8/4P3/4K3 w - - 0 1"),

@@ -1,6 +1,7 @@
 """A program under test, such as a UCI engine, and what it prints."""
 
 import os
+import pathlib
 import subprocess
 import sys
 import threading
@@ -9,21 +10,44 @@ import time
 from cases import ROOT, SECONDS
 from wrong import Wrong, wanted
 
-WORDS = [sys.executable, "-m", "dgt", "uci"]
+PROGRAM = [sys.executable, "-m", "dgt"]
+WORDS = [*PROGRAM, "uci"]
+ENVIRONMENT = os.environ | {"PYTHONPATH": str(ROOT / "bindings/python"),
+                            "PYTHONDONTWRITEBYTECODE": "1"}
 # What xboard takes for the death of an engine, and what a system says of a fault.
 DEADLY = ["unknown host", "no remote directory", "not found", "no such file", "can't alloc",
           "permission denied", "errno", "traceback", "resource temporarily"]
 
 
+def run(*words, before=(), **environment):
+    """Runs a program of the package to its end, and gives its status and both outputs."""
+    words = [*before, *PROGRAM, *map(str, words)]
+    ran = subprocess.run(words, capture_output=True, text=True, timeout=SECONDS, check=False,
+                         stdin=subprocess.DEVNULL, cwd="/", env=ENVIRONMENT | environment)
+    wanted(f"a traceback of {words}: {ran.stderr}", "Traceback" in ran.stderr, False)
+    return ran
+
+
+def check_ends(rows, **how):
+    """Each program with its words ends with a status. A part of what it then prints is given: on
+    standard error, or on standard output if nothing is wrong. Returns what each prints there."""
+    told = []
+    for words, status, part in rows:
+        ran = run(*words, **how)
+        told.append(ran.stderr if status else ran.stdout)
+        wanted(f"{words}: {told[-1]}", (ran.returncode, part in told[-1]), (status, True))
+        wanted(f"the output of {words}", bool(ran.stdout), status == 0)
+    return told
+
+
 class Engine:
     """An engine, and all lines that it has printed, each with its time."""
 
-    def __init__(self, *words, before=(), command=WORDS, options=()):
-        env = os.environ | {"PYTHONPATH": str(ROOT / "bindings/python"),
-                            "PYTHONDONTWRITEBYTECODE": "1"}
-        piped = dict.fromkeys(["stdin", "stdout", "stderr"], subprocess.PIPE)
+    def __init__(self, *words, before=(), command=WORDS, options=(), **how):
+        piped = dict.fromkeys(["stdin", "stdout", "stderr"], subprocess.PIPE) | how
         words = [*before, *command, *map(str, words)]
-        self.ran = subprocess.Popen(words, text=True, bufsize=1, env=env, cwd="/", **piped)
+        self.ran = subprocess.Popen(words, text=True, bufsize=1, env=ENVIRONMENT, cwd="/",
+                                    **piped)
         self.lines, self.warned, self.come = [], [], threading.Condition()
         self.seen, self.said = 0, []
         self.threads = [threading.Thread(target=each, daemon=True)
@@ -39,7 +63,7 @@ class Engine:
                 raise
 
     def hear(self):
-        for line in self.ran.stdout:
+        for line in self.ran.stdout or ():
             with self.come:
                 self.lines.append((time.monotonic(), line.rstrip("\n")))
                 self.come.notify_all()
@@ -91,6 +115,23 @@ class Engine:
         self.say("isready")
         self.expect("readyok")
         return time.monotonic() - begun
+
+    def check_rests(self, what):
+        """It takes next to no time of the processor for two seconds."""
+        def used():
+            stat = pathlib.Path(f"/proc/{self.ran.pid}/stat").read_text()
+            return sum(map(int, stat.rpartition(")")[2].split()[11:13]))
+
+        before = used()
+        time.sleep(2)
+        wanted(f"ticks of the processor in 2 s, {what}", used() - before <= 3, True)
+
+    def finish(self):
+        """Waits until it has ended. Returns its status, and what standard error got."""
+        status = self.ran.wait(SECONDS)
+        for thread in self.threads:
+            thread.join(SECONDS)
+        return status, "".join(self.warned)
 
     def end(self, status=0):
         """Ends the engine, and looks through what it has printed."""

@@ -84,8 +84,6 @@ class Firefox:
         return found
 
     def do(self, method: str, **params: object) -> Any:
-        """Has the browser do something, and gives its answer. Errors on the page's console are
-        kept."""
         self.number += 1
         text = json.dumps({"id": self.number, "method": method, "params": params}).encode()
         size = len(text)
@@ -103,13 +101,11 @@ class Firefox:
                 return answer["result"]
 
     def open(self, url: str, first: str = "") -> None:
-        """Opens a page; this script is run first in it."""
         if first:
             self.do("script.addPreloadScript", functionDeclaration=f"() => {{ {first} }}")
         self.do("browsingContext.navigate", context=self.context, url=url, wait="none")
 
     def ask(self, expression: str) -> Any:
-        """The value of an expression in the page, or that of its promise."""
         answer = self.do("script.evaluate", expression=expression, awaitPromise=True,
                          target={"context": self.context})
         if answer["type"] == "exception":
@@ -117,7 +113,6 @@ class Firefox:
         return plain(answer["result"])
 
     def wait(self, expression: str, seconds: float = 20) -> bool:
-        """Waits until an expression holds in the page, and says whether it did in time."""
         end = time.monotonic() + seconds
         while not self.ask(expression):
             if time.monotonic() > end:
@@ -138,14 +133,12 @@ class Firefox:
             source | {"id": str(source), "actions": actions}])
 
     def point(self, act: str, x: float, y: float, with_touch: bool = False) -> None:
-        """A mouse or a finger goes down, moves or goes up."""
         press: list[Any] = ([] if act == "move" else
                             [{"type": f"pointer{act.capitalize()}", "button": 0}])
         self.act({"type": "pointerMove", "x": round(x), "y": round(y)}, *press, type="pointer",
                  parameters={"pointerType": "touch" if with_touch else "mouse"})
 
     def enter(self, text: str) -> None:
-        """Types a text, and presses Enter."""
         self.act(*({"type": f"key{way}", "value": key} for key in f"{text}\ue007"
                    for way in ("Down", "Up")), type="key")
 

@@ -52,7 +52,6 @@ class Program(contextlib.ExitStack):
         return lines
 
     def expect(self, *right):
-        """The next lines are these."""
         lines = [self.ran.stdout.readline().rstrip("\n") for _ in right]
         wanted(f"lines of {self.ran.args}", lines, [*right])
 

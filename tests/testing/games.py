@@ -20,8 +20,6 @@ PERFT = [
 
 PACE = 0.1  # seconds after each square, as fast as hands are: a bump of the table is faster
 
-# ---- Hands
-
 
 class Hand:
     """A hand on a board, and what the recogniser reports of it: moves, those taken back with a
@@ -70,6 +68,13 @@ class Hand:
 
 
 # ---- Random games
+
+
+def played(state, moves):
+    """The state after these moves, by their long names."""
+    for move in moves.split():
+        state = state.after(move)
+    return state
 
 
 def in_any_order(chance, before, after, move, number):

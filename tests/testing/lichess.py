@@ -100,7 +100,6 @@ class Lichess:
         return self.events[-1] if self.events else {}
 
     async def until(self, what, holds):
-        """Waits until this holds."""
         try:
             async with asyncio.timeout(SECONDS), self.news:
                 while not holds():

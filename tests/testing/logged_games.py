@@ -25,11 +25,12 @@ import tables
 from cases import ROOT, SECONDS
 from dgt._logged import LoggedGames
 from dgt._simulated import RunningClock
+from engines import ENVIRONMENT, PROGRAM
+from engines import run as ran
 from simulated_board import Boards
 from simulated_board import a_line as a_board
 from wrong import Wrong, wanted
 
-PROGRAM = [sys.executable, "-m", "dgt"]
 SESSION = ROOT / "tests/sessions/simulated_log.txt"
 MARKS = {"nothing": 0x00, "on": 0x6A, "end": 0x6B, "rows": 0x6C, "empty": 0x6D, "sent": 0x6E,
          "begin": 0x6F, "turned": 0x7A, "tag": 0x7B, "dog": 0x7C, "erased": 0x7F}
@@ -247,7 +248,6 @@ class Logs(cases.Case):
             wanted(f"games from byte {at} on", games, [])
 
     def test_logging_board(self):
-        """What a board logs, and when."""
         board = dgt.LoggingBoard(clock=dgt.NoClock())
         wanted("a new one", body_of(board), logged("on begin end"))
         board.change("e2", ".")
@@ -352,9 +352,6 @@ class Logs(cases.Case):
                 dgt.LoggingBoard(room=size)
 
 
-# ---- Random games
-
-
 class LoggedTable(tables.AtGame):
     """A table with a second board, which logs what happens, and to which nobody listens."""
 
@@ -426,14 +423,6 @@ def play_logged(seeds, most):
 # ---- The program
 
 
-def ran(*words, seconds=SECONDS):
-    env = os.environ | {"PYTHONPATH": str(ROOT / "bindings/python"), "PYTHONDONTWRITEBYTECODE": "1"}
-    got = subprocess.run([*PROGRAM, *map(str, words)], capture_output=True, text=True, check=False,
-                         timeout=seconds, stdin=subprocess.DEVNULL, cwd="/", env=env)
-    wanted(f"a traceback of {words}: {got.stderr}", "Traceback" in got.stderr, False)
-    return got
-
-
 @contextlib.contextmanager
 def a_line(board=None):
     """A board on a line, and a name for a file of games."""
@@ -456,8 +445,6 @@ def slowly(line):
 
 
 class LogPrograms(cases.Case):
-    """The program, with a board that keeps a log."""
-
     def test_program_log(self):
         """The games of a board's log are printed, and added to a file. The board isn't changed."""
         with a_line() as (line, path):
@@ -507,7 +494,7 @@ class LogPrograms(cases.Case):
             board.change(word[:2], word[2])
         with a_line(board) as (line, path), subprocess.Popen(
                 [*PROGRAM, "game", line.path, "--log"], stdout=subprocess.PIPE, text=True, cwd="/",
-                env=os.environ | {"PYTHONPATH": str(ROOT / "bindings/python")}) as got:
+                env=ENVIRONMENT) as got:
             fcntl.fcntl(got.stdout, fcntl.F_SETPIPE_SZ, 4096)
             time.sleep(8)
             lines = got.stdout.read().splitlines()
@@ -546,20 +533,16 @@ class LogPrograms(cases.Case):
             wanted(f"the third time, {got.stderr}", (got.returncode, got.stdout.splitlines()[1:]),
                    (0, ["1. e4 e2e4"]))
         with a_line(dgt.Board()) as (line, path):
-            env = os.environ | {"PYTHONPATH": str(ROOT / "bindings/python")}
-            with subprocess.Popen([*PROGRAM, "game", line.path, "--log"], env=env, cwd="/",
+            with subprocess.Popen([*PROGRAM, "game", line.path, "--log"], env=ENVIRONMENT, cwd="/",
                                   stderr=subprocess.PIPE, text=True) as got:
-                end = time.monotonic() + SECONDS
-                while not line.asked and time.monotonic() < end:
-                    time.sleep(0.01)
+                cases.wait("a request", lambda: line.asked)
                 got.send_signal(signal.SIGTERM)
                 wanted("after a signal", (got.wait(SECONDS), got.stderr.read()), (1, ""))
 
     def test_replayed_log(self):
         """The session of tests/sessions/ with a log."""
-        env = os.environ | {"PYTHONPATH": str(ROOT / "bindings/python")}
-        with subprocess.Popen([*PROGRAM, "replay", "--speed", "100", SESSION], env=env, cwd="/",
-                              stdout=subprocess.PIPE, text=True) as replay:
+        with subprocess.Popen([*PROGRAM, "replay", "--speed", "100", SESSION], env=ENVIRONMENT,
+                              cwd="/", stdout=subprocess.PIPE, text=True) as replay:
             with tempfile.TemporaryDirectory() as folder:
                 path = pathlib.Path(folder, "games.pgn")
                 got = ran("game", replay.stdout.readline().strip(), "--log", "--pgn", path)

@@ -14,15 +14,7 @@ START = "rnbqkbnr/pppppppp/8/8/8/8/PPPPPPPP/RNBQKBNR"
 
 # Codes of messages, and the size of the body where a code has but one.
 DUMP, CLOCK, FIELD, SERIAL, TRADEMARK, VERSION, BATTERY, LONG_SERIAL = (
-    0x06,
-    0x0D,
-    0x0E,
-    0x11,
-    0x12,
-    0x13,
-    0x20,
-    0x22,
-)
+    0x06, 0x0D, 0x0E, 0x11, 0x12, 0x13, 0x20, 0x22)
 SIZES = {DUMP: 64, CLOCK: 7, FIELD: 2, SERIAL: 5, VERSION: 2}
 STORED = 0x0F
 MARKS = {0x00: "nothing", 0x6A: "powerup", 0x6B: "end", 0x6C: "fourrows", 0x6D: "emptyboard"}
@@ -31,15 +23,8 @@ MARKS |= {0x7F: "erased"}
 
 # The commands of one byte: those that ask for a message, with its code, and those that set the
 # mode.
-REPLIES = {
-    0x41: CLOCK,
-    0x42: DUMP,
-    0x45: SERIAL,
-    0x47: TRADEMARK,
-    0x4C: BATTERY,
-    0x4D: VERSION,
-    0x55: LONG_SERIAL,
-}
+REPLIES = {0x41: CLOCK, 0x42: DUMP, 0x45: SERIAL, 0x47: TRADEMARK, 0x4C: BATTERY, 0x4D: VERSION,
+           0x55: LONG_SERIAL}
 IDLE, UPDATE, UPDATE_BOARD, UPDATE_NICE = MODES = 0x40, 0x43, 0x44, 0x4B
 # The first bytes of the commands of several bytes.
 CLOCK_MESSAGE, LIGHTS = 0x2B, 0x60
@@ -47,13 +32,8 @@ CLOCK_VERSION_ID = 0x09
 
 # What the program's board is.
 FIRST_CLOCK = bytes(7)
-BODIES = {
-    SERIAL: b"00001",
-    TRADEMARK: b"SIMULATED BOARD",
-    VERSION: bytes([1, 3]),
-    BATTERY: b"\x64",
-    LONG_SERIAL: b"0000000001",
-}
+BODIES = {SERIAL: b"00001", TRADEMARK: b"SIMULATED BOARD", VERSION: bytes([1, 3]),
+          BATTERY: b"\x64", LONG_SERIAL: b"0000000001"}
 CLOCK_VERSION = 0x14
 MOST_OWED = 8
 MOST_AWAITED = 16
@@ -160,12 +140,8 @@ def message_text(code, body):
         return f"refused {code:02x} {text}" if text.startswith("bad") else text
     if code == VERSION:
         return f"version {body[0]}.{body[1]}"
-    names = {
-        SERIAL: "serial",
-        TRADEMARK: "trademark",
-        BATTERY: "battery",
-        LONG_SERIAL: "longserial",
-    }
+    names = {SERIAL: "serial", TRADEMARK: "trademark", BATTERY: "battery",
+             LONG_SERIAL: "longserial"}
     return f"{names.get(code, f'other {code:02x}')} {hexadecimal(body)}"
 
 
@@ -200,7 +176,6 @@ class Decoder:
 
 
 def monitor(data):
-    """What `dgt monitor` writes."""
     decoder, lines = Decoder(), []
     for offset, byte in enumerate(data, 1):
         text = decoder.take(byte)
@@ -264,7 +239,6 @@ def stored(body):
 
 
 def log(data):
-    """What `dgt log` writes."""
     lines, decoder = [], Decoder()
     for offset, byte in enumerate(data, 1):
         decoder.take(byte)
@@ -298,14 +272,8 @@ def word_kind(word):
 
 
 # The words for commands, and for clock messages that carry nothing, by their ids.
-NAMES = {
-    0x40: "reset",
-    0x41: "clock",
-    0x42: "dump",
-    0x43: "update",
-    0x44: "updateboard",
-    0x4B: "updatenice",
-}
+NAMES = {0x40: "reset", 0x41: "clock", 0x42: "dump", 0x43: "update", 0x44: "updateboard",
+         0x4B: "updatenice"}
 NAMES |= {0x45: "serial", 0x47: "trademark", 0x4C: "battery", 0x4D: "version", 0x55: "longserial"}
 EMPTY = {0x03: "end", 0x08: "button", 0x09: "clockversion"}
 SEGMENTS = dict(zip(bytes.fromhex("3f065b4f666d7d077f6f0040"), "0123456789 -"))
@@ -343,7 +311,6 @@ def word_text(word, kind):
 
 
 def commands(data):
-    """What `dgt commands` writes."""
     word, lines = b"", []
     for offset, byte in enumerate(data, 1):
         word += bytes([byte])
@@ -491,9 +458,8 @@ class Board:
 
     def hand_clock(self, clock):
         self.clock = clock
-        self.owes_times = (
-            self.mode == UPDATE or self.mode == UPDATE_NICE and self.reported_clock != clock
-        )
+        self.owes_times = (self.mode == UPDATE
+                           or self.mode == UPDATE_NICE and self.reported_clock != clock)
 
     def line_lost(self):
         self.mode = IDLE
@@ -525,11 +491,8 @@ class Board:
         """The message that is to be sent first, or None: owed replies, then fields, then the
         clock."""
         if self.owed:
-            return (
-                spell(CLOCK, self.owed[0])
-                if isinstance(self.owed[0], bytes)
-                else self.form(self.owed[0])
-            )
+            return (spell(CLOCK, self.owed[0]) if isinstance(self.owed[0], bytes)
+                    else self.form(self.owed[0]))
         if self.mode != IDLE:
             for square in range(64):
                 if self.squares[square] != self.reported_squares[square]:
@@ -683,9 +646,8 @@ class World:
         return "done"
 
     def is_quiet(self):
-        unread = (
-            self.up or self.down or self.host.decoder.unfinished or self.board.reader.unfinished
-        )
+        unread = (self.up or self.down or self.host.decoder.unfinished
+                  or self.board.reader.unfinished)
         return not unread and self.board.next_message() is None
 
     def closing_lines(self):
@@ -702,11 +664,8 @@ class World:
 
 
 def read_square(word):
-    return (
-        8 * (ord("8") - word[1]) + word[0] - ord("a")
-        if re.fullmatch(rb"[a-h][1-8]", word)
-        else None
-    )
+    return (8 * (ord("8") - word[1]) + word[0] - ord("a") if re.fullmatch(rb"[a-h][1-8]", word)
+            else None)
 
 
 def read_letter(word):

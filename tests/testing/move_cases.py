@@ -8,7 +8,7 @@ import re
 import cases
 import dgt
 from dgt._live_boards import Game as LiveGame
-from games import PERFT, Game, Hand
+from games import PERFT, Game, Hand, played
 from wrong import wanted
 
 
@@ -86,7 +86,6 @@ def read_table():
 
 
 def do(hand, step):
-    """Makes a step of the table."""
     number = hand.dgt.square_number
     if step == "turned":
         hand.squares = list(reversed(hand.dgt.Position.start().letters))
@@ -220,9 +219,6 @@ class LiveHand(Hand):
                 game.wait(due)
 
 
-# ---- The cases
-
-
 class Recognition(cases.Case):
     def test_table(self):
         rows = list(read_table())
@@ -244,11 +240,10 @@ class Recognition(cases.Case):
     def test_given(self):
         """A game goes on from a position, whichever the board shows."""
         for before, given, steps, moves in GIVEN:
-            state, hand = dgt.GameState.start(), LiveHand(dgt.Position.start().letters)
+            state = played(dgt.GameState.start(), given)
+            hand = LiveHand(dgt.Position.start().letters)
             for step in before.split():
                 do(hand, step)
-            for move in given.split():
-                state = state.after(move)
             hand.client = LiveGame(hand.own, hand.time)
             for _ in range(2):
                 hand.client.set_up(state, hand.time)

@@ -15,9 +15,6 @@ from wrong import wanted
 FIELD = bytes([0x8E, 0, 5, 36, 1])
 
 
-# ---- What the objects of Python know
-
-
 class Known(cases.Case):
     def test_host(self):
         """A host reports what it awaits, and what was asked for out of turn."""
@@ -110,9 +107,6 @@ class Known(cases.Case):
             board.take(b"\x42")
         sizes = [len(message) for message in (first, *answers)]
         wanted("busy half way", sizes, [5] + 8 * [67] + 2 * [5])
-
-
-# ---- What a Python program may do wrong
 
 
 class Misused(cases.Case):

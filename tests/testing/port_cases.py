@@ -32,13 +32,8 @@ def no_more(what, board, seconds=0.3):
 
 
 class OnALine(cases.Case):
-    """Cases of a board on a line."""
-
     def setUp(self):
         self.line = self.enterContext(a_line())
-
-
-# ---- A port by its name
 
 
 class Ports(OnALine):
@@ -69,9 +64,7 @@ class Ports(OnALine):
             self.line.asked.clear()
             board.light("e2", "e4")
             board.light()
-            end = time.monotonic() + SECONDS
-            while sum(len(asked) for _, asked in self.line.asked) < 14 and time.monotonic() < end:
-                time.sleep(0.01)
+            cases.wait("frames", lambda: sum(len(asked) for _, asked in self.line.asked) >= 14)
             wanted("frames", b"".join(asked for _, asked in self.line.asked).hex(),
                    "600401342400" "44" "600400404000" "44")
 

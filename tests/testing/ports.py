@@ -26,7 +26,6 @@ def see(view):
 
 
 def expect(what, board, *right):
-    """The next views say this."""
     for number, each in enumerate(right):
         view = board.wait(SECONDS)
         wanted(f"{what}, {number}", view and see(view), each)

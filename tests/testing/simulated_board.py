@@ -129,7 +129,6 @@ class Boards(PluggedBoards):
         self.add(*(pathlib.Path(folder, f"port{number + 1}") for number in range(count)))
 
     def add(self, *paths):
-        """Plugs more boards in."""
         for path in paths:
             said = dgt.Identity(serial=f"{len(self) + 1:05}".encode())
             board = Board(path, board=dgt.LoggingBoard(None, dgt.NoClock(), said))

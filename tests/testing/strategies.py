@@ -29,7 +29,6 @@ def clear_tops(data: bytes) -> bytes:
 
 
 def seven_bit(least: int, most: int) -> Strategy[bytes]:
-    """Bytes from 0 to 127."""
     return st.binary(min_size=least, max_size=most).map(clear_tops)
 
 
@@ -87,7 +86,6 @@ def clock_body(clock: dgt.Clock) -> bytes:
 
 
 def spell(code: int, body: bytes) -> bytes:
-    """The bytes of a message."""
     return bytes(model.spell(code, body))
 
 

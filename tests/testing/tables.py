@@ -78,6 +78,11 @@ class Table(games.Hand):
             self.board.change(square, letter)
         self.hear(self.board.messages())
 
+    def stand(self, state):
+        """All pieces stand as in this state at once."""
+        self.squares = list(state.letters)
+        self.show()
+
     def hear(self, messages):
         chunk = b"".join(map(self.spoil, messages))
         if self.is_plugged:

@@ -32,9 +32,6 @@ def refusal(what, error, call):
     raise Wrong(f"{what}: {made!r} instead of a {error.__name__}")
 
 
-# ---- Positions
-
-
 class Values(cases.Case):
     def test_position(self):
         position, letters = dgt.Position.parse(START), list(LETTERS)
@@ -87,7 +84,6 @@ class Values(cases.Case):
                         raise Wrong(f"{what}: {fault!r}") from fault
 
     def test_refusals(self):
-        """What is said of some of them."""
         for call, error, said in [
             (lambda: dgt.Follower(patience=1.5), dgt.BadValue,
              "patience must be a number from 0 to 4294967295: 1.5"),
@@ -124,7 +120,6 @@ class Values(cases.Case):
             wanted("what is said", refusal(said, error, call), said)
 
     def test_copies(self):
-        """Objects that would share a part with their copy can't be copied."""
         for kind in (dgt.World, dgt.Host, dgt.Follower, dgt.Decoder, dgt.CommandDecoder, dgt.Board,
                      dgt.Following, dgt.Games, dgt.PgnFile):
             for how in (copy.copy, copy.deepcopy, pickle.dumps):
@@ -250,8 +245,6 @@ def calls():
         (lambda result: dgt.PgnGame(result=result).text(), "*"),
     ]
 
-
-# ---- Texts
 
 TABLES, _ = worked.read_tables()
 

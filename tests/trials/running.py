@@ -13,6 +13,7 @@ import time
 sys.path.append(str(pathlib.Path(__file__).resolve().parents[1] / "testing"))
 import chromium
 import simulated_board
+from wrong import Wrong
 
 EXAMPLES = pathlib.Path(__file__).resolve().parents[2] / "apps/broadcast"
 PYTHON = "/usr/bin/python3"  # Debian's, which has Debian's modules
@@ -69,6 +70,12 @@ def family(pid):
     return found
 
 
+def processor(pid):
+    """Seconds of processor time of a process."""
+    tasks = pathlib.Path(f"/proc/{pid}/task").glob("*/schedstat")
+    return sum(int(task.read_text().split()[0]) for task in tasks) / 1e9
+
+
 def alive(pids):
     """Those of these processes that haven't ended."""
     return [pid for pid in pids if os.path.exists(f"/proc/{pid}/exe")]
@@ -82,6 +89,12 @@ def holds(what, seconds=60):
             return False
         time.sleep(0.05)
     return True
+
+
+def wait(what, held, seconds=60):
+    """Waits until this holds, in time."""
+    if not holds(held, seconds):
+        raise Wrong(f"not in time: {what}")
 
 
 class Room:
@@ -136,8 +149,7 @@ class Room:
         text = f"listener {self.broker_port} 127.0.0.1\nallow_anonymous true\n"
         (self.path / "broker.conf").write_text(text)
         self.broker = self.start("mosquitto", "-c", "broker.conf")
-        if not holds(lambda: is_open(self.broker_port)):
-            raise RuntimeError("the broker doesn't start")
+        wait("the broker", lambda: is_open(self.broker_port))
 
     def make_boards(self, count, folder="."):
         self.boards = simulated_board.Boards(self.path / folder, count)

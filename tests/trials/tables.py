@@ -14,6 +14,7 @@ import threading
 import time
 
 import running
+from simulated_board import Hands
 from wrong import Wrong
 
 ROOT = pathlib.Path(__file__).resolve().parent.parent.parent
@@ -33,7 +34,7 @@ class Player(threading.Thread):
         super().__init__(daemon=True)
         self.dgt, self.board, self.asked = dgt, board, asked
         self.chance = random.Random(7)
-        self.letters = list(dgt.Position.start().letters)
+        self.show = Hands(board).set_up
         self.state, self.made, self.is_over = None, [], False
 
     def run(self):
@@ -71,17 +72,6 @@ class Player(threading.Thread):
                 break
         return move
 
-    def show(self, letters):
-        """Puts pieces until the board shows this: first those that are taken off."""
-        changed = [square for square in range(64) if self.letters[square] != letters[square]]
-        for wanted in ([(square, ".") for square in changed if self.letters[square] != "."]
-                       + [(square, letters[square]) for square in changed
-                          if letters[square] != "."]):
-            square, letter = wanted
-            self.board.put((self.dgt.SQUARES[square], letter))
-            self.letters[square] = letter
-            time.sleep(0.02)
-
 
 def read_games(dgt, text):
     """Of each game of a PGN: its heads, the moves of the side that the board played, and how many
@@ -117,8 +107,7 @@ class Table:
         with open(room.path / "display", "w") as display:
             words = ["Xvfb", "-displayfd", "1", "-screen", "0", SCREEN, "-nolisten", "tcp"]
             room.runs.append(subprocess.Popen(words, stdout=display, stderr=room.log))
-        if not running.holds(lambda: (room.path / "display").read_text().endswith("\n")):
-            raise Wrong("no display")
+        running.wait("a display", lambda: (room.path / "display").read_text().endswith("\n"))
         self.display = ":" + (room.path / "display").read_text().strip()
 
     def start(self, *words, **environment):
@@ -135,7 +124,6 @@ class Table:
                            env=os.environ | {"DISPLAY": self.display}, check=False)
 
     def told(self):
-        """The moves that the engine has sent."""
         lines = (self.room.path / "told").read_text().splitlines()
         return [line.split()[1] for line in lines if line.startswith("bestmove")]
 
@@ -171,16 +159,23 @@ def compare(dgt, table, text):
     return colours
 
 
-def main(name, doc, needed, play):
-    """Plays, if all that is needed is here."""
+def begin(name, doc, packages):
+    """Reads the words of a trial, and leaves it out if packages are missing. Returns the package
+    for Python."""
     argparse.ArgumentParser(description=doc, allow_abbrev=False,
                             formatter_class=argparse.RawDescriptionHelpFormatter).parse_args()
+    if packages:
+        print(f"{name}: left out, for want of {', '.join(packages)}")
+        sys.exit(os.environ.get("DGT_CHECKS") == "all")
     import dgt
 
     signal.signal(signal.SIGTERM, lambda *_: sys.exit(1))
-    if packages := running.absent(needed):
-        print(f"{name}: left out, for want of {', '.join(packages)}")
-        sys.exit(os.environ.get("DGT_CHECKS") == "all")
+    return dgt
+
+
+def main(name, doc, needed, play):
+    """Plays, if all that is needed is here."""
+    dgt = begin(name, doc, running.absent(needed))
     with running.Room() as room:
         table = Table(dgt, room, name)
         try:

@@ -19,6 +19,7 @@ from typing import Any
 
 import dgt
 from dgt._locks import hold
+from dgt._mqtt import say
 
 import topics
 from corrections import DESK, Entry
@@ -86,8 +87,6 @@ class Now:
 
 @dataclass
 class Removed:
-    """A board was removed."""
-
     board: str
 
 
@@ -301,7 +300,6 @@ class Shelf:
                          (board, number)), None)
 
     def texts(self) -> list[str]:
-        """All games in order."""
         counts: collections.Counter[str] = collections.Counter()
         ordered = []
         for kept in self.games:
@@ -371,7 +369,6 @@ class Shelf:
 
     @property
     def lacks(self) -> bool:
-        """Whether the file lacks something."""
         return bool(self.fault)
 
     def close(self) -> bool:
@@ -676,7 +673,4 @@ def nothing(_: str) -> None:
     """What `dgt-game` would print."""
 
 
-def report(text: str) -> None:
-    """Prints a line on standard error. Nobody may read it, or its disk may be full."""
-    with contextlib.suppress(OSError):
-        sys.stderr.write(f"{PROGRAM}: {text}\n")
+report = functools.partial(say, PROGRAM)

@@ -49,7 +49,6 @@ def read_secret(path: str) -> str:
 
 
 def round_of(text: str) -> str:
-    """The round of a game's text."""
     found = ROUND.search(text)
     return re.sub(r"\\(.)", r"\1", found[1]) if found else "?"
 
@@ -130,7 +129,6 @@ class Files(Out):
         return "", 0.0
 
     def write(self, name: str, text: bytes) -> None:
-        """Replaces a file."""
         path, new = self.folder / name, self.folder / f".{name}.new"
         try:
             with open(new, "wb") as opened:

@@ -8,6 +8,8 @@ import threading
 import time
 from typing import Any
 
+from dgt._mqtt import Reporter
+
 import collector
 import corrected_games
 import corrections
@@ -19,18 +21,6 @@ from collector import report
 MOST_BOARDS, MOST_OF_PUBLISHER = 4096, 512
 
 
-class Reporter:
-    """Reports the state of something on standard error, each time that it changes."""
-
-    def __init__(self) -> None:
-        self.last = ""
-
-    def say(self, how: str) -> None:
-        if how != self.last:
-            report(how)
-        self.last = how
-
-
 class Boards:
     """The last messages of each board, and the events for pages."""
 
@@ -38,7 +28,7 @@ class Boards:
         self.lock = threading.Lock()
         self.state, self.marks = state, state.marks()
         self.asked: dict[tuple[str, str], tuple[int, float]] = {}
-        self.fault = Reporter()
+        self.fault = Reporter(collector.PROGRAM)
         self.known: dict[str, topics.Board] = {}
         self.owned: collections.Counter[str] = collections.Counter()  # boards of each journal
         self.events = web.Events()

@@ -245,7 +245,6 @@ class Board:
                 self.game, self.is_turned = None, False
 
     def hear_entry(self, number: int, said: list[Any]) -> None:
-        """Notes an entry."""
         entry = read_entry(said)
         text = said[IN_ENTRY.index(CLOCK)] or ""
         if text != self.texts.get(CLOCK):

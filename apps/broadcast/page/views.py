@@ -4,13 +4,13 @@ import json
 from typing import Any
 
 import dgt
+from dgt.clock_side import _seconds
 
 SHOWN_MOVES = 12
 Summary = dict[str, Any]
 
 
 def summary(games: dgt.Games) -> Summary | None:
-    """The summary of the game on a board."""
     game = games.game
     if game is None:
         return None
@@ -39,8 +39,7 @@ def written(game: dgt.PgnGame) -> bytes:
     and the player's remaining seconds."""
     moves = list(game.moves)  # the thread of the games may add some
     first = moves[0].before if moves else game.state
-    clocks = [each.clock and 3600 * each.clock.hours + 60 * each.clock.minutes + each.clock.seconds
-              for each in moves]
+    clocks = [each.clock and _seconds(each.clock) for each in moves]
     return json.dumps({
         "number": first.number, "is_white_first": first.white, "result": game.result,
         "moves": [each.san for each in moves], "clocks": clocks,

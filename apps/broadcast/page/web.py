@@ -124,7 +124,6 @@ class Connection(asyncio.Protocol):
         self.transport.abort()
 
     def wait(self) -> None:
-        """Waits for the next request."""
         self.due = self.server.loop.time() + SECONDS
         self.server.let_wait(self)
 
@@ -206,7 +205,6 @@ class Connection(asyncio.Protocol):
             self.read()
 
     def catch_up(self) -> None:
-        """Sends new events to a page."""
         assert self.place is not None
         self.due = math.inf
         while self.place < self.server.events.end and not self.is_full:
@@ -333,7 +331,6 @@ class Server:
         self.loop.call_at(self.written + PAUSE, self.write)
 
     def write(self) -> None:
-        """Sends new events to all pages."""
         self.written, self.is_woken = self.loop.time(), False
         self.some.clear()
         for page in list(self.pages):

@@ -117,27 +117,6 @@ static void check_time(bool (*get)(dgt_follower *, uint64_t *), bool is_known, u
     check_written(time, sizeof *time, &right, is_known ? sizeof right : 0);
 }
 
-static void look_at_board(void) {
-    const model_host *host = &model.host;
-    uint8_t *picture = guarded(LOOK, 64);
-    CHECK(dgt_follower_picture(follower, picture) == host->knows_picture);
-    check_written(picture, 64, host->picture, host->knows_picture ? 64 : 0);
-
-    char *text = guarded(LOOK, DGT_PLACEMENT_ROOM), right[DGT_PLACEMENT_ROOM] = "";
-    if (host->knows_picture) model_placement(host->picture, right);
-    CHECK(dgt_follower_placement(follower, text) == host->knows_picture);
-    check_written(text, DGT_PLACEMENT_ROOM, right, host->knows_picture ? strlen(right) + 1 : 0);
-
-    dgt_clock *clock = guarded(LOOK, sizeof *clock);
-    const dgt_clock unknown = {.kind = DGT_CLOCK_UNKNOWN};
-    dgt_follower_clock(follower, clock);
-    CHECK_SAME(clock, model.is_unreadable ? &unknown : &host->clock);
-
-    uint8_t *serial = guarded(LOOK, sizeof model.serial);
-    CHECK(dgt_follower_serial(follower, serial) == model.has_serial);
-    check_written(serial, sizeof model.serial, model.serial, model.has_serial ? 5 : 0);
-}
-
 static void look(void) {
     uint64_t due = 0;
     bool is_due = model_due_at(&model, &due);
@@ -148,7 +127,11 @@ static void look(void) {
     CHECK(dgt_follower_heartbeats_left(follower) == model.left);
     CHECK(dgt_follower_unread(follower) == model.host.decoder.n);
     CHECK(dgt_follower_mode(follower) == model.mode);
-    look_at_board();
+    const dgt_clock unknown = {.kind = DGT_CLOCK_UNKNOWN};
+    check_board(&model.host, model.is_unreadable ? &unknown : &model.host.clock);
+    uint8_t *serial = guarded(LOOK, sizeof model.serial);
+    CHECK(dgt_follower_serial(follower, serial) == model.has_serial);
+    check_written(serial, sizeof model.serial, model.serial, model.has_serial ? 5 : 0);
 }
 
 int LLVMFuzzerTestOneInput(const uint8_t *data, size_t n) {

@@ -49,20 +49,7 @@ static void send_follow(bool is_restart) {
 /* ---- Its state. */
 
 static void look(void) {
-    uint8_t *picture = guarded(LOOK, 64);
-    CHECK(dgt_host_picture(host, picture) == model.knows_picture);
-    check_written(picture, 64, model.picture, model.knows_picture ? 64 : 0);
-
-    char *text = guarded(LOOK, DGT_PLACEMENT_ROOM), right_text[DGT_PLACEMENT_ROOM] = "";
-    if (model.knows_picture) model_placement(model.picture, right_text);
-    CHECK(dgt_host_placement(host, text) == model.knows_picture);
-    check_written(text, DGT_PLACEMENT_ROOM, right_text,
-                  model.knows_picture ? strlen(right_text) + 1 : 0);
-
-    dgt_clock *clock = guarded(LOOK, sizeof *clock);
-    dgt_host_clock(host, clock);
-    CHECK_SAME(clock, &model.clock);
-
+    check_board(&model, &model.clock);
     uint8_t *codes = guarded(LOOK, DGT_MAX_AWAITED);
     CHECK(dgt_host_awaited(host, codes) == model.awaited_n);
     check_written(codes, DGT_MAX_AWAITED, model.awaited, model.awaited_n);

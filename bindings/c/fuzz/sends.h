@@ -1,5 +1,22 @@
-/* What both a host and a follower send. A file that includes this defines SEND(name, ..), the call
- * of this name, MODEL, the model of the host, and SENT(sending), what the sender makes of it. */
+/* What both a host and a follower send, and know of a board. A file that includes this defines
+ * SEND(name, ..), the call of this name, MODEL, the model of the host, and SENT(sending), what the
+ * sender makes of it. */
+
+static void check_board(const model_host *right, const dgt_clock *right_clock) {
+    size_t known = right->knows_picture ? 1 : 0;
+    uint8_t *picture = guarded(LOOK, 64);
+    CHECK(SEND(picture, picture) == right->knows_picture);
+    check_written(picture, 64, right->picture, 64 * known);
+
+    char *text = guarded(LOOK, DGT_PLACEMENT_ROOM), right_text[DGT_PLACEMENT_ROOM] = "";
+    if (known) model_placement(right->picture, right_text);
+    CHECK(SEND(placement, text) == right->knows_picture);
+    check_written(text, DGT_PLACEMENT_ROOM, right_text, (strlen(right_text) + 1) * known);
+
+    dgt_clock *clock = guarded(LOOK, sizeof *clock);
+    SEND(clock, clock);
+    CHECK_SAME(clock, right_clock);
+}
 
 static void check_sent(dgt_sent sent, dgt_sent right, const uint8_t *out, size_t room,
                        const model_sending *sending) {

@@ -401,6 +401,12 @@ enum class Mode : std::uint8_t {
 
 namespace detail {
 
+template <std::size_t N> std::array<std::uint8_t, N> copied(const std::uint8_t (&bytes)[N]) {
+    std::array<std::uint8_t, N> copy;
+    std::copy(std::begin(bytes), std::end(bytes), copy.begin());
+    return copy;
+}
+
 inline Time read_time(const dgt_time &time) {
     return Time{time.hours, time.minutes, time.seconds, time.flags};
 }
@@ -410,10 +416,7 @@ inline Times read_times(const dgt_clock &clock) {
 }
 
 inline NoClock read_no_clock(const dgt_clock &clock) {
-    NoClock read;
-    std::copy(std::begin(clock.raw), std::end(clock.raw), read.raw.begin());
-    read.status = clock.status;
-    return read;
+    return NoClock{copied(clock.raw), clock.status};
 }
 
 inline std::optional<Clock> read_clock(const dgt_clock &clock) {
@@ -436,12 +439,6 @@ inline dgt_clock write_clock(const Clock &clock) {
         std::copy(none.raw.begin(), none.raw.end(), std::begin(written.raw));
     }
     return written;
-}
-
-template <std::size_t N> std::array<std::uint8_t, N> copied(const std::uint8_t (&bytes)[N]) {
-    std::array<std::uint8_t, N> copy;
-    std::copy(std::begin(bytes), std::end(bytes), copy.begin());
-    return copy;
 }
 
 /// The event of a struct. Its body is in `room`.
@@ -486,88 +483,54 @@ inline std::optional<Word> read_word(const dgt_command &command, const std::uint
     return Asked{static_cast<Ask>(command.code)};
 }
 
-/// The bytes that a call of dgt.h sends: `send` gets room and its size. Throws like
-/// Host::send_clock.
-template <class Send> Commands sent(Send &&send) {
-    Commands out;
-    dgt_sent done = send(out.room(), std::size_t{DGT_MAX_ASKING});
-    if (done.status == DGT_TOO_MANY_AWAITED) throw TooManyAwaited();
-    if (done.status != DGT_DONE) throw std::invalid_argument("too many bytes for one command");
-    out.resize(done.bytes);
-    return out;
-}
-
-/// Writes the members of a message, and returns its body.
+/// Writes the members of a message, and notes its body.
 struct EventWriter {
     dgt_event &out;
+    ByteView body{};
 
-    ByteView operator()(const Dump &it) {
+    void operator()(const Dump &it) {
         out.kind = DGT_EVENT_DUMP;
         std::copy(it.position.codes().begin(), it.position.codes().end(), std::begin(out.pieces));
-        return {};
     }
-    ByteView operator()(const Field &it) {
+    void operator()(const Field &it) {
         out.kind = DGT_EVENT_FIELD;
         out.square = it.square.number(), out.piece = static_cast<std::uint8_t>(it.piece);
-        return {};
     }
-    ByteView operator()(const Times &it) {
-        out.kind = DGT_EVENT_TIMES, out.clock = write_clock(it);
-        return {};
-    }
-    ByteView operator()(const NoClock &it) {
+    void operator()(const Times &it) { out.kind = DGT_EVENT_TIMES, out.clock = write_clock(it); }
+    void operator()(const NoClock &it) {
         out.kind = DGT_EVENT_NO_CLOCK, out.clock = write_clock(it);
-        return {};
     }
-    ByteView operator()(const Ack &it) {
+    void operator()(const Ack &it) {
         out.kind = DGT_EVENT_ACK, out.ack_status = it.status;
         std::copy(it.ack.begin(), it.ack.end(), std::begin(out.ack));
-        return {};
     }
-    ByteView operator()(const Serial &it) {
+    void operator()(const Serial &it) {
         out.kind = DGT_EVENT_SERIAL;
         std::copy(it.serial.begin(), it.serial.end(), std::begin(out.serial));
-        return {};
     }
-    ByteView operator()(const Version &it) {
+    void operator()(const Version &it) {
         out.kind = DGT_EVENT_VERSION;
         out.main_number = it.main_number, out.sub_number = it.sub_number;
-        return {};
     }
-    ByteView operator()(const Trademark &it) { return carried(DGT_EVENT_TRADEMARK, it.body); }
-    ByteView operator()(const Battery &it) { return carried(DGT_EVENT_BATTERY, it.body); }
-    ByteView operator()(const LongSerial &it) { return carried(DGT_EVENT_LONG_SERIAL, it.body); }
-    ByteView operator()(const Other &it) {
-        out.code = it.code;
-        return carried(DGT_EVENT_OTHER, it.body);
+    void operator()(const Trademark &it) { out.kind = DGT_EVENT_TRADEMARK, body = it.body; }
+    void operator()(const Battery &it) { out.kind = DGT_EVENT_BATTERY, body = it.body; }
+    void operator()(const LongSerial &it) { out.kind = DGT_EVENT_LONG_SERIAL, body = it.body; }
+    void operator()(const Other &it) {
+        out.kind = DGT_EVENT_OTHER, out.code = it.code, body = it.body;
     }
-    ByteView operator()(const Refused &it) {
+    void operator()(const Refused &it) {
         out.kind = DGT_EVENT_REFUSED, out.code = it.code;
         out.fault = static_cast<std::uint8_t>(it.fault), out.at = it.at;
-        return {};
     }
-    ByteView operator()(const Cut &it) {
-        out.kind = DGT_EVENT_CUT, out.have = it.have;
-        return {};
-    }
-    ByteView operator()(const BadLength &) {
-        out.kind = DGT_EVENT_BAD_LENGTH;
-        return {};
-    }
-    ByteView operator()(const Stray &it) {
-        out.kind = DGT_EVENT_STRAY, out.byte = it.byte;
-        return {};
-    }
-
-private:
-    ByteView carried(std::uint8_t kind, const Bytes &body) {
-        out.kind = kind;
-        return body;
-    }
+    void operator()(const Cut &it) { out.kind = DGT_EVENT_CUT, out.have = it.have; }
+    void operator()(const BadLength &) { out.kind = DGT_EVENT_BAD_LENGTH; }
+    void operator()(const Stray &it) { out.kind = DGT_EVENT_STRAY, out.byte = it.byte; }
 };
 
 inline ByteView write_event(const Event &event, dgt_event &out) {
-    return std::visit(EventWriter{out}, event);
+    EventWriter writer{out};
+    std::visit(writer, event);
+    return writer.body;
 }
 
 /// The bytes that a call of dgt.h encodes: `encode` returns the length, and then fills the room.
@@ -594,11 +557,26 @@ template <class HearOne, class Tell> void hear(ByteView bytes, HearOne hear_one,
     }
 }
 
-template <class Handle, class Known> std::optional<Position> picture(Handle *handle, Known known) {
-    std::array<std::uint8_t, 64> codes;
-    if (!known(handle, codes.data())) return std::nullopt;
-    return Position(codes);
+/// Has `hear` use the bytes up to the first event. `body` is for what the event carries.
+template <auto Hear, class Handle, class Body, class... Time>
+Heard heard(Handle &handle, Body &body, ByteView bytes, Time... now) {
+    dgt_event event;
+    std::size_t used = Hear(&handle, now..., bytes.data(), bytes.size(), &event, body.data(),
+                            body.size());
+    return {used, read_event(event, body.data())};
 }
+
+/// The memory of an object of dgt.h, which is never copied.
+template <class Handle> class Owner {
+protected:
+    explicit Owner(bool (*init)(Handle *)) {
+        if (!init(&handle_)) throw WrongLibrary();
+    }
+    Owner(const Owner &) = delete;
+    Owner &operator=(const Owner &) = delete;
+
+    Handle handle_;
+};
 
 /// A time or a period for dgt.h. Throws std::invalid_argument if it is negative.
 inline std::uint64_t count(Milliseconds time) {
@@ -606,30 +584,14 @@ inline std::uint64_t count(Milliseconds time) {
     return static_cast<std::uint64_t>(time.count());
 }
 
-inline std::optional<Milliseconds> time(bool is_known, std::uint64_t count) {
-    if (!is_known || count > static_cast<std::uint64_t>(Milliseconds::max().count()))
+/// The time that a call of dgt.h writes, if there is one.
+template <auto Read, class Handle> std::optional<Milliseconds> time(Handle &handle) {
+    std::uint64_t count = 0;
+    if (!Read(&handle, &count) ||
+        count > static_cast<std::uint64_t>(Milliseconds::max().count()))
         return std::nullopt;
     return Milliseconds(static_cast<Milliseconds::rep>(count));
 }
-
-// The calls of dgt.h that send a clock message, under one name for a host and a follower.
-
-#define DGT_OF_BOTH_(call)                                                      \
-    template <class... Given> dgt_sent call(dgt_host *it, Given... given) {     \
-        return dgt_host_##call(it, given...);                                   \
-    }                                                                           \
-    template <class... Given> dgt_sent call(dgt_follower *it, Given... given) { \
-        return dgt_follower_##call(it, given...);                               \
-    }
-DGT_OF_BOTH_(send_display)
-DGT_OF_BOTH_(send_text)
-DGT_OF_BOTH_(send_beep)
-DGT_OF_BOTH_(send_set_and_run)
-DGT_OF_BOTH_(send_icons)
-DGT_OF_BOTH_(send_end)
-DGT_OF_BOTH_(send_button)
-DGT_OF_BOTH_(send_clock_version)
-#undef DGT_OF_BOTH_
 
 } // namespace detail
 
@@ -806,12 +768,16 @@ inline std::optional<std::string> text_of(ByteView bytes) {
     return std::string(bytes.begin(), bytes.end());
 }
 
-// ---- The commands for the clock.
+// ---- What a host and a follower send and know.
+
+class Host;
+class Follower;
+template <class Self> class Sender;
 
 /// The messages that a Host and a Follower send to the clock of a board, which acknowledges each by
 /// an Ack. Spaces are added after shorter texts. Throws std::invalid_argument if a text is too long
 /// or contains other characters than those named.
-template <class Sender> class ClockCommands {
+template <class Self> class ClockCommands {
 public:
     /// Shows at most six digits, spaces and hyphens, from left to right.
     Commands send_display(std::string_view text, std::uint8_t dots = 0, std::uint8_t beep = 0) {
@@ -819,9 +785,7 @@ public:
         for (std::uint8_t each : shown)
             if (dgt_segment(each) == DGT_NO_SUCH)
                 throw std::invalid_argument("not a digit, a space or a hyphen");
-        return sent([&](auto *it, auto *out, auto n) {
-            return detail::send_display(it, shown.data(), dots, beep, out, n);
-        });
+        return sent<dgt_host_send_display, dgt_follower_send_display>(shown.data(), dots, beep);
     }
 
     /// Shows at most eight ASCII characters, from left to right.
@@ -829,57 +793,61 @@ public:
         auto shown = padded<8>(text);
         for (std::uint8_t each : shown)
             if (each > 127) throw std::invalid_argument("the text is not ASCII");
-        return sent([&](auto *it, auto *out, auto n) {
-            return detail::send_text(it, shown.data(), beep, out, n);
-        });
+        return sent<dgt_host_send_text, dgt_follower_send_text>(shown.data(), beep);
     }
 
     Commands send_beep(std::uint8_t duration) {
-        return sent([&](auto *it, auto *out, auto n) {
-            return detail::send_beep(it, duration, out, n);
-        });
+        return sent<dgt_host_send_beep, dgt_follower_send_beep>(duration);
     }
 
     /// Sets the times of both sides. The clock interprets the bits of `control`. Throws
     /// std::invalid_argument if a time is out of range, or has flags.
     Commands send_set_and_run(const Time &left, const Time &right, std::uint8_t control) {
         auto one = side(left), other = side(right);
-        return sent([&](auto *it, auto *out, auto n) {
-            return detail::send_set_and_run(it, one.data(), other.data(), control, out, n);
-        });
+        return sent<dgt_host_send_set_and_run, dgt_follower_send_set_and_run>(
+            one.data(), other.data(), control);
     }
 
     /// Shows the icons of these bytes. Throws std::invalid_argument above DGT_MAX_PAYLOAD of them.
     Commands send_icons(ByteView payload) {
-        return sent([&](auto *it, auto *out, auto n) {
-            return detail::send_icons(it, payload.data(), payload.size(), out, n);
-        });
+        return sent<dgt_host_send_icons, dgt_follower_send_icons>(payload.data(), payload.size());
     }
 
     /// Ends the display of a text or icons: the clock shows its times again.
-    Commands send_end() {
-        return sent([](auto *it, auto *out, auto n) { return detail::send_end(it, out, n); });
-    }
+    Commands send_end() { return sent<dgt_host_send_end, dgt_follower_send_end>(); }
 
     /// Requests the state of the clock's buttons.
-    Commands send_button() {
-        return sent([](auto *it, auto *out, auto n) { return detail::send_button(it, out, n); });
-    }
+    Commands send_button() { return sent<dgt_host_send_button, dgt_follower_send_button>(); }
 
     /// Requests the version of the clock.
     Commands send_clock_version() {
-        return sent([](auto *it, auto *out, auto n) {
-            return detail::send_clock_version(it, out, n);
-        });
+        return sent<dgt_host_send_clock_version, dgt_follower_send_clock_version>();
     }
 
 private:
-    friend Sender;
+    friend Self;
+    friend Sender<Self>;
     ClockCommands() = default;
+    ClockCommands(const ClockCommands &) = delete;
+    ClockCommands &operator=(const ClockCommands &) = delete;
 
-    template <class Send> Commands sent(Send &&send) {
-        auto *handle = static_cast<Sender &>(*this).handle();
-        return detail::sent([&](auto *out, auto n) { return send(handle, out, n); });
+    /// Makes one of two calls of dgt.h: that for a host, or that for a follower.
+    template <auto OfHost, auto OfFollower, class... Given> auto call(Given... given) {
+        if constexpr (std::is_same_v<Self, Host>)
+            return OfHost(&handle_, given...);
+        else
+            return OfFollower(&handle_, given...);
+    }
+
+    /// The bytes that a call sends. Throws like Sender::send_clock.
+    template <auto OfHost, auto OfFollower, class... Given> Commands sent(Given... given) {
+        Commands out;
+        std::size_t room = DGT_MAX_ASKING;
+        dgt_sent done = call<OfHost, OfFollower>(given..., out.room(), room);
+        if (done.status == DGT_TOO_MANY_AWAITED) throw TooManyAwaited();
+        if (done.status != DGT_DONE) throw std::invalid_argument("too many bytes for one command");
+        out.resize(done.bytes);
+        return out;
     }
 
     template <std::size_t N> static std::array<std::uint8_t, N> padded(std::string_view text) {
@@ -896,27 +864,85 @@ private:
             throw std::invalid_argument("not a time from 0:00:00 to 9:59:59 without flags");
         return {time.hours, time.minutes, time.seconds};
     }
+
+    std::conditional_t<std::is_same_v<Self, Host>, dgt_host, dgt_follower> handle_;
+    std::array<std::uint8_t, DGT_MAX_BODY> body_;
+};
+
+/// The other commands of a Host and a Follower, and what they know of a board. Those of a follower
+/// don't count as its requests. Its mode's command follows a message to the clock and an LED frame.
+/// If a byte of those is lost, the board may read others of them as commands, and Ask::reset ends
+/// its reports.
+template <class Self> class Sender : public ClockCommands<Self> {
+public:
+    /// Throws TooManyAwaited if a reply would have to be awaited.
+    Commands send(Ask ask) {
+        auto code = static_cast<std::uint8_t>(ask);
+        return this->template sent<dgt_host_send, dgt_follower_send>(code);
+    }
+
+    /// Sends the clock message with this id. Throws std::invalid_argument for more than
+    /// DGT_MAX_PAYLOAD bytes.
+    Commands send_clock(ClockId id, ByteView payload) {
+        auto code = static_cast<std::uint8_t>(id);
+        return this->template sent<dgt_host_send_clock, dgt_follower_send_clock>(
+            code, payload.data(), payload.size());
+    }
+
+    /// Sends an LED frame, such as `lighting(one, other).leds`. Throws std::invalid_argument for
+    /// more than DGT_MAX_LEDS bytes.
+    Commands send_leds(ByteView leds) {
+        return this->template sent<dgt_host_send_leds, dgt_follower_send_leds>(leds.data(),
+                                                                               leds.size());
+    }
+
+    /// The pieces on the squares, once a dump was heard. A follower's stay known during requests.
+    std::optional<Position> picture() {
+        std::array<std::uint8_t, 64> codes;
+        if (!this->template call<dgt_host_picture, dgt_follower_picture>(codes.data()))
+            return std::nullopt;
+        return Position(codes);
+    }
+
+    /// The same as the first field of a FEN.
+    std::optional<std::string> placement() {
+        char text[DGT_PLACEMENT_ROOM];
+        if (!this->template call<dgt_host_placement, dgt_follower_placement>(text))
+            return std::nullopt;
+        return std::string(text);
+    }
+
+    /// The clock as last reported, if it was. A follower's is nothing while it shows no digits.
+    std::optional<Clock> clock() {
+        dgt_clock clock;
+        this->template call<dgt_host_clock, dgt_follower_clock>(&clock);
+        return detail::read_clock(clock);
+    }
+
+    /// How many bytes of an unfinished message were heard.
+    std::size_t unread() { return this->template call<dgt_host_unread, dgt_follower_unread>(); }
+
+    /// Reports that the line was lost, with all bytes under way: a host is as new. A follower keeps
+    /// its period, patience and mode, and whether it confirms and identifies.
+    void line_lost() { this->template call<dgt_host_line_lost, dgt_follower_line_lost>(); }
+
+private:
+    friend Self;
+    Sender() = default;
 };
 
 // ---- A host.
 
 /// Sends commands, and tracks the board's position from the messages that it hears. 38 KiB.
-class Host : public ClockCommands<Host> {
+class Host : public Sender<Host> {
 public:
     /// A host that knows nothing and awaits nothing. Throws WrongLibrary.
     Host() {
-        if (!dgt_host_init(&host_)) throw WrongLibrary();
+        if (!dgt_host_init(&handle_)) throw WrongLibrary();
     }
-    Host(const Host &) = delete;
-    Host &operator=(const Host &) = delete;
 
     /// Hears the bytes up to the first event, or all of them: at least 1, if there are any.
-    Heard hear_one(ByteView bytes) {
-        dgt_event event;
-        std::size_t used = dgt_host_hear(&host_, bytes.data(), bytes.size(), &event, body_.data(),
-                                         body_.size());
-        return {used, detail::read_event(event, body_.data())};
-    }
+    Heard hear_one(ByteView bytes) { return detail::heard<dgt_host_hear>(handle_, body_, bytes); }
 
     /// Hears all bytes, and passes each event to `tell` once it is heard, also with the number of
     /// bytes used by then if `tell` takes a std::size_t.
@@ -925,83 +951,22 @@ public:
     }
 
     /// Requests each change from now on, and all squares. Throws TooManyAwaited.
-    Commands follow() {
-        return detail::sent([&](auto *out, auto n) { return dgt_host_follow(&host_, out, n); });
-    }
+    Commands follow() { return sent<dgt_host_follow, nullptr>(); }
 
     /// The same after zeros, which complete any unfinished command of the board.
-    Commands restart() {
-        return detail::sent([&](auto *out, auto n) { return dgt_host_restart(&host_, out, n); });
-    }
-
-    /// Throws TooManyAwaited if a reply would have to be awaited.
-    Commands send(Ask ask) {
-        auto code = static_cast<std::uint8_t>(ask);
-        return detail::sent([&](auto *out, auto n) { return dgt_host_send(&host_, code, out, n); });
-    }
-
-    /// Sends the clock message with this id. Throws std::invalid_argument for more than
-    /// DGT_MAX_PAYLOAD bytes.
-    Commands send_clock(ClockId id, ByteView payload) {
-        auto code = static_cast<std::uint8_t>(id);
-        return detail::sent([&](auto *out, auto n) {
-            return dgt_host_send_clock(&host_, code, payload.data(), payload.size(), out, n);
-        });
-    }
-
-    /// Sends an LED frame, such as `lighting(one, other).leds`. Throws std::invalid_argument for
-    /// more than DGT_MAX_LEDS bytes.
-    Commands send_leds(ByteView leds) {
-        return detail::sent([&](auto *out, auto n) {
-            return dgt_host_send_leds(&host_, leds.data(), leds.size(), out, n);
-        });
-    }
-
-    /// The pieces on the squares, once a dump was heard.
-    std::optional<Position> picture() {
-        return detail::picture(&host_, [](auto *host, auto *codes) {
-            return dgt_host_picture(host, codes);
-        });
-    }
-
-    /// The same as the first field of a FEN.
-    std::optional<std::string> placement() {
-        char text[DGT_PLACEMENT_ROOM];
-        if (!dgt_host_placement(&host_, text)) return std::nullopt;
-        return std::string(text);
-    }
-
-    /// The clock as last reported, if it was.
-    std::optional<Clock> clock() {
-        dgt_clock clock;
-        dgt_host_clock(&host_, &clock);
-        return detail::read_clock(clock);
-    }
+    Commands restart() { return sent<dgt_host_restart, nullptr>(); }
 
     /// The requests with awaited replies, the next one first.
     std::vector<Ask> awaited() {
         std::uint8_t codes[DGT_MAX_AWAITED];
         std::vector<Ask> asked;
-        std::size_t count = dgt_host_awaited(&host_, codes);
+        std::size_t count = dgt_host_awaited(&handle_, codes);
         for (std::size_t at = 0; at < count; at++) asked.push_back(static_cast<Ask>(codes[at]));
         return asked;
     }
 
     /// Removes all awaited replies from the list, and returns how many there were (see dgt.h).
-    std::size_t give_up_awaited() { return dgt_host_give_up_awaited(&host_); }
-
-    /// How many bytes of an unfinished message were heard.
-    std::size_t unread() { return dgt_host_unread(&host_); }
-
-    /// Reports that the line was lost, with all bytes under way: the host is as new.
-    void line_lost() { dgt_host_line_lost(&host_); }
-
-private:
-    friend ClockCommands<Host>;
-    dgt_host *handle() { return &host_; }
-
-    dgt_host host_;
-    std::array<std::uint8_t, DGT_MAX_BODY> body_;
+    std::size_t give_up_awaited() { return dgt_host_give_up_awaited(&handle_); }
 };
 
 // ---- A follower.
@@ -1009,7 +974,7 @@ private:
 /// A host that requests the whole board again and again, so that its picture becomes right again
 /// after any fault of the line (see dgt.h). Throws std::invalid_argument for a negative time or
 /// period. 39 KiB.
-class Follower : public ClockCommands<Follower> {
+class Follower : public Sender<Follower> {
 public:
     /// `period` is the time from one request to the next. `patience` is how many heartbeats may
     /// follow one another. `confirm` and `identify` are those of set_confirm and set_identify.
@@ -1020,37 +985,25 @@ public:
                       bool identify = false) {
         if (period.count() < DGT_LEAST_PERIOD)
             throw std::invalid_argument("a period is less than a second");
-        if (!dgt_follower_init(&follower_, detail::count(period), patience)) throw WrongLibrary();
+        if (!dgt_follower_init(&handle_, detail::count(period), patience)) throw WrongLibrary();
         set_mode(mode);
         set_confirm(confirm);
         set_identify(identify);
     }
-    Follower(const Follower &) = delete;
-    Follower &operator=(const Follower &) = delete;
 
     /// The request at this time, empty if none is due.
     Commands ask(Milliseconds now) {
-        auto time = detail::count(now);
-        return detail::sent([&](auto *out, auto n) {
-            return dgt_follower_ask(&follower_, time, out, n);
-        });
+        return sent<nullptr, dgt_follower_ask>(detail::count(now));
     }
 
     /// When to call `ask` next, if nothing is heard before: 0 if a request is due at once. An
     /// answer or the rest of a message may be overdue then, which is a doubt. Nothing if it is out
     /// of range.
-    std::optional<Milliseconds> due_at() {
-        std::uint64_t time = 0;
-        bool is_known = dgt_follower_due_at(&follower_, &time);
-        return detail::time(is_known, time);
-    }
+    std::optional<Milliseconds> due_at() { return detail::time<dgt_follower_due_at>(handle_); }
 
     /// As Host::hear_one and hear, with the time at which the bytes were received.
     Heard hear_one(Milliseconds now, ByteView bytes) {
-        dgt_event event;
-        std::size_t used = dgt_follower_hear(&follower_, detail::count(now), bytes.data(),
-                                             bytes.size(), &event, body_.data(), body_.size());
-        return {used, detail::read_event(event, body_.data())};
+        return detail::heard<dgt_follower_hear>(handle_, body_, bytes, detail::count(now));
     }
     template <class Tell> void hear(Milliseconds now, ByteView bytes, Tell &&tell) {
         detail::hear(bytes, [&](ByteView left) { return hear_one(now, left); }, tell);
@@ -1058,165 +1011,94 @@ public:
 
     /// Hears all bytes, and reports no events.
     void hear(Milliseconds now, ByteView bytes) {
-        dgt_follower_hear_all(&follower_, detail::count(now), bytes.data(), bytes.size());
+        dgt_follower_hear_all(&handle_, detail::count(now), bytes.data(), bytes.size());
     }
 
     /// Makes a request due at once, or once the last one is answered.
-    void ask_now() { dgt_follower_ask_now(&follower_); }
+    void ask_now() { dgt_follower_ask_now(&handle_); }
 
     /// Sets whether a picture that isn't confirmed is requested again: a second after the last
     /// change and after the last request.
-    void set_confirm(bool confirm) { dgt_follower_set_confirm(&follower_, confirm); }
+    void set_confirm(bool confirm) { dgt_follower_set_confirm(&handle_, confirm); }
 
     /// Sets whether the serial number of the board is requested while it is unknown.
-    void set_identify(bool identify) { dgt_follower_set_identify(&follower_, identify); }
+    void set_identify(bool identify) { dgt_follower_set_identify(&handle_, identify); }
 
     /// Which changes the board is asked to report by itself, from the next request on.
-    Mode mode() { return static_cast<Mode>(dgt_follower_mode(&follower_)); }
+    Mode mode() { return static_cast<Mode>(dgt_follower_mode(&handle_)); }
 
     /// Throws std::invalid_argument if it is idle.
     void set_mode(Mode mode) {
-        if (!dgt_follower_set_mode(&follower_, static_cast<std::uint8_t>(mode)))
+        if (!dgt_follower_set_mode(&handle_, static_cast<std::uint8_t>(mode)))
             throw std::invalid_argument("a follower's mode can't be idle");
     }
 
-    /// As Host::send, send_clock and send_leds. They don't count as the follower's requests. The
-    /// mode's command follows a message to the clock and an LED frame: if a byte of those is lost,
-    /// the board may read others of them as commands, and Ask::reset ends its reports.
-    Commands send(Ask ask) {
-        auto code = static_cast<std::uint8_t>(ask);
-        return detail::sent([&](auto *out, auto n) {
-            return dgt_follower_send(&follower_, code, out, n);
-        });
-    }
-    Commands send_clock(ClockId id, ByteView payload) {
-        auto code = static_cast<std::uint8_t>(id);
-        return detail::sent([&](auto *out, auto n) {
-            return dgt_follower_send_clock(&follower_, code, payload.data(), payload.size(), out,
-                                           n);
-        });
-    }
-    Commands send_leds(ByteView leds) {
-        return detail::sent([&](auto *out, auto n) {
-            return dgt_follower_send_leds(&follower_, leds.data(), leds.size(), out, n);
-        });
-    }
-
-    /// The pieces on the squares, once a dump was heard. The picture stays known during requests.
-    std::optional<Position> picture() {
-        return detail::picture(&follower_, [](auto *follower, auto *codes) {
-            return dgt_follower_picture(follower, codes);
-        });
-    }
-
-    /// The same as the first field of a FEN.
-    std::optional<std::string> placement() {
-        char text[DGT_PLACEMENT_ROOM];
-        if (!dgt_follower_placement(&follower_, text)) return std::nullopt;
-        return std::string(text);
-    }
-
-    /// The clock as last reported, if it was. Nothing while the clock shows no digits.
-    std::optional<Clock> clock() {
-        dgt_clock clock;
-        dgt_follower_clock(&follower_, &clock);
-        return detail::read_clock(clock);
-    }
-
-    /// How many bytes of an unfinished message were heard.
-    std::size_t unread() { return dgt_follower_unread(&follower_); }
-
     /// Whether the picture may be wrong.
-    bool in_doubt() { return dgt_follower_in_doubt(&follower_); }
+    bool in_doubt() { return dgt_follower_in_doubt(&handle_); }
 
     /// Whether an awaited dump repeated the picture, without a change or a disturbance since.
-    bool confirmed() { return dgt_follower_confirmed(&follower_); }
+    bool confirmed() { return dgt_follower_confirmed(&handle_); }
 
     /// The serial number of the board, if it was reported.
     std::optional<std::array<std::uint8_t, 5>> serial() {
         std::array<std::uint8_t, 5> serial;
-        if (!dgt_follower_serial(&follower_, serial.data())) return std::nullopt;
+        if (!dgt_follower_serial(&handle_, serial.data())) return std::nullopt;
         return serial;
     }
 
     /// The time of the last whole message, if there was one.
     std::optional<Milliseconds> last_heard() {
-        std::uint64_t time = 0;
-        bool is_known = dgt_follower_last_heard(&follower_, &time);
-        return detail::time(is_known, time);
+        return detail::time<dgt_follower_last_heard>(handle_);
     }
 
     /// How many more heartbeats the patience allows.
-    std::uint32_t heartbeats_left() { return dgt_follower_heartbeats_left(&follower_); }
+    std::uint32_t heartbeats_left() { return dgt_follower_heartbeats_left(&handle_); }
 
     /// Reports that bytes were lost or altered, which is a disturbance.
-    void line_disturbed() { dgt_follower_line_disturbed(&follower_); }
-
-    /// Reports that the line was lost, with all bytes under way: the follower is as new, but keeps
-    /// its period, patience and mode, and whether it confirms and identifies.
-    void line_lost() { dgt_follower_line_lost(&follower_); }
-
-private:
-    friend ClockCommands<Follower>;
-    dgt_follower *handle() { return &follower_; }
-
-    dgt_follower follower_;
-    std::array<std::uint8_t, DGT_MAX_BODY> body_;
+    void line_disturbed() { dgt_follower_line_disturbed(&handle_); }
 };
 
 // ---- A decoder, and a decoder of commands.
 
 /// Reports the events in a board's bytes, and keeps no picture. 37 KiB.
-class Decoder {
+class Decoder : detail::Owner<dgt_decoder> {
 public:
     /// A decoder that holds nothing. Throws WrongLibrary.
-    Decoder() {
-        if (!dgt_decoder_init(&decoder_)) throw WrongLibrary();
-    }
-    Decoder(const Decoder &) = delete;
-    Decoder &operator=(const Decoder &) = delete;
+    Decoder() : Owner(dgt_decoder_init) {}
 
     /// As Host::hear_one and hear.
     Heard feed_one(ByteView bytes) {
-        dgt_event event;
-        std::size_t used = dgt_decoder_feed(&decoder_, bytes.data(), bytes.size(), &event,
-                                            body_.data(), body_.size());
-        return {used, detail::read_event(event, body_.data())};
+        return detail::heard<dgt_decoder_feed>(handle_, body_, bytes);
     }
     template <class Tell> void feed(ByteView bytes, Tell &&tell) {
         detail::hear(bytes, [&](ByteView left) { return feed_one(left); }, tell);
     }
 
     /// How many bytes of an unfinished message were received.
-    std::size_t unread() { return dgt_decoder_unread(&decoder_); }
+    std::size_t unread() { return dgt_decoder_unread(&handle_); }
 
     /// The same, at the end of the bytes. The decoder is then as new.
-    std::size_t finish() { return dgt_decoder_finish(&decoder_); }
+    std::size_t finish() { return dgt_decoder_finish(&handle_); }
 
     /// Returns it to its initial state.
-    void reset() { dgt_decoder_reset(&decoder_); }
+    void reset() { dgt_decoder_reset(&handle_); }
 
 private:
-    dgt_decoder decoder_;
     std::array<std::uint8_t, DGT_MAX_BODY> body_;
 };
 
 /// Reports the commands in a host's bytes.
-class CommandDecoder {
+class CommandDecoder : detail::Owner<dgt_command_decoder> {
 public:
     /// A decoder that holds nothing. Throws WrongLibrary.
-    CommandDecoder() {
-        if (!dgt_command_decoder_init(&decoder_)) throw WrongLibrary();
-    }
-    CommandDecoder(const CommandDecoder &) = delete;
-    CommandDecoder &operator=(const CommandDecoder &) = delete;
+    CommandDecoder() : Owner(dgt_command_decoder_init) {}
 
     /// Uses the bytes up to the first command or fault, or all of them: at least 1, if there are
     /// any.
     Read feed_one(ByteView bytes) {
         dgt_command command;
         std::uint8_t word[DGT_MAX_WORD];
-        std::size_t used = dgt_command_decoder_feed(&decoder_, bytes.data(), bytes.size(), &command,
+        std::size_t used = dgt_command_decoder_feed(&handle_, bytes.data(), bytes.size(), &command,
                                                     word, sizeof word);
         return {used, detail::read_word(command, word)};
     }
@@ -1231,16 +1113,13 @@ public:
     }
 
     /// How many bytes of an unfinished command were received.
-    std::size_t unread() { return dgt_command_decoder_unread(&decoder_); }
+    std::size_t unread() { return dgt_command_decoder_unread(&handle_); }
 
     /// The same, at the end of the bytes. The decoder is then as new.
-    std::size_t finish() { return dgt_command_decoder_finish(&decoder_); }
+    std::size_t finish() { return dgt_command_decoder_finish(&handle_); }
 
     /// Returns it to its initial state.
-    void reset() { dgt_command_decoder_reset(&decoder_); }
-
-private:
-    dgt_command_decoder decoder_;
+    void reset() { dgt_command_decoder_reset(&handle_); }
 };
 
 // ---- A board.
@@ -1262,13 +1141,11 @@ struct Taken {
 };
 
 /// A simulated board.
-class Board {
+class Board : detail::Owner<dgt_board> {
 public:
     /// A board in the initial position, with a clock that shows 0:00:00 twice, and the identity of
     /// a simulated board. Throws WrongLibrary.
-    Board() {
-        if (!dgt_board_init(&board_)) throw WrongLibrary();
-    }
+    Board() : Owner(dgt_board_init) {}
 
     /// Throws WrongLibrary, and std::invalid_argument if the clock or the identity is out of range.
     Board(const Position &position, const Clock &clock, const Identity &identity) : Board() {
@@ -1280,22 +1157,20 @@ public:
         write_body(identity.battery, written.battery);
         write_body(identity.long_serial, written.long_serial);
         dgt_clock shown = detail::write_clock(clock);
-        if (dgt_board_start(&board_, position.codes().data(), &shown, &written) != DGT_STARTED)
+        if (dgt_board_start(&handle_, position.codes().data(), &shown, &written) != DGT_STARTED)
             throw std::invalid_argument("the clock or the identity is out of range");
     }
-    Board(const Board &) = delete;
-    Board &operator=(const Board &) = delete;
 
     /// Puts a piece, or none, on a square. Throws std::invalid_argument for a piece above 15.
     void change(Square square, Piece piece) {
-        if (!dgt_board_change(&board_, square.number(), static_cast<std::uint8_t>(piece)))
+        if (!dgt_board_change(&handle_, square.number(), static_cast<std::uint8_t>(piece)))
             throw std::invalid_argument("pieces are numbered from 0 to 15");
     }
 
     /// Sets what the clock shows. Throws std::invalid_argument if it is out of range.
     void hand_clock(const Clock &clock) {
         dgt_clock shown = detail::write_clock(clock);
-        if (!dgt_board_hand_clock(&board_, &shown))
+        if (!dgt_board_hand_clock(&handle_, &shown))
             throw std::invalid_argument("the clock is out of range");
     }
 
@@ -1304,7 +1179,7 @@ public:
     Taken take(ByteView bytes) {
         dgt_command command;
         std::uint8_t word[DGT_MAX_WORD];
-        dgt_taken taken = dgt_board_take(&board_, bytes.data(), bytes.size(), &command, word,
+        dgt_taken taken = dgt_board_take(&handle_, bytes.data(), bytes.size(), &command, word,
                                          sizeof word);
         return {taken.busy, taken.used, detail::read_word(command, word)};
     }
@@ -1312,7 +1187,7 @@ public:
     /// The next message to be sent, if there is one. It counts as sent.
     std::optional<Message> poll() {
         Message out;
-        dgt_polled polled = dgt_board_poll(&board_, out.room(), std::size_t{DGT_MAX_SENT});
+        dgt_polled polled = dgt_board_poll(&handle_, out.room(), std::size_t{DGT_MAX_SENT});
         if (polled.status != DGT_WROTE) return std::nullopt;
         out.resize(polled.bytes);
         return out;
@@ -1329,32 +1204,32 @@ public:
     }
 
     /// Whether there is anything to send.
-    bool owes() { return dgt_board_owes(&board_); }
+    bool owes() { return dgt_board_owes(&handle_); }
 
     /// How many replies are owed, at most DGT_MAX_OWED.
-    std::size_t owed_len() { return dgt_board_owed_len(&board_); }
+    std::size_t owed_len() { return dgt_board_owed_len(&handle_); }
 
     /// How many bytes of an unfinished command were received.
-    std::size_t unread() { return dgt_board_unread(&board_); }
+    std::size_t unread() { return dgt_board_unread(&handle_); }
 
-    Mode mode() { return static_cast<Mode>(dgt_board_mode(&board_)); }
+    Mode mode() { return static_cast<Mode>(dgt_board_mode(&handle_)); }
 
     Position position() {
         std::array<std::uint8_t, 64> codes;
-        dgt_board_position(&board_, codes.data());
+        dgt_board_position(&handle_, codes.data());
         return Position(codes);
     }
 
     /// What the clock shows.
     Clock clock() {
         dgt_clock clock;
-        dgt_board_clock(&board_, &clock);
+        dgt_board_clock(&handle_, &clock);
         return detail::read_clock(clock).value();
     }
 
     /// Simulates a lost line, with all bytes under way: the board keeps its squares, its clock and
     /// its identity, and is otherwise as new.
-    void line_lost() { dgt_board_line_lost(&board_); }
+    void line_lost() { dgt_board_line_lost(&handle_); }
 
 private:
     static void write_body(const Bytes &body, dgt_body &written) {
@@ -1362,8 +1237,6 @@ private:
         written.len = body.size();
         std::copy(body.begin(), body.end(), std::begin(written.bytes));
     }
-
-    dgt_board board_;
 };
 
 // ---- The rules of chess.
@@ -1680,14 +1553,10 @@ struct Sight {
 
 /// Recognises the games that are played on a board (see dgt.h). Throws std::invalid_argument for a
 /// negative time. 16 KiB.
-class Recogniser {
+class Recogniser : detail::Owner<dgt_recogniser> {
 public:
     /// A recogniser that has seen nothing. Throws WrongLibrary.
-    Recogniser() {
-        if (!dgt_recogniser_init(&recogniser_)) throw WrongLibrary();
-    }
-    Recogniser(const Recogniser &) = delete;
-    Recogniser &operator=(const Recogniser &) = delete;
+    Recogniser() : Owner(dgt_recogniser_init) {}
 
     /// Takes what the board shows at this time, or nothing while it can't be heard. Returns the
     /// events until then.
@@ -1703,9 +1572,7 @@ public:
 
     /// The first time at which `due` has something to do, if nothing is seen before.
     std::optional<Milliseconds> due_at() {
-        std::uint64_t time = 0;
-        bool is_known = dgt_recogniser_due_at(&recogniser_, &time);
-        return detail::time(is_known, time);
+        return detail::time<dgt_recogniser_due_at>(handle_);
     }
 
     /// The events that are due at this time.
@@ -1718,13 +1585,13 @@ public:
     /// The state that the events so far lead to, once a game has begun.
     std::optional<chess::State> state() {
         dgt_chess_state state;
-        if (!dgt_recogniser_state(&recogniser_, &state)) return std::nullopt;
+        if (!dgt_recogniser_state(&handle_, &state)) return std::nullopt;
         return chess::State(state);
     }
 
     /// Goes on from this state of a game, as if events had led to it, and forgets everything else.
     void go_on(const chess::State &state, bool is_turned = false) {
-        if (dgt_recogniser_go_on(&recogniser_, &state.state_, is_turned) != DGT_CHESS_DONE)
+        if (dgt_recogniser_go_on(&handle_, &state.state_, is_turned) != DGT_CHESS_DONE)
             throw std::invalid_argument("not a state"); // a state is never refused
     }
 
@@ -1737,13 +1604,13 @@ private:
                                           : DGT_SIGHT_DOUBTED;
         const auto running = sight.running ? static_cast<std::uint8_t>(*sight.running)
                                            : std::uint8_t{DGT_NO_SUCH};
-        return dgt_recogniser_see(&recogniser_, detail::count(now), shown.codes().data(),
+        return dgt_recogniser_see(&handle_, detail::count(now), shown.codes().data(),
                                   static_cast<std::uint8_t>(kind), sight.is_confirmed, running);
     }
 
     void add_due(Milliseconds now, std::vector<GameEvent> &events) {
         dgt_game_event event;
-        while (dgt_recogniser_due(&recogniser_, detail::count(now), &event))
+        while (dgt_recogniser_due(&handle_, detail::count(now), &event))
             events.push_back(read(event));
     }
 
@@ -1764,8 +1631,6 @@ private:
         default: return game::Found{};
         }
     }
-
-    dgt_recogniser recogniser_;
 };
 
 } // namespace dgt

@@ -5,10 +5,9 @@
 
 import assert from "node:assert/strict";
 import { readFileSync } from "node:fs";
-import { dirname, resolve } from "node:path";
-import { pathToFileURL } from "node:url";
 import { BadFen, BadSan, IllegalMove, Impossible, State } from "../chess.js";
 import { BadValue, load } from "../dgt.js";
+import { checkProgram } from "./program.mjs";
 
 const dgt = await load(readFileSync(process.argv[2]));
 const START = "rnbqkbnr/pppppppp/8/8/8/8/PPPPPPPP/RNBQKBNR", KINGS = "4k3/8/8/8/8/8/8/4K3";
@@ -88,14 +87,4 @@ const pieces = BEGIN.position;
   () => new State(dgt, { position: pieces, turn: "white", number: -1 }),
 ].forEach((act, n) => assert.throws(act, BadValue, `wrong ${n}`));
 
-// The program of the page.
-const page = readFileSync(new URL("../README.md", import.meta.url), "utf8");
-const [program] = page.match(/(?<=^```js\n)[^`]*State\.parse[^]*?(?=^```$)/m);
-const folder = pathToFileURL(dirname(resolve(process.argv[2])));
-const found = program.replace(/"dgt-board\/?([^"]*)"/g,
-                              (_, name) => JSON.stringify(`${folder}/${name || "dgt.js"}`));
-const { log } = console, shown = [];
-console.log = (...words) => shown.push(words.join(" "));
-await import(`data:text/javascript,${encodeURIComponent(found)}`);
-console.log = log;
-assert.deepEqual(shown, program.match(/(?<=\/\/ ).*/g));
+await checkProgram(/State\.parse/, process.argv[2]);

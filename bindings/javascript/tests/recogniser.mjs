@@ -4,11 +4,10 @@
 
 import assert from "node:assert/strict";
 import { readFileSync } from "node:fs";
-import { dirname, resolve } from "node:path";
-import { pathToFileURL } from "node:url";
 import { State } from "../chess.js";
 import { BadValue, Closed, load } from "../dgt.js";
 import { Recogniser } from "../recogniser.js";
+import { checkProgram } from "./program.mjs";
 
 const dgt = await load(readFileSync(process.argv[2]));
 const START = State.start(dgt);
@@ -67,6 +66,9 @@ for (let n = 0; n < SHOWN.length; n += 2) {
   const known = events.map(event => event.type === "gap" ?
     { ...event, state: dgt.placement(event.state.position) } : shown(event));
   assert.deepEqual(known, SHOWN[n + 1], `${SHOWN[n]}`);
+  const { state } = recogniser, now = 12_000 * SHOWN[n].length;
+  recogniser.goOn(state, true);
+  assert.deepEqual([recogniser.due(now), recogniser.state.fen], [[], state.fen]);
 }
 
 // A new one, and what is refused.
@@ -82,14 +84,4 @@ recogniser.see(6, position, { isSure: false, isConfirmed: false, running: "black
 recogniser.close();
 assert.throws(() => recogniser.due(7), Closed);
 
-// The program of the page.
-const page = readFileSync(new URL("../README.md", import.meta.url), "utf8");
-const [program] = page.match(/(?<=^```js\n)[^`]*Recogniser[^]*?(?=^```$)/m);
-const folder = pathToFileURL(dirname(resolve(process.argv[2])));
-const found = program.replace(/"dgt-board\/?([^"]*)"/g,
-                              (_, name) => JSON.stringify(`${folder}/${name || "dgt.js"}`));
-const { log } = console, printed = [];
-console.log = (...words) => printed.push(words.join(" "));
-await import(`data:text/javascript,${encodeURIComponent(found)}`);
-console.log = log;
-assert.deepEqual(printed, program.match(/(?<=\/\/ ).*/g));
+await checkProgram(/Recogniser/, process.argv[2]);

@@ -2,10 +2,10 @@
 //
 // node shown.mjs PACKAGE TERMINAL    PACKAGE is the folder of the package
 
-import { constants, openSync, readFileSync, writeSync } from "node:fs";
+import { constants, openSync, writeSync } from "node:fs";
 import { Readable } from "node:stream";
 import { ReadStream } from "node:tty";
-import { pathToFileURL } from "node:url";
+import { runProgram } from "./program.mjs";
 
 const [folder, path] = process.argv.slice(2);
 
@@ -25,8 +25,4 @@ class Terminal extends EventTarget {
 
 const serial = { requestPort: async () => new Terminal() };
 Object.defineProperty(globalThis, "navigator", { value: { serial } });
-const page = readFileSync(new URL("../README.md", import.meta.url), "utf8");
-const [program] = page.match(/(?<=^```js\n)[^`]*requestPort[^]*?(?=^```$)/m);
-const address = name => `${pathToFileURL(folder)}/${name || "dgt.js"}`;
-const found = program.replace(/"dgt-board\/?([^"]*)"/g, (_, name) => `"${address(name)}"`);
-await import(`data:text/javascript,${encodeURIComponent(found)}`);
+await runProgram(/requestPort/, folder);

@@ -1,7 +1,5 @@
 """The common part of hosts and followers: their commands, and what they know of a board."""
 
-from __future__ import annotations
-
 from collections.abc import Callable
 from ctypes import byref, c_char, c_uint8
 from typing import Any

@@ -1,7 +1,5 @@
 """Follows a board, and shows moves on its clock."""
 
-from __future__ import annotations
-
 import time
 
 from ._display import Display

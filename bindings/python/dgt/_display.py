@@ -1,7 +1,5 @@
 """Makes a DGT clock show moves."""
 
-from __future__ import annotations
-
 from .commands import ClockId
 from .events import Ack
 from .names import ClockVersion, Done
@@ -61,7 +59,6 @@ class Display:
         self._is_new = self._move is not None or self._is_shown
 
     def show(self, move: str) -> None:
-        """Makes the clock show a move."""
         self._move, self._is_new = move, True
 
     def end(self) -> None:

@@ -1,7 +1,5 @@
 """A board that dgt-doctor examines, and the person at it."""
 
-from __future__ import annotations
-
 import contextlib
 import os
 import time
@@ -116,7 +114,6 @@ class Examination:
             self._port.write(chunk)
 
     def set_mode(self, mode: Ask) -> None:
-        """Sends a mode command."""
         self.mode = mode
         self.write(self.host.send(mode))
 
@@ -149,7 +146,6 @@ class Examination:
 
     @property
     def has_heard(self) -> bool:
-        """Whether any bytes have arrived."""
         return bool(self._raw)
 
     def open(self) -> bool:
@@ -186,7 +182,6 @@ class Examination:
             self._faults.clear()
 
     def _fault(self, event: Event) -> tuple[str, str]:
-        """Returns the finding for a fault."""
         if isinstance(event, Refused) and event.fault == Fault.BAD_READING:
             return "clock unreadable", ""
         if not isinstance(event, Refused) or event.fault != Fault.WRONG_SIZE or event.code != _DUMP:

@@ -1,8 +1,6 @@
 """The base of all objects of the library: their memory, and a lock, so that one call runs at a
 time."""
 
-from __future__ import annotations
-
 import ctypes
 import threading
 from collections.abc import Callable

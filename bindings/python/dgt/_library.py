@@ -1,7 +1,5 @@
 """Loads the shared library, and declares the calls of dgt.h."""
 
-from __future__ import annotations
-
 import ctypes
 import os
 import sys
@@ -46,7 +44,6 @@ def _load() -> ctypes.CDLL:
 
 
 def _declare(library: ctypes.CDLL) -> None:
-    """Declares the parameters and the result of each function."""
     for name, (result, *parameters) in CALLS.items():
         function = getattr(library, name)
         function.restype, function.argtypes = result, parameters

@@ -3,19 +3,20 @@
 from __future__ import annotations
 
 import asyncio
-import contextlib
-import sys
+import functools
 import time
 from collections.abc import Iterable, Sequence
 from typing import Any, Protocol
 
+from . import _mqtt
 from ._turn import to_put
 from ._watched import Watched
+from .clock_side import _seconds
 from .following import BoardView
 from .pgn import san
 from .recogniser import Back, Begun, Ended, Found, GameEvent, Gap, Lost, Made, Unseen
 from .rules import GameState
-from .values import Position, Time, Times
+from .values import Position, Times
 
 Json = dict[str, Any]
 _LOST_WAIT = 3.0
@@ -96,7 +97,6 @@ class Game:
         return told if 1 <= wrong <= _MOST_WRONG else ""
 
     def see(self, view: BoardView, now: float) -> None:
-        """Notes a view of the board."""
         if view.picture is not None and not view.in_doubt and not view.away and self._given:
             self._look(view.picture.letters, self._given.letters, now)
             if self._missing and self.from_white(view.picture.letters) == self._missing[1]:
@@ -210,7 +210,6 @@ class Board:
         return Game(self.own, time.monotonic())
 
     def set_up(self, game: Game, state: GameState) -> None:
-        """Continues a game from this state."""
         now = time.monotonic()
         self._hint_at = now + _LOST_WAIT
         game.set_up(state, now)
@@ -220,7 +219,6 @@ class Board:
     # ---- Its views
 
     def see(self, view: BoardView) -> None:
-        """Notes a view of the board."""
         now = time.monotonic()
         if view.clock != self.view.clock:
             self._clock_at = time.time()
@@ -308,11 +306,4 @@ class Board:
         return {**event, **({} if moves is None else {"san": moves})}
 
 
-def _seconds(time: Time) -> int:
-    return 3600 * time.hours + 60 * time.minutes + time.seconds
-
-
-def say(text: str) -> None:
-    """Prints a line on standard error. Nobody may read it, or its disk may be full."""
-    with contextlib.suppress(OSError):
-        print(f"dgt-livechess: {text}", file=sys.stderr, flush=True)
+say = functools.partial(_mqtt.say, "dgt-livechess")

@@ -1,16 +1,11 @@
 """The boards of `dgt-livechess` that `dgt-broadcast` publishes to a broker."""
 
-from __future__ import annotations
-
 import asyncio
 import contextlib
-import importlib
-import os
 import re
-import sys
 from typing import Any
 
-from . import following
+from . import _mqtt, following
 from ._live_boards import Board, say
 from .errors import BadValue
 from .following import BoardView
@@ -68,24 +63,15 @@ class Broker:
 
     def __init__(self, boards: list[Board], host: str, port: int, user: str | None) -> None:
         """`SystemExit` if a module is missing."""
-        try:
-            mqtt: Any = importlib.import_module("paho.mqtt.client")
-        except ImportError:
-            sys.exit("dgt-livechess: no module paho.mqtt (install Debian's python3-paho-mqtt)")
         self._boards, self._known = boards, dict[str, BrokerBoard]()
         self._place, self._said, call = f"{host} port {port}", "", self._call
-        versions = getattr(mqtt, "CallbackAPIVersion", None)
-        client = mqtt.Client(*([versions.VERSION2] if versions else []))
-        client.suppress_exceptions = True  # an exception in a callback would end the thread
-        client.reconnect_delay_set(1, 2)
+        client = _mqtt.make_client(_mqtt.load("dgt-livechess"), user)
         client.on_connect = lambda _client, _data, _flags, refused, *_: call(
             self._connected, client, "" if refused == 0 else str(refused))
         client.on_connect_fail = lambda *_: call(self._say, "doesn't answer (start it)")
         client.on_disconnect = lambda *_: call(self._lose)
         client.on_message = lambda _client, _data, message: call(
             self._hear, message.topic, message.payload)
-        if user:
-            client.username_pw_set(user, os.environ.get("MQTT_PASSWORD"))
         self._loop = asyncio.get_running_loop()
         client.connect_async(host, port)
         client.loop_start()

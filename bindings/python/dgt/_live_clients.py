@@ -118,13 +118,10 @@ class Feed:
         self._last = {}
 
     def close(self) -> None:
-        """Ends the feed."""
         self.board.watchers.remove(self)
 
 
 class Client:
-    """A connection."""
-
     def __init__(self, boards: list[Board], socket: Any) -> None:
         self._boards, self._socket = boards, socket
         self._feeds = dict[int | str, Feed]()
@@ -144,7 +141,6 @@ class Client:
                     self._socket.close(TRY_LATER, "too many messages wait"))
 
     def close_feeds(self) -> None:
-        """Ends all feeds."""
         while self._feeds:
             self._feeds.popitem()[1].close()
 
@@ -166,7 +162,6 @@ class Client:
                 await self._socket.send(await self._waiting.get())
 
     def _hear(self, text: str | bytes) -> None:
-        """Performs the call in a message."""
         number = None
         try:
             asked = json.loads(text)

@@ -1,7 +1,5 @@
 """The boards of `dgt-livechess` on serial ports."""
 
-from __future__ import annotations
-
 import asyncio
 import contextlib
 import os
@@ -71,7 +69,6 @@ class PortBoard(Board):
         return [*super()._dues(), late, self._line.due_at, self._line.tend_clock(now)]
 
     def _show(self, pending: tuple[str, bool] | None) -> None:
-        """Shows a move, or none."""
         move, is_turned = pending or ("", False)
         if self._has_clock and move:
             self._line.shown_move.show(move)

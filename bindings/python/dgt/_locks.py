@@ -1,7 +1,5 @@
 """Locks of files, which the system releases once their process has ended."""
 
-from __future__ import annotations
-
 import errno
 import fcntl
 import os

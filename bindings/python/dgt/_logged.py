@@ -1,7 +1,5 @@
 """The log that a board keeps while no host listens, and the games in it."""
 
-from __future__ import annotations
-
 import time
 from collections.abc import Callable, Sequence
 from dataclasses import replace

@@ -1,7 +1,5 @@
 """A file of games that grows while games are played."""
 
-from __future__ import annotations
-
 import contextlib
 import errno
 import os

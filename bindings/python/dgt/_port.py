@@ -1,7 +1,5 @@
 """A serial port, which only one process at a time may open."""
 
-from __future__ import annotations
-
 import contextlib
 import errno
 import fcntl

@@ -1,8 +1,6 @@
 """Sessions: the bytes between a host and a board with their times, as text.
 tests/sessions/README.md describes the format."""
 
-from __future__ import annotations
-
 import re
 import threading
 import time

@@ -1,7 +1,5 @@
 """A simulated board and its clock on a pseudo-terminal, which a host opens like a serial port."""
 
-from __future__ import annotations
-
 import contextlib
 import os
 import pathlib
@@ -63,7 +61,6 @@ class RunningClock:
         return True
 
     def time(self, side: int) -> Time:
-        """The time of a side."""
         left = self.left[side]
         return Time(left // 3600, left // 60 % 60, left % 60)
 
@@ -124,7 +121,6 @@ class PluggedBoard:
             self.write(message)
 
     def hear(self, asked: bytes) -> None:
-        """Answers these bytes of a host."""
         self.send(self.board.answers(asked))
 
     def answer(self) -> None:
@@ -141,7 +137,6 @@ class PluggedBoard:
             self.report()
 
     def hand_clock(self, clock: Clock) -> None:
-        """Sets what the clock shows."""
         with self.lock:
             self.board.hand_clock(clock)
             self.report()
@@ -187,7 +182,6 @@ class PluggedBoards(list[PluggedBoard]):
                     boards[end].answer()
 
     def close(self) -> None:
-        """Unplugs the boards."""
         self.is_open = False
         self.thread.join()
         for board in self:

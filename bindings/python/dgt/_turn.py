@@ -1,7 +1,5 @@
 """One turn of a game on a board: a position, and the move to make from it."""
 
-from __future__ import annotations
-
 from dataclasses import dataclass
 
 from .rules import GameState

@@ -1,7 +1,5 @@
 """The version of the package and of the library that it needs."""
 
-from __future__ import annotations
-
 from pathlib import Path
 
 VERSION = Path(__file__).with_name("VERSION").read_text(encoding="ascii").strip()

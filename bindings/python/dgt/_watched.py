@@ -1,7 +1,5 @@
 """What a recogniser of games sees of a board."""
 
-from __future__ import annotations
-
 from collections.abc import Sequence
 
 from .chess import Colour

@@ -1,7 +1,5 @@
 """A simulated board."""
 
-from __future__ import annotations
-
 from collections.abc import Iterator
 from ctypes import byref, c_uint8
 from dataclasses import dataclass

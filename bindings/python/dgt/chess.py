@@ -97,7 +97,7 @@ class State:
         between two. `BadFen` if it isn't one, `Impossible` if no game reaches the state."""
         text, state = str.encode(checked(fen, str), errors="replace"), _State()
         read = dgt.dgt_chess_parse_fen(text, len(text), state)
-        if read.status == _c.CHESS_BAD_TEXT:
+        if read.status == SanFault.BAD_TEXT:
             raise BadFen(f"not a FEN: wrong at offset {read.at}: {fen!r}", _FIELDS[read.field],
                          read.at)
         if read.status != _c.CHESS_DONE:

@@ -1,7 +1,5 @@
 """Commands for the board's clock. They check their payload, and pad a short text."""
 
-from __future__ import annotations
-
 from typing import Generic, TypeVar
 
 from ._c import MAX_PAYLOAD, NO_SUCH

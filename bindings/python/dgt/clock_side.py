@@ -1,7 +1,5 @@
 """Which side of a clock is White's."""
 
-from __future__ import annotations
-
 from .pgn import PgnGame
 from .values import Clock, Time, Times
 

@@ -1,7 +1,5 @@
 """Readers of a board's bytes and of a host's."""
 
-from __future__ import annotations
-
 import ctypes
 from collections.abc import Callable, Iterator
 from ctypes import byref, c_size_t, c_uint64

@@ -13,8 +13,6 @@ Exit status: 0 if nothing was found, and 1 if something was, or if the port
 can't be opened.
 """
 
-from __future__ import annotations
-
 import argparse
 import errno
 import os
@@ -116,7 +114,6 @@ def _charge(state: BatteryState) -> str:
 
 
 def _examine(board: Examination) -> None:
-    """Runs the whole examination."""
     if not _is_there(board):
         return
     _ask_all(board)
@@ -145,7 +142,6 @@ def _examine(board: Examination) -> None:
 
 
 def _report(board: Examination, begun: str) -> Iterator[str]:
-    """The lines of the report."""
     yield f"dgt-doctor {VERSION}, {begun}, {platform.platform()}, Python {sys.version.split()[0]}"
     path = os.path.realpath(board.name)
     known = [str(port) for port in ports() if os.path.realpath(port.path) == path]

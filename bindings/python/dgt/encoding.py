@@ -1,20 +1,18 @@
 """Encodes messages and commands, and decodes single ones."""
 
-from __future__ import annotations
-
 from collections.abc import Callable
 from ctypes import byref, c_uint8
 from typing import Any, cast
 
 from . import _c
-from ._c import MAX_BODY, MAX_WORD, ClockStruct, CommandStruct, EncodedStruct, EventStruct
+from ._c import MAX_BODY, MAX_WORD, CommandStruct, EncodedStruct, EventStruct
 from ._handle import Bytes, readable, writable
 from ._library import dgt
 from .commands import Asked, ClockMessage, Command, Leds, read_word
 from .errors import BadValue
 from .events import (Ack, Battery, Dump, Field, LongSerial, Message, Other, Refused, Serial,
                      Trademark, Version, read_event)
-from .values import (Clock, NoClock, Position, Times, clock_struct, number, piece_code, plain_bytes,
+from .values import (NoClock, Position, Times, clock_struct, number, piece_code, plain_bytes,
                      square_number)
 
 
@@ -28,11 +26,10 @@ def encode_message(message: Message) -> bytes:
     >>> encode_message(Other(0x30, b"\x07")).hex(" ")
     'b0 00 04 07'
     """
-    write = _WRITERS.get(type(message))
-    if write is None:
+    if type(message) not in _KINDS:
         raise TypeError(f"not a message: {message!r}")
     told = EventStruct()
-    body, address = readable(write(message, told))
+    body, address = readable(_write(message, told))
     return _encoded(dgt.dgt_encode_message, MAX_BODY + 3, message, byref(told), address, len(body))
 
 
@@ -97,9 +94,6 @@ def _encoded(encode: Callable[..., EncodedStruct], room: int, what: object,
     return bytes(out[:encoded.bytes])
 
 
-# ---- The library's struct for each message, and its body.
-
-
 def _array(held: object, count: int, what: str) -> Any:
     """Returns an array of `count` bytes. Otherwise a `BadValue` names `what` they are."""
     plain = plain_bytes(held)
@@ -108,59 +102,35 @@ def _array(held: object, count: int, what: str) -> Any:
     return (c_uint8 * count)(*plain)
 
 
-def _write_dump(message: Dump, told: EventStruct) -> Bytes:
-    if not isinstance(message.position, Position):
-        raise BadValue(f"position must be a Position: {message.position!r}")
-    told.kind, told.pieces = _c.EVENT_DUMP, _array(message.position.codes, 64, "position")
-    return b""
-
-
-def _write_field(message: Field, told: EventStruct) -> Bytes:
-    told.kind = _c.EVENT_FIELD
-    told.square, told.piece = square_number(message.square), piece_code(message.piece)
-    return b""
-
-
-def _write_clock(message: Clock, told: EventStruct) -> Bytes:
-    told.kind = _c.EVENT_TIMES if isinstance(message, Times) else _c.EVENT_NO_CLOCK
-    shown: ClockStruct = clock_struct(message)
-    told.clock = shown
-    return b""
-
-
-def _write_ack(message: Ack, told: EventStruct) -> Bytes:
-    told.kind, told.ack = _c.EVENT_ACK, _array(message.ack, 4, "ack")
-    told.ack_status = number(message.status, 127, "status")
-    return b""
-
-
-def _write_serial(message: Serial, told: EventStruct) -> Bytes:
-    told.kind, told.serial = _c.EVENT_SERIAL, _array(message.serial, 5, "serial")
-    return b""
-
-
-def _write_version(message: Version, told: EventStruct) -> Bytes:
-    told.kind = _c.EVENT_VERSION
-    told.main_number = number(message.main, 127, "main")
-    told.sub_number = number(message.sub, 127, "sub")
-    return b""
-
-
-def _write_other(message: Other, told: EventStruct) -> Bytes:
-    told.kind, told.code = _c.EVENT_OTHER, number(message.code, 127, "code")
-    return message.body
-
-
-def _carried(kind: int) -> Callable[[Any, EventStruct], Bytes]:
-    def write(message: Trademark | Battery | LongSerial, told: EventStruct) -> Bytes:
-        told.kind = kind
-        return message.body
-    return write
-
-
-_WRITERS: dict[type, Callable[[Any, EventStruct], Bytes]] = {
-    Dump: _write_dump, Field: _write_field, Times: _write_clock, NoClock: _write_clock,
-    Ack: _write_ack, Serial: _write_serial, Version: _write_version, Other: _write_other,
-    Trademark: _carried(_c.EVENT_TRADEMARK), Battery: _carried(_c.EVENT_BATTERY),
-    LongSerial: _carried(_c.EVENT_LONG_SERIAL),
+_KINDS: dict[type, int] = {
+    Dump: _c.EVENT_DUMP, Field: _c.EVENT_FIELD, Times: _c.EVENT_TIMES, NoClock: _c.EVENT_NO_CLOCK,
+    Ack: _c.EVENT_ACK, Serial: _c.EVENT_SERIAL, Version: _c.EVENT_VERSION, Other: _c.EVENT_OTHER,
+    Trademark: _c.EVENT_TRADEMARK, Battery: _c.EVENT_BATTERY, LongSerial: _c.EVENT_LONG_SERIAL,
 }
+
+
+def _write(message: Message, told: EventStruct) -> Bytes:
+    """Writes the library's struct for a message, and returns its body."""
+    told.kind = _KINDS[type(message)]
+    match message:
+        case Dump(position):
+            if not isinstance(position, Position):
+                raise BadValue(f"position must be a Position: {position!r}")
+            told.pieces = _array(position.codes, 64, "position")
+        case Field(square, piece):
+            told.square, told.piece = square_number(square), piece_code(piece)
+        case Times() | NoClock():
+            told.clock = clock_struct(message)
+        case Ack(ack, status):
+            told.ack, told.ack_status = _array(ack, 4, "ack"), number(status, 127, "status")
+        case Serial(serial):
+            told.serial = _array(serial, 5, "serial")
+        case Version(main, sub):
+            told.main_number = number(main, 127, "main")
+            told.sub_number = number(sub, 127, "sub")
+        case Trademark(body) | Battery(body) | LongSerial(body):
+            return body
+        case Other(code, body):
+            told.code = number(code, 127, "code")
+            return body
+    return b""

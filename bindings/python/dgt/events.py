@@ -3,8 +3,6 @@
 
 A later version may introduce new classes for messages that are an `Other` today."""
 
-from __future__ import annotations
-
 import ctypes
 from collections.abc import Callable
 from dataclasses import dataclass

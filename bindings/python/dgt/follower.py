@@ -1,7 +1,5 @@
 """A host that repeats its requests."""
 
-from __future__ import annotations
-
 from collections.abc import Iterator
 from ctypes import byref, c_uint8, c_uint64
 

@@ -1,8 +1,6 @@
 """Follows a board on a line, with repeated requests, so that the picture becomes right again after
 any fault of the line."""
 
-from __future__ import annotations
-
 import contextlib
 import errno
 import os

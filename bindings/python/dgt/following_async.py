@@ -1,7 +1,5 @@
 """Follows a board in a program that uses asyncio."""
 
-from __future__ import annotations
-
 import asyncio
 import contextlib
 import os

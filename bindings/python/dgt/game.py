@@ -72,8 +72,6 @@ The date of these games is unknown. Reading a log twice adds its games twice. If
 no byte arrives for five seconds, dgt-game says so and ends with status 1.
 """
 
-from __future__ import annotations
-
 import argparse
 import os
 import select

@@ -1,7 +1,5 @@
 """Makes games from the positions and the clock of a board."""
 
-from __future__ import annotations
-
 import time
 from collections import deque
 from collections.abc import Callable, Sequence
@@ -297,7 +295,6 @@ class Games(Uncopied):
         self._fallen = fallen
 
     def _learn(self) -> None:
-        """Uses the learned side of the clock."""
         if self.game is None or not self._learns:
             return
         self._learner.look_at(self.game)

@@ -1,7 +1,5 @@
 """The host of a board."""
 
-from __future__ import annotations
-
 from collections.abc import Iterator
 from ctypes import c_uint8
 

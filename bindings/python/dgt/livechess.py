@@ -19,8 +19,6 @@ Limits: 32 clients, 8 feeds for each, 256 messages that wait for a client to
 read them, and 65536 bytes for a message of a client.
 """
 
-from __future__ import annotations
-
 import argparse
 import asyncio
 import contextlib

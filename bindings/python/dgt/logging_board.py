@@ -1,7 +1,5 @@
 """A simulated board that keeps a log while no host listens."""
 
-from __future__ import annotations
-
 from collections import deque
 
 from ._c import MAX_BODY

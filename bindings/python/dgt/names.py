@@ -3,8 +3,6 @@
 The published protocol doesn't define these bytes. These meanings are those of other programs: no
 clock and no board was tried."""
 
-from __future__ import annotations
-
 from collections.abc import Callable
 from ctypes import byref
 from dataclasses import dataclass

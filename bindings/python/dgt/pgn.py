@@ -1,7 +1,5 @@
 """Games as text: moves in short algebraic notation (SAN), and games in PGN's export format."""
 
-from __future__ import annotations
-
 from collections.abc import Iterable, Iterator
 from dataclasses import dataclass, field
 

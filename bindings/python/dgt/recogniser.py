@@ -15,8 +15,6 @@ rested: ask it again at `due_at`.
     (['e2e4'], 'rnbqkbnr/pppppppp/8/8/4P3/8/PPPP1PPP/RNBQKBNR b KQkq - 0 1')
 """
 
-from __future__ import annotations
-
 from ctypes import addressof, byref, c_uint64
 from dataclasses import dataclass
 from typing import Literal

@@ -10,8 +10,6 @@ pseudo-terminal instead. Let a program open that instead of the board's port:
 the bytes in both directions are passed on and recorded.
 """
 
-from __future__ import annotations
-
 import argparse
 import contextlib
 import os
@@ -50,7 +48,6 @@ def _warn(text: str) -> None:
 
 
 def _follow(port: str, recorder: Recorder, stop: int) -> None:
-    """Follows the board until a signal."""
     away: str | None = None
     with _Recorded(port, recorder) as board:
         while not has_input(stop, 0.0):

@@ -11,8 +11,6 @@ It ends once the program has read everything.
 Exit status: 0, or 1 if the file is not a whole session, or wasn't all read.
 """
 
-from __future__ import annotations
-
 import argparse
 import contextlib
 import os

@@ -1,7 +1,5 @@
 """The serial ports of this machine, and `python -m dgt ports`, which lists them."""
 
-from __future__ import annotations
-
 import argparse
 import os
 import sys

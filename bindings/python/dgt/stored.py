@@ -4,8 +4,6 @@ A board stores its pieces and its clock. It sends all of that after the byte `ST
 `Other` with the code 0f; `read_stored` reads its body. The names of the bytes are those of the
 published header, and the bytes after them are known from other programs: no board was tried."""
 
-from __future__ import annotations
-
 from collections.abc import Callable
 from ctypes import byref
 from dataclasses import dataclass

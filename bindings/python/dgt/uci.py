@@ -18,8 +18,6 @@ Options that the chess program shows in its engine settings:
     Clock    whether the clock shows the other side's moves
 """
 
-from __future__ import annotations
-
 import argparse
 import contextlib
 import errno
@@ -338,7 +336,6 @@ class Engine:
             self.line = None
 
     def see(self, view: BoardView, now: float) -> None:
-        """Notes a view of the board."""
         away = view.away or ""
         if away != self._away:
             self._inform(f"{self.port}: {_why(away) if away else 'the board is back'}")

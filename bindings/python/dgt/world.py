@@ -1,7 +1,5 @@
 """A board and a host connected with two lines of bytes, for tests."""
 
-from __future__ import annotations
-
 from collections.abc import Callable
 from enum import StrEnum
 from typing import Any

@@ -218,36 +218,27 @@ impl<Open: FnMut() -> io::Result<Stream>, Stream: Read + Write> Views<Open, Stre
 
     /// Takes one step, and returns whether it changed what is known.
     fn turn(&mut self) -> bool {
-        let fault = if self.heard < self.came {
+        if self.heard < self.came {
             self.heard += self.follower.hear(now(), &self.chunk[self.heard..self.came]);
-            None
-        } else if let Some(stream) = &mut self.stream {
-            let follower = &mut self.follower;
-            let asked = ask(follower, stream);
-            match asked.and_then(|count| Ok((count, read(follower, stream, &mut self.chunk)?))) {
-                Ok((count, came)) => {
-                    if count > 0 {
-                        (self.asked_before, self.asked) = (self.asked, Some(now()));
-                    }
-                    (self.heard, self.came) = (0, came);
-                    None
-                }
-                Err(fault) => Some(fault),
-            }
-        } else {
+        } else if self.stream.is_none() {
             self.look();
-            None
-        };
-        if fault.is_some() {
-            self.lose();
+        } else if self.converse().is_err() {
+            (self.stream, self.looked) = (None, now());
+            (self.asked, self.asked_before) = (None, None);
+            self.follower.line_lost();
         }
         self.note()
     }
 
-    fn lose(&mut self) {
-        (self.stream, self.looked) = (None, now());
-        (self.asked, self.asked_before) = (None, None);
-        self.follower.line_lost();
+    /// Sends what is due, and reads what was received.
+    fn converse(&mut self) -> io::Result<()> {
+        if let Some(stream) = &mut self.stream {
+            if ask(&mut self.follower, stream)? > 0 {
+                (self.asked_before, self.asked) = (self.asked, Some(now()));
+            }
+            (self.heard, self.came) = (0, read(&mut self.follower, stream, &mut self.chunk)?);
+        }
+        Ok(())
     }
 
     /// Opens the stream again if it is time to look for it, or else waits a little.
