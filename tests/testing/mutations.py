@@ -235,7 +235,7 @@ def mutants(found: dict[str, Definition], data: Types) -> list[Mutant]:
     every = []
     for one in found.values():
         numbered: dict[tuple[str, str], tuple[str, str]] = {}
-        if one.is_cited and one.kind in ("abbrev", "record") and not one.is_statement:
+        if one.is_cited and one.kind in ("abbrev", "record", "unfoldable") and not one.is_statement:
             for what, old, new in of_definition(one, siblings, data):
                 if new.split() != old.split():
                     numbered.setdefault((old, " ".join(new.split())), (what, new))
