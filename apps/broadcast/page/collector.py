@@ -36,6 +36,7 @@ TURNS = {"white": 0x10, "black": 0x08}  # bits of a clock's status
 LATE, TRUST = 0.3, 15.0
 MOST_ROWS = 20000  # the rows of a board that the state keeps at least: more belong to no game
 AWAY = ("silent", "gone", "ended")
+REMOVED = "removed"  # the entry of a board without topics
 TABLES = """
 PRAGMA journal_mode = WAL;
 PRAGMA synchronous = NORMAL;
@@ -86,18 +87,13 @@ class Now:
 
 
 @dataclass
-class Removed:
-    board: str
-
-
-@dataclass
 class Call:
     """Something to do between two entries."""
 
     run: Callable[[], None]
 
 
-Heard = Now | Removed | Call
+Heard = Now | Call
 
 
 class State:
@@ -146,11 +142,13 @@ class State:
         return {(board, journal): number for board, journal, number in rows}
 
     def latest(self) -> list[tuple[str, str, int, Any]]:
-        """The last entry of each board: the board, a journal, a number, and the entry."""
+        """The last entry of each board that wasn't removed: the board, a journal, a number, and the
+        entry."""
         rows = self.kept.execute("SELECT board, journal, number, entry, max(id) FROM heard "
                                  "WHERE board != '' AND journal != ? AND entry != 'null' "
                                  "GROUP BY board", [DESK])
-        return [(*row, json.loads(entry)) for *row, entry, _ in rows]  # type: ignore[misc]
+        latest = [(*row, json.loads(entry)) for *row, entry, _ in rows]
+        return [row for row in latest if row[-1] != REMOVED]  # type: ignore[misc]
 
     def news(self) -> list[tuple[int, str, str, int, Any]]:
         """The unread rows: a row, a journal, a board, a number, and an entry."""
@@ -528,8 +526,6 @@ class Collector:
                     return
                 case Call(run):
                     run()
-                case Removed(board):
-                    self.remove(board)
                 case Now():
                     self.set_time(heard)
 
@@ -553,6 +549,9 @@ class Collector:
         if entry is None:  # something is lost
             self.do(name, lambda table: self.lose(table, at))
             return None
+        if entry == REMOVED:
+            self.shown.pop(name, None)
+            return self.remove(name)
         board = self.shown.setdefault(name, topics.Board(name))
         board.hear_entry(round(1000 * at), entry)
         board.journal, board.heard_at = journal, at
@@ -580,13 +579,15 @@ class Collector:
                 self.do(name, functools.partial(self.observe, board.journal, seen))
 
     def remove(self, name: str) -> None:
-        """Ends the game on a board. The board may be back, and was taken for the same."""
+        """Ends the game on a board, whose next one begins with a later row. The rows of the present
+        position stay: the next round may begin with it."""
         if table := self.tables.pop(name, None):
             table.games.close()
             self.counts[name] = table.place.played
             if table.place.kept and table.place.kept.text:
                 table.place.done.append(table.place.kept)
-            table.since = table.first = self.firsts[name] = table.row
+            table.since, table.first = table.row, self.row + 1
+            self.firsts[name] = table.first
             self.finish(name, table, table.place.played)
             self.tell(name, None, False)
 

@@ -70,9 +70,7 @@ class Late(corrected_games.CorrectedGames):
             self.is_closed.wait(min(seconds, due - here))
             raise queue.Empty
         heard = self.held.popleft()[1]
-        if isinstance(heard, collector.Removed):
-            self.boards.remove(heard.board)
-        elif isinstance(heard, collector.Now):
+        if isinstance(heard, collector.Now):
             self.boards.show_time(heard)
         return heard
 
@@ -82,4 +80,6 @@ class Late(corrected_games.CorrectedGames):
     def take(self, row: int, journal: str, name: str, at: float, entry: Any) -> None:
         if isinstance(entry, list):
             self.boards.show(journal, name, round(1000 * at), entry)
+        elif entry == collector.REMOVED:
+            self.boards.remove(name)
         super().take(row, journal, name, at, entry)

@@ -226,13 +226,12 @@ class Boards:
 
     def pass_on(self, board: topics.Board, was_shown: bool) -> None:
         """Makes games from the messages of a board without a journal."""
-        if self.games and board.is_shown:
+        if self.games and (board.is_shown or was_shown):
             now = time.time()
+            entry = board.as_entry() if board.is_shown else collector.REMOVED
             with contextlib.suppress(sqlite3.Error):
-                self.state.add("", board.name, round(1000 * now), board.as_entry())
+                self.state.add("", board.name, round(1000 * now), entry)
             self.games.hear(collector.Now(board.name, "", now))
-        elif self.games and was_shown:
-            self.games.hear(collector.Removed(board.name))
 
     def recall(self) -> None:
         """Shows the boards of the state until their messages arrive."""
