@@ -1,13 +1,9 @@
 -- On how many squares men arrive in a half-move, and in a line.
-use Rattle.std.{proofs.{Common.{rules, ◌≡◌, ◌∙◌, ℕ, ◌<◌, ◌≤◌, List, [], ◌∷◌, arith, inl, inr, length, refl, subst, sym, take}, lemmas.Bool.{cases_eq}}, specs.Prelude.{◌≢◌, ◌⊎◌, ◌+◌, ◌/◌, Bool, true}}
-use Rattle.{std.specs.{Prelude.{false, not, ◌&&◌, nat_eq, if◌then◌else◌, slice_set, slice_index_or, suc, zero, Option, Some, None}, Int.{abs_diff}}, dgt_values.proofs.PieceCodes.{same_code}}
+use Rattle.std.{proofs.{Common.{rules, ◌≡◌, ◌∙◌, ℕ, ◌<◌, ◌≤◌, List, [], ◌∷◌, arith, inl, inr, length, refl, subst, sym}, lemmas.Bool.{cases_eq}}, specs.Prelude.{◌≢◌, ◌⊎◌, ◌+◌, ◌/◌, Bool, true}}
+use Rattle.{std.specs.{Prelude.{false, not, ◌&&◌, nat_eq, if◌then◌else◌, slice_set, Option, Some, None}, Int.{abs_diff}}, dgt_values.proofs.PieceCodes.{same_code}}
 use Rattle.{dgt_values.specs.{declared.pieces.Piece.{Piece, TheVariants.{Empty}}, Board.{piece_code}}, dgt_chess.specs.declared.{state.{Move.{Move}, State.{State}}, pieces.Colour.{Colour}}}
-use Rattle.dgt_chess.specs.{declared.pieces.Man.{Man, TheVariants.{Pawn, Knight, Bishop, Rook, Queen, King}}, Attacks.{other, piece_of}, Rules.{Promotes, beside, board, is_free, moved, pieces_after}}
-use Rattle.{dgt_chess.proofs.OneMove.{moved_is, put}, dgt_game.specs.{Arrivals.{arrivals, counts, has_arrived}, Lines.{IsLine, IsMove, LeadsTo, NoLine}}}
-
--- at most one man arrives on a square
-abbrev one_if : Bool → ℕ
-one_if test = if test then 1 else 0
+use Rattle.dgt_chess.specs.{declared.pieces.Man.{Man, TheVariants.{Pawn, Knight, Bishop, Rook, Queen, King}}, Attacks.{other, piece_at, piece_of}, Rules.{Promotes, beside, board, is_free, moved, pieces_after}}
+use Rattle.{dgt_chess.proofs.OneMove.{moved_is, put}, dgt_game.proofs.Counting.{none, one_if, set_one, triangle}, dgt_game.specs.{Reach.{arrivals, counts, has_arrived}, Lines.{IsLine, IsMove, LeadsTo, NoLine}}}
 
 at_most : (test : Bool) → one_if test ≤ 1
 at_most test = search rules
@@ -37,26 +33,22 @@ by_steps colour a b c = elim (cases_eq (piece_code b) (piece_code c)) [
       search (rules, one_if, has_arrived, counts, comes, arrives_at_most)
 ]
 
-pub triangle : (colour : Colour) (a b c : List Piece) → length a ≡ length b
-    → arrivals colour a c ≤ arrivals colour a b + arrivals colour b c
-triangle colour [] b c e = omega arith
-triangle colour (x ∷ a) [] c e = absurd (omega (arith, e))
-triangle colour (x ∷ a) (y ∷ b) [] e = omega arith
-triangle colour (x ∷ a) (y ∷ b) (z ∷ c) e =
-    omega (arith, by_steps colour x y z, triangle colour a b c (omega (arith, e)))
-
 none_arrives : (colour : Colour) (pieces : List Piece) → arrivals colour pieces pieces ≡ 0
-none_arrives colour [] = refl
-none_arrives colour (piece ∷ pieces) =
-    let rest = none_arrives colour pieces in let here = stays colour piece in grind arith
+none_arrives colour pieces = none (has_arrived colour) (stays colour) pieces
 
-set_one : (colour : Colour) (old new : List Piece) (at : ℕ) (piece : Piece)
+arrives_on : (colour : Colour) (old new : List Piece) (at : ℕ) (piece : Piece)
     → arrivals colour old (slice_set new at piece)
     ≤ arrivals colour old new + one_if (counts colour piece)
-set_one colour [] new at piece = omega arith
-set_one colour (x ∷ old) [] at piece = omega arith
-set_one colour (x ∷ old) (y ∷ new) zero piece = omega (arith, arrives_at_most colour x piece)
-set_one colour (x ∷ old) (y ∷ new) (suc at) piece = omega (arith, set_one colour old new at piece)
+arrives_on colour old new at piece =
+    omega (
+      arith,
+      set_one (has_arrived colour) old new at piece,
+      arrives_at_most colour (piece_at old at) piece,
+    )
+
+steps : (colour : Colour) (a b c : List Piece) → length a ≡ length b
+    → arrivals colour a c ≤ arrivals colour a b + arrivals colour b c
+steps colour = triangle (has_arrived colour) (by_steps colour)
 
 -- ---- a half-move
 
@@ -69,7 +61,7 @@ moved_one : (colour : Colour) (man : Man) (old : List Piece) (turn : Colour) (a 
 moved_one colour man old turn a b promotion =
     let piece = piece_of turn (put man promotion) in
     let P : List Piece → Type 0 = λ new. arrivals colour old new ≤ one_if (counts colour piece) in
-    search (rules, moved_is, set_one, none_arrives, free_counts)
+    search (rules, moved_is, arrives_on, none_arrives, free_counts)
 
 -- a colour of whose men at most this many are counted if one is put on a square
 record Puts (colour turn : Colour) (most : ℕ) : Type 0 where
@@ -81,7 +73,7 @@ pawn_one : (colour turn : Colour) (most : ℕ) (test : Bool) (old : List Piece) 
     (if test then slice_set (moved Pawn old turn a b promotion) c Empty
     else moved Pawn old turn a b promotion) ≤ most
 pawn_one colour turn most test old a b c promotion puts =
-    search (rules, set_one, moved, moved_one, free_counts, put)
+    search (rules, arrives_on, moved, moved_one, free_counts, put)
 
 king_one : (colour turn : Colour) (most : ℕ) (test : Bool) (old : List Piece) (a b c d : ℕ)
     → Puts colour turn most → arrivals colour old
@@ -89,7 +81,7 @@ king_one : (colour turn : Colour) (most : ℕ) (test : Bool) (old : List Piece) 
     d (piece_of turn Rook)
     else moved King old turn a b None) ≤ most
 king_one colour turn most true old a b c d puts =
-    search (rules, moved, set_one, moved_one, free_counts)
+    search (rules, moved, arrives_on, moved_one, free_counts)
 king_one colour turn most false old a b c d puts =
     omega (arith, moved_one colour King old turn a b None, puts.king)
 
@@ -151,7 +143,7 @@ line_arrivals state (one ∷ moves) new (next, move, line) =
     state.position.all ∙ sym next.position.all in
     let turn = next_turn state one next move in
     let rest = line_arrivals next moves new line in
-    search (rules, arrivals, board, twice, triangle)
+    search (rules, arrivals, board, twice, steps)
 
 -- too many have arrived for this many half-moves
 pub too_far : (state : State) (pieces : List Piece) (halves : ℕ)
@@ -160,22 +152,3 @@ pub too_far : (state : State) (pieces : List Piece) (halves : ℕ)
 unfolding NoLine LeadsTo
 too_far state pieces halves far moves long (new, line, same) =
     search (rules, arrivals, board, line_arrivals)
-
--- ---- counted square by square
-
-one_at : (colour : Colour) (olds news : List Piece) (at : ℕ) → at < length olds → at < length news
-    → arrivals colour (take (suc at) olds) (take (suc at) news)
-    ≡ arrivals colour (take at olds) (take at news)
-    + one_if (has_arrived colour (slice_index_or olds at Empty) (slice_index_or news at Empty))
-one_at colour [] news at small small' = absurd (omega (arith, small))
-one_at colour (x ∷ olds) [] at small small' = absurd (omega (arith, small'))
-one_at colour (x ∷ olds) (y ∷ news) zero small small' = omega arith
-one_at colour (x ∷ olds) (y ∷ news) (suc at) small small' =
-    omega (arith, one_at colour olds news at (omega (arith, small)) (omega (arith, small')))
-
-pub one_more : (colour : Colour) (olds news : List Piece) (at : ℕ) → at < length olds
-    → at < length news → arrivals colour (take (at + 1) olds) (take (at + 1) news)
-    ≡ arrivals colour (take at olds) (take at news)
-    + one_if (has_arrived colour (slice_index_or olds at Empty) (slice_index_or news at Empty))
-one_more colour olds news at small small' =
-    search (rules, arrivals, one_if, has_arrived, slice_index_or, one_at)

@@ -1,14 +1,14 @@
 -- A half-move leaves its first square, and the opponent's answer puts none of its men there.
 use Rattle.std.{proofs.{Common.{rules, ◌≡◌, ◌∙◌, ℕ, ◌≤◌, List, [], ◌∷◌, ap, arith, inl, inr, subst, sym}, lemmas.Bool.{cases_eq}}, specs.Prelude.{◌≢◌, suc, Option, Some}}
 use Rattle.{dgt_values.specs.{declared.pieces.Piece.{Piece, TheVariants.{Empty}}, Board.{square_number}}, dgt_chess.specs.declared.{state.{Move.{Move}, State.{State}}, pieces.Colour.{Colour}}}
-use Rattle.dgt_chess.{specs.{declared.pieces.Man.{Man, TheVariants.{Pawn, Rook}}, Attacks.{other, piece_at, piece_of, IsFree}, Rules.{board}}, proofs.{OneMove.{effect_of, put}, Unique.{Effect}}}
-use Rattle.{dgt_chess.proofs.Unique.{not_free, not_theirs, same_kind, same_man}, dgt_game.specs.{declared.ways.Ways.TheVariants.{Nothing}, Lines.{IsMove}, Ways.{AreWaysBy, IsWay}}}
+use Rattle.dgt_chess.{specs.{declared.pieces.Man.{Man, TheVariants.{Pawn, Rook}}, Attacks.{other, piece_at, piece_of, IsFree}, Rules.{CanGo, Legal, board}}, proofs.{OneMove.{effect_of, put}, Unique.{Effect}}}
+use Rattle.{dgt_chess.proofs.Unique.{not_free, not_theirs, same_kind, same_man}, dgt_game.proofs.HalfMoves.{made_by}, dgt_game.specs.{declared.ways.Ways.TheVariants.{Nothing}, Lines.{IsMove}, Ways.{AreWaysBy, IsWay}}}
 
 was_pawn : (man : Man) (promotion : Option Man) → promotion ≢ Some Pawn → put man promotion ≡ Pawn
     → man ≡ Pawn
 was_pawn man promotion differ e = search rules
 
-effect : (state : State) (one : Move) (next : State) → IsMove state one next
+pub effect : (state : State) (one : Move) (next : State) → IsMove state one next
     → (man : Man) × (next.turn ≡ other state.turn) × Effect (board state) (board next) state.turn
     (square_number one.from) (square_number one.to) man
     × (man ≡ Pawn → piece_at (board state) (square_number one.from) ≡ piece_of state.turn Pawn)
@@ -72,6 +72,20 @@ no_man halves state pieces at none [] new way begins = begins
 no_man halves state pieces at none (one ∷ moves) new way begins =
     let (own, here) = no_man_left halves state pieces one moves new way in
     search (rules, piece_at, board, piece_of)
+
+pub no_goal : (halves : ℕ) (state : State) (pieces : List Piece) (from to : ℕ)
+    → ¬ (CanGo state from to)
+    → AreWaysBy (λ one. (square_number one.from ≡ from) × (square_number one.to ≡ to)) (suc halves)
+    state pieces Nothing
+unfolding CanGo
+no_goal halves state pieces from to none [] new way begins = begins
+no_goal halves state pieces from to none (one ∷ moves) new (long, (next, move, line), same) (a, b) =
+    let P : ℕ → ℕ → Type 0 = λ m n. Legal state m n one.promotion in
+    none (
+      one.promotion,
+      subst (λ n. P from n) b (subst (λ m. P m (square_number one.to)) a
+          (made_by state one next move)),
+    )
 
 -- A move of the opponent empties no square of a man, but for a pawn captured in passing.
 stays_put : (old new : List Piece) (turn turn' : Colour) (a b at : ℕ) (man own : Man)

@@ -1,8 +1,10 @@
 pub mod Same
 pub mod HalfMoves
 pub mod Sets
+pub mod Counting
 pub mod Arriving
 pub mod Leaving
+pub mod Departing
 pub mod Promoting
 pub mod Turning
 pub mod Links

@@ -16,4 +16,4 @@ pub mod Settling
 pub mod Finding
 -- Only for bodies.
 pub mod Ways
-pub mod Arrivals
+pub mod Reach

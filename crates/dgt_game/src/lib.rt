@@ -39,6 +39,7 @@ pub mod laws;
 mod memory;
 mod node;
 mod observation;
+mod reach;
 mod reading;
 mod recogniser;
 mod resting;

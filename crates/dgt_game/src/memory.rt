@@ -288,8 +288,8 @@ impl Memory {
         (path, place)
     }
 
-    /// Has the path to a place reported, and then the answer. Before another line begins, a
-    /// half-move that had rested is reported, if the line may go on.
+    /// Has the path to a place reported, and then the answer. Before another line begins, the
+    /// half-moves that had rested are reported, if the line may go on.
     pub(crate) fn tell(&mut self, place: Place, answer: Option<Node>, is_open: bool)
         ensures holds { (shown : List (List Piece)) (line : List Told)
             → self.old.back ≡ 0 → self.old.unsaid.items ≡ []

@@ -1,14 +1,14 @@
 //! The legal lines of a few half-moves that lead to a picture.
 
-ghost use Rattle.std.specs.Prelude.{◌≡◌, ◌<◌, ◌≤◌, ◌↔◌, ℕ, suc, false, IsSome, IsTrue, MatchOption, Option, [], ◌∷◌, length};
+ghost use Rattle.std.specs.Prelude.{◌≡◌, ◌<◌, ◌≤◌, ◌↔◌, ℕ, suc, false, IsBitSet, IsSome, IsTrue, MatchOption, Option, [], ◌∷◌, length};
 ghost use Rattle.dgt_values.specs.Board.{pieces_of, square_number};
 ghost use Rattle.dgt_chess.specs.Attacks.{piece_at, piece_of, row};
 ghost use Rattle.dgt_chess.specs.Rules.{board, last_row};
-ghost use Rattle.dgt_game.specs.Arrivals.{arrivals, counts, has_arrived};
 ghost use Rattle.dgt_game.specs.Lines.{IsMove, IsOnly, NoLine, moves_of};
 ghost use Rattle.dgt_game.specs.Ways.{AreWays, AreWaysBy, Ends, Follows, IsSeveral, IsShort, both};
 
 use crate::event::Moves;
+use crate::reach::is_far;
 use dgt_chess::{Colour, Man, Move, State};
 use dgt_values::{Piece, Position, Square};
 use std::marker::PhantomData;
@@ -154,14 +154,24 @@ fn ways_from<S: Search>(state: &State, picture: &Position, from: u8, rest: u8) -
     if rest <= 1 && is_same(piece, picture.pieces()[from as usize]) {
         return Ways::Nothing;
     }
+    let goals = state.goals(Square::from_small(from));
     let mut found = Ways::Nothing;
     for to in 0..64 {
-        found.add(ways_over::<S>(state, picture, man, from, to, rest));
-        if found.is_several() {
-            return found;
+        if has(goals, to) {
+            found.add(ways_over::<S>(state, picture, man, from, to, rest));
+            if found.is_several() {
+                return found;
+            }
         }
     }
     found
+}
+
+fn has(squares: u64, square: u8) -> bool
+    requires { square < 64 }
+    ensures { IsTrue result ↔ IsBitSet squares square }
+{
+    squares & (1 << square) != 0
 }
 
 // The lines whose first half-move takes a man from one square to another.
@@ -244,59 +254,4 @@ pub(crate) fn is_same(a: Piece, b: Piece) -> bool
     ensures { IsTrue result ↔ (a ≡ b) }
 {
     a == b
-}
-
-// Whether more men have arrived on squares than by this many half-moves.
-fn is_far(state: &State, picture: &Position, halves: u8) -> bool
-    requires { halves ≤ 4 }
-    ensures { IsTrue result → NoLine halves state.now (pieces_of picture.now) }
-{
-    let turn = state.turn();
-    if arrivals(turn, state.position(), picture) > (halves + 1) / 2 {
-        return true;
-    }
-    arrivals(turn.other(), state.position(), picture) > halves / 2
-}
-
-// On how many squares men of the colour have arrived. Kings aren't counted, so that each half-move
-// adds one at most, a castling too.
-fn arrivals(colour: Colour, old: &Position, new: &Position) -> u8
-    ensures { result ≡ arrivals colour (pieces_of old.now) (pieces_of new.now) }
-{
-    let olds = old.pieces();
-    let news = new.pieces();
-    let mut count = 0;
-    for square in 0..64 {
-        count += u8::from(has_arrived(colour, olds[square], news[square]));
-    }
-    count
-}
-
-fn has_arrived(colour: Colour, old: Piece, new: Piece) -> bool
-    ensures { result ≡ has_arrived colour old new }
-{
-    old.code() != new.code() && counts(colour, new)
-}
-
-fn counts(colour: Colour, piece: Piece) -> bool
-    ensures { result ≡ counts colour piece }
-{
-    match colour {
-        Colour::White => matches!(
-            piece,
-            Piece::WhitePawn
-                | Piece::WhiteKnight
-                | Piece::WhiteBishop
-                | Piece::WhiteRook
-                | Piece::WhiteQueen
-        ),
-        Colour::Black => matches!(
-            piece,
-            Piece::BlackPawn
-                | Piece::BlackKnight
-                | Piece::BlackBishop
-                | Piece::BlackRook
-                | Piece::BlackQueen
-        ),
-    }
 }

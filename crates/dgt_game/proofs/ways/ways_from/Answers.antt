@@ -1,4 +1,5 @@
-use Rattle.{std.{proofs.Common.{arith, rules}, specs.Prelude.{◌+◌, suc}}, dgt_values.specs.Board.{pieces_of}, dgt_game.proofs.{Leaving.{kept, no_man}, Sets.{all_goals, further, several_from}}}
+use Rattle.{std.{proofs.Common.{◌≡◌, ◌<◌, arith, refl, rules, subst, sym}, specs.Prelude.{◌+◌, suc}}, dgt_values.specs.Board.{pieces_of, square_number}, dgt_game.specs.declared.ways.Ways.{Ways, TheVariants.{Nothing}}, dgt_game.specs.Ways.{AreWaysBy}, dgt_game.proofs.{Leaving.{kept, no_goal, no_man}, Sets.{all_goals, further, several_from}}}
+use Rattle.dgt_game.proofs.ways.ways_from.Goals.{then-has+else-is_several, else-has}
 use Rattle.dgt_game.proofs.ways.ways_from.Goals as goal
 
 pub returns-in_default : goal.returns-in_default
@@ -13,9 +14,20 @@ returns-then-is_same g c =
 
 pub loop-to-preserved : goal.loop-to-preserved
 loop-to-preserved g c =
-    further (suc g.S.Search.depth) c.args.state.now (pieces_of c.args.picture.now) c.args.from
-    c.loop-to.to c.loop-to.found c.ways_over.result c.add.new.self c.add.ensures
-    c.loop-to.invariant c.ways_over.ensures
+    let state = c.args.state.now in
+    let pieces = pieces_of c.args.picture.now in
+    let halves = suc g.S.Search.depth in
+    let to = c.loop-to.to in
+    let P : Ways → Type 0 = AreWaysBy (λ one. (square_number one.from ≡ c.args.from)
+    × (square_number one.to < to + 1)) halves state pieces in
+    elim c.if-has.branch [
+      | then-has+else-is_several w ↦ subst P (sym w.found-is)
+          (further halves state pieces c.args.from to c.loop-to.found w.ways_over.result
+          w.add.new.self w.add.ensures c.loop-to.invariant w.ways_over.ensures)
+      | else-has w ↦ subst P (sym w.found-is)
+          (further halves state pieces c.args.from to c.loop-to.found Nothing c.loop-to.found refl
+          c.loop-to.invariant (no_goal g.S.Search.depth state pieces c.args.from to (search rules)))
+    ]
 
 pub returns-then-is_several : goal.returns-then-is_several
 returns-then-is_several g c =

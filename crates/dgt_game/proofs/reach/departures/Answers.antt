@@ -1,5 +1,5 @@
-use Rattle.{std.proofs.Common.{◌<◌, arith, length}, dgt_values.specs.Board.{pieces_of}, dgt_game.proofs.Arriving.{one_more}}
-use Rattle.dgt_game.proofs.ways.arrivals.Goals as goal
+use Rattle.{std.proofs.Common.{◌<◌, arith, length}, dgt_values.specs.Board.{pieces_of}, dgt_game.{specs.Reach.{has_left}, proofs.Counting.{one_more}}}
+use Rattle.dgt_game.proofs.reach.departures.Goals as goal
 
 pub loop-square-preserved : goal.loop-square-preserved
 loop-square-preserved c =
@@ -7,5 +7,5 @@ loop-square-preserved c =
     let news = pieces_of c.args.new.now in
     let small : c.loop-square.square < length olds = omega (arith, c.pieces-olds.ensures.len) in
     let small' : c.loop-square.square < length news = omega (arith, c.pieces-news.ensures.len) in
-    let more = one_more c.args.colour olds news c.loop-square.square small small' in
+    let more = one_more (has_left c.args.kind) olds news c.loop-square.square small small' in
     (grind arith, grind arith)

@@ -1,7 +1,7 @@
 use Rattle.std.proofs.Common.{◌≡◌, ◌≤◌, take}
 use Rattle.dgt_values.specs.Board.{pieces_of}
-use Rattle.dgt_game.specs.Arrivals.{arrivals}
-use Rattle.dgt_game.proofs.ways.arrivals.Given as goal
+use Rattle.dgt_game.specs.Reach.{arrivals}
+use Rattle.dgt_game.proofs.reach.arrivals.Given as goal
 
 abbrev pub invariant-loop-square : goal.invariant-loop-square
 invariant-loop-square l =

@@ -1,6 +1,6 @@
 use Rattle.{std.{proofs.Common.{◌≡◌, ◌<◌, arith, inl, inr}, specs.Prelude.{◌/◌}}, dgt_values.specs.Board.{pieces_of}, dgt_chess.specs.{Attacks.{other}, Rules.{board}}}
-use Rattle.dgt_game.{specs.Arrivals.{arrivals}, proofs.Arriving.{too_far}}
-use Rattle.dgt_game.proofs.ways.is_far.Goals as goal
+use Rattle.dgt_game.{specs.Reach.{arrivals}, proofs.Arriving.{too_far}}
+use Rattle.dgt_game.proofs.reach.arrive_too_many.Goals as goal
 
 pub returns-then-arrivals-halves : goal.returns-then-arrivals-halves
 returns-then-arrivals-halves c = λ yes.
