@@ -4,10 +4,10 @@ use Rattle.{dgt_values.specs.{declared.{pieces.Piece.{Piece}, squares.Square.{Sq
 use Rattle.dgt_chess.specs.declared.{possible.{Impossible.{Impossible}, Rights.{Rights}}, san_reader.BadSan.{BadSan}, state.{Move.{Move}, State.{State}}}
 use Rattle.dgt_chess.specs.{Fen.{IsAnyFen, IsFirstWrong, IsShown, ParsesFen, WritesFen, fen_text}, Possible.{RefusedAreImpossible, Refuses}}
 use Rattle.dgt_chess.specs.{Rules.{IsAfter, LegalBy, OneAfter, OneMoveAPicture, StatesArePossible, board, passed}, San.{IsSan, OneMoveAText, OneTextAMove, ParsesSan}}
-use Rattle.{dgt_chess.proofs.{FenLaws.{OnePlacement, one_fen}, Unique.{same_man}}, dgt_c.specs.Chess.{HasParts, HasStatus, IsState, RefusesState, SaysState, reason_status}}
+use Rattle.{dgt_chess.proofs.{FenLaws.{OnePlacement, one_fen}, Same.{alike, same_move}, Unique.{same_man}}, dgt_c.specs.Chess.{HasParts, HasStatus, IsState, RefusesState, SaysState, reason_status}}
 use Rattle.dgt_c.specs.ChessOnce.{OneFenPut, OneFenRead, OneKind, OneLead, OneMoveStruct, OnePlay, OneSanPut, OneStateStruct, OneStatus, RefusedAreNone, StatusesAre}
 use Rattle.dgt_c.specs.{ChessTexts.{LeavesMove, LeavesState, ReadsSan, fen_reported, san_status}, Slices.{with_text}, declared.header.{DgtChessMove.{DgtChessMove}, DgtChessState.{DgtChessState}}}
-use Rattle.dgt_c.proofs.{ChessLemmas.{OnePiece, of_state, one_move, only_state, one_state, refused_state, same_move, same_parts, same_position, same_square, same_state}, OnceLemmas.{pieces_once}}
+use Rattle.dgt_c.proofs.{ChessLemmas.{OnePiece, of_state, one_move, only_state, one_state, refused_state, same_parts}, OnceLemmas.{pieces_once}}
 
 -- ---- structs
 
@@ -147,20 +147,6 @@ statuses_are said = (
 )
 
 -- ---- calls
-
-same_passed : (a b : Option Square) → option_map square_number a ≡ option_map square_number b
-    → a ≡ b
-same_passed None None e = refl
-same_passed None (Some b) e = absurd cc
-same_passed (Some a) None e = absurd cc
-same_passed (Some a) (Some b) e = let same : square_number a ≡ square_number b = cc in
-    ap Some (same_square a b same)
-
--- states of the same parts are the same
-alike : (a b : State) → board a ≡ board b → a.turn ≡ b.turn → a.rights ≡ b.rights
-    → passed a ≡ passed b → a.half_moves ≡ b.half_moves → a.number ≡ b.number → a ≡ b
-alike a b p t r s h n =
-    same_state a b (same_position a.position b.position p) t r (same_passed a.passed b.passed s) h n
 
 -- one state follows a legal move
 one_after : OneAfter → (state : State) (one : Move) (man man' : Man) (a b : State)

@@ -1,7 +1,8 @@
 -- What is seen of a board, as arguments of C describe it.
 use Rattle.{std.{proofs.Common.{◌≡◌, ◌∙◌, ℕ, List, ap, arith, refl, sym}, specs.Prelude.{Bool, Option, Some, None}}, dgt_chess.specs.declared.pieces.Colour.{Colour}}
 use Rattle.{dgt_game.specs.declared.observation.{Observation.{Observation}, Sight.{Sight}}, dgt_c.specs.{Games.{SaysObservation, SaysSight, side_number}, GamesOnce.{OneObservation, OneSight}}}
-use Rattle.dgt_c.proofs.{ChessLemmas.{OnePiece, colour_once, same_position}, OnceLemmas.{pieces_once}}
+use Rattle.dgt_chess.proofs.Same.{same_position}
+use Rattle.dgt_c.proofs.{ChessLemmas.{OnePiece, colour_once}, OnceLemmas.{pieces_once}}
 
 pub says_seen : (now : ℕ) (codes : List ℕ) (n : ℕ) (confirmed : Bool) (running : ℕ)
     (sight : Sight) (side : Option Colour) → SaysSight codes n sight → running ≡ side_number side

@@ -1,23 +1,7 @@
 -- A text has one lenient reading, and what is read strictly is read leniently as the same move.
-use Rattle.{std.{proofs.{Common.{◌≡◌, ℕ, ◌<◌, ◌∙◌, List, ap, refl, subst, sym, rules}, Props.{props}}, specs.Prelude.{Option, Result, Ok, Err}}, dgt_values.specs.declared.squares.Square.{Square}}
+use Rattle.{std.{proofs.{Common.{◌≡◌, ℕ, ◌<◌, ◌∙◌, List, ap, refl, sym, rules}}, specs.Prelude.{Option, Result, Ok, Err}}}
 use Rattle.{dgt_values.specs.Board.{square_number}, dgt_chess.specs.declared.{pieces.Man.{Man}, san_reader.BadSan.{BadSan}, state.{Move.{Move}, State.{State}}}}
-use Rattle.dgt_chess.{specs.San.{Fits, FitsOnly, FitsSeveral, OneLenientReading, StrictIsLenient}, proofs.SanLaws.{one_fits, san_fits}}
-
-same_square : (a b : Square) → square_number a ≡ square_number b → a ≡ b
-same_square a b e =
-    let once : IsProp (a.index < 64) = hlevel props in
-    let Same : ℕ → Type 0 = λ n. (small : n < 64) → a ≡ record { index = n; small = small } in
-    subst Same e (λ small. ap (λ (p : a.index < 64). record { index = a.index; small = p })
-    (once a.small small)) b.small
-
-same_move : (a b : Move) → square_number a.from ≡ square_number b.from
-    → square_number a.to ≡ square_number b.to → a.promotion ≡ b.promotion → a ≡ b
-same_move a b from to promotion =
-    let from_same = same_square a.from b.from from in
-    let to_same = same_square a.to b.to to in
-    ap (λ (s : Square). record a { from = s }) from_same
-    ∙ ap (λ (s : Square). record a { from = b.from; to = s }) to_same
-    ∙ ap (λ (p : Option Man). record b { promotion = p }) promotion
+use Rattle.dgt_chess.{specs.San.{Fits, FitsOnly, FitsSeveral, OneLenientReading, StrictIsLenient}, proofs.{Same.{same_move}, SanLaws.{one_fits, san_fits}}}
 
 some_fits : (state : State) (text : List ℕ) (to : ℕ) (promotion : Option Man)
     → FitsSeveral state to promotion text

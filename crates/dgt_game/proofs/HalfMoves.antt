@@ -1,7 +1,7 @@
 -- The half-move that leads to a picture.
 use Rattle.{std.{proofs.Common.{rules, ◌≡◌, ◌∙◌, ℕ, ◌<◌, List, [], ◌∷◌, ap, arith, length, refl, subst, sym}, specs.Prelude.{Option}}, dgt_values.specs.declared.pieces.Piece.{Piece}}
 use Rattle.{dgt_values.specs.Board.{square_number}, dgt_chess.specs.{declared.{pieces.Man.{Man}, state.{Move.{Move}, State.{State}}}, Rules.{IsAfter, Legal, LegalBy, Reaches, board, pieces_after}}}
-use Rattle.{dgt_chess.{specs.Rules.{OneMoveAPicture}, proofs.Unique.{same_man}}, dgt_game.{specs.Lines.{IsMove, IsOnly, LeadsTo, NoLine}, proofs.Same.{same_move}}}
+use Rattle.{dgt_chess.{specs.Rules.{OneMoveAPicture}, proofs.{Same.{same_move}, Unique.{same_man}}}, dgt_game.specs.Lines.{IsMove, IsOnly, LeadsTo, NoLine}}
 
 reaches : (state : State) (one : Move) (new : State) (pieces : List Piece) → IsMove state one new
     → board new ≡ pieces

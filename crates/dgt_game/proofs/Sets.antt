@@ -2,7 +2,8 @@
 use Rattle.std.{proofs.{Common.{rules, ◌≡◌, ◌∙◌, ℕ, ◌<◌, List, ◌∷◌, ap, arith, inl, inr, length, refl, subst, sym}, lemmas.Bool.{cases_eq}}, specs.Prelude.{◌≢◌, ◌⊎◌, ◌+◌, ◌≤◌, ⊤, suc, Option}}
 use Rattle.{dgt_values.specs.{declared.pieces.Piece.{Piece}, Board.{square_number}}, dgt_chess.specs.declared.{pieces.Man.{Man}, state.{Move.{Move}, State.{State}}}}
 use Rattle.dgt_game.specs.{declared.ways.Ways.{Ways, TheVariants.{Nothing, Only, Several}}, Lines.{IsMove, IsOnly, LeadsTo, NoLine, moves_of}, Ways.{AreWays, AreWaysBy, BeginsIn, Ends, Follows}}
-use Rattle.dgt_game.{specs.Ways.{IsSeveral, IsWay, both}, proofs.Same.{one_next, same_move}}
+use Rattle.dgt_game.{specs.Ways.{IsSeveral, IsWay, both}, proofs.Same.{one_next}}
+use Rattle.dgt_chess.proofs.Same.{same_move}
 
 -- the legal half-moves of one set are in another
 abbrev pub Within : State → (Move → Type 0) → (Move → Type 0) → Type 0
