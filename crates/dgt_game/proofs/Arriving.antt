@@ -1,9 +1,9 @@
 -- On how many squares men arrive in a half-move, and in a line.
 use Rattle.std.{proofs.{Common.{rules, ◌≡◌, ◌∙◌, ℕ, ◌<◌, ◌≤◌, List, [], ◌∷◌, arith, inl, inr, length, refl, subst, sym}, lemmas.Bool.{cases_eq}}, specs.Prelude.{◌≢◌, ◌⊎◌, ◌+◌, ◌/◌, Bool, true}}
-use Rattle.{std.specs.{Prelude.{false, not, ◌&&◌, nat_eq, if◌then◌else◌, slice_set, Option, Some, None}, Int.{abs_diff}}, dgt_values.proofs.PieceCodes.{same_code}}
+use Rattle.{std.specs.{Prelude.{false, not, ◌&&◌, nat_eq, if◌then◌else◌, slice_set, Option, Some, None}}, dgt_values.proofs.PieceCodes.{same_code}}
 use Rattle.{dgt_values.specs.{declared.pieces.Piece.{Piece, TheVariants.{Empty}}, Board.{piece_code}}, dgt_chess.specs.declared.{state.{Move.{Move}, State.{State}}, pieces.Colour.{Colour}}}
-use Rattle.dgt_chess.specs.{declared.pieces.Man.{Man, TheVariants.{Pawn, Knight, Bishop, Rook, Queen, King}}, Attacks.{other, piece_at, piece_of}, Rules.{Promotes, beside, board, is_free, moved, pieces_after}}
-use Rattle.{dgt_chess.proofs.OneMove.{moved_is, put}, dgt_game.proofs.Counting.{none, one_if, set_one, triangle}, dgt_game.specs.{Reach.{arrivals, counts, has_arrived}, Lines.{IsLine, IsMove, LeadsTo, NoLine}}}
+use Rattle.dgt_chess.specs.{declared.pieces.Man.{Man, TheVariants.{Pawn, Knight, Bishop, Rook, Queen, King}}, Attacks.{other, piece_at, piece_of}, Rules.{Promotes, board, moved, pieces_after}}
+use Rattle.{dgt_chess.proofs.OneMove.{put}, dgt_game.proofs.Counting.{none, one_if, set_one, triangle}, dgt_game.specs.{Reach.{arrivals, counts, has_arrived}, Lines.{IsLine, IsMove, LeadsTo, NoLine}}}
 
 at_most : (test : Bool) → one_if test ≤ 1
 at_most test = search rules
@@ -30,7 +30,7 @@ by_steps colour a b c = elim (cases_eq (piece_code b) (piece_code c)) [
       ≤ one_if (has_arrived colour a b) + one_if (has_arrived colour b p) in
       subst P (same_code b c same) (omega arith)
   | inr differ ↦
-      search (rules, one_if, has_arrived, counts, comes, arrives_at_most)
+      search (rules, comes, arrives_at_most)
 ]
 
 none_arrives : (colour : Colour) (pieces : List Piece) → arrivals colour pieces pieces ≡ 0
@@ -39,12 +39,11 @@ none_arrives colour pieces = none (has_arrived colour) (stays colour) pieces
 arrives_on : (colour : Colour) (old new : List Piece) (at : ℕ) (piece : Piece)
     → arrivals colour old (slice_set new at piece)
     ≤ arrivals colour old new + one_if (counts colour piece)
-arrives_on colour old new at piece =
-    omega (
-      arith,
-      set_one (has_arrived colour) old new at piece,
-      arrives_at_most colour (piece_at old at) piece,
-    )
+arrives_on colour old new at piece = omega (
+  arith,
+  set_one (has_arrived colour) old new at piece,
+  arrives_at_most colour (piece_at old at) piece,
+)
 
 steps : (colour : Colour) (a b c : List Piece) → length a ≡ length b
     → arrivals colour a c ≤ arrivals colour a b + arrivals colour b c
@@ -61,7 +60,7 @@ moved_one : (colour : Colour) (man : Man) (old : List Piece) (turn : Colour) (a 
 moved_one colour man old turn a b promotion =
     let piece = piece_of turn (put man promotion) in
     let P : List Piece → Type 0 = λ new. arrivals colour old new ≤ one_if (counts colour piece) in
-    search (rules, moved_is, arrives_on, none_arrives, free_counts)
+    search (rules, arrives_on, none_arrives)
 
 -- a colour of whose men at most this many are counted if one is put on a square
 record Puts (colour turn : Colour) (most : ℕ) : Type 0 where
@@ -72,47 +71,37 @@ pawn_one : (colour turn : Colour) (most : ℕ) (test : Bool) (old : List Piece) 
     (promotion : Option Man) → Puts colour turn most → arrivals colour old
     (if test then slice_set (moved Pawn old turn a b promotion) c Empty
     else moved Pawn old turn a b promotion) ≤ most
-pawn_one colour turn most test old a b c promotion puts =
-    search (rules, arrives_on, moved, moved_one, free_counts, put)
+pawn_one colour turn most test old a b c promotion puts = search (rules, arrives_on, moved_one)
 
 king_one : (colour turn : Colour) (most : ℕ) (test : Bool) (old : List Piece) (a b c d : ℕ)
     → Puts colour turn most → arrivals colour old
     (if test then slice_set (slice_set (moved King old turn a b None) c Empty)
     d (piece_of turn Rook)
     else moved King old turn a b None) ≤ most
-king_one colour turn most true old a b c d puts =
-    search (rules, moved, arrives_on, moved_one, free_counts)
+king_one colour turn most true old a b c d puts = search (rules, arrives_on, moved_one, free_counts)
 king_one colour turn most false old a b c d puts =
     omega (arith, moved_one colour King old turn a b None, puts.king)
 
 after_one : (colour : Colour) (most : ℕ) (man : Man) (state : State) (a b : ℕ)
     (promotion : Option Man) → Puts colour state.turn most → Promotes man state b promotion
     → arrivals colour (board state) (pieces_after man (board state) state.turn a b promotion) ≤ most
-after_one colour most Pawn state a b promotion puts promotes =
-    search (rules, pawn_one, is_free, board, beside)
-after_one colour most King state a b None puts promotes =
-    search (rules, king_one, abs_diff, board, beside)
+after_one colour most Pawn state a b promotion puts promotes = search (rules, pawn_one)
+after_one colour most King state a b None puts promotes = search (rules, king_one)
 after_one colour most King state a b (Some new) puts promotes =
     let no : King ≡ Pawn = (promotes.0.0 refl).0 in absurd (let wrong : ⊥ = cc in wrong)
-after_one colour most Knight state a b promotion puts promotes =
-    search (rules, moved_one, board, put)
-after_one colour most Bishop state a b promotion puts promotes =
-    search (rules, moved_one, board, put)
-after_one colour most Rook state a b promotion puts promotes = search (rules, moved_one, board, put)
-after_one colour most Queen state a b promotion puts promotes =
-    search (rules, moved_one, board, put)
-
-king_counts : (colour turn : Colour) → one_if (counts colour (piece_of turn King)) ≡ 0
-king_counts colour turn = search rules
+after_one colour most Knight state a b promotion puts promotes = search (rules, moved_one)
+after_one colour most Bishop state a b promotion puts promotes = search (rules, moved_one)
+after_one colour most Rook state a b promotion puts promotes = search (rules, moved_one)
+after_one colour most Queen state a b promotion puts promotes = search (rules, moved_one)
 
 own_puts : (turn : Colour) → Puts turn turn 1
-own_puts turn = search (rules, at_most, counts, king_counts)
+own_puts turn = search rules
 
 theirs : (turn : Colour) (man : Man) → counts (other turn) (piece_of turn man) ≡ false
 theirs turn man = search rules
 
 their_puts : (turn : Colour) → Puts (other turn) turn 0
-their_puts turn = search (rules, one_if, counts, theirs, king_counts)
+their_puts turn = search rules
 
 move_one : (colour : Colour) (most : ℕ) (state : State) (one : Move) (next : State)
     → Puts colour state.turn most → IsMove state one next
@@ -135,7 +124,7 @@ twice colour = search rules
 line_arrivals : (state : State) (moves : List Move) (new : State) → IsLine state moves new
     → (arrivals state.turn (board state) (board new) ≤ (length moves + 1) / 2)
     × (arrivals (other state.turn) (board state) (board new) ≤ length moves / 2)
-line_arrivals state [] new same = search (rules, arrivals, board, none_arrives)
+line_arrivals state [] new same = search (rules, none_arrives)
 line_arrivals state (one ∷ moves) new (next, move, line) =
     let own = move_one state.turn 1 state one next (own_puts state.turn) move in
     let their = move_one (other state.turn) 0 state one next (their_puts state.turn) move in
@@ -143,12 +132,11 @@ line_arrivals state (one ∷ moves) new (next, move, line) =
     state.position.all ∙ sym next.position.all in
     let turn = next_turn state one next move in
     let rest = line_arrivals next moves new line in
-    search (rules, arrivals, board, twice, steps)
+    search (rules, steps)
 
 -- too many have arrived for this many half-moves
 pub too_far : (state : State) (pieces : List Piece) (halves : ℕ)
     → ((halves + 1) / 2 < arrivals state.turn (board state) pieces)
     ⊎ (halves / 2 < arrivals (other state.turn) (board state) pieces) → NoLine halves state pieces
 unfolding NoLine LeadsTo
-too_far state pieces halves far moves long (new, line, same) =
-    search (rules, arrivals, board, line_arrivals)
+too_far state pieces halves far moves long (new, line, same) = search (rules, line_arrivals)

@@ -116,7 +116,7 @@ is_within k len at place j later h = search rules
 pub is_inside : (k len at here : ℕ) → (at ≡ 0 → Place.Seen here ≡ Place.Seen k)
     → (at ≢ 0 → k < len) → here < len → k < len
 unfolding seen_index
-is_inside k len at here first later within = search (rules, seen_index)
+is_inside k len at here first later within = search rules
 
 pub last_item : {X : Type 0} (old : List X) (item : X) (k : ℕ) → length old ≡ k
     → slice_get (old ++ item ∷ []) k ≡ Some item
@@ -133,7 +133,7 @@ pub grows_push : (shown : List (List Piece)) (kept old : List Step) (new : Step)
     → Grows shown kept (old ++ new ∷ [])
 grows_push shown kept old new grows links seen k step e = elim (split_at old new k step e) [
   | inl at ↦ (stays kept old new step.parent step (grows k step at).0, (grows k step at).1)
-  | inr (same, _) ↦ search (rules, step_at, stays)
+  | inr (same, _) ↦ search (rules, stays)
 ]
 
 pub steps_push : (nodes : List Node) (node : Node)
@@ -166,7 +166,7 @@ drops (first ∷ nodes) (suc k) node l e = drops nodes k node (omega arith) e
 pub steps_drop : (nodes : List Node) (k : ℕ) (node : Node) → k < length nodes
     → node ≡ slice_index_or nodes k node
     → steps (drop k nodes) ≡ node.step ∷ steps (drop (k + 1) nodes)
-steps_drop nodes k node l e = grind (arith, common_steps, drops, node, steps)
+steps_drop nodes k node l e = grind (arith, common_steps)
 
 -- the next step of a path goes where it is kept
 pub next_chained : (shown : List (List Piece)) (kept old rest : List Step) (step : Step) (place :
@@ -175,12 +175,12 @@ pub next_chained : (shown : List (List Piece)) (kept old rest : List Step) (step
     → Grows shown kept (old ++ moved step place ∷ [])
     × Chain shown (step_at kept (old ++ moved step place ∷ []) (Place.Seen k)) rest
 next_chained shown kept old rest step place k e grows chain =
-    search (rules, grows_push, moved, links_moved, step_at, last_at, chain_after)
+    search (rules, grows_push, links_moved, last_at, chain_after)
 
 pub next_tip : (kept old rest : List Step) (first step : Step) (place : Place) (k : ℕ)
     → length old ≡ k → Links (tip (Some first) rest) step
     → Links (tip (step_at kept (old ++ moved first place ∷ []) (Place.Seen k)) rest) step
-next_tip kept old rest first step place k e h = search (rules, last_at, moved, tip_after)
+next_tip kept old rest first step place k e h = search (rules, last_at, tip_after)
 
 -- the place of what was not seen since
 pub place_at : (kept seen : List Step) (place : Place) → ((k : ℕ) → place ≢ Place.Seen k)

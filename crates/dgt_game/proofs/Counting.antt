@@ -1,8 +1,6 @@
 -- Squares counted by their pieces before and after.
-use Rattle.std.proofs.Common.{rules, ◌≡◌, ℕ, ◌<◌, ◌≤◌, List, [], ◌∷◌, arith, length, refl, take}
-use Rattle.std.specs.Prelude.{◌+◌, Bool, false, if◌then◌else◌, slice_set, slice_index_or, suc, zero}
-use Rattle.dgt_values.specs.declared.pieces.Piece.{Piece, TheVariants.{Empty}}
-use Rattle.{dgt_chess.specs.Attacks.{piece_at}, dgt_game.specs.Reach.{count}}
+use Rattle.std.{proofs.Common.{rules, ◌≡◌, ℕ, ◌<◌, ◌≤◌, List, [], ◌∷◌, arith, length, refl, take}, specs.Prelude.{◌+◌, Bool, false, if◌then◌else◌, slice_set, slice_index_or, suc, zero}}
+use Rattle.{dgt_values.specs.declared.pieces.Piece.{Piece, TheVariants.{Empty}}, dgt_chess.specs.Attacks.{piece_at}, dgt_game.specs.Reach.{count}}
 
 abbrev pub one_if : Bool → ℕ
 one_if test = if test then 1 else 0
@@ -45,5 +43,4 @@ module _ (test : Piece → Piece → Bool) where
       → count test (take (at + 1) olds) (take (at + 1) news)
       ≡ count test (take at olds) (take at news)
       + one_if (test (slice_index_or olds at Empty) (slice_index_or news at Empty))
-  one_more olds news at small small' =
-      search (rules, one_if, slice_index_or, one_at)
+  one_more olds news at small small' = search (rules, one_at)

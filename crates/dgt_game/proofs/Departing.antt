@@ -1,8 +1,8 @@
 -- How many men leave their squares in a half-move, and in a line.
-use Rattle.std.{proofs.{Common.{rules, ◌≡◌, ◌∙◌, ℕ, ◌<◌, ◌≤◌, List, [], ◌∷◌, ap, arith, inl, inr, length, refl, subst, sym}, Math.Logic.{∥∥₁_elim}}, specs.Prelude.{◌≢◌, ◌+◌, Bool, true, false, not, ◌&&◌, nat_eq, if◌then◌else◌, slice_set, Option, Some, None}}
+use Rattle.std.{proofs.{Common.{rules, ◌≡◌, ◌∙◌, ℕ, ◌<◌, ◌≤◌, List, [], ◌∷◌, ap, arith, length, refl, subst, sym}, Math.Logic.{∥∥₁_elim}}, specs.Prelude.{◌≢◌, ◌+◌, Bool, true, false, not, ◌&&◌, nat_eq, if◌then◌else◌, slice_set, Option, Some, None}}
 use Rattle.{std.specs.Int.{abs_diff}, dgt_values.specs.{declared.pieces.Piece.{Piece, TheVariants.{Empty}}, Board.{square_number}}, dgt_chess.specs.declared.{state.{Move.{Move}, State.{State}}, pieces.Colour.{Colour}}}
-use Rattle.dgt_chess.specs.{declared.pieces.Man.{Man, TheVariants.{Pawn, Knight, Bishop, Rook, Queen, King}}, Possible.{HasNoStray}, Attacks.{file, other, piece_at, piece_of, row}, Rules.{LegalBy, Moves, PawnMoves, Promotes, TakesPassing, beside, board, first_row, is_free, moved, passed, pieces_after}}
-use Rattle.dgt_chess.proofs.{OneMove.{castles, far, moved_is, pawn_passes, put, rook_from, rook_to, Castled}, Unique.{not_free, same_kind, same_man}}
+use Rattle.dgt_chess.specs.{declared.pieces.Man.{Man, TheVariants.{Pawn, Knight, Bishop, Rook, Queen, King}}, Possible.{HasNoStray}, Attacks.{file, piece_at, piece_of, row}, Rules.{LegalBy, Moves, PawnMoves, Promotes, TakesPassing, beside, board, first_row, is_free, moved, passed, pieces_after}}
+use Rattle.dgt_chess.proofs.{OneMove.{castles, far, pawn_passes, put, rook_from, rook_to, Castled}, Unique.{same_man}}
 use Rattle.dgt_game.{specs.{declared.reach.Kind.{Kind}, Reach.{departures, has_left, is_of, IsBack}, Lines.{IsLine, IsMove, LeadsTo, NoLine}}, proofs.{Counting.{none, one_if, set_one, triangle}, Leaving.{effect}}}
 
 -- ---- on two boards
@@ -18,20 +18,6 @@ none_leaves kind pieces = none (has_left kind) (λ piece. stays (is_of kind piec
 
 -- ---- a half-move
 
-pub free_is_none : (kind : Kind) → is_of kind Empty ≡ false
-free_is_none kind = search rules
-
--- a piece to which a pawn of the kind is promoted is of the kind
-kind_stays : (kind : Kind) (turn : Colour) (man : Man) (state : State) (b : ℕ)
-    (promotion : Option Man) → Promotes man state b promotion
-    → is_of kind (piece_of turn man) ≡ true
-    → is_of kind (piece_of turn (put man promotion)) ≡ true
-kind_stays kind turn man state b promotion promotes here = search rules
-
-left_or_taken : (own target new : Bool) → (own ≡ true → new ≡ true)
-    → one_if own + one_if (target && not new) ≤ 1
-left_or_taken own target new stays = search rules
-
 left_at_most : (kind : Kind) (piece new : Piece)
     → one_if (has_left kind piece new) ≤ one_if (is_of kind piece)
 left_at_most kind piece new = search rules
@@ -40,42 +26,19 @@ moved_one : (kind : Kind) (man : Man) (old : List Piece) (turn : Colour) (a b : 
     (promotion : Option Man) → departures kind old (moved man old turn a b promotion)
     ≤ one_if (is_of kind (piece_at old a))
     + one_if (has_left kind (piece_at old b) (piece_of turn (put man promotion)))
-moved_one kind man old turn a b promotion =
-    let piece = piece_of turn (put man promotion) in
-    let P : List Piece → Type 0 = λ new. departures kind old new
-    ≤ one_if (is_of kind (piece_at old a)) + one_if (has_left kind (piece_at old b) piece) in
-    subst P (sym (moved_is man old turn a b promotion))
-    (omega (
-      arith,
-      set_one (has_left kind) old (slice_set old a Empty) b piece,
-      set_one (has_left kind) old old a Empty,
-      none_leaves kind old,
-      left_at_most kind (piece_at old a) Empty,
-    ))
+moved_one kind man old turn a b promotion = search (rules, set_one, none_leaves)
 
 plain_one : (kind : Kind) (state : State) (man : Man) (a b : ℕ) (promotion : Option Man)
     → piece_at (board state) a ≡ piece_of state.turn man → Promotes man state b promotion
     → departures kind (board state) (moved man (board state) state.turn a b promotion) ≤ 1
-plain_one kind state man a b promotion own promotes =
-    let new = is_of kind (piece_of state.turn (put man promotion)) in
-    let O : Piece → Type 0 = λ p. one_if (is_of kind p)
-    + one_if (is_of kind (piece_at (board state) b) && not new) ≤ 1 in
-    let most : O (piece_at (board state) a) = subst O (sym own)
-    (left_or_taken (is_of kind (piece_of state.turn man)) (is_of kind (piece_at (board state) b))
-    new (kind_stays kind state.turn man state b promotion promotes)) in
-    omega (arith, moved_one kind man (board state) state.turn a b promotion, most)
-
-two_pawns : (kind : Kind) (turn : Colour)
-    → one_if (is_of kind (piece_of turn Pawn)) + one_if (is_of kind (piece_of (other turn) Pawn))
-    ≤ 1
-two_pawns kind turn = search rules
+plain_one kind state man a b promotion own promotes = search (rules, moved_one)
 
 king_and_rook : (kind : Kind) (turn : Colour)
     → one_if (is_of kind (piece_of turn King)) + one_if (is_of kind (piece_of turn Rook)) ≤ 1
 king_and_rook kind turn = search rules
 
 was_free : (kind : Kind) (piece new : Piece) → piece ≡ Empty → one_if (has_left kind piece new) ≡ 0
-was_free kind piece new e = search (rules, free_is_none)
+was_free kind piece new e = search rules
 
 pawn_one : (kind : Kind) (state : State) (a b : ℕ) (promotion : Option Man) (t : Bool)
     → piece_at (board state) a ≡ piece_of state.turn Pawn → Promotes Pawn state b promotion
@@ -83,29 +46,13 @@ pawn_one : (kind : Kind) (state : State) (a b : ℕ) (promotion : Option Man) (t
     → departures kind (board state)
     (if t then slice_set (moved Pawn (board state) state.turn a b promotion) (beside a b) Empty
     else moved Pawn (board state) state.turn a b promotion) ≤ 1
-pawn_one kind state a b promotion true own promotes takes =
-    let old = board state in
-    let after = moved Pawn old state.turn a b promotion in
-    let taken = takes refl in
-    let P : Piece → Piece → Type 0 = λ p q. one_if (is_of kind p) + one_if (is_of kind q) ≤ 1 in
-    let most : P (piece_at old a) (piece_at old (beside a b)) =
-    subst (λ q. P (piece_at old a) q) (sym taken.2)
-    (subst (λ p. P p (piece_of (other state.turn) Pawn)) (sym own) (two_pawns kind state.turn)) in
-    omega (
-      arith,
-      most,
-      set_one (has_left kind) old after (beside a b) Empty,
-      moved_one kind Pawn old state.turn a b promotion,
-      was_free kind (piece_at old b) (piece_of state.turn (put Pawn promotion)) taken.1,
-      left_at_most kind (piece_at old (beside a b)) Empty,
-    )
+pawn_one kind state a b promotion true own promotes takes = search (rules, set_one, moved_one)
 pawn_one kind state a b promotion false own promotes takes =
     plain_one kind state Pawn a b promotion own promotes
 
 king_one : (kind : Kind) (state : State) (a b : ℕ) (t : Bool)
     → piece_at (board state) a ≡ piece_of state.turn King
-    → (t ≡ true → Castled (board state) state.turn a b)
-    → Promotes King state b None
+    → (t ≡ true → Castled (board state) state.turn a b) → Promotes King state b None
     → departures kind (board state)
     (if t then slice_set (slice_set (moved King (board state) state.turn a b None)
     (rook_from a b) Empty) (rook_to a b) (piece_of state.turn Rook)
@@ -129,15 +76,11 @@ king_one kind state a b true own castled promotes =
       was_free kind (piece_at old (rook_to a b)) rook facts.vacant,
       left_at_most kind (piece_at old (rook_from a b)) Empty,
     )
-king_one kind state a b false own castled promotes =
-    plain_one kind state King a b None own promotes
+king_one kind state a b false own castled promotes = plain_one kind state King a b None own promotes
 
 castled_by : (state : State) (a b : ℕ) → Moves King state a b
     → nat_eq (abs_diff (file a) (file b)) 2 ≡ true → Castled (board state) state.turn a b
-castled_by state a b moves t = elim moves [
-  | inl goes ↦ let two = far a b t in let near = goes.0.1 in absurd (omega arith)
-  | inr way ↦ castles state state.turn a b way
-]
+castled_by state a b moves t = search (rules, castles)
 
 after_one : (kind : Kind) (man : Man) (state : State) (a b : ℕ) (promotion : Option Man)
     → LegalBy man state a b promotion → departures kind (board state)
@@ -172,9 +115,7 @@ move_one kind state one next (man, legal, after) =
 
 line_one : (kind : Kind) (state : State) (moves : List Move) (new : State) → IsLine state moves new
     → departures kind (board state) (board new) ≤ length moves
-line_one kind state [] new same =
-    let P : State → Type 0 = λ s. departures kind (board state) (board s) ≤ 0 in
-    subst P same (omega (arith, none_leaves kind (board state)))
+line_one kind state [] new same = search (rules, none_leaves)
 line_one kind state (one ∷ moves) new (next, move, line) =
     let long : length (board state) ≡ length (board next) =
     state.position.all ∙ sym next.position.all in
@@ -222,34 +163,12 @@ arrived state one next (man, legal, after) own here =
     arrives_home state (square_number one.from) (square_number one.to) one.from.small own
     (subst M men legal.moves) here
 
-same_pawn : (c d : Colour) → piece_of c Pawn ≡ piece_of d Pawn → c ≡ d
-same_pawn c d e = search rules
-
 -- a half-move puts no pawn on its first row
 stays_home : (state : State) (one : Move) (next : State) (colour : Colour) (at : ℕ)
     → IsMove state one next → row at ≡ first_row colour
     → piece_at (board next) at ≡ piece_of colour Pawn
     → piece_at (board state) at ≡ piece_of colour Pawn
-stays_home state one next colour at move home here =
-    let (man, turn, made, pawn) = effect state one next move in
-    elim (made.sees at) [
-      | inl free ↦ absurd (not_free colour Pawn (sym here ∙ free))
-      | inr more ↦ elim more [
-        | inl same ↦ sym same.0 ∙ here
-        | inr more ↦ elim more [
-          | inl own ↦
-              let is_pawn : man ≡ Pawn = same_kind state.turn colour man Pawn (sym own.0 ∙ here) in
-              let from = pawn is_pawn in
-              let sides : state.turn ≡ colour = same_pawn state.turn colour
-              (ap (piece_of state.turn) (sym is_pawn) ∙ sym own.0 ∙ here) in
-              absurd (arrived state one next move from
-              (ap row (sym own.1) ∙ home ∙ ap first_row (sym sides)))
-          | inr rook ↦
-              let wrong : Rook ≡ Pawn = same_kind state.turn colour Rook Pawn (sym rook ∙ here) in
-              absurd (let no : ⊥ = cc in no)
-        ]
-      ]
-    ]
+stays_home state one next colour at move home here = search (rules, effect, arrived)
 
 line_home : (state : State) (moves : List Move) (new : State) (colour : Colour) (at : ℕ)
     → IsLine state moves new → row at ≡ first_row colour

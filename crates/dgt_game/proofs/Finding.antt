@@ -1,10 +1,9 @@
 -- What several half-moves lead to is found.
-use Rattle.std.proofs.{Common.{rules, ◌≡◌, ◌≢◌, ◌∙◌, ◌<◌, ◌≤◌, ◌+◌, ◌-◌, ◌^◌, ◌⊎◌, inl, inr, refl, sym, subst, arith, min, ℕ, Bool, true, false, Option, Some, None}, lemmas.Grind.{common_steps}}
-use Rattle.{std.{proofs.lemmas.Bool.{false≢true}, specs.Prelude.{IfSome, option_map}}, dgt_values.specs.Board.{pieces_of}, dgt_chess.specs.declared.{pieces.Colour.{Colour}, state.State.{State}}}
-use Rattle.{dgt_chess.specs.Rules.{board}, dgt_game.specs.declared.{node.Place.{Place}, recogniser.{Recogniser.{Recogniser}, Search.{Search}}, resting.{Next.{Next}, Task.{Task}}, view.View.{View}}}
-use Rattle.dgt_game.specs.{Told.{as_shown}, Finding.{FindsLater, IsFound, IsSearched, SearchIsDue, WhatFollowsIsFound}, Memory.{IsTold}, Planning.{EndsSearch, HasKing, IsLostOr, Plans, RestsBefore}}
-use Rattle.dgt_game.{specs.{Planning.{StaysPlaced, TaskFits, search_wait}, Reading.{HasSomeLines, IsLive}, Settling.{StaysShown}, Standing.{StandsAt}, Timing.{IsIdle}}, proofs.Pictures.{king_seen}}
-use Rattle.dgt_game.proofs.{Pictures.{led_to}, Rests.{place_or}}
+use Rattle.std.{proofs.{Common.{rules, ◌≡◌, ◌≢◌, ◌∙◌, ◌<◌, ◌+◌, ◌⊎◌, inl, inr, refl, sym, subst, arith, ℕ, Bool, true, false, Option, Some, None}, lemmas.Bool.{false≢true}}, specs.Prelude.{IfSome}}
+use Rattle.{dgt_values.specs.Board.{pieces_of}, dgt_chess.specs.{declared.{pieces.Colour.{Colour}, state.State.{State}}, Rules.{board}}, dgt_game.specs.declared.node.Place.{Place}}
+use Rattle.dgt_game.specs.{declared.{recogniser.{Recogniser.{Recogniser}, Search.{Search}}, resting.{Next.{Next}, Task.{Task}}, view.View.{View}}, Told.{as_shown}, Finding.{FindsLater, IsFound}}
+use Rattle.dgt_game.specs.{Finding.{IsSearched, SearchIsDue, WhatFollowsIsFound}, Memory.{IsTold}, Planning.{EndsSearch, HasKing, IsLostOr, Plans, RestsBefore, StaysPlaced, TaskFits}}
+use Rattle.dgt_game.{specs.{Reading.{HasSomeLines, IsLive}, Settling.{StaysShown}, Standing.{StandsAt}, Timing.{IsIdle}}, proofs.{Pictures.{king_seen, led_to}, Rests.{place_or}}}
 
 -- what is looked for is found, if nothing else has changed
 pub found_by_search : (old new : Recogniser) → ((view : View) → old.view ≡ Some view → IsLive old
@@ -31,16 +30,13 @@ shown_then a b c f g = (g.0 ∙ f.0, g.1 ∙ f.1, g.2 ∙ f.2)
 pub found_placed : (new : Recogniser) → new.here ≡ Place.Line 0 → FindsLater new
 found_placed new here = search rules
 
-pub found_hopeless : (new : Recogniser) → new.search ≡ Search.Hopeless → FindsLater new
-found_hopeless new search = grind (arith, common_steps)
-
 pub found_ended : (old new : Recogniser) → EndsSearch old new → FindsLater new
-found_ended old new h = search (rules, found_hopeless)
+found_ended old new h = search rules
 
 -- while nothing was found, nothing but a notice waits
 pub found_later : (old new : Recogniser) → StaysPlaced old new → IsLostOr old
     → ¬ (IsTold old.memory × (old.ended ≡ None)) → IsFound new
-found_later old new (view, search, here) lost waits = grind (arith, common_steps)
+found_later old new (view, search, here) lost waits = grind arith
 
 -- ---- Laws
 
@@ -51,26 +47,16 @@ no_king view state turned colour same none =
     false≢true (king_seen state turned (pieces_of
     view.shown) colour false view.shown.all same (search rules))
 
--- what is done next isn't due yet
-pub not_yet : (next : Option Next) (since now : ℕ)
-    → IfSome (option_map (λ (n : Next). min (since + n.wait) (2 ^ 64 - 1)) next) (λ at. now < at)
-    → (plan : Next) → next ≡ Some plan → now < since + plan.wait
-not_yet next since now idle plan e = search (rules, min)
-
-searched_by : (behind : Bool) → search_wait behind ≤ 1000
-searched_by behind = search rules
-
 -- so it isn't a search, and nothing else is done with a position that has no place
 undone : (self : Recogniser) (now : ℕ) (task : Task) (wait : ℕ) → self.here ≡ Place.Nowhere
     → self.is_next ≡ false → ¬ (self.search ≡ Search.Done) → SearchIsDue now self
     → now < self.since + wait → TaskFits self task → RestsBefore self task wait → ⊥
-undone self now task wait nowhere next done due soon fits rests =
-    search (rules, false≢true, searched_by, search_wait)
+undone self now task wait nowhere next done due soon fits rests = search rules
 
 no_plan : (self : Recogniser) (now : ℕ) (next : Option Next) → self.next ≡ next
     → self.is_sure ≡ true → IsIdle now self → Plans self next → self.here ≡ Place.Nowhere
     → self.is_next ≡ false → ¬ (self.search ≡ Search.Done) → SearchIsDue now self → next ≡ None
-no_plan self now next is sure idle plans nowhere h done due = search (rules, min, undone, not_yet)
+no_plan self now next is sure idle plans nowhere h done due = search rules
 
 pub what_follows_is_found : WhatFollowsIsFound
 what_follows_is_found self view now stands planned why found seen sure confirmed idle due live fits

@@ -1,6 +1,6 @@
 -- The half-move that leads to a picture.
 use Rattle.{std.{proofs.Common.{rules, ◌≡◌, ◌∙◌, ℕ, ◌<◌, List, [], ◌∷◌, ap, arith, length, refl, subst, sym}, specs.Prelude.{Option}}, dgt_values.specs.declared.pieces.Piece.{Piece}}
-use Rattle.{dgt_values.specs.Board.{square_number}, dgt_chess.specs.{declared.{pieces.Man.{Man}, state.{Move.{Move}, State.{State}}}, Rules.{IsAfter, Legal, LegalBy, Reaches, board, pieces_after}}}
+use Rattle.{dgt_values.specs.Board.{square_number}, dgt_chess.specs.{declared.{pieces.Man.{Man}, state.{Move.{Move}, State.{State}}}, Rules.{IsAfter, Legal, LegalBy, Reaches, board}}}
 use Rattle.{dgt_chess.{specs.Rules.{OneMoveAPicture}, proofs.{Same.{same_move}, Unique.{same_man}}}, dgt_game.specs.Lines.{IsMove, IsOnly, LeadsTo, NoLine}}
 
 reaches : (state : State) (one : Move) (new : State) (pieces : List Piece) → IsMove state one new
@@ -23,7 +23,7 @@ pub arrives : (state new : State) (pieces : List Piece) (one : Move) (man : Man)
 unfolding IsMove Reaches
 arrives state new pieces one man legal after (man', legal', same) =
     let men : man' ≡ man = same_man state.turn man' man (sym legal'.own ∙ legal.own) in
-    search (rules, pieces_after, board, state, square_number, pieces)
+    search rules
 
 pub is_move : (state : State) (one : Move) (new : State) (man : Man)
     → LegalBy man state (square_number one.from) (square_number one.to) one.promotion
@@ -52,7 +52,7 @@ pub none : (state : State) (pieces : List Piece)
     → ((from to : ℕ) (promotion : Option Man) → from < 64 → to < 64
     → ¬ (Reaches state pieces from to promotion)) → NoLine 1 state pieces
 unfolding NoLine
-none state pieces h moves e leads = search (rules, single, state, pieces, square_number)
+none state pieces h moves e leads = search (rules, single)
 
 pub only : OneMoveAPicture → (state : State) (pieces : List Piece) (one : Move)
     → Reaches state pieces (square_number one.from) (square_number one.to) one.promotion

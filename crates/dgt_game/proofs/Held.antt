@@ -1,6 +1,6 @@
 -- What is held stays so, if steps stay as they are.
 use Rattle.{std.proofs.Common.{rules, ◌≡◌, length, List, []}, dgt_values.specs.declared.pieces.Piece.{Piece}, dgt_game.specs.{declared.memory.Memory.{Memory}, Told.{Told}, Memory.{Grows, Holds}}}
-use Rattle.dgt_game.{specs.Memory.{IsRooted, steps}, proofs.Told.{grows_none, rooted_none}}
+use Rattle.dgt_game.{specs.Memory.{IsRooted, steps}}
 
 pub same_line : (shown : List (List Piece)) (line : List Told) (old new : Memory)
     → steps new.line.items ≡ steps old.line.items → new.seen ≡ old.seen → new.back ≡ old.back
@@ -38,8 +38,7 @@ pub none_seen : (shown : List (List Piece)) (line : List Told) (old new : Memory
     → new.line ≡ old.line → steps new.seen.items ≡ [] → new.back ≡ old.back
     → new.unsaid ≡ old.unsaid → new.answer ≡ old.answer → Holds shown line old
     → Holds shown line new
-none_seen shown line old new lines seen back unsaid answer h =
-    search (rules, grows_none, steps, rooted_none)
+none_seen shown line old new lines seen back unsaid answer h = search rules
 
 pub seen_new : (shown : List (List Piece)) (line : List Told) (old new : Memory)
     → new.line ≡ old.line → new.back ≡ old.back → new.unsaid ≡ old.unsaid

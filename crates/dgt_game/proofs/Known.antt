@@ -1,8 +1,8 @@
 -- What is known stays so when more is shown, and over whole runs.
-use Rattle.std.{proofs.Common.{rules, ◌≡◌, ◌++◌, ◌<◌, refl, arith, ℕ, zero, suc, length, slice_index_or, Bool, List, [], ◌∷◌, Option, Some}, specs.Prelude.{Contains, IfSome}}
+use Rattle.std.{proofs.Common.{rules, ◌≡◌, ◌++◌, ◌<◌, arith, ℕ, suc, length, slice_index_or, Bool, List, [], ◌∷◌, Option, Some}, specs.Prelude.{Contains, IfSome}}
 use Rattle.{dgt_values.specs.{declared.pieces.Piece.{Piece}, Board.{pieces_of}}, dgt_chess.specs.declared.state.State.{State}, dgt_game.specs.declared.{memory.Memory.{Memory}, node.Node.{Node}}}
 use Rattle.dgt_game.specs.{declared.{node.{Place.{Place}, Step.{Step}, Way.{Way}}, observation.Sight.{Sight}, recogniser.Recogniser.{Recogniser}, view.View.{View}}, Told.{IsShown, Told, WasShown}}
-use Rattle.dgt_game.{specs.{Memory.{Chain, Holds}, Recogniser.{GoesOn, Knows, new_recogniser, shown_after}}, proofs.{Links.{was_shown}, Told.{grows_none, rooted_none}}}
+use Rattle.dgt_game.{specs.{Memory.{Chain, Holds}, Recogniser.{GoesOn, Knows, new_recogniser, shown_after}}, proofs.{Links.{was_shown}}}
 
 -- all pictures of the first are among the second
 abbrev pub Within : List (List Piece) → List (List Piece) → Type 0
@@ -10,9 +10,6 @@ Within shown more = (picture : List Piece) → Contains shown picture → Contai
 
 pub within_cons : (shown : List (List Piece)) (first : List Piece) → Within shown (first ∷ shown)
 within_cons shown first picture h = (suc h.0, omega (arith, h.1), h.2)
-
-pub first_shown : (shown : List (List Piece)) (first : List Piece) → Contains (first ∷ shown) first
-first_shown shown first = (zero, omega arith, refl)
 
 first_among : (shown : List (List Piece)) (first picture : List Piece) (k : ℕ)
     → k < length (first ∷ []) → slice_index_or (first ∷ []) k picture ≡ picture
@@ -57,7 +54,7 @@ holds_more shown more line self within h = record {
   kept = h.kept;
   back = h.back;
   unsaid = chain_more shown more _ _ within h.unsaid;
-  answer = search (rules, some_more, was_more);
+  answer = search (rules, was_more);
   answered = h.answered;
   grows = λ k step e. let seen = h.grows k step e in (seen.0, was_more shown more _ within seen.1);
   rooted = h.rooted;
@@ -81,7 +78,7 @@ pub knows_same : (shown : List (List Piece)) (line : List Told) (old new : Recog
 knows_same shown line old new memory view h = search rules
 
 pub knows_nothing : Knows [] [] new_recogniser
-knows_nothing = search (rules, grows_none, rooted_none)
+knows_nothing = search rules
 
 -- the first step of a line
 abbrev pub first_step : State → Bool → Step
@@ -99,4 +96,4 @@ pub goes_on : (state : State) (is_turned : Bool) (old self : Recogniser) (node :
     → self.memory.answer ≡ old.memory.answer → self.memory.seen.items ≡ old.memory.seen.items
     → self.view ≡ old.view → GoesOn state is_turned self
 goes_on state is_turned old self node new step line back unsaid answer seen view =
-    search (rules, first_step, was_shown, first_shown, grows_none, rooted_none)
+    search (rules, was_shown)

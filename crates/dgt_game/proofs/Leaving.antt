@@ -2,7 +2,7 @@
 use Rattle.std.{proofs.{Common.{rules, ◌≡◌, ◌∙◌, ℕ, ◌≤◌, List, [], ◌∷◌, ap, arith, inl, inr, subst, sym}, lemmas.Bool.{cases_eq}}, specs.Prelude.{◌≢◌, suc, Option, Some}}
 use Rattle.{dgt_values.specs.{declared.pieces.Piece.{Piece, TheVariants.{Empty}}, Board.{square_number}}, dgt_chess.specs.declared.{state.{Move.{Move}, State.{State}}, pieces.Colour.{Colour}}}
 use Rattle.dgt_chess.{specs.{declared.pieces.Man.{Man, TheVariants.{Pawn, Rook}}, Attacks.{other, piece_at, piece_of, IsFree}, Rules.{CanGo, Legal, board}}, proofs.{OneMove.{effect_of, put}, Unique.{Effect}}}
-use Rattle.{dgt_chess.proofs.Unique.{not_free, not_theirs, same_kind, same_man}, dgt_game.proofs.HalfMoves.{made_by}, dgt_game.specs.{declared.ways.Ways.TheVariants.{Nothing}, Lines.{IsMove}, Ways.{AreWaysBy, IsWay}}}
+use Rattle.{dgt_chess.proofs.Unique.{not_free, not_theirs, same_kind}, dgt_game.proofs.HalfMoves.{made_by}, dgt_game.specs.{declared.ways.Ways.TheVariants.{Nothing}, Lines.{IsMove}, Ways.{AreWaysBy, IsWay}}}
 
 was_pawn : (man : Man) (promotion : Option Man) → promotion ≢ Some Pawn → put man promotion ≡ Pawn
     → man ≡ Pawn
@@ -28,8 +28,7 @@ effect state one next (man, legal, after) =
 none_comes : (old new : List Piece) (turn turn' : Colour) (a b at : ℕ) (man theirs : Man)
     → turn ≡ other turn' → Effect old new turn a b man → IsFree old at
     → piece_at new at ≢ piece_of turn' theirs
-none_comes old new turn turn' a b at man theirs turns effect free here =
-    search (rules, piece_at, piece_of, not_theirs, not_free)
+none_comes old new turn turn' a b at man theirs turns effect free here = search rules
 
 -- If at most one half-move follows, the piece on the first square changes.
 changes : (rest : ℕ) (state : State) (pieces : List Piece) (one : Move) (moves : List Move)
@@ -37,7 +36,7 @@ changes : (rest : ℕ) (state : State) (pieces : List Piece) (one : Move) (moves
     → piece_at (board state) (square_number one.from)
     ≢ piece_at pieces (square_number one.from)
 changes rest state pieces one [] new small (long, (next, move, line), same) e =
-    search (rules, effect, piece_at, pieces, board, not_free)
+    search (rules, effect)
 changes rest state pieces one (answer ∷ []) new small
     (long, (next, move, (last, move', line)), same) e =
     let (man, turn, first, pawn) = effect state one next move in
@@ -71,7 +70,7 @@ pub no_man : (halves : ℕ) (state : State) (pieces : List Piece) (at : ℕ)
 no_man halves state pieces at none [] new way begins = begins
 no_man halves state pieces at none (one ∷ moves) new way begins =
     let (own, here) = no_man_left halves state pieces one moves new way in
-    search (rules, piece_at, board, piece_of)
+    search rules
 
 pub no_goal : (halves : ℕ) (state : State) (pieces : List Piece) (from to : ℕ)
     → ¬ (CanGo state from to)
@@ -98,7 +97,7 @@ stays_put old new turn turn' a b at man own turns made here free =
     elim (cases_eq at a) [
       | inl same ↦ absurd (theirs made.begins.0 (ap (piece_at old) same ∙ made.begins.1))
       | inr not_a ↦ elim (cases_eq at b) [
-        | inl same ↦ search (rules, not_free, piece_at)
+        | inl same ↦ search rules
         | inr not_b ↦ elim (made.keeps at not_a not_b) [
           | inl kept ↦ absurd (busy (sym kept ∙ free))
           | inr more ↦ elim more [
@@ -118,7 +117,7 @@ was_taken : (rest : ℕ) (state : State) (pieces : List Piece) (one : Move) (mov
     → IsFree pieces (square_number one.to)
     → piece_at (board state) (square_number one.from) ≡ piece_of state.turn Pawn
 was_taken rest state pieces one [] new small (long, (next, move, line), same) free =
-    search (rules, effect, not_free, piece_at, board)
+    search (rules, effect)
 was_taken rest state pieces one (answer ∷ []) new small
     (long, (next, move, (last, move', line)), same) free =
     let (man, turn, first, pawn) = effect state one next move in
@@ -126,7 +125,7 @@ was_taken rest state pieces one (answer ∷ []) new small
     let to = square_number one.to in
     let there : IsFree (board last) to =
     ap (λ (s : State). piece_at (board s) to) line ∙ ap (λ ps. piece_at ps to) same ∙ free in
-    search (rules, stays_put, board)
+    search (rules, stays_put)
 was_taken rest state pieces one (answer ∷ more ∷ moves) new small (long, line, same) free =
     absurd (omega (arith, long))
 
@@ -138,4 +137,4 @@ vacant rest state pieces man from to small own officer free [] new way begins = 
 vacant rest state pieces man from to small own officer free (one ∷ moves) new way (a, b) =
     let F : ℕ → Type 0 = IsFree pieces in
     let pawn = was_taken rest state pieces one moves new small way (subst F (sym b) free) in
-    search (rules, same_man, piece_at, board)
+    search rules

@@ -27,7 +27,7 @@ pub fits : (line seen : List Step) (place : Place) (from : Step) (way : Way) (st
 fits line seen place from way state step shown at e by same =
     subst (λ (s : Step). Links (step_at line seen s.parent) s
     × (told_pieces (told_of s) ≡ shown)) (sym e) (
-    grind (arith, common_steps, links, state, turned_back)
+    grind (arith, common_steps, links)
     )
 
 pub joins : (count : ℕ) (state new : State) (moves : List Move) → length moves ≡ count
@@ -51,7 +51,7 @@ pub follows : (from : Step) (place : Place) (way : Way) (state : State) (step : 
 follows from place way state step shown e by same =
     subst (λ (s : Step). (s.parent ≡ place) × Links (Some from) s
     × (told_pieces (told_of s) ≡ shown)) (sym e) (
-    search (rules, links, state, turned_back)
+    search (rules, links, turned_back)
     )
 
 pub not_begun : (state new : State) (way : Way) → By state way new → way ≢ Way.Begun
@@ -61,7 +61,7 @@ not_begun state new way by e = subst (λ (w : Way). By state w new) e by
 pub several : (halves : ℕ) (state new : State) (pieces : List Piece)
     → AreWays halves state pieces (Ways.Several new) → Joins halves state new × (board new ≡ pieces)
 several halves state new pieces (one, other, (len, line, same), more, differ) =
-    search (rules, joins, state)
+    search (rules, joins)
 
 -- one of two
 pub either : (P : Node → Type 0) (result first second : Option Node) → (result ≡ first)
@@ -105,7 +105,7 @@ seen_at shown line self Place.Nowhere step holds e = absurd (let wrong : ⊥ = c
 -- a node that fits is so
 pub reads : (shown : List (List Piece)) (self : Memory) (pieces : List Piece) (node : Node)
     → Contains shown pieces → Fits self pieces node → Reads shown self (Reading.New node)
-reads shown self pieces node seen (link, same) = search (rules, was_shown, pieces)
+reads shown self pieces node seen (link, same) = search (rules, was_shown)
 
 pub same_told : (one other : Step) → one.is_turned ≡ other.is_turned
     → board one.state ≡ board other.state → told_pieces (told_of one) ≡ told_pieces (told_of other)
@@ -121,7 +121,7 @@ pub begun : (shown : List (List Piece)) (self : Memory) (state : State) (turned 
     } → board state ≡ as_shown turned pieces
     → Contains shown pieces → Reads shown self (Reading.New node)
 begun shown self state turned pieces node e same seen =
-    search (rules, begins, was_shown, state, pieces, turned_back)
+    search (rules, begins, was_shown, turned_back)
 
 -- some half-moves are as many half-moves
 joined : (state new : State) (way : Way) → By state way new → Joins (halves_of way) state new
@@ -163,7 +163,7 @@ fits_gap line seen pieces old new count same e ((link, shown), some) =
       way = Way.Gap n;
       parent = old.parent;
     }) in
-    search (rules, pieces, links_gap)
+    search (rules, links_gap)
 
 -- a step that begins a line and was shown
 pub is_root : (shown : List (List Piece)) (state : State) (turned : Bool) (pieces : List Piece)
@@ -174,14 +174,13 @@ pub is_root : (shown : List (List Piece)) (state : State) (turned : Bool) (piece
       parent = Place.Nowhere;
     } → board state ≡ as_shown turned pieces → Contains shown pieces
     → (step.way ≡ Way.Begun) × IsSeen shown step
-is_root shown state turned pieces step e same seen =
-    search (rules, was_shown, state, pieces, turned_back)
+is_root shown state turned pieces step e same seen = search (rules, was_shown, turned_back)
 
 -- what begins a line follows anything
 pub root_links : (shown : List (List Piece)) (before : Option Step) (root : Option Node)
     → IfSome root (λ node. IsRoot shown node) → IfSome root (λ node. Links before node.step
     × IsSeen shown node.step)
-root_links shown before root h = search (rules, begun, begins)
+root_links shown before root h = search (rules, begins)
 
 -- a game whose first half-moves weren't shown
 pub started : (shown : List (List Piece)) (line seen : List Step) (start : State) (turned : Bool)
@@ -197,5 +196,5 @@ started shown line seen start turned pieces root step e is_start same by here is
       begins (step_at line seen root.parent) root begun,
       starts shown root begun (subst IsStart (sym (ap (λ (s : Step). s.state) e)) is_start),
       links (Some root) root step refl (sym same) by,
-      search (rules, was_shown, pieces, turned_back),
+      search (rules, was_shown, turned_back),
     )

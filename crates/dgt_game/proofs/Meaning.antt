@@ -1,5 +1,5 @@
 -- What lines, events and pictures mean, in other words.
-use Rattle.std.{proofs.Common.{rules, ◌≡◌, ◌∙◌, ◌≤◌, refl, sym, ap, subst, arith, zero, suc, length, length-append, List, [], ◌∷◌, ◌++◌, Option, unwrap_or}, specs.Prelude.{⊤, Contains, MatchOption}}
+use Rattle.std.{proofs.Common.{rules, ◌≡◌, ◌∙◌, ◌≤◌, refl, sym, ap, subst, arith, zero, suc, length, length-append, List, [], ◌∷◌, ◌++◌, Option}, specs.Prelude.{⊤, Contains, MatchOption}}
 use Rattle.{dgt_values.specs.declared.pieces.Piece.{Piece}, dgt_chess.specs.{declared.state.{Move.{Move}, State.{State}}, Rules.{board}}, dgt_game.specs.{declared.event.Event.{Event}, Lines.{IsLine}}}
 use Rattle.dgt_game.specs.{Lines.{IsMove, IsOnly, LeadsTo, moves_of}, Told.{IsLegalTold, Joins, Leads, Told, WasShown, told_pieces}, Laws.{AreJoined, BackIsCounted, JoinedIsOne, LegalIsJoined}}
 use Rattle.dgt_game.{specs.Laws.{NoneAndOne, OneIsShown, OneLine, OthersAreHeld, SeveralAreShown, ShownIsHeld, StartIsShown, UnseenIsOnly, first_of}, proofs.{Links.{turned_back}, Same.{one_next}}}
@@ -101,7 +101,7 @@ arrived shown told h some = search rules
 pub several_are_shown : SeveralAreShown
 several_are_shown shown [] n told h e some =
     absurd (subst (λ (o : Option Told). MatchOption o ⊤ (λ _. ⊥)) e tt)
-several_are_shown shown (first ∷ line) zero told h e some = search (rules, unwrap_or, arrived)
+several_are_shown shown (first ∷ line) zero told h e some = search (rules, arrived)
 several_are_shown shown (first ∷ line) (suc n) told h e some =
     several_are_shown shown line n told h.1 e some
 

@@ -2,7 +2,7 @@
 use Rattle.std.proofs.Common.{rules, ◌≡◌, ◌≢◌, ◌⊎◌, ap, ◌<◌, ◌≤◌, ◌+◌, arith, subst, inl, inr, ℕ, zero, suc, List, [], ◌∷◌, ◌++◌, length, slice_index_or, unwrap_or, Option, Some, None, slice_get}
 use Rattle.std.{specs.Prelude.{IsSome, MatchOption}, proofs.lemmas.{Bool.{cases_lt}, Option.{get_or_from_slice_get, slice_get-get_or, slice_get_within}, List.{length-map}}}
 use Rattle.{dgt_values.specs.{declared.pieces.Piece.{Piece}, Board.{pieces_of}}, dgt_chess.specs.{declared.{pieces.{Colour.{Colour}, Man.{Man}}, state.State.{State}}, Attacks.{other, piece_at}}}
-use Rattle.{dgt_chess.{specs.{Attacks.{piece_of}, Rules.{board}}, proofs.Unique.{not_free, not_theirs}}, dgt_game.specs.declared.{node.{Node.{Node}, Origin.{Origin}, Step.{Step}}, view.View.{View}}}
+use Rattle.{dgt_chess.{specs.{Attacks.{piece_of}, Rules.{board}}}, dgt_game.specs.declared.{node.{Node.{Node}, Origin.{Origin}, Step.{Step}}, view.View.{View}}}
 use Rattle.dgt_game.{specs.{Told.{as_shown}, Memory.{steps}, Reading.{HasLineFrom, HasMoved, MovedAt, origins}}, proofs.Chains.{get_step}}
 
 -- on a square only men of a side have moved
@@ -22,8 +22,7 @@ some_man (Some man) side piece is some = (man, is)
 kept : (picture : List Piece) (state : State) (side : Colour) (k : ℕ) → side ≡ other state.turn
     → Keeps side (piece_at (board state) k) (piece_at picture k)
     → ¬ (MovedAt picture state state.turn k)
-kept picture state side k sides keeps (differs, moved) =
-    search (rules, not_theirs, piece_of, not_free)
+kept picture state side k sides keeps (differs, moved) = search rules
 
 pub kept_more : (picture : List Piece) (state : State) (side : Colour) (n at : ℕ)
     (old new : Piece) → n ≡ at → slice_get picture n ≡ Some new
@@ -37,7 +36,7 @@ kept_more picture state side n at old new same is was sides keeps before k small
           let now : k ≡ at = omega (arith, small, more) in
           let new_is : piece_at picture at ≡ new = get_or_from_slice_get picture at new Piece.Empty
           (subst (λ (i : ℕ). slice_get picture i ≡ Some new) same is) in
-          search (rules, board, get_or_from_slice_get, kept)
+          search (rules, get_or_from_slice_get)
     ]
 
 -- a man of the side has arrived or has left
@@ -67,13 +66,13 @@ stays_more picture state side n at old new same is was stays before k small move
           let old_is : piece_at (board state) at ≡ old =
           get_or_from_slice_get (board state) at old Piece.Empty
           (subst (λ (i : ℕ). slice_get (board state) i ≡ Some old) same was) in
-          search (rules, board)
+          search rules
     ]
 
 pub moved_here : (first second : Step) (seen shown : View) → first ≡ second → seen ≡ shown
     → HasMoved (as_shown first.is_turned (pieces_of seen.shown)) first.state first.state.turn
     → HasMoved (as_shown second.is_turned (pieces_of shown.shown)) second.state second.state.turn
-moved_here first second seen shown one same moved = search (rules, as_shown)
+moved_here first second seen shown one same moved = search rules
 
 pub none_some : (found : Option Node) → found ≡ None → ¬ (IsSome found)
 none_some found none some = search rules
@@ -85,7 +84,7 @@ same_view found first second one two = cc
 -- what holds of none before holds of none up to here
 pub none_more : (P : ℕ → Type 0) (at : ℕ) → ((k : ℕ) → 1 ≤ k → k < at → ¬ (P k)) → ¬ (P at)
     → (k : ℕ) → 1 ≤ k → k < at + 1 → ¬ (P k)
-none_more P at before here k some small holds = search (rules, cases_lt)
+none_more P at before here k some small holds = search rules
 
 -- what follows a node does so if only what is known of when it was shown changes
 abbrev pub FollowsOne : List Node → List Piece → Type 0
@@ -102,7 +101,7 @@ get_origin (first ∷ nodes) (suc k) node e = get_origin nodes k node e
 pub seen_kept : (old new : List Node) (picture : List Piece) → steps new ≡ steps old
     → origins new ≡ origins old → FollowsOne old picture → FollowsOne new picture
 seen_kept old new picture steps_same origins_same (k, node, is, known, line) =
-    let less : k < length new = search (rules, slice_get_within, node, length-map) in
+    let less : k < length new = search (rules, slice_get_within, length-map) in
     let other = slice_index_or new k node in
     let found : slice_get new k ≡ Some other = slice_get-get_or new k node less in
     let first : slice_get (steps new) k ≡ Some other.step = get_step new k other found in

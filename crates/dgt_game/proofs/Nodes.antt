@@ -1,5 +1,5 @@
 -- Nodes, and their steps.
-use Rattle.std.{proofs.{Common.{rules, arith, ◌≡◌, ℕ, length, List, slice_set, slice_index_or}, Math.Seq.{map-set_same}, lemmas.List.{length-set, places}}, specs.List.{refill}}
+use Rattle.std.{proofs.{Common.{rules, arith, ◌≡◌, ℕ, length, List, slice_set, slice_index_or}, Math.Seq.{map-set_same}, lemmas.List.{places}}, specs.List.{refill}}
 use Rattle.{std.proofs.lemmas.List.{same_lists}, dgt_game.specs.{declared.node.Node.{Node}, Memory.{steps}, Reading.{origins}}}
 
 pub same_steps : (old : List Node) (k : ℕ) (new other : Node)
@@ -14,11 +14,11 @@ pub same_written : (old read written : List Node) (k : ℕ) (new other : Node) �
     → written ≡ old → other ≡ slice_index_or read k other → new.step ≡ other.step
     → steps (refill (length old) old (slice_set written k new)) ≡ steps old
 same_written old read written k new other reads writes at e =
-    search (rules, slice_index_or, steps, same_steps, refill_same, length-set)
+    search (rules, same_steps, refill_same)
 
 -- where its path begins stays so too
 pub origins_written : (old read written : List Node) (k : ℕ) (new other : Node) → read ≡ old
     → written ≡ old → other ≡ slice_index_or read k other → new.origin ≡ other.origin
     → origins (refill (length old) old (slice_set written k new)) ≡ origins old
 origins_written old read written k new other reads writes at e =
-    search (rules, slice_index_or, origins, map-set_same, refill_same, length-set)
+    search (rules, map-set_same, refill_same)

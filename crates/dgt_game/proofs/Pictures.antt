@@ -1,6 +1,6 @@
 -- What a picture is read as.
 use Rattle.std.proofs.Common.{rules, ◌≡◌, ◌∙◌, ◌<◌, ◌≤◌, ◌⊎◌, inl, inr, arith, sym, refl, subst, ℕ, zero, suc, Bool, true, false, ◌∷◌, List, length, Option, Some, None, slice_index_or}
-use Rattle.std.{specs.Prelude.{◌≢◌, [], IfSome, slice_get}, proofs.{lemmas.{Option.{slice_get_read, slice_get_within}, List.{get_or-reverse, length-map}, Bool.{cases_lt}}, Math.Logic.{∥∥₁_elim}}}
+use Rattle.std.{specs.Prelude.{◌≢◌, [], IfSome, slice_get}, proofs.{lemmas.{Option.{slice_get_read, slice_get_within}, List.{get_or-reverse, length-map}}, Math.Logic.{∥∥₁_elim}}}
 use Rattle.{dgt_values.specs.{declared.pieces.Piece.{Piece}, Board.{pieces_of}}, dgt_chess.specs.declared.{state.{Move.{Move}, State.{State}}, pieces.{Colour.{Colour}, Man.{Man}}}}
 use Rattle.{dgt_chess.specs.{Attacks.{piece_at, piece_of}, Possible.{HasKings, HasOneKing}, Rules.{board}}, dgt_game.specs.declared.{memory.Memory.{Memory}, node.{Node.{Node}, Place.{Place}}}}
 use Rattle.dgt_game.specs.{declared.{node.{Returned.{Returned}, Step.{Step}}, reading.Reading.{Reading}, recogniser.{Over.{Over}, Recogniser.{Recogniser}}, view.View.{View}}, Lines.{LeadsTo, NoLine}}
@@ -215,7 +215,7 @@ not_shown self view k node at differs (step, is, same) = search (rules, get_step
 
 pub at_least : (P : ℕ → Type 0) (k j : ℕ) → ((i : ℕ) → 1 ≤ i → i < k → ¬ (P i)) → 1 ≤ j → P j
     → k ≤ j
-at_least P k j none some here = search (rules, cases_lt)
+at_least P k j none some here = search rules
 
 pub shown_within : (self : Memory) (view : View) (k : ℕ) → ShowsAt self view (Place.Line k)
     → k < length self.line.items
@@ -275,17 +275,8 @@ start_known self view state is_turned start same = inl (
     search (rules, turned_to)
     )
 
-no_line_live : (self : Recogniser) → (self.memory.line.items ≡ []) ⊎ (self.over ≡ Over.Kings)
-    → ¬ (IsLive self)
-no_line_live self h live = search rules
-
-none_last : (self : Recogniser) (view : View)
-    → (self.memory.line.items ≡ []) ⊎ (self.over ≡ Over.Kings) → self.over ≡ Over.No
-    → ¬ (ShowsAt self.memory view (Place.Line 0))
-none_last self view h over at = search (rules, has_last)
-
 pub else_start : ElseStartIsKnown
 else_start self view ended known = elim known [
   | inl start ↦ search (rules, turned_back)
-  | inr more ↦ search (rules, no_line_live, none_last)
+  | inr more ↦ search rules
 ]

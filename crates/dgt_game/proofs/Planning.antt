@@ -1,13 +1,13 @@
 -- What is planned, and how much is left to do.
 use Rattle.std.proofs.Common.{rules, ◌≡◌, ◌∙◌, ◌⊎◌, ◌<◌, ◌≤◌, ◌+◌, inl, inr, refl, sym, ap, subst, arith, ℕ, zero, suc, Bool, true, false, List, [], ◌∷◌, Option, Some, None, Result, Ok, Err, length}
-use Rattle.std.{proofs.{Common.{unwrap_or, slice_get, slice_index_or}, lemmas.{Grind.{common_steps}, Option.{get_or_from_slice_get, none-some, slice_get_read}}}, specs.Prelude.{⊤, ◌↔◌, MatchOption}}
+use Rattle.std.{proofs.{Common.{unwrap_or, slice_get, slice_index_or}, lemmas.{Option.{get_or_from_slice_get, none-some, slice_get_read}}}, specs.Prelude.{⊤, ◌↔◌, MatchOption}}
 use Rattle.{std.{specs.{Prelude.{MatchResult, option_map}, Result.{result_ok}}, proofs.Math.Logic.{∥∥₁_elim}}, dgt_values.specs.{declared.pieces.Piece.{Piece}, Board.{pieces_of, square_number}}}
 use Rattle.dgt_chess.specs.{declared.{pieces.Colour.{Colour}, possible.{Impossible.{Impossible}, Rights.{Rights}}, state.State.{State}}, Attacks.{other, piece_at}, Possible.{HasKings, HasNoExtra}}
 use Rattle.{dgt_chess.specs.{Possible.{HasNoStray, HasPassed, HasRights, IsPossible, Refuses}, Rules.{board}}, dgt_game.specs.declared.event.{Event.{Event}, GameResult.{GameResult}}}
-use Rattle.dgt_game.specs.declared.{memory.Memory.{Memory}, node.{Node.{Node}, Origin.{Origin}, Place.{Place}, Step.{Step}}, recogniser.{Lost.{Lost}, Over.{Over}, Recogniser.{Recogniser}}}
-use Rattle.dgt_game.specs.{declared.{recogniser.Search.{Search}, resting.{Next.{Next}, Task.{Task}}, view.View.{View}}, Told.{as_shown}, Memory.{steps}, Waiting.{has_notice, last_of}}
-use Rattle.dgt_game.specs.Planning.{HasNothing, IsPlanned, IsRefused, IsSettled, Lacks, LacksOnly, LostIsReported, NothingFits, OneFits, PossibleIsHopeful, SaysLost, Plans, RestsAt, RestsBefore}
-use Rattle.dgt_game.{specs.Planning.{RestsBy, StaysPlaced, TaskFits, WhyHopeless, of_kings, of_place, of_search, todo}, proofs.Chains.{get_step}}
+use Rattle.dgt_game.specs.declared.{memory.Memory.{Memory}, node.{Node.{Node}, Origin.{Origin}, Place.{Place}, Step.{Step}}, recogniser.{Over.{Over}, Recogniser.{Recogniser}}}
+use Rattle.dgt_game.specs.{declared.{recogniser.Search.{Search}, resting.{Next.{Next}}, view.View.{View}}, Told.{as_shown}, Memory.{steps}, Waiting.{last_of}}
+use Rattle.dgt_game.specs.Planning.{HasNothing, IsPlanned, IsRefused, IsSettled, Lacks, LacksOnly, LostIsReported, NothingFits, OneFits, PossibleIsHopeful, Plans, RestsAt}
+use Rattle.dgt_game.{specs.Planning.{RestsBy, StaysPlaced, WhyHopeless, of_kings, of_place, of_search, todo}, proofs.Chains.{get_step}}
 
 -- ---- Pieces that are gone
 
@@ -68,7 +68,7 @@ pub lacks_not : (view : Option View) (shown : View) (memory : Memory) → view �
     → ((k : ℕ) (step : Step) → slice_get (steps memory.seen.items) k ≡ Some step
     → ¬ (LacksOf shown step)) → ¬ (Lacks view memory)
 unfolding Lacks
-lacks_not view shown memory e last seen h = search (rules, unwrap_or)
+lacks_not view shown memory e last seen h = search rules
 
 -- ---- Positions that are refused
 
@@ -116,26 +116,16 @@ hopeless_stays old new (view, search, here) h =
         | inl begins ↦ inl begins
         | inr shows ↦ inr (
           shows.0,
-          grind (arith, common_steps),
+          grind arith,
         )
       ])
     ]
 
 -- ---- What is planned
 
--- what is done next depends neither on what was planned nor on a result that waits
-fits_with : (self : Recogniser) (next : Option Next) (ended : Option (GameResult × Over))
-    (task : Task) (wait : ℕ) → TaskFits self task × RestsBefore self task wait
-    → TaskFits (record self { next = next; ended = ended }) task
-    × RestsBefore (record self { next = next; ended = ended }) task wait
-fits_with self next ended Task.EndByKings wait h = h
-fits_with self next ended Task.Search wait h = h
-fits_with self next ended Task.Tell wait h = h
-fits_with self next ended Task.Begin wait h = h
-
 plans_same : (self : Recogniser) (next plan : Option Next) (ended : Option (GameResult × Over))
     → Plans self plan → Plans (record self { next = next; ended = ended }) plan
-plans_same self next plan ended h = search (rules, fits_with)
+plans_same self next plan ended h = search rules
 
 pub plans_with : (self : Recogniser) (next plan : Option Next) → Plans self plan
     → Plans (record self { next = next }) plan
@@ -160,37 +150,22 @@ rests_here memory read place returned wait k node origin here same less is by h 
 
 -- ---- How much is left to do
 
-kings_most : (has : Bool) → of_kings has ≤ 1
-kings_most has = search rules
-
-search_most : (search : Search) → of_search search ≤ 1
-search_most search = grind (arith, common_steps)
-
-place_most : (is_next : Bool) (here : Place) (search : Search) → of_place is_next here search ≤ 1
-place_most is_next here search = grind (arith, common_steps)
-
 pub todo_most : (self : Recogniser) → todo self ≤ 3
-todo_most self = search (rules, kings_most, search_most, place_most)
-
-none_added : (has : Bool) → (has ≡ true → false ≡ true) → of_kings has ≡ 0
-none_added has h = search rules
+todo_most self = search rules
 
 -- a result by kings leaves nothing to do
 pub fewer_by_result : (old : Recogniser) (has : Bool) → old.has_kings ≡ true
     → (has ≡ true → false ≡ true) → of_kings has + of_search Search.Hopeless
     + of_place false Place.Nowhere Search.Hopeless < todo old
-fewer_by_result old has kings none = search (rules, of_kings, none_added)
-
-no_kings : (has : Bool) → of_kings has ≡ 0 → has ≡ false
-no_kings has e = search rules
+fewer_by_result old has kings none = search rules
 
 settled : (self : Recogniser) (is_next : Bool) (here : Place) (search : Search)
     → self.is_next ≡ is_next → self.here ≡ here → self.search ≡ search
     → of_search search + of_place is_next here search ≡ 0 → IsSettled self
-settled self is_next here search n p s e = grind (arith, common_steps)
+settled self is_next here search n p s e = grind arith
 
 pub nothing_left : (self : Recogniser) → todo self ≡ 0 → HasNothing self
-nothing_left self e = search (rules, no_kings, settled)
+nothing_left self e = search rules
 
 -- ---- Laws
 
@@ -200,11 +175,8 @@ one_fits self = search rules
 pub nothing_fits : NothingFits
 nothing_fits self h h' fits = search rules
 
-said_quietly : (lost : Lost) → SaysLost lost → has_notice lost ≡ false → lost ≡ Lost.Reported
-said_quietly lost says quiet = search rules
-
 pub lost_is_reported : LostIsReported
-lost_is_reported self why seen here done quiet on line lifted = search (rules, said_quietly)
+lost_is_reported self why seen here done quiet on line lifted = search rules
 
 pub possible_is_hopeful : PossibleIsHopeful
 possible_is_hopeful self view why e here hopeless kings possible = elim (why view e here hopeless) [

@@ -1,7 +1,7 @@
 -- The promotions that are tried.
 use Rattle.{std.{proofs.Common.{rules, ◌≡◌, ℕ, List, inl, inr}, specs.Prelude.{◌↔◌, ◌⊎◌, Bool, true, false, IsSome, IsTrue, Option, Some, None}}, dgt_values.specs.declared.pieces.Piece.{Piece}}
 use Rattle.{dgt_values.specs.Board.{square_number}, dgt_chess.specs.declared.{pieces.Man.{Man, TheVariants.{Pawn, Knight, Bishop, Rook, Queen, King}}, state.{Move.{Move}, State.{State}}}}
-use Rattle.dgt_chess.{specs.{declared.pieces.Colour.{Colour}, Attacks.{piece_at, piece_of, row}, Rules.{LegalBy, board, last_row}}, proofs.Unique.{same_man}}
+use Rattle.dgt_chess.{specs.{declared.pieces.Colour.{Colour}, Attacks.{piece_at, piece_of, row}, Rules.{LegalBy, board, last_row}}}
 use Rattle.dgt_game.{specs.{declared.ways.Ways.{Ways}, Lines.{IsMove}, Ways.{AreWaysBy, Ends, both}}, proofs.Sets.{promoted, same_set}}
 
 -- whether a legal half-move between two squares promotes
@@ -13,7 +13,7 @@ Tells state from to test =
 pub tells : (state : State) (man : Man) (from to : ℕ) (turn : Colour) (test : Bool)
     → piece_at (board state) from ≡ piece_of state.turn man → turn ≡ state.turn
     → IsTrue test ↔ ((man ≡ Pawn) × (row to ≡ last_row turn)) → Tells state from to test
-tells state man from to turn test own turns is = search (rules, same_man, last_row)
+tells state man from to turn test own turns is = search rules
 
 abbrev Between : ℕ → ℕ → Move → Type 0
 Between from to one = (square_number one.from ≡ from) × (square_number one.to ≡ to)
@@ -21,7 +21,7 @@ Between from to one = (square_number one.from ≡ from) × (square_number one.to
 legal_at : (state : State) (from to : ℕ) (one : Move) (next : State) → IsMove state one next
     → Between from to one → (man : Man) × LegalBy man state from to one.promotion
 unfolding IsMove
-legal_at state from to one next (man, legal, after) (a, b) = search (rules, state)
+legal_at state from to one next (man, legal, after) (a, b) = search rules
 
 no_promotion : (promotion : Option Man) → ¬ (IsSome promotion) → promotion ≡ None
 no_promotion promotion none = search rules

@@ -8,7 +8,7 @@ use Rattle.dgt_game.proofs.Standing.{last_at_first, some_of}
 no_next : (next : Option Next) (since now : ℕ)
     → IfSome (option_map (λ (n : Next). min (since + n.wait) (2 ^ 64 - 1)) next) (λ at. now < at)
     → since + 60000 ≤ now → next ≡ None
-no_next next since now n late = search (rules, min)
+no_next next since now n late = search rules
 
 -- what the board stands at, if that isn't to be reported
 stood : (here : Place) (self : Memory) (view : View) → IsTold self → self.answer ≡ None
@@ -33,7 +33,7 @@ place_or place = search rules
 
 pub rest_is_reported : RestIsReported
 rest_is_reported self view now stands planned why seen (sure, confirmed, late, idle) =
-    let next : self.next ≡ None = search (rules, no_next, min) in
+    let next : self.next ≡ None = search rules in
     let told = idle.0.0 in
     let at = subst (λ (o : Option View). IfSome o (StandsAt self.here self.memory self.is_next
     self.is_sure)) seen stands.0 in

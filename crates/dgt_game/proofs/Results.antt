@@ -14,7 +14,7 @@ one_square picture piece a b less h k = h.1 b less k.0
 -- kings on two squares stand on no other two
 other_kings : (picture : List Piece) (a b c d : ℕ) → a < 64 → b < 64 → c < 64 → d < 64
     → KingsOn picture a b → KingsOn picture c d → ((c ≡ a) × (d ≡ b)) ⊎ ((d ≡ a) × (c ≡ b))
-other_kings picture a b c d la lb lc ld h k = search (rules, one_square)
+other_kings picture a b c d la lb lc ld h k = search rules
 
 apart : (picture : List Piece) (a b c d : ℕ) → a < 64 → b < 64 → c < 64 → d < 64
     → (c ≢ a) ⊎ (d ≢ b) → (d ≢ a) ⊎ (c ≢ b) → KingsOn picture a b → KingsOn picture c d → ⊥
@@ -23,19 +23,8 @@ apart picture a b c d la lb lc ld e f h k = elim (other_kings picture a b c d la
   | inr same ↦ elim f [ inl n ↦ n same.0 | inr n ↦ n same.1 ]
 ]
 
-white_black : (picture : List Piece) → KingsOn picture 27 36 → KingsOn picture 28 35 → ⊥
-white_black picture h k = search (rules, apart)
-
-white_draw : (picture : List Piece) → KingsOn picture 27 36
-    → KingsOn picture 28 36 ⊎ KingsOn picture 27 35 → ⊥
-white_draw picture h k = search (rules, apart)
-
-black_draw : (picture : List Piece) → KingsOn picture 28 35
-    → KingsOn picture 28 36 ⊎ KingsOn picture 27 35 → ⊥
-black_draw picture h k = search (rules, apart)
-
 pub one_by_kings : OneByKings
-one_by_kings picture h h' h'' k = search (rules, white_black, white_draw, black_draw)
+one_by_kings picture h h' h'' k = search rules
 
 -- what doesn't fit is the other square
 is_other : (picture pieces : List Piece) (other square : ℕ) → square < 64
@@ -43,12 +32,8 @@ is_other : (picture pieces : List Piece) (other square : ℕ) → square < 64
     → ¬ (FitsAt picture pieces square) → (differs : square ≢ other) → ⊥
 is_other picture pieces other square less fits wrong differs = wrong (fits square less differs)
 
-same_numbers : (a b : ℕ) → ¬ (a ≢ b) → a ≡ b
-same_numbers a b h = grind (arith, h)
-
 pub one_other : OneOther
-one_other picture pieces first second less more like wrong bad =
-    search (rules, same_numbers, is_other)
+one_other picture pieces first second less more like wrong bad = search rules
 
 second_result : (between : List Event) (second : GameResult) (had has : Bool) → had ≡ true
     → Stay between → HasResults had (between ++ Event.Ended second ∷ []) has → ⊥
@@ -136,7 +121,7 @@ right_if_away self away = (
   λ result h. (
     h.0,
     h.1,
-    search (rules, one_by_rules),
+    search rules,
   ),
   λ squares h. let e = sym away ∙ h.2.1 in let wrong : ⊥ = cc in wrong,
 )

@@ -1,12 +1,10 @@
 -- Over whole runs.
-use Rattle.std.proofs.Common.{rules, ◌≡◌, ◌++◌, inl, refl, sym, subst, List, [], ◌∷◌, Some, None}
-use Rattle.{std.specs.Prelude.{IfSome, slice_get}, dgt_values.specs.{declared.pieces.Piece.{Piece}, Board.{pieces_of}}, dgt_chess.specs.Rules.{board}}
-use Rattle.dgt_game.specs.{declared.{node.Step.{Step}, observation.Sight.{Sight}, recogniser.Recogniser.{Recogniser}}, Memory.{IsKept, told_of}, Planning.{IsPlanned}}
-use Rattle.dgt_game.specs.Recogniser.{Knows, new_recogniser, shown_after}
-use Rattle.dgt_game.specs.Runs.{Call, CallsAreRuns, IsLegalAndShown, LastWasShown, NothingWasSure, Runs, ShownMayEnd, StaysSound, SureIsCounted, SureIsSeen, SureWasShown, events_of, shown_in}
-use Rattle.dgt_game.specs.Runs.{sure_in}
-use Rattle.dgt_game.specs.{Standing.{Stands}, Sure.{EndsSure, KnowsSure, WasSure, sure_after}, Told.{IsLegalTold, Told, WasShown, as_shown, told_pieces}}
-use Rattle.dgt_game.proofs.{Known.{Within, knows_more, knows_nothing, within_cons, within_first}, Sure.{kings_sure, knows_none, knows_sure_more, shown_sure}, Waiting.{last_comes}}
+use Rattle.{std.{proofs.Common.{rules, ◌≡◌, ◌++◌, inl, refl, sym, subst, List, [], ◌∷◌, Some, None}, specs.Prelude.{IfSome, slice_get}}, dgt_values.specs.declared.pieces.Piece.{Piece}}
+use Rattle.{dgt_values.specs.Board.{pieces_of}, dgt_chess.specs.Rules.{board}, dgt_game.specs.declared.{node.Step.{Step}, observation.Sight.{Sight}, recogniser.Recogniser.{Recogniser}}}
+use Rattle.dgt_game.specs.{Memory.{IsKept, told_of}, Planning.{IsPlanned}, Recogniser.{Knows, new_recogniser, shown_after}, Runs.{Call, CallsAreRuns, IsLegalAndShown, LastWasShown, NothingWasSure}}
+use Rattle.dgt_game.specs.{Runs.{Runs, ShownMayEnd, StaysSound, SureIsCounted, SureIsSeen, SureWasShown, events_of, shown_in, sure_in}, Standing.{Stands}, Sure.{EndsSure, KnowsSure, WasSure}}
+use Rattle.dgt_game.{specs.{Sure.{sure_after}, Told.{IsLegalTold, Told, WasShown, as_shown, told_pieces}}, proofs.Known.{Within, knows_more, knows_nothing, within_cons, within_first}}
+use Rattle.dgt_game.proofs.Sure.{kings_sure, knows_none, knows_sure_more, shown_sure}
 
 runs_append : (old mid new : Recogniser) (calls more : List Call) → Runs old calls mid
     → Runs mid more new → Runs old (calls ++ more) new
@@ -88,7 +86,7 @@ legal_and_shown calls ended runs =
       planned = inl refl;
       stands = search rules;
       seen = knows_none;
-    }) runs in search (rules, ends, last_comes)
+    }) runs in search (rules, ends)
 
 -- ---- What was shown for sure
 

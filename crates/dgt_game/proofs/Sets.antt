@@ -1,5 +1,5 @@
 -- What is found in sets of lines, which differ in their first half-moves.
-use Rattle.std.{proofs.{Common.{rules, ◌≡◌, ◌∙◌, ℕ, ◌<◌, List, ◌∷◌, ap, arith, inl, inr, length, refl, subst, sym}, lemmas.Bool.{cases_eq}}, specs.Prelude.{◌≢◌, ◌⊎◌, ◌+◌, ◌≤◌, ⊤, suc, Option}}
+use Rattle.std.{proofs.{Common.{rules, ◌≡◌, ◌∙◌, ℕ, ◌<◌, List, ◌∷◌, ap, arith, inl, inr, length, refl, subst, sym}}, specs.Prelude.{◌≢◌, ◌⊎◌, ◌+◌, ◌≤◌, ⊤, suc, Option}}
 use Rattle.{dgt_values.specs.{declared.pieces.Piece.{Piece}, Board.{square_number}}, dgt_chess.specs.declared.{pieces.Man.{Man}, state.{Move.{Move}, State.{State}}}}
 use Rattle.dgt_game.specs.{declared.ways.Ways.{Ways, TheVariants.{Nothing, Only, Several}}, Lines.{IsMove, IsOnly, LeadsTo, NoLine, moves_of}, Ways.{AreWays, AreWaysBy, BeginsIn, Ends, Follows}}
 use Rattle.dgt_game.{specs.Ways.{IsSeveral, IsWay, both}, proofs.Same.{one_next}}
@@ -30,7 +30,7 @@ same_lines F G halves state pieces (Several new) there back
 pub same_set : (F G : Move → Type 0) (halves : ℕ) (state : State) (pieces : List Piece)
     (ways : Ways) → Within state F G → Within state G F → AreWaysBy F halves state pieces ways
     → AreWaysBy G halves state pieces ways
-same_set F G halves state pieces ways there back h = search (rules, same_lines, within)
+same_set F G halves state pieces ways there back h = search (rules, same_lines)
 
 -- several lines of a part are several of the whole
 pub several : (F G : Move → Type 0) (halves : ℕ) (state : State) (pieces : List Piece)
@@ -58,7 +58,7 @@ differing F G moves others one f g e = search rules
 alone : (F G H : Move → Type 0) (halves : ℕ) (state : State) (pieces : List Piece) (ways : Ways)
     → Within state F H → Splits state H F G → AreWaysBy G halves state pieces Nothing
     → AreWaysBy F halves state pieces ways → AreWaysBy H halves state pieces ways
-alone F G H halves state pieces ways inside parts none h = search (rules, same_lines, within, split)
+alone F G H halves state pieces ways inside parts none h = search (rules, same_lines)
 
 swapped : (F G H : Move → Type 0) (state : State) → Splits state H F G → Splits state H G F
 swapped F G H state parts one next move h =
@@ -218,7 +218,7 @@ further halves state pieces from to ways other new e h k =
     subst (AreWaysBy H halves state pieces) (sym e) (joined F G H halves state pieces ways other
     (λ one next move (a, b). (a, omega arith))
     (λ one next move (a, b). (a, omega arith))
-    (search (rules, cases_eq))
+    (search rules)
     (λ one (a, b) (a', b'). omega arith)
     h k)
 
@@ -235,7 +235,7 @@ next_from halves state pieces from ways other new e h k =
     subst (AreWaysBy H halves state pieces) (sym e) (joined F G H halves state pieces ways other
     (λ one next move a. omega arith)
     (λ one next move a. omega arith)
-    (search (rules, cases_eq))
+    (search rules)
     (λ one a b. omega arith)
     h k)
 
@@ -263,4 +263,4 @@ pub several_ways : (halves : ℕ) (state : State) (pieces : List Piece) (from : 
     → AreWays (suc halves) state pieces ways
 several_ways halves state pieces from ways is h =
     all_ways (λ one. ⊤) halves state pieces ways (λ one. tt)
-    (search (rules, several, ⊤))
+    (search (rules, several))

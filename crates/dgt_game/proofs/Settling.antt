@@ -2,9 +2,8 @@
 use Rattle.std.{proofs.Common.{rules, ◌≡◌, ◌∙◌, ◌≤◌, ◌+◌, ◌-◌, ◌^◌, ◌⊎◌, inl, inr, refl, sym, subst, min, ℕ, Bool, true, false, [], ◌∷◌, Option, Some, None}, specs.Prelude.{◌≢◌, IfSome, MatchOption}}
 use Rattle.{std.{specs.Prelude.{if◌then◌else◌, option_map, slice_get}, proofs.lemmas.{Bool.{false≢true}, Option.{none-some}}}, dgt_game.specs.declared.node.{Node.{Node}, Origin.{Origin}}}
 use Rattle.dgt_game.specs.{declared.{node.{Place.{Place}, Way.{Way}}, recogniser.Recogniser.{Recogniser}, resting.{Next.{Next}, Task.{Task}}, view.View.{View}}, Memory.{steps}, Planning.{Lacks}}
-use Rattle.dgt_game.specs.{Planning.{Plans, RestsAfter, RestsAt, RestsBefore, RestsBy, TaskFits, search_wait}, Settling.{IsAt, NothingWaitsLong, ReplacingHasRested, ReportedHasRested}}
-use Rattle.dgt_game.{specs.{Settling.{ReportedHasSettled, ReportedIsShown, SeenIsAnswered}, Standing.{Counts, Lands, ShowsAs, StandsAt}, Timing.{IsIdle}}, proofs.Finding.{not_yet}}
-use Rattle.dgt_game.proofs.{Rests.{only_shown}, Standing.{some_of}}
+use Rattle.dgt_game.specs.{Planning.{Plans, RestsAt, RestsBefore, RestsBy}, Settling.{IsAt, NothingWaitsLong, ReplacingHasRested, ReportedHasRested, ReportedHasSettled, ReportedIsShown}}
+use Rattle.dgt_game.{specs.{Settling.{SeenIsAnswered}, Standing.{Counts, Lands, ShowsAs, StandsAt}, Timing.{IsIdle}}, proofs.{Rests.{only_shown}, Standing.{some_of}}}
 
 -- what is done next is planned if it is due
 timed : (sure : Bool) (next : Option Next) (since now : ℕ) → MatchOption (if sure
@@ -18,15 +17,11 @@ timed false next since now h = absurd h
 pub reported_has_rested : ReportedHasRested
 reported_has_rested self new event now (planned, quiet, small, ([], tells)) =
     absurd (none-some event (sym (tells.0.4 quiet).0))
-reported_has_rested self new event now (planned, quiet, small, (next ∷ done, h)) =
-    search (rules, timed)
+reported_has_rested self new event now (planned, quiet, small, (next ∷ done, h)) = search rules
 
 -- the board stands at the start of a game
 abbrev IsAtStart : Recogniser → Type 0
 IsAtStart self = (node : Node) × IsAt self node × (node.origin ≡ Origin.Start) × (node.depth ≡ 1)
-
-searched_later : (behind : Bool) → 300 ≤ search_wait behind
-searched_later behind = search rules
 
 node_settles : (self : Recogniser) (wait : ℕ) (node : Node) (origin : Origin) → IsAt self node
     → node.origin ≡ origin → RestsBy origin node.depth self.returned.count wait
@@ -53,7 +48,7 @@ place_settles self Place.Nowhere wait here h = inl h
 
 task_settles : (self : Recogniser) (task : Task) (wait : ℕ) → RestsBefore self task wait
     → (300 ≤ wait) ⊎ IsAtStart self
-task_settles self task wait h = search (rules, searched_later, place_settles)
+task_settles self task wait h = search (rules, place_settles)
 
 pub reported_has_settled : ReportedHasSettled
 reported_has_settled self new event now reports =
@@ -65,22 +60,15 @@ reported_is_shown self new view event now reports stands seen waits =
     let (sure, lands, back) = only_shown new view stands seen waits in
     (sure, lands, back, reported_has_settled self new event now reports)
 
--- what the board stands at is neither looked for nor begins a line
-task_replaces : (self : Recogniser) (task : Task) (wait base : ℕ) (node : Node) → IsAt self node
-    → node.origin ≡ Origin.Line base → TaskFits self task → RestsBefore self task wait
-    → ((self.has_kings ≡ true) × (wait ≡ 1000)) ⊎ RestsAfter base self.returned.count wait
-task_replaces self task wait base node at is fits rests = search rules
-
 pub replacing_has_rested : ReplacingHasRested
 replacing_has_rested self new event now base node reports kings at is far other =
     let (sure, (task, wait, fits, rests, late)) = reported_has_rested self new event now reports in
-    search (rules, task_replaces, node, false≢true)
+    search rules
 
 no_next : (self : Recogniser) (now base : ℕ) (node : Node) (next : Option Next)
     → self.next ≡ next → Plans self next → self.is_sure ≡ true → IsIdle now self
     → self.since + 10000 ≤ now → IsAt self node → node.origin ≡ Origin.Line base → next ≡ None
-no_next self now base node next same plans sure idle late at is =
-    search (rules, option_map, min, not_yet, task_replaces, node)
+no_next self now base node next same plans sure idle late at is = search rules
 
 pub nothing_waits_long : NothingWaitsLong
 unfolding Lacks

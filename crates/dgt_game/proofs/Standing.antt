@@ -41,8 +41,7 @@ pub tells : (view : View) (old new : Memory) (place : Place) (answer : Option No
     → place ≢ Place.Line 0 → new.answer ≡ answer)
     → (new.answer ≡ answer) ⊎ (new.answer ≡ None) → IsCalledFor old place answer view
     → Lands view new × ((new.back ≤ 4) ⊎ ShowsLast view new)
-tells view old new place answer ready lands near answers either called =
-    search (rules, some_of, of_some, coming)
+tells view old new place answer ready lands near answers either called = search rules
 
 pub if_some : {X : Type 0} (o : Option X) (P Q : X → Type 0) → IfSome o P → ((x : X) → P x → Q x)
     → IfSome o Q
@@ -64,7 +63,7 @@ match_more o P Q x more = search rules
 pub shows_at : (view : View) (place : Place) (self : Memory) (is_sure : Bool) → IsTold self
     → self.answer ≡ None → StandsAt place self true is_sure view
     → MatchOption (step_at (steps self.line.items) (steps self.seen.items) place) ⊥ (Shows view)
-shows_at view place self is_sure told none at = search (rules, last_at_first, match_more)
+shows_at view place self is_sure told none at = search rules
 
 -- if nothing waits, all depends on where the board stands
 pub resting : {At Meant Back : Type 0} (memory : Memory) → IsTold memory → memory.answer ≡ None
@@ -122,20 +121,15 @@ held_lacks picture state held = search rules
 -- what is reported later is meant, too
 pub meant_stands : (self : Recogniser) → IsMeant self → TakesBack 4 self
     → (IsTold self.memory → self.memory.answer ≡ None) → Stands self
-meant_stands self meant back none = search (rules, every_some)
+meant_stands self meant back none = search rules
 
 pub ends_of : (self : Recogniser) → IsMeant self → EndsHere self
 ends_of self meant = search rules
 
--- what is meant stays so while it is reported
-lands_moved : (view : View) (old new : Memory) → coming new ≡ coming old → new.answer ≡ old.answer
-    → Lands view old → Lands view new
-lands_moved view old new same answer lands = search rules
-
 pub meant_moved : (self : Recogniser) (new : Memory) → coming new ≡ coming self.memory
     → new.answer ≡ self.memory.answer → IsMeant self → IsMeant (record self { memory = new })
-meant_moved self new same answer meant = search (rules, if_some, lands_moved)
+meant_moved self new same answer meant = search rules
 
 pub back_moved : (self : Recogniser) (new : Memory) → coming new ≡ coming self.memory
     → new.back ≤ self.memory.back → TakesBack 4 self → TakesBack 4 (record self { memory = new })
-back_moved self new same less back = search (rules, if_some)
+back_moved self new same less back = search rules

@@ -1,14 +1,14 @@
 -- Nodes that were shown for sure.
-use Rattle.std.{proofs.Common.{rules, ◌≡◌, ◌≢◌, ◌++◌, ◌∷◌, refl, inl, inr, subst, Bool, true, false, ℕ, zero, suc, List, [], Option, None, unwrap_or}, specs.Prelude.{⊤, Contains, IfSome, MatchOption}}
+use Rattle.std.{proofs.Common.{rules, ◌≡◌, ◌≢◌, ◌++◌, ◌∷◌, refl, inl, inr, subst, Bool, true, false, ℕ, zero, suc, List, [], Option, None}, specs.Prelude.{⊤, Contains, IfSome, MatchOption}}
 use Rattle.{std.specs.Prelude.{slice_get}, dgt_values.specs.{declared.{pieces.Piece.{Piece}, positions.Position.{Position}}, Board.{pieces_of}}, dgt_chess.specs.declared.state.State.{State}}
 use Rattle.dgt_game.specs.declared.{event.GameResult.{GameResult}, memory.Memory.{Memory}, node.{Node.{Node}, Place.{Place}, Returned.{Returned}, Step.{Step}}, observation.Sight.{Sight}}
 use Rattle.dgt_game.specs.{declared.recogniser.Recogniser.{Recogniser}, Memory.{IsTold, halves_of, step_at, steps, told_of}, Recogniser.{new_recogniser}, Results.{ByKings}, Sure.{AreMarked, IsMarked}}
-use Rattle.dgt_game.{specs.{Sure.{KnowsSure, WasSure, WereSure, sure_after}, Told.{IsHeld, Told, WasShown, as_shown, told_pieces}, Waiting.{coming, is_sure_sight}}, proofs.Known.{Within, first_shown}}
-use Rattle.dgt_game.{proofs.{Known.{first_step, was_more, within_cons}, Links.{was_shown}, Standing.{if_some, match_more, shows_at}}, specs.{declared.view.View.{View}, Standing.{StandsAt}}}
+use Rattle.dgt_game.{specs.{Sure.{KnowsSure, WasSure, WereSure, sure_after}, Told.{IsHeld, Told, WasShown, as_shown, told_pieces}, Waiting.{coming, is_sure_sight}}, proofs.Known.{Within}}
+use Rattle.dgt_game.{proofs.{Known.{first_step, was_more, within_cons}, Links.{was_shown}, Standing.{if_some, match_more}}, specs.{declared.view.View.{View}, Standing.{StandsAt}}}
 
 pub marked_first : (sure : List (List Piece)) (node : Node) (nodes : List Node)
     → IsMarked sure node → AreMarked sure nodes → AreMarked sure (node ∷ nodes)
-marked_first sure node nodes mark marked h other e = search (rules, unwrap_or)
+marked_first sure node nodes mark marked h other e = search rules
 
 pub marked_none : (sure : List (List Piece)) → AreMarked sure []
 marked_none sure k node e = absurd (subst (λ (o : Option Node). MatchOption o ⊤ (λ _. ⊥)) e tt)
@@ -44,7 +44,7 @@ pub goes_on_sure : (state : State) (is_turned : Bool) (old self : Recogniser) (n
     → KnowsSure (told_pieces (told_of (first_step state is_turned)) ∷ []) self
 unfolding WasSure
 goes_on_sure state is_turned old self node new step line back unsaid answer seen sure returned =
-    search (rules, first_step, marked_none, was_shown, told_pieces, first_shown)
+    search (rules, was_shown)
 
 -- more was shown for sure since
 pub was_sure_more : (sure more : List (List Piece)) (told : Told) → Within sure more
@@ -56,7 +56,7 @@ pub were_more : (sure more : List (List Piece)) (gone : Returned) (self : Memory
     → Within sure more → WereSure sure self gone → WereSure more self gone
 were_more sure more gone self within h = record {
   seen = λ k node e mark. was_more sure more (told_of node.step) within (h.seen k node e mark);
-  answer = search (rules, if_some, was_more);
+  answer = search (rules, was_more);
   returned = λ e. if_some _ _ _ (h.returned e) (λ step was.
       was_more sure more (told_of step) within was);
   waits = h.waits;
@@ -68,10 +68,6 @@ pub within_sure : (sight : Sight) (sure : List (List Piece)) → Within sure (su
 within_sure (Sight.Sure position) sure = within_cons sure (pieces_of position)
 within_sure (Sight.Doubted position) sure = λ picture h. h
 within_sure Sight.Away sure = λ picture h. h
-
-if_match : {X : Type 0} (o : Option X) (P Q : X → Type 0) → MatchOption o ⊥ P
-    → ((x : X) → P x → Q x) → IfSome o Q
-if_match o P Q x more = search rules
 
 -- what is shown now is shown for sure
 pub shown_sure : (sure : List (List Piece)) (told : Told) → WasShown sure told → WasSure sure told
@@ -108,7 +104,7 @@ pub parent_sure : (sure : List (List Piece)) (self : Memory) (gone : Returned) (
     place) (λ step. WasSure sure (told_of step))
 parent_sure sure self gone (Place.Line k) line seen h =
     let (is, count) = line k refl in
-    search (rules, if_some, shown_sure)
+    search (rules, shown_sure)
 parent_sure sure self gone (Place.Seen k) line seen h =
     marked_step sure self.seen.items k h.seen (seen k refl)
 parent_sure sure self gone Place.Nowhere line seen h = tt
@@ -120,8 +116,7 @@ here_at : (sure : List (List Piece)) (self : Recogniser) (shown : Option View)
     → MatchOption shown ⊥ (λ view. Contains sure (pieces_of view.shown))
     → IfSome (step_at (steps self.memory.line.items) (steps self.memory.seen.items) self.here)
     (λ step. WasSure sure (told_of step))
-here_at sure self shown told none at seen =
-    search (rules, shows_at, if_match, shown_sure, was_shown)
+here_at sure self shown told none at seen = search (rules, shown_sure, was_shown)
 
 pub here_sure : (sure : List (List Piece)) (self : Recogniser) → IsTold self.memory
     → self.memory.answer ≡ None
@@ -146,4 +141,4 @@ knows_sure_more sure more self within h = (
 )
 
 pub knows_none : KnowsSure [] new_recogniser
-knows_none = search (rules, marked_none)
+knows_none = search rules

@@ -1,5 +1,5 @@
 -- What is done whenever `due` is called.
-use Rattle.std.{proofs.Common.{rules, ◌≡◌, ◌∙◌, ◌++◌, ◌≤◌, ◌<◌, ap, refl, sym, subst, ℕ, Bool, true, false, List, [], ◌∷◌, Option, Some, None}, specs.Prelude.{IfSome, MatchOption, min, option_map}}
+use Rattle.std.{proofs.Common.{rules, ◌≡◌, ◌∙◌, ◌++◌, ◌≤◌, ◌<◌, ap, refl, sym, subst, ℕ, Bool, true, false, List, [], ◌∷◌, Option, Some, None}, specs.Prelude.{IfSome, MatchOption}}
 use Rattle.{std.{specs.Prelude.{if◌then◌else◌}, proofs.lemmas.Option.{none-some}}, dgt_game.specs.declared.{event.Event.{Event}, recogniser.Recogniser.{Recogniser}, resting.Next.{Next}}}
 use Rattle.dgt_game.specs.{Timing.{Acts, AllDue, Calls, DoneBy, Due, HasTask, IsIdle, NoCallMatters, Tells, next_time, with_report}, Waiting.{Follows, IsQuiet, IsRight}}
 
@@ -14,11 +14,11 @@ acts_with old new next h = search rules
 
 pub follows_then : (a b c : Recogniser) (event : Option Event) → Follows a None b
     → Follows b event c → Follows a event c
-follows_then a b c event f g = search (rules, event)
+follows_then a b c event f g = search rules
 
 pub tells_then : (a b c : Recogniser) (report : Option Event) → Tells a None b → Tells b report c
     → Tells a report c
-tells_then a b c report h k = search (rules, follows_then)
+tells_then a b c report h k = search rules
 
 has_later : (now later : ℕ) (next : Option ℕ) → now ≤ later
     → MatchOption next ⊥ (λ at. at ≤ now) → MatchOption next ⊥ (λ at. at ≤ later)
@@ -29,7 +29,7 @@ if_none true x e = e
 if_none false x e = refl
 
 pub no_time : (self : Recogniser) → self.next ≡ None → next_time self ≡ None
-no_time self e = search (rules, if_none, option_map, min)
+no_time self e = search rules
 
 pub told_now : (now : ℕ) (old new : Recogniser) (event : Event) → Tells old (Some event) new
     → Due now old (Some event) new

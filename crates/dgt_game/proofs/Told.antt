@@ -1,5 +1,5 @@
 -- The line, as it is reported.
-use Rattle.std.proofs.Common.{rules, ◌≡◌, ◌≢◌, ◌<◌, ◌-◌, ◌⊎◌, refl, sym, subst, inl, inr, arith, ℕ, zero, suc, length, take, List, [], ◌∷◌, Option, Some, None, unwrap_or}
+use Rattle.std.proofs.Common.{rules, ◌≡◌, ◌≢◌, ◌<◌, ◌-◌, ◌⊎◌, refl, sym, subst, inl, inr, arith, ℕ, zero, suc, length, take, List, [], ◌∷◌, Option, Some, None}
 use Rattle.{std.{proofs.lemmas.Grind.{common_steps}, specs.Prelude.{⊤, slice_get, MatchOption}}, dgt_values.specs.declared.pieces.Piece.{Piece}, dgt_chess.specs.declared.state.State.{State}}
 use Rattle.dgt_game.specs.{declared.{event.Event.{Event}, node.{Node.{Node}, Step.{Step}, Way.{Way}, Place.{Place}}}, Told.{Told, IsShown, Leads, WasShown}, Memory.{By, Chain, Grows, AreLast, IsKept}}
 use Rattle.dgt_game.specs.Memory.{IsRooted, IsSeen, Links, event_by, event_of, halves_of, line_after, line_by, step_at, steps, tip, told_of}
@@ -14,12 +14,12 @@ kept_take (node ∷ nodes) (told ∷ line) (suc n) h = (h.0, kept_take nodes lin
 -- what follows nothing begins a line, and so it follows anything
 pub links_any : (before : Option Step) (step : Step) → Links None step → Links before step
 unfolding Links
-links_any before step h = search (rules, ⊤)
+links_any before step h = search rules
 
 pub links_first : (first step : Step) → Links (Some first) step → (step.way ≡ Way.Begun)
     ⊎ ((first.is_turned ≡ step.is_turned) × By first.state step.way step.state)
 unfolding Links
-links_first first step h = search (rules, unwrap_or)
+links_first first step h = search rules
 
 leads_same : (first : Step) (line : List Told) (way : Way) (state : State)
     → By first.state way state
@@ -33,18 +33,14 @@ leads_same first line (Way.Made one) state by = (state, by, refl)
 leads_same first line (Way.Unseen moves) state by = (state, by.0, by.1, refl)
 leads_same first line (Way.Gap count) state by = (by, refl)
 
-leads_begun : (line : List Told) (step : Step) → step.way ≡ Way.Begun
-    → Leads line (event_of step) (line_after step line)
-leads_begun line step e = search rules
-
 leads_first : (first step : Step) (line : List Told) → Links (Some first) step
     → Leads (told_of first ∷ line) (event_of step) (line_after step (told_of first ∷ line))
-leads_first first step line h = search (rules, links_first, leads_begun, leads_same)
+leads_first first step line h = search (rules, links_first, leads_same)
 
 pub leads : (kept : List Step) (line : List Told) (step : Step) → IsKept kept line
     → Links (slice_get kept 0) step → Leads line (event_of step) (line_after step line)
 unfolding Links
-leads [] line step kept h = search (rules, leads_begun, ⊤)
+leads [] line step kept h = search rules
 leads (first ∷ rest) [] step kept h = absurd kept.0
 leads (first ∷ rest) (told ∷ line) step kept h = search (rules, leads_first)
 
@@ -56,7 +52,7 @@ pub makes : (shown : List (List Piece)) (line : List Told) (kept new rest : List
     Step) → IsKept kept line → IsShown shown line → Chain shown (slice_get kept 0) (step ∷ rest)
     → slice_get new 0 ≡ Some step → Leads line (event_of step) (line_after step line)
     × IsShown shown (line_after step line) × Chain shown (slice_get new 0) rest
-makes shown line kept new rest step is_kept is_shown chain first = search (rules, leads, shown_by)
+makes shown line kept new rest step is_kept is_shown chain first = search (rules, leads)
 
 -- a state further back stands before the last one
 takes_back : (shown : List (List Piece)) (line : List Told) (first : Node) (kept : List Node) (back
@@ -153,7 +149,7 @@ links_after first step place other h = elim (links_first first step h) [
 pub grows_one : (shown : List (List Piece)) (kept : List Step) (step : Step)
     → Links (step_at kept (step ∷ []) step.parent) step → IsSeen shown step
     → Grows shown kept (step ∷ [])
-grows_one shown kept step h seen h' other e = search (rules, unwrap_or, ⊤)
+grows_one shown kept step h seen h' other e = search rules
 
 pub grows_none : (shown : List (List Piece)) (kept : List Step) → Grows shown kept []
 grows_none shown kept k step e = absurd (subst (λ (o : Option Step). MatchOption o ⊤ (λ _. ⊥)) e tt)
@@ -164,4 +160,4 @@ rooted_none lines k step e = absurd (subst (λ (o : Option Step). MatchOption o 
 -- a single node after the line's last state
 pub rooted_one : (kept : List Step) (step : Step) → slice_get kept 0 ≢ None
     → step.parent ≡ Place.Line 0 → IsRooted (length kept) (step ∷ [])
-rooted_one kept step some first k other e = grind (arith, common_steps, unwrap_or, ⊤)
+rooted_one kept step some first k other e = grind (arith, common_steps)

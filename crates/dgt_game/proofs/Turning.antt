@@ -23,4 +23,4 @@ pub turned_next : (pieces old new : List Piece) (at : ℕ) (piece : Piece) → a
     → drop (64 - (at + 1)) new ≡ reverse (take (at + 1) pieces)
 turned_next pieces old new at piece small len len' h is e =
     let a : 64 - (at + 1) ≡ 63 - at = omega arith in
-    search (rules, drop-set, taken, pieces)
+    search (rules, drop-set, taken)

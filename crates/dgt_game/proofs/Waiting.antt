@@ -71,7 +71,7 @@ fitting_but picture pieces at has_other none h = (
   λ wrong. absurd (let impossible : ⊥ = cc in impossible),
   (
     at,
-    search (rules, below_more, pieces),
+    search rules,
   ),
 )
 
@@ -93,7 +93,7 @@ found_none picture piece at (Some found) differs h =
 pub found_one : (picture : List Piece) (piece : Piece) (at : ℕ) (found : Option ℕ)
     → found ≡ None → piece_at picture at ≡ piece → FoundOn picture piece at found
     → FoundOn picture piece (at + 1) (Some at)
-found_one picture piece at found none same h = search (rules, below_more, piece_at, none-some)
+found_one picture piece at found none same h = search rules
 
 -- only these wait
 abbrev pub lost_of : Recogniser → Lost

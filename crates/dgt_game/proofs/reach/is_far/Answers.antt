@@ -1,5 +1,4 @@
-use Rattle.{dgt_values.specs.Board.{pieces_of}}
-use Rattle.dgt_game.proofs.Departing.{back, left}
+use Rattle.{dgt_values.specs.Board.{pieces_of}, dgt_game.proofs.Departing.{back, left}}
 use Rattle.dgt_game.proofs.reach.is_far.Goals as goal
 
 pub returns-then-leave_too_many : goal.returns-then-leave_too_many

@@ -1,7 +1,6 @@
-use Rattle.{std.proofs.{Common.{rules, ◌≡◌, ◌+◌, ◌-◌, arith, length}, lemmas.List.{length-map}}}
-use Rattle.{dgt_game.{specs.{declared.node.Node.{Node}, Memory.{steps}}, proofs.Chains.{before_later, below_some, is_inside, is_within}}}
-use Rattle.{std.{proofs.Common.{◌∷◌, ◌∙◌, ap, sym, subst, ℕ, List, Option, Some, slice_index_or}, specs.Prelude.{slice_get}}}
-use Rattle.{dgt_game.{specs.{declared.node.{Place.{Place}, Step.{Step}}, Memory.{Chain, IsBefore, step_at, tip}}, proofs.{Chains.{get_step, node_at, path_first}, Sure.{marked_first}}}}
+use Rattle.std.{proofs.{Common.{rules, ◌≡◌, ◌+◌, ◌-◌, arith, length, ◌∷◌, ◌∙◌, ap, sym, subst, ℕ, List, Option, Some, slice_index_or}, lemmas.List.{length-map}}, specs.Prelude.{slice_get}}
+use Rattle.dgt_game.{specs.{declared.node.Node.{Node}, Memory.{steps, Chain, IsBefore, step_at, tip}}, proofs.Chains.{before_later, below_some, is_inside, is_within, get_step, node_at, path_first}}
+use Rattle.dgt_game.{specs.declared.node.{Place.{Place}, Step.{Step}}, proofs.Sure.{marked_first}}
 use Rattle.dgt_game.proofs.memory.Memory.path.Goals as goal
 
 pub loop-at-preserved : goal.loop-at-preserved

@@ -1,8 +1,7 @@
 use Rattle.{std.{proofs.{Common.{rules, ◌≡◌, ◌∙◌, ◌++◌, ◌∷◌, [], refl, sym, ap, subst, List, length}, lemmas.List.{length-map}}, specs.Prelude.{slice_get}}, dgt_game.specs.declared.node.Node.{Node}}
 use Rattle.dgt_game.{specs.{declared.node.Step.{Step}, Memory.{Grows, IsBefore, IsRooted, Links, step_at, steps}}, proofs.Chains.{before_later, grows_push, last_at, last_item, moved, not_seen}}
-use Rattle.dgt_game.{proofs.{Chains.{rooted_push, steps_push}, Held.{seen_new}, Moved.{FollowsOne, pushed}, Sure.{marked_push, seen_marked}, Told.{links_moved}}}
-use Rattle.dgt_game.{specs.{declared.memory.Memory.{Memory}, Reading.{FollowsSeen}, Sure.{AreMarked}}}
-use Rattle.dgt_game.proofs.memory.Memory.push.Goals.{then-is_full-via-then-is_full, then-is_full-via-else-is_full+then-not-may_follow}
+use Rattle.dgt_game.{proofs.{Chains.{rooted_push, steps_push}, Held.{seen_new}, Moved.{FollowsOne, pushed}, Sure.{marked_push, seen_marked}, Told.{links_moved}}, specs.declared.memory.Memory.{Memory}}
+use Rattle.dgt_game.{specs.{Reading.{FollowsSeen}, Sure.{AreMarked}}, proofs.memory.Memory.push.Goals.{then-is_full-via-then-is_full, then-is_full-via-else-is_full+then-not-may_follow}}
 use Rattle.dgt_game.proofs.memory.Memory.push.Goals as goal
 
 pub returns-then-is_full-clause-holds : goal.returns-then-is_full-clause-holds

@@ -1,7 +1,6 @@
 use Rattle.{std.{proofs.Common.{◌≢◌, ◌∙◌, ◌++◌, ◌∷◌, [], ℕ, ap, refl, sym, subst, inr, length, List, Option, None}, specs.Prelude.{slice_get, IfSome}}, dgt_game.specs.declared.node.Node.{Node}}
-use Rattle.dgt_game.{specs.{declared.node.{Place.{Place}, Step.{Step}}, Memory.{Grows, IsRooted, IsSeen, Links, steps, tip}}}
-use Rattle.dgt_game.{proofs.{Sure.{marked_first, marked_none}, Told.{grows_one, links_moved, rooted_one}}}
-use Rattle.dgt_game.specs.{Memory.{told_of}, Sure.{IsMarked}, Told.{WasShown}}
+use Rattle.dgt_game.{specs.{declared.node.{Place.{Place}, Step.{Step}}, Memory.{Grows, IsRooted, IsSeen, Links, steps, tip, told_of}}, proofs.{Sure.{marked_first, marked_none}, Told.{grows_one}}}
+use Rattle.dgt_game.{proofs.Told.{links_moved, rooted_one}, specs.{Sure.{IsMarked}, Told.{WasShown}}}
 use Rattle.dgt_game.proofs.memory.Memory.take_answer.Goals as goal
 
 pub returns-clause-holds : goal.returns-clause-holds

@@ -1,9 +1,7 @@
-use Rattle.{std.{proofs.{Common.{rules, ◌≡◌, ◌≢◌, ◌<◌, arith, inl, inr, refl, sym, subst, ℕ, [], Option, None, Some, length}, lemmas.Option.{none-some}}, specs.Prelude.{slice_get}}}
-use Rattle.dgt_game.specs.declared.node.Place.{Place}
-use Rattle.dgt_game.{specs.{declared.node.Step.{Step}, Memory.{IsBefore, step_at, steps, tip}}}
-use Rattle.dgt_game.{proofs.{Chains.{below_some, not_seen, steps_length, chain_any, some_at, steps_some, tip_any, tip_there}, Waiting.{tip_some}}}
-use Rattle.dgt_game.proofs.memory.Memory.way_to.Goals.{in-Seen, in_default, in_default-start-via-in-Line+else-base-len, in_default-start-via-in-Nowhere+else-not-is_empty}
-use Rattle.dgt_game.proofs.memory.Memory.way_to.Goals.{in_default-start-via-in_default-start}
+use Rattle.std.{proofs.{Common.{rules, ◌≡◌, ◌≢◌, ◌<◌, arith, inl, inr, refl, sym, subst, ℕ, [], Option, None, Some, length}, lemmas.Option.{none-some}}, specs.Prelude.{slice_get}}
+use Rattle.dgt_game.{specs.{declared.node.{Place.{Place}, Step.{Step}}, Memory.{IsBefore, step_at, steps, tip}}, proofs.Chains.{below_some, not_seen, steps_length, chain_any, some_at, steps_some}}
+use Rattle.dgt_game.proofs.{Chains.{tip_any, tip_there}, Waiting.{tip_some}, memory.Memory.way_to.Goals.{in-Seen, in_default, in_default-start-via-in-Line+else-base-len}}
+use Rattle.dgt_game.proofs.memory.Memory.way_to.Goals.{in_default-start-via-in-Nowhere+else-not-is_empty, in_default-start-via-in_default-start}
 use Rattle.dgt_game.proofs.memory.Memory.way_to.Goals as goal
 
 pub returns-else-is_open-clause-chain : goal.returns-else-is_open-clause-chain

@@ -1,7 +1,6 @@
 use Rattle.{std.{proofs.Common.{rules, arith, ◌≡◌, inl, subst, Bool, true, None}, specs.Prelude.{IfSome, MatchOption}}, dgt_game.specs.{declared.resting.Task.{Task}, Memory.{step_at, steps}}}
-use Rattle.dgt_game.{specs.{Planning.{TaskFits}, Reading.{Shows}, Standing.{IsCalledFor, StandsAt}}}
-use Rattle.dgt_game.{proofs.{Finding.{found_by_search, found_ended, found_placed}, Standing.{if_some, match_more, shows_at}}}
-use Rattle.dgt_game.proofs.Sure.{here_sure}
+use Rattle.dgt_game.{specs.{Planning.{TaskFits}, Reading.{Shows}, Standing.{IsCalledFor, StandsAt}}, proofs.{Finding.{found_by_search, found_ended, found_placed}, Standing.{if_some, match_more}}}
+use Rattle.dgt_game.proofs.{Standing.{shows_at}, Sure.{here_sure}}
 use Rattle.dgt_game.proofs.recogniser.Recogniser.act.Goals as goal
 
 pub returns-in-Tell-clause-stands : goal.returns-in-Tell-clause-stands

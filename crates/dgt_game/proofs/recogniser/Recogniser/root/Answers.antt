@@ -1,7 +1,6 @@
 use Rattle.std.{proofs.{Common.{◌∙◌, sym, subst, ◌≡◌, List, Option, ap, inr, unwrap_or}, lemmas.Option.{MatchOption-at_some}}, specs.Prelude.{⊤, Contains}}
-use Rattle.{dgt_values.specs.{declared.pieces.Piece.{Piece}, Board.{pieces_of}}}
-use Rattle.{dgt_game.specs.{declared.{node.Step.{Step}, view.View.{View}}, Memory.{told_of}, Planning.{IsRefused}, Reading.{Shows}, Told.{as_shown}}}
-use Rattle.dgt_game.proofs.{Links.{is_root, turned_back, was_shown}, Standing.{some_view}}
+use Rattle.{dgt_values.specs.{declared.pieces.Piece.{Piece}, Board.{pieces_of}}, dgt_game.specs.{declared.{node.Step.{Step}, view.View.{View}}, Memory.{told_of}, Planning.{IsRefused}}}
+use Rattle.dgt_game.{specs.{Reading.{Shows}, Told.{as_shown}}, proofs.{Links.{is_root, turned_back, was_shown}, Standing.{some_view}}}
 use Rattle.dgt_game.proofs.recogniser.Recogniser.root.Goals as goal
 
 pub returns-clause-root : goal.returns-clause-root
