@@ -1,9 +1,8 @@
 -- The first wrong byte of a decimal number.
-use Rattle.std.proofs.Common.{◌≡◌, ℕ, ◌+◌, ◌-◌, ◌*◌, ◌/◌, ◌%◌, ◌<◌, ◌≤◌, ◌^◌, ◌⊎◌, inl, inr, refl, sym, ap, ◌∙◌, subst, arith, List, [], ◌∷◌, ◌++◌, length, take, get_or, length-append, length-take}
-use Rattle.std.proofs.{Common.{rules}, lemmas.Bool.{cases_lt, cases_eq}}
-use Rattle.std.proofs.lemmas.{Fmt.{decimal_by_steps, decimal_digit, decimal_injective, decimal_is_IsNumeral, decimal_nonempty, decimal_step, first_decimal, length-decimal-le}, Str.Parse.{digit_at}}
-use Rattle.std.{proofs.lemmas.List.{append_cancel_right, take_all, take_more, take-append-le, take-take}, specs.Prelude.{decimal}}
-use Rattle.{dgt_chess.{specs.Fen.{HasNoSpace, IsDecimal, IsFirstWrong, IsNumber}, proofs.FirstWrong.{byte_of}}, std.proofs.lemmas.Grind.{common_steps}}
+use Rattle.std.proofs.Common.{◌≡◌, ℕ, ◌+◌, ◌-◌, ◌*◌, ◌/◌, ◌%◌, ◌<◌, ◌≤◌, ◌^◌, ◌⊎◌, inl, inr, refl, sym, ap, ◌∙◌, subst, arith, List, [], ◌∷◌, ◌++◌, length, take, get_or, length-append}
+use Rattle.std.proofs.{Common.{rules}, lemmas.{Fmt.{decimal_by_steps, decimal_digit, decimal_injective, decimal_is_IsNumeral, decimal_nonempty, decimal_step}}}
+use Rattle.std.{proofs.lemmas.{Fmt.{first_decimal, length-decimal-le}, Str.Parse.{digit_at}, List.{append_cancel_right, take_all, take_more, take-append-le, take-take}}, specs.Prelude.{decimal}}
+use Rattle.{std.proofs.lemmas.Grind.{common_steps}, dgt_chess.{specs.Fen.{HasNoSpace, IsDecimal, IsFirstWrong, IsNumber}}}
 
 -- each byte is a digit
 digit_of : (n k : ℕ) → n < 2 ^ 64 → k < length (decimal n)
@@ -36,9 +35,8 @@ begins_one n small is fits k m some fits' same = search (rules, take_all, decima
 begins_more : (n : ℕ) (text : List ℕ) → 10 ≤ n → Begins (n / 10) text
     → Begins n (text ++ (48 + n % 10) ∷ [])
 begins_more n text large before is fits k m some fits' same =
-    let shorter : decimal (n / 10) ≡ text =
-    search (rules, append_cancel_right, decimal_step) in
-    search (rules, cases_lt, take_all, length-append, decimal_injective, take-append-le)
+    let shorter : decimal (n / 10) ≡ text = search (rules, append_cancel_right, decimal_step) in
+    search (rules, take_all, length-append, decimal_injective, take-append-le)
 
 begins_le : (n k m : ℕ) → n < 2 ^ 64 → 0 < k → m < 2 ^ 64 → take k (decimal n) ≡ decimal m → m ≤ n
 begins_le n k m fits some fits' same =
@@ -54,16 +52,14 @@ pub read_more : (bytes : List ℕ) (at number next : ℕ) → at < length bytes 
     → ReadNumber bytes at number → 48 ≤ get_or bytes at 0 → get_or bytes at 0 ≤ 57
     → (0 < at → 0 < number) → next ≡ 10 * number + (get_or bytes at 0 - 48)
     → ReadNumber bytes (at + 1) next
-read_more bytes at number next lt small (inl (start, none)) low high some is =
-    search (rules, take_more, decimal_digit)
-read_more bytes at number next lt small (inr (begun, read)) low high some is =
-    grind (arith, common_steps, take_more, decimal_more)
+read_more bytes at number next lt small h low high some is =
+    grind (arith, common_steps, decimal_digit, decimal_more)
 
 -- a number that agrees so far has a digit here
 agrees : (bytes : List ℕ) (at n : ℕ) → at < length bytes → n < 2 ^ 16
     → take (at + 1) (decimal n) ≡ take (at + 1) bytes
     → (at < length (decimal n)) × (get_or (decimal n) at 0 ≡ get_or bytes at 0)
-agrees bytes at n lt small same = grind (arith, common_steps, length-take, byte_of)
+agrees bytes at n lt small same = grind (arith, common_steps)
 
 -- the byte continues no number
 abbrev pub Stops : ℕ → ℕ → ℕ → Type 0
@@ -75,9 +71,8 @@ Stops number digits byte =
 leading_zero : (bytes : List ℕ) (at n : ℕ) → n < 2 ^ 16 → 0 < at → at < length (decimal n)
     → take at bytes ≡ decimal 0 → take (at + 1) (decimal n) ≡ take (at + 1) bytes → ⊥
 leading_zero bytes at n small begun long read same =
-    let first : get_or (decimal n) 0 0 ≡ 48 =
-    grind (arith, common_steps, byte_of, take_all, decimal_digit) in
-    search (rules, cases_eq, decimal_digit, first_decimal)
+    let first : get_or (decimal n) 0 0 ≡ 48 = grind (arith, decimal_digit) in
+    search (rules, decimal_digit, first_decimal)
 
 -- no number goes on with a byte that stops it
 stops : (bytes : List ℕ) (at number n : ℕ) → at < length bytes → number < 2 ^ 16
@@ -133,7 +128,7 @@ number_empty bytes none = record {
   right = decimal 0;
   is = (0, (omega arith, refl));
   before = refl;
-  after = search (rules, length-take, decimal_nonempty);
+  after = search (rules, decimal_nonempty);
 }
 
 -- the whole text was read

@@ -1,6 +1,6 @@
 -- What the text of a state determines.
 use Prim.Native.Char.{code as ascii}
-use Rattle.std.proofs.{Math.Logic.{∥∥₁_elim}, Common.{◌≡◌, ℕ, ◌+◌, ◌<◌, ◌^◌, inl, inr, refl, sym, ap, ◌∙◌, subst, arith, List, [], ◌∷◌, ◌++◌, length, take, rules}}
+use Rattle.std.proofs.{Math.Logic.{∥∥₁_elim}, Common.{◌≡◌, ℕ, ◌+◌, ◌<◌, ◌^◌, refl, sym, ap, ◌∙◌, subst, arith, List, [], ◌∷◌, ◌++◌, length, take, rules}}
 use Rattle.std.{proofs.lemmas.{List.{append_assoc, append_cancel_left}, Fmt.{decimal_injective}}, specs.Prelude.{◌||◌, Bool, false, Option, None, Ok, Err, Result, nat_eq, option_map}}
 use Rattle.{dgt_values.specs.{declared.{pieces.Piece.{Piece}, squares.Square.{Square}}, Board.{square_number}, Placement.{IsPlacement, placement_text}}, dgt_chess.specs.declared.fen.BadFen.{BadFen}}
 use Rattle.dgt_chess.specs.{declared.{pieces.Colour.{Colour}, possible.Rights.{Rights}, state.State.{State}}, Possible.{HasPassed, IsPossible, RefusedAreImpossible}, Rules.{board, passed}}
@@ -17,17 +17,10 @@ then_one A B A' B' text text' e o o' plain plain' =
     let one : o.first ≡ o'.first =
     same_first n o.first o.rest o'.first o'.rest plain plain' (omega arith)
     (ap (λ l. take n l) whole) in
-    let over : o'.first ++ 32 ∷ o.rest ≡ o'.first ++ 32 ∷ o'.rest =
-    ap (λ l. l ++ 32 ∷ o.rest) (sym one) ∙ whole in
-    let tails : 32 ∷ o.rest ≡ 32 ∷ o'.rest =
-    append_cancel_left o'.first (32 ∷ o.rest) (32 ∷ o'.rest) over in
-    (one, cc)
-
-differ : (a b : ℕ) → a ≡ b → a < b → ⊥
-differ a b e lt = absurd (omega arith)
+    search (rules, append_cancel_left)
 
 turn_injective : (a b : Colour) → turn_text a ≡ turn_text b → a ≡ b
-turn_injective a b e = search (rules, differ)
+turn_injective a b e = search rules
 
 abbrev has : ℕ → List ℕ → Bool
 has letter [] = false
@@ -54,7 +47,7 @@ rights_injective a b e =
 
 passed_injective : (a b : Option Square) → passed_text a ≡ passed_text b
     → option_map square_number a ≡ option_map square_number b
-passed_injective a b e = search (rules, differ)
+passed_injective a b e = search rules
 
 -- the parts of two texts are the same
 pub record SameParts (p p' : List Piece) (t t' : Colour) (r r' : Rights) (s s' : Option Square)
@@ -119,11 +112,7 @@ one_state law text a b first second =
 -- the fields of a written text
 regroup : (p t r s h n : List ℕ) → p ++ 32 ∷ t ++ 32 ∷ r ++ 32 ∷ s ++ 32 ∷ h ++ 32 ∷ n
     ≡ p ++ 32 ∷ (t ++ 32 ∷ (r ++ 32 ∷ (s ++ 32 ∷ (h ++ 32 ∷ n))))
-regroup p t r s h n =
-    append_assoc (p ++ 32 ∷ t ++ 32 ∷ r ++ 32 ∷ s) (32 ∷ h) (32 ∷ n)
-    ∙ append_assoc (p ++ 32 ∷ t ++ 32 ∷ r) (32 ∷ s) (32 ∷ (h ++ 32 ∷ n))
-    ∙ append_assoc (p ++ 32 ∷ t) (32 ∷ r) (32 ∷ (s ++ 32 ∷ (h ++ 32 ∷ n)))
-    ∙ append_assoc p (32 ∷ t) (32 ∷ (r ++ 32 ∷ (s ++ 32 ∷ (h ++ 32 ∷ n))))
+regroup p t r s h n = search (rules, append_assoc)
 
 -- what dgt_values says of written placements
 abbrev pub Accepted : Type 0
@@ -142,8 +131,7 @@ nothing_passed pieces turn = λ square is. let none : ⊥ = cc in absurd none
 shown_possible : (state : State) (shown : Option Square) → IsShown state shown
     → IsPossible (board state) state.turn state.rights (passed state) state.number
     → IsPossible (board state) state.turn state.rights (option_map square_number shown) state.number
-shown_possible state shown (inl (can, is)) p = search rules
-shown_possible state shown (inr (cannot, is)) p = search (rules, nothing_passed)
+shown_possible state shown h p = search (rules, nothing_passed)
 
 -- a written text is read as a state of the same parts, but for the square
 pub record ReadAs (state : State) (shown : Option Square) (new : State) : Type 0 where

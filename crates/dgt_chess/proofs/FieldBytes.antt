@@ -1,11 +1,10 @@
 -- The fields of a text, their bytes and their first wrong bytes.
 use Prim.Native.Char.{code as ascii}
-use Rattle.std.proofs.Common.{◌≡◌, ◌≢◌, ℕ, ◌+◌, ◌-◌, ◌%◌, ◌<◌, ◌≤◌, ◌⊎◌, inl, inr, refl, sym, ap, ◌∙◌, subst, arith, List, [], ◌∷◌, ◌++◌, length, take, drop, get_or, length-take}
-use Rattle.std.{proofs.{Common.{take-append-drop, below_more, rules}, lemmas.{Bool.{cases_lt}, List.{length-take-le, take_all, take_at}}}, specs.Prelude.{Bool, true, false, Option, Some, None}}
-use Rattle.{std.specs.List.{join_with_byte}, dgt_values.specs.{declared.{pieces.Piece.{Piece}, squares.Square.{Square}}, Board.{piece_letter, square_name, square_number}}}
-use Rattle.{dgt_values.specs.Placement.{AreRanks, IsFirstBadOffset, IsPlacement, IsRank, MeansSquares}, dgt_chess.specs.declared.{pieces.Colour.{Colour}, possible.Rights.{Rights}}}
-use Rattle.dgt_chess.specs.Fen.{HasNoSpace, IsFirstWrong, IsPassed, IsPieces, IsRights, IsTurn, or_hyphen, passed_text, right_text, rights_of, rights_text, turn_text}
-use Rattle.dgt_chess.proofs.FirstWrong.{append_plain, byte_of, fewer}
+use Rattle.std.proofs.Common.{◌≡◌, ◌≢◌, ℕ, ◌+◌, ◌-◌, ◌%◌, ◌<◌, ◌≤◌, ◌⊎◌, inl, inr, refl, sym, ap, ◌∙◌, subst, arith, List, [], ◌∷◌, ◌++◌, length, take, drop, get_or, length-take, take-append-drop}
+use Rattle.std.{proofs.{Common.{below_more, rules}, lemmas.{Bool.{cases_lt}, List.{length-take-le, take_all, take_at}}}, specs.{Prelude.{Bool, true, false, Option, Some, None}, List.{join_with_byte}}}
+use Rattle.dgt_values.specs.{declared.{pieces.Piece.{Piece}, squares.Square.{Square}}, Board.{square_name, square_number}, Placement.{AreRanks, IsFirstBadOffset, IsPlacement, IsRank}}
+use Rattle.{dgt_values.specs.Placement.{MeansSquares}, dgt_chess.specs.{declared.{pieces.Colour.{Colour}, possible.Rights.{Rights}}, Fen.{HasNoSpace, IsFirstWrong, IsPassed, IsPieces, IsRights}}}
+use Rattle.dgt_chess.{specs.Fen.{IsTurn, or_hyphen, passed_text, rights_of, rights_text, turn_text}, proofs.FirstWrong.{append_plain, fewer}}
 
 -- the first byte, and the first two
 
@@ -23,12 +22,8 @@ cons_plain byte f plain plains = search rules
 
 -- placements
 
-letter_high : (piece : Piece) → 32 < piece_letter piece
-letter_high Piece.Empty = omega arith
-letter_high _ = omega arith
-
 byte_plain : (byte : ℕ) (squares : List Piece) → MeansSquares byte squares → byte ≢ 32
-byte_plain byte squares means_squares = search (rules, letter_high)
+byte_plain byte squares means_squares = search rules
 
 rank_plain : (bytes : List ℕ) (squares : List Piece) → IsRank bytes squares → HasNoSpace bytes
 rank_plain [] squares h = nil_plain
@@ -74,19 +69,13 @@ wrong_pieces text at bad = record {
 
 -- the side to move
 
-turn_one : (turn : Colour) → length (turn_text turn) ≡ 1
-turn_one turn = search rules
-
-turn_byte : (turn : Colour) → HasNoSpace (turn_text turn)
-turn_byte turn = search (rules, cons_plain, nil_plain)
-
 pub turn_plain : (text : List ℕ) → IsTurn text → HasNoSpace text
-turn_plain text (turn, is) = search (rules, turn_byte)
+turn_plain text (turn, is) = search rules
 
 -- a side agrees in its one byte
 turn_agrees : (f other : List ℕ) (turn : Colour) (at : ℕ) → other ≡ turn_text turn
     → take (at + 1) other ≡ take (at + 1) f → turn_text turn ≡ take (at + 1) f
-turn_agrees f other turn at is same = search (rules, take_all, turn_one)
+turn_agrees f other turn at is same = search (rules, take_all)
 
 pub turn_none : (f : List ℕ) → length f ≡ 0 → IsFirstWrong IsTurn f 0
 turn_none f none = record {
@@ -94,7 +83,7 @@ turn_none f none = record {
   right = turn_text Colour.White;
   is = (Colour.White, refl);
   before = refl;
-  after = search (rules, turn_agrees, turn_one, length-take);
+  after = search rules;
 }
 
 pub turn_other : (f : List ℕ) → 0 < length f
@@ -113,8 +102,8 @@ turn_more f turn some is = record {
   within = omega arith;
   right = turn_text turn;
   is = (turn, refl);
-  before = search (rules, take_all, turn_one, one_byte);
-  after = search (rules, turn_agrees, turn_one, length-take);
+  before = search rules;
+  after = search rules;
 }
 
 pub turn_whole : (f : List ℕ) (turn : Colour) → length f ≡ 1 → turn_text turn ≡ get_or f 0 0 ∷ []
@@ -125,11 +114,8 @@ pub ruleset turns = (turn_none, turn_other, turn_more, turn_whole)
 
 -- the square that a pawn has just passed over
 
-name_plain : (square : ℕ) → square < 64 → HasNoSpace (square_name square)
-name_plain square small = search (rules, cons_plain, nil_plain)
-
 passed_byte : (passed : Option Square) → HasNoSpace (passed_text passed)
-passed_byte passed = search (rules, cons_plain, nil_plain, name_plain)
+passed_byte passed = search rules
 
 pub passed_plain : (text : List ℕ) → IsPassed text → HasNoSpace text
 passed_plain text (passed, is) =
@@ -157,7 +143,7 @@ IsRow byte = (49 ≤ byte) × (byte ≤ 56)
 -- nothing agrees with a first byte that is neither a hyphen nor a file
 never_first : (f : List ℕ) → (0 < length f → get_or f 0 0 ≢ 45)
     → (0 < length f → ¬ (IsFile (get_or f 0 0))) → ¬ (Agrees f 0)
-never_first f no_hyphen no_file = search (rules, length-take, byte_of)
+never_first f no_hyphen no_file = search rules
 
 pub passed_other : (f : List ℕ) → (0 < length f → get_or f 0 0 ≢ 45)
     → (0 < length f → ¬ (IsFile (get_or f 0 0))) → IsFirstWrong IsPassed f 0
@@ -171,7 +157,7 @@ passed_other f no_hyphen no_file = record {
 
 -- nothing agrees with a hyphen and more
 never_hyphen : (f : List ℕ) → 1 < length f → get_or f 0 0 ≡ 45 → ¬ (Agrees f 1)
-never_hyphen f more is = search (rules, length-take, byte_of)
+never_hyphen f more is = search rules
 
 pub passed_hyphen : (f : List ℕ) → 1 < length f → get_or f 0 0 ≡ 45 → IsFirstWrong IsPassed f 1
 passed_hyphen f more is = record {
@@ -185,7 +171,7 @@ passed_hyphen f more is = record {
 -- nothing agrees with a file and then no row
 never_row : (f : List ℕ) → IsFile (get_or f 0 0) → (1 < length f → ¬ (IsRow (get_or f 1 0)))
     → ¬ (Agrees f 1)
-never_row f is_file no_row = search (rules, byte_of, length-take)
+never_row f is_file no_row = search rules
 
 pub passed_row : (f : List ℕ) → 0 < length f → IsFile (get_or f 0 0)
     → (1 < length f → ¬ (IsRow (get_or f 1 0))) → IsFirstWrong IsPassed f 1
@@ -202,7 +188,7 @@ passed_row f some is_file no_row =
 
 -- nothing is longer than the name of a square
 never_third : (f : List ℕ) → 2 < length f → ¬ (Agrees f 2)
-never_third f more = search (rules, length-take)
+never_third f more = search rules
 
 pub passed_more : (f : List ℕ) → 2 < length f → (square : Square)
     → square_name (square_number square) ≡ get_or f 0 0 ∷ get_or f 1 0 ∷ []
@@ -219,12 +205,6 @@ pub ruleset passes = (passed_other, passed_hyphen, passed_row, passed_more)
 
 -- rights
 
-right_plain : (remains : Bool) (letter : ℕ) → letter ≢ 32 → HasNoSpace (right_text remains letter)
-right_plain remains letter plain = search (rules, cons_plain, nil_plain)
-
-hyphen_plain : (text : List ℕ) → HasNoSpace text → HasNoSpace (or_hyphen text)
-hyphen_plain text plain = search (rules, cons_plain, nil_plain)
-
 -- of no letters, and of some
 
 pub hyphen_of_none : (text : List ℕ) → length text ≡ 0 → or_hyphen text ≡ text ++ ascii "-" ∷ []
@@ -236,7 +216,7 @@ hyphen_of_some text some = search rules
 pub ruleset hyphens = (hyphen_of_none, hyphen_of_some)
 
 rights_byte : (rights : Rights) → HasNoSpace (rights_text rights)
-rights_byte rights = search (rules, hyphen_plain, append_plain, right_plain)
+rights_byte rights = search rules
 
 pub rights_plain : (text : List ℕ) → IsRights text → HasNoSpace text
 rights_plain text (rights, is) =
@@ -301,6 +281,5 @@ wrong_rights field code most all best = record {
   before = best.best;
   after = λ other o same.
       let known = every_rights o.0.white_short o.0.white_long o.0.black_short o.0.black_long in
-      best.others known.0 (omega (arith, known.1))
-      (search rules);
+      search rules;
 }

@@ -1,5 +1,5 @@
 -- The first wrong byte of two fields, from that of one of them.
-use Rattle.std.proofs.Common.{◌≡◌, ◌≢◌, ℕ, zero, suc, ◌+◌, ◌<◌, ◌≤◌, inl, inr, refl, sym, ap, ◌∙◌, arith, List, [], ◌∷◌, ◌++◌, length, take, get_or, length-append, length-take, rules}
+use Rattle.std.proofs.Common.{◌≡◌, ◌≢◌, ℕ, zero, suc, ◌+◌, ◌<◌, ◌≤◌, inl, inr, refl, sym, ap, ◌∙◌, arith, List, [], ◌∷◌, ◌++◌, length, take, get_or, length-append, rules}
 use Rattle.std.proofs.lemmas.{Bool.{cases_lt}, List.{append_cancel_left, take_all, take_at, take-take, take-append-le, get_or-take, get_or_append_left, get_or_at, get_or_past, get_or-append_right}}
 use Rattle.{dgt_chess.specs.Fen.{HasNoSpace, IsFirstWrong, Then}, std.proofs.lemmas.Grind.{common_steps}}
 
@@ -15,15 +15,15 @@ fewer m n s t le same = sym (take-take m n s le) ∙ ap (λ l. take m l) same �
 -- the right text is as long as the offset
 pub right_long : (Is : List ℕ → Type 0) (f : List ℕ) (at : ℕ) (w : IsFirstWrong Is f at)
     → at ≤ length w.right
-right_long Is f at w = search (rules, cases_lt, take_all, length-take)
+right_long Is f at w = search (rules, take_all)
 
 -- no byte is a space, also past the end
 pub no_space : (f : List ℕ) → HasNoSpace f → (k : ℕ) → get_or f k 0 ≢ 32
-no_space f plain k is = search (rules, cases_lt, get_or_past)
+no_space f plain k is = search (rules, get_or_past)
 
 pub append_plain : (a b : List ℕ) → HasNoSpace a → HasNoSpace b → HasNoSpace (a ++ b)
 append_plain a b plain plain' k lt is =
-    search (rules, cases_lt, no_space, get_or_append_left, get_or-append_right)
+    search (rules, no_space, get_or_append_left, get_or-append_right)
 
 -- the first spaces of two texts that agree so far are at one offset
 same_end : (n : ℕ) (a b f c : List ℕ) → HasNoSpace a → HasNoSpace f → length f < n
@@ -31,11 +31,11 @@ same_end : (n : ℕ) (a b f c : List ℕ) → HasNoSpace a → HasNoSpace f → 
 same_end n a b f c plain plain' lt same = elim (cases_lt (length a) (length f)) [
   | inl less ↦
       let space = byte_of n (length a) (a ++ 32 ∷ b) (f ++ 32 ∷ c) same (omega arith) in
-      absurd (search (rules, no_space, get_or_append_left, get_or_at))
+      absurd (search (rules, get_or_append_left, get_or_at))
   | inr ge ↦ elim (cases_lt (length f) (length a)) [
     | inl less ↦
         let space = byte_of n (length f) (a ++ 32 ∷ b) (f ++ 32 ∷ c) same lt in
-        absurd (search (rules, no_space, get_or_append_left, get_or_at))
+        absurd (search (rules, get_or_append_left, get_or_at))
     | inr le ↦ omega arith
   ]
 ]
@@ -95,7 +95,7 @@ wrong_first A B f rest b at plain plains is w = record {
   right = w.right ++ 32 ∷ b;
   is = record { first = w.right; rest = b; is_first = w.is; is_rest = is; joined = refl };
   before = search (rules, take-append-le, right_long);
-  after = search (rules, cases_lt, take-append-le, space_too_early, same_first);
+  after = search (rules, take-append-le, same_first);
 }
 
 -- the first field is right, and no space follows
@@ -108,7 +108,7 @@ ends_early A B f b plain is_first is_rest = record {
   before = take_at f (32 ∷ b) (length f) refl ∙ sym (take_all (length f) f (omega arith));
   after = λ other o same. elim (cases_lt (length f) (length o.first)) [
     | inl lt ↦
-        grind (arith, common_steps, length-take, length-append)
+        grind (arith, common_steps)
     | inr ge ↦ space_too_early A B other f (length f + 1) plain o (omega arith) same
   ];
 }

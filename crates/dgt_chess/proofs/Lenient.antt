@@ -1,5 +1,5 @@
 -- A text has one lenient reading, and what is read strictly is read leniently as the same move.
-use Rattle.{std.{proofs.{Common.{◌≡◌, ℕ, ◌<◌, ◌∙◌, List, ap, refl, sym, rules}}, specs.Prelude.{Option, Result, Ok, Err}}}
+use Rattle.{std.{proofs.{Common.{◌≡◌, ℕ, ◌<◌, ◌∙◌, List, ap, sym, rules}}, specs.Prelude.{Option, Result, Ok, Err}}}
 use Rattle.{dgt_values.specs.Board.{square_number}, dgt_chess.specs.declared.{pieces.Man.{Man}, san_reader.BadSan.{BadSan}, state.{Move.{Move}, State.{State}}}}
 use Rattle.dgt_chess.{specs.San.{Fits, FitsOnly, FitsSeveral, OneLenientReading, StrictIsLenient}, proofs.{Same.{same_move}, SanLaws.{one_fits, san_fits}}}
 
@@ -32,23 +32,7 @@ only state text one (Err BadSan.NoMove) fits law h =
     absurd (h.0 _ _ _ one.from.small one.to.small fits)
 
 pub one_reading : OneLenientReading
-one_reading state text (Ok one) r h k = search (rules, only)
-one_reading state text (Err e) (Ok one) h k =
-    only state text one (Err e) k.0 (λ from to p small goal fits. (k.1 from to p small goal fits).0)
-    h
-one_reading state text (Err BadSan.Ambiguous) (Err BadSan.Ambiguous) h k = refl
-one_reading state text (Err BadSan.Ambiguous) (Err BadSan.NotSan) h k =
-    absurd (some_fits state text h.0 h.1 h.2 (λ from. k.0 from h.0 h.1))
-one_reading state text (Err BadSan.Ambiguous) (Err BadSan.NoMove) h k =
-    absurd (some_fits state text h.0 h.1 h.2 (λ from. k.0 from h.0 h.1))
-one_reading state text (Err BadSan.NotSan) (Err BadSan.Ambiguous) h k =
-    absurd (some_fits state text k.0 k.1 k.2 (λ from. h.0 from k.0 k.1))
-one_reading state text (Err BadSan.NoMove) (Err BadSan.Ambiguous) h k =
-    absurd (some_fits state text k.0 k.1 k.2 (λ from. h.0 from k.0 k.1))
-one_reading state text (Err BadSan.NotSan) (Err BadSan.NotSan) h k = refl
-one_reading state text (Err BadSan.NotSan) (Err BadSan.NoMove) h k = absurd (h.1 k.1)
-one_reading state text (Err BadSan.NoMove) (Err BadSan.NoMove) h k = refl
-one_reading state text (Err BadSan.NoMove) (Err BadSan.NotSan) h k = absurd (k.1 h.1)
+one_reading state text one other first second = search (rules, only, some_fits)
 
 pub strict_lenient : StrictIsLenient
 strict_lenient state text one r h k = search (rules, only, san_fits, one_fits)

@@ -1,30 +1,12 @@
 -- A man whose square may be empty without a check may make all its moves.
-use Rattle.std.proofs.{lemmas.{Bool.{cases_eq}, List.{get_or-set_same, get_or-set_other}}, Math.ListN.{length-set}}
-use Rattle.std.proofs.Common.{subst, ◌≡◌, ℕ, ◌<◌, ◌∙◌, sym, ap, refl, arith, List, length, inl, inr, Bool, true, rules}
-use Rattle.{std.specs.Prelude.{◌≢◌, Option, Some, None, slice_set, if◌then◌else◌, ◌&&◌, not, nat_eq}, dgt_values.specs.declared.pieces.Piece.{Piece, TheVariants.{Empty}}}
-use Rattle.dgt_chess.specs.declared.{state.State.{State}, lines.Line.{Line}, pieces.{Colour.{Colour}, Man.{Man, TheVariants.{Pawn, Knight, Bishop, Rook, Queen, King}}}}
-use Rattle.dgt_chess.specs.Attacks.{piece_at, piece_of, other, file, row, Attacks, IsAttacked, IsFree, IsInCheck, Slides, Straight, Diagonal}
-use Rattle.dgt_chess.specs.{Rules.{board, passed, is_free, last_row, moved, pieces_after, CanGo, Moves, PawnMoves, Promotes}, declared.listing.Mover.{Mover}, Steps.{IsLoose, IsMover}}
-use Rattle.dgt_chess.proofs.{Unique.{same_man, not_free, not_theirs}, OneMove.{both, moved_is, other_files, pawn_passes, put}, Staying.{was_king}}
+use Rattle.std.proofs.{lemmas.{Bool.{cases_eq}, List.{get_or-set_same, get_or-set_other}}, Math.ListN.{length-set}, Common.{subst, ◌≡◌, ℕ, ◌<◌, ◌∙◌, sym, ap, refl, arith, List, length, inl, inr}}
+use Rattle.{std.{proofs.Common.{Bool, true, rules}, specs.Prelude.{◌≢◌, Option, Some, None, slice_set, if◌then◌else◌, ◌&&◌, not, nat_eq}}, dgt_values.specs.declared.pieces.Piece.{Piece}}
+use Rattle.{dgt_values.specs.declared.pieces.Piece.TheVariants.{Empty}, dgt_chess.specs.declared.{state.State.{State}, pieces.{Colour.{Colour}, Man.{Man, TheVariants.{Pawn}}}}}
+use Rattle.dgt_chess.specs.{declared.pieces.Man.TheVariants.{Knight, Bishop, Rook, Queen, King}, Attacks.{piece_at, piece_of, file, row, Attacks, IsAttacked, IsFree, IsInCheck}}
+use Rattle.dgt_chess.specs.{Rules.{board, passed, is_free, last_row, moved, pieces_after, CanGo, Moves, Promotes}, declared.listing.Mover.{Mover}, Steps.{IsLoose}}
+use Rattle.dgt_chess.{specs.Steps.{IsMover}, proofs.{Unique.{not_free, not_theirs}, OneMove.{moved_is, put}, Staying.{was_king}}}
 
 -- ---- attacks with fewer men on the board
-
-slides_on : (line : Line) (old new : List Piece) (a b : ℕ)
-    → ((s : ℕ) → IsFree new s → IsFree old s) → Slides line new a b → Slides line old a b
-slides_on line old new a b free slides = search rules
-
-straight_on : (old new : List Piece) (a b : ℕ) → ((s : ℕ) → IsFree new s → IsFree old s)
-    → Straight new a b → Straight old a b
-straight_on old new a b free attacks = search (rules, slides_on)
-
-diagonal_on : (old new : List Piece) (a b : ℕ) → ((s : ℕ) → IsFree new s → IsFree old s)
-    → Diagonal new a b → Diagonal old a b
-diagonal_on old new a b free attacks = search (rules, slides_on)
-
-attacks_on : (man : Man) (colour : Colour) (old new : List Piece) (a b : ℕ)
-    → ((s : ℕ) → IsFree new s → IsFree old s) → Attacks man colour new a b
-    → Attacks man colour old a b
-attacks_on man colour old new a b free attacks = search (rules, diagonal_on, straight_on)
 
 -- a check remains if a man of the king's side, and no king, goes from the board
 covered : (old : List Piece) (turn : Colour) (b : ℕ) (man : Man) → man ≢ King → b < length old
@@ -38,25 +20,12 @@ covered old turn b man no_king within check =
     get_or-set_other old b s (piece_of turn man) Empty apart in
     let king = check.0 in
     let by = check.3 in
-    let king_apart : king ≢ b = λ e.
-    no_king (same_man turn man King (sym here ∙ ap (piece_at new) (sym e) ∙ check.2)) in
+    let king_apart : king ≢ b = search rules in
     let by_apart : by.0 ≢ b = λ e.
     not_theirs turn man by.2.0 (sym here ∙ ap (piece_at new) (sym e) ∙ by.2.1) in
     let free : (s : ℕ) → IsFree new s → IsFree old s = λ s empty. sym (stays s
-    (λ e. not_free turn man (sym here ∙ ap (piece_at new) (sym e) ∙ empty))) ∙ empty in (
-      king,
-      check.1,
-      sym (stays king king_apart) ∙ check.2,
-      (
-        by.0,
-        by.1,
-        (
-          by.2.0,
-          sym (stays by.0 by_apart) ∙ by.2.1,
-          attacks_on by.2.0 (other turn) old new by.0 king free by.2.2,
-        ),
-      ),
-    )
+    (λ e. not_free turn man (sym here ∙ ap (piece_at new) (sym e) ∙ empty))) ∙ empty in
+    search rules
 
 -- ---- moves
 
@@ -90,10 +59,6 @@ steps : (t : Bool) (one two : List Piece) → (t ≡ true → ⊥) → (if t the
 steps t one two never = search rules
 
 -- a pawn that changes its file attacks the square to which it goes
-takes : (state : State) (a b : ℕ) → PawnMoves (board state) state.turn (passed state) a b
-    → file a ≢ file b → Attacks Pawn state.turn (board state) a b
-takes state a b moves files = search rules
-
 pub loose_pawn : (state : State) (a : ℕ) → piece_at (board state) a ≡ piece_of state.turn Pawn
     → ((b : ℕ) → passed state ≡ Some b → ¬ (Attacks Pawn state.turn (board state) a b))
     → ¬ (IsInCheck (slice_set (board state) a Empty) state.turn) → IsLoose Pawn state a
@@ -101,7 +66,7 @@ loose_pawn state a own no_passed safe b small moves =
     let t = is_free (piece_at (board state) b) && not (nat_eq (file a) (file b)) in
     let plain : (promotion : Option Man) → pieces_after Pawn (board state) state.turn a b promotion
     ≡ moved Pawn (board state) state.turn a b promotion = λ promotion.
-    steps t _ _ (search (rules, pawn_passes, other_files, both, takes)) in
+    steps t _ _ (search rules) in
     let no_king : Pawn ≢ King = λ e. cc in
     elim (cases_eq (row b) (last_row state.turn)) [
       | inl last ↦ legal state Pawn a b (Some Queen) small own no_king moves
@@ -131,4 +96,4 @@ loose_officer state King a own no_pawn no_king safe b small moves = absurd (no_k
 pub moves_by : (state : State) (mover : Mover) (b : ℕ) → IsMover state mover
     → CanGo state mover.from b → Moves mover.man state mover.from b
 unfolding CanGo
-moves_by state mover b is go = search (rules, same_man)
+moves_by state mover b is go = search rules

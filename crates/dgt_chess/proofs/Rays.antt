@@ -1,11 +1,7 @@
 -- All men but knights attack along a line.
 use Rattle.{std.{proofs.{lemmas.Bool.{cases_eq, cases_lt}, Common.{◌≡◌, ℕ, ◌<◌, ◌≤◌, ◌+◌, arith, List, inl, inr, rules}}, specs.Prelude.{◌⊎◌}}, dgt_values.specs.declared.pieces.Piece.{Piece}}
-use Rattle.dgt_chess.specs.declared.{pieces.{Colour.{Colour}, Man.{Man, TheVariants.{Pawn, Knight}}}, lines.Line.{Line, TheVariants.{Rank, File, Falling, Rising}}}
-use Rattle.dgt_chess.specs.{Attacks.{file, row, Adjoins, Attacks, IsFree, IsOpen, OnLine, Slides}, Steps.{step}}
-
-open_next : (line : Line) (pieces : List Piece) (a b : ℕ) → OnLine line a b → b ≡ a + step line
-    → IsOpen line pieces a b
-open_next line pieces a b on next = search rules
+use Rattle.dgt_chess.specs.declared.{pieces.{Colour.{Colour}, Man.{Man, TheVariants.{Knight}}}, lines.Line.{Line, TheVariants.{Rank, File, Falling, Rising}}}
+use Rattle.dgt_chess.specs.{Attacks.{file, row, Adjoins, Attacks, IsFree, OnLine, Slides}, Steps.{step}}
 
 next : (a b : ℕ) → a < b → Adjoins a b → (line : Line) × OnLine line a b × (b ≡ a + step line)
 next a b rises near =
@@ -22,33 +18,19 @@ next a b rises near =
       ]
     ]
 
-flip : (a b : ℕ) → Adjoins a b → Adjoins b a
-flip a b near = search rules
-
-turned : (line : Line) (a b : ℕ) → OnLine line a b → OnLine line b a
-turned line a b on = search rules
-
 adjoining : (pieces : List Piece) (a b : ℕ) → Adjoins a b → (line : Line) × Slides line pieces a b
-adjoining pieces a b near = search (rules, cases_lt, next, open_next, flip, turned)
-
-taking : (colour : Colour) (pieces : List Piece) (a b : ℕ) → Attacks Pawn colour pieces a b
-    → Adjoins a b
-taking colour pieces a b takes = search rules
+adjoining pieces a b near = search (rules, next)
 
 pub sees : (man : Man) (colour : Colour) (pieces : List Piece) (a b : ℕ)
     → Attacks man colour pieces a b → (man ≡ Knight) ⊎ ((line : Line) × Slides line pieces a b)
-sees man colour pieces a b attacks = search (rules, adjoining, taking)
+sees man colour pieces a b attacks = search (rules, adjoining)
 
 -- no square of a line is between two that follow each other
-skips : (line : Line) (a at n s : ℕ) → n ≡ step line → OnLine line a at → OnLine line a s → at < s
-    → s ≤ at + n → at + n ≡ s
-skips line a at n s long on there above below = search rules
-
 pub one_more : (line : Line) (pieces : List Piece) (a at n : ℕ) → n ≡ step line
     → OnLine line a at → ((s : ℕ) → a < s → s ≤ at → OnLine line a s → IsFree pieces s)
     → IsFree pieces (at + n) → (s : ℕ) → a < s → s ≤ at + n → OnLine line a s → IsFree pieces s
 one_more line pieces a at n long on clear free s above below there = elim (cases_lt at s) [
   | inl later ↦
-      search (rules, skips)
+      search rules
   | inr before ↦ clear s above before there
 ]

@@ -1,7 +1,7 @@
 -- Values are the same if clauses see the same of them.
-use Rattle.std.{proofs.{Common.{◌≡◌, ◌∙◌, ℕ, ◌<◌, List, ap, length, refl, subst}, Math.Logic.{∥∥₁_prop}, Props.{props}}, specs.Prelude.{Option, Some, None, option_map}}
+use Rattle.std.{proofs.{Common.{rules, ◌≡◌, ℕ, ◌<◌, List, ap, length, refl, subst}, Math.Logic.{∥∥₁_prop}, Props.{props}}, specs.Prelude.{Option, Some, None, option_map}}
 use Rattle.dgt_values.specs.{declared.{pieces.Piece.{Piece}, positions.Position.{Position}, squares.Square.{Square}}, Board.{pieces_of, square_number}}
-use Rattle.dgt_chess.specs.{declared.{pieces.{Colour.{Colour}, Man.{Man}}, possible.Rights.{Rights}, state.{Move.{Move}, State.{State}}}, Possible.{IsPossible}, Rules.{board, passed}}
+use Rattle.dgt_chess.specs.{declared.{pieces.{Colour.{Colour}}, possible.Rights.{Rights}, state.{Move.{Move}, State.{State}}}, Possible.{IsPossible}, Rules.{board, passed}}
 
 pub same_square : (a b : Square) → square_number a ≡ square_number b → a ≡ b
 same_square a b e =
@@ -13,9 +13,9 @@ same_square a b e =
 pub same_move : (a b : Move) → square_number a.from ≡ square_number b.from
     → square_number a.to ≡ square_number b.to → a.promotion ≡ b.promotion → a ≡ b
 same_move a b from to promotion =
-    ap (λ (s : Square). record a { from = s }) (same_square a.from b.from from)
-    ∙ ap (λ (s : Square). record a { from = b.from; to = s }) (same_square a.to b.to to)
-    ∙ ap (λ (p : Option Man). record b { promotion = p }) promotion
+    let from_same = same_square a.from b.from from in
+    let to_same = same_square a.to b.to to in
+    search rules
 
 pub same_position : (a b : Position) → pieces_of a ≡ pieces_of b → a ≡ b
 same_position a b e =

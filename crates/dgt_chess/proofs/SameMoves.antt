@@ -1,25 +1,12 @@
 -- States of the same parts have the same legal moves, whether or not they have a passed square on
 -- which no legal move captures.
-use Rattle.std.{proofs.{Math.Logic.{∥∥₁_elim}, Common.{◌≡◌, ℕ, ◌<◌, ◌⊎◌, inl, inr, arith, rules, List}}, specs.Prelude.{Option, Some, None, option_map}}
-use Rattle.{dgt_values.specs.{declared.{pieces.Piece.{Piece}, squares.Square.{Square}}, Board.{square_number}}, dgt_chess.specs.declared.{pieces.{Colour.{Colour}, Man.{Man}}, state.State.{State}}}
-use Rattle.dgt_chess.specs.{Attacks.{Attacks, IsFree, row}, Possible.{HasPassed}, Rules.{Castles, IsPrey, LegalBy, Moves, PawnMoves, TakesPassing, board, last_row, passed}}
-use Rattle.dgt_chess.specs.Fen.{CanTakePassing, IsShown, SameBut, SameMoves}
+use Rattle.{std.{proofs.{Math.Logic.{∥∥₁_elim}, Common.{◌≡◌, ℕ, ◌<◌, ◌⊎◌, arith, rules, List}}, specs.Prelude.{Option, Some, None, option_map}}, dgt_values.specs.declared.pieces.Piece.{Piece}}
+use Rattle.{dgt_values.specs.{declared.squares.Square.{Square}, Board.{square_number}}, dgt_chess.specs.{declared.{pieces.{Colour.{Colour}, Man.{Man}}, state.State.{State}}, Attacks.{Attacks}}}
+use Rattle.dgt_chess.specs.{Attacks.{IsFree, row}, Possible.{HasPassed}, Rules.{IsPrey, LegalBy, Moves, TakesPassing, board, last_row, passed}, Fen.{CanTakePassing, IsShown, SameBut, SameMoves}}
 
 pub along : (P : List Piece → Colour → Type 0) (p p' : List Piece) (t t' : Colour) → p ≡ p' → t ≡ t'
     → P p t → P p' t'
 along P p p' t t' e f h = search rules
-
-pawn_moves : (pieces : List Piece) (turn : Colour) (p q : Option ℕ) (from to : ℕ)
-    → (TakesPassing pieces turn p from to → TakesPassing pieces turn q from to)
-    → PawnMoves pieces turn p from to → PawnMoves pieces turn q from to
-pawn_moves pieces turn p q from to law moves = search rules
-
-castle : (a b : State) → SameBut a b → (turn : Colour) (from to : ℕ) → Castles a turn from to
-    → Castles b turn from to
-castle a b same Colour.White from to (inl short) = search rules
-castle a b same Colour.White from to (inr long) = search rules
-castle a b same Colour.Black from to (inl short) = search rules
-castle a b same Colour.Black from to (inr long) = search rules
 
 abbrev GoesOn : Man → ℕ → ℕ → List Piece → Colour → Type 0
 GoesOn man from to pieces turn = Attacks man turn pieces from to
@@ -33,11 +20,11 @@ go man a b same from to h =
 pawn_to : (a b : State) → SameBut a b → (from to : ℕ)
     → (TakesPassing (board a) a.turn (passed a) from to → passed a ≡ passed b)
     → Moves Man.Pawn a from to → Moves Man.Pawn b from to
-pawn_to a b same from to law h = search (rules, along, pawn_moves)
+pawn_to a b same from to law h = search rules
 
 king_to : (a b : State) → SameBut a b → (from to : ℕ) → Moves Man.King a from to
     → Moves Man.King b from to
-king_to a b same from to moves = search (rules, go, castle)
+king_to a b same from to moves = search rules
 
 -- no pawn promotes on a square that another has just passed
 no_promotion : (pieces : List Piece) (turn : Colour) (over : Option ℕ) (square : ℕ)
@@ -77,10 +64,10 @@ legal_to : (a b : State) → SameBut a b → (CanTakePassing a → passed a ≡ 
     (promotion : Option Man) → from < 64 → to < 64 → LegalBy man a from to promotion
     → LegalBy man b from to promotion
 legal_to a b same law man from to promotion small small' legal = record {
-  own = search (rules, along);
+  own = search rules;
   moves = moved_to man a b same from to promotion small small' law legal;
-  promotes = search (rules, along);
-  safe = search (rules, along);
+  promotes = search rules;
+  safe = search rules;
 }
 
 pub back : (a b : State) → SameBut a b → SameBut b a
@@ -92,8 +79,7 @@ same_moves a b same law law' = λ from to promotion small small'. (
   λ legal. (legal.0, legal_to a b same law legal.0 from to promotion small small' legal.1),
   λ legal. (
     legal.0,
-    legal_to b a
-        (back a b same) law' legal.0 from to promotion small small' legal.1,
+    search (rules, legal_to, back),
   ),
 )
 

@@ -1,46 +1,36 @@
 -- No two legal moves share a text, and a legal move has one text.
-use Rattle.std.{proofs.Common.{◌≡◌, ◌≢◌, ◌∙◌, ℕ, ◌+◌, ◌*◌, ◌%◌, ◌/◌, ◌<◌, Bool, true, false, not, nat_eq, if◌then◌else◌, List, refl, ap, sym, subst, arith, rules}, specs.Int.{abs_diff}}
-use Rattle.{std.{specs.Prelude.{Option, Some, None}, proofs.lemmas.Bool.Decides.{nat_tests}}, dgt_values.specs.declared.pieces.Piece.{Piece}, dgt_chess.specs.declared.pieces.Colour.{Colour}}
-use Rattle.dgt_chess.specs.{declared.{pieces.Man.{Man}, san.{Sign.{Sign}, Style.{Style}}, san_reader.Reading.{Reading}, state.State.{State}}, Attacks.{file, row, piece_at, piece_of, IsAhead}}
-use Rattle.dgt_chess.specs.Rules.{board, passed, LegalBy, PawnMoves}
-use Rattle.dgt_chess.specs.{San.{captures, is_castling, move_text, Distinguishes, Fits, HasRival, HasRivalOn, IsExport, IsOrigin, IsSan, IsSign, OneMoveAText, OneTextAMove}, Scanning.{read}}
-use Rattle.dgt_chess.proofs.{Alike.{Alike, after_one, alike_back, can_move, in_check}, SanTexts.{IsRead, read_move, king_home}, Unique.{not_free, same_man}}
+use Rattle.std.{proofs.Common.{◌≡◌, ◌≢◌, ◌∙◌, ℕ, ◌+◌, ◌*◌, ◌%◌, ◌/◌, ◌<◌, Bool, true, false, not, nat_eq, if◌then◌else◌, List, refl, ap, sym, subst, arith, rules}, specs.Prelude.{Option, Some, None}}
+use Rattle.{dgt_values.specs.declared.pieces.Piece.{Piece}, dgt_chess.specs.declared.{pieces.{Colour.{Colour}, Man.{Man}}, san.{Sign.{Sign}, Style.{Style}}, san_reader.Reading.{Reading}}}
+use Rattle.dgt_chess.specs.{declared.state.State.{State}, Attacks.{file, row, piece_at, piece_of}, Rules.{board, passed, LegalBy, PawnMoves}, San.{captures, is_castling, move_text}}
+use Rattle.dgt_chess.{specs.{San.{Distinguishes, Fits, HasRival, HasRivalOn, IsExport, IsOrigin, IsSan, IsSign, OneMoveAText, OneTextAMove}, Scanning.{read}}, proofs.Alike.{Alike, can_move}}
+use Rattle.dgt_chess.proofs.{SanTexts.{IsRead, read_move, king_home}, Unique.{same_man}}
 
 equal : (a b : ℕ) → ((a ≢ b) → ⊥) → a ≡ b
 equal a b h = grind arith
 
 -- a text's style
 
-same_style : (s t : Style) → s.by_file ≡ t.by_file → s.by_rank ≡ t.by_rank → s.equals ≡ t.equals
-    → s.zero ≡ t.zero → s.sign ≡ t.sign → s ≡ t
-same_style s t f r e z g = search rules
-
 some_rival : (line : ℕ → ℕ) (man : Man) (s : State) (a b : ℕ) → HasRivalOn line man s a b
     → HasRival man s a b
 unfolding HasRival HasRivalOn
 some_rival line man s a b h = (h.0, h.1, h.2.0)
 
-shown_one : (any on_file on_row : Type 0) → (on_file → any) → (b c b' c' : Bool)
-    → Distinguishes any on_file on_row b c
-    → Distinguishes any on_file on_row b' c' → (b ≡ b') × (c ≡ c')
-shown_one any on_file on_row up b c b' c' h k = search rules
-
 man_shown : (man : Man) (s : State) (a b : ℕ) (f r f' r' : Bool)
     → Distinguishes (HasRival man s a b) (HasRivalOn file man s a b) (HasRivalOn row man s a b) f r
     → Distinguishes (HasRival man s a b) (HasRivalOn file man s a b)
     (HasRivalOn row man s a b) f' r' → (f ≡ f') × (r ≡ r')
-man_shown man s a b f r f' r' h k = search (rules, shown_one, some_rival)
+man_shown man s a b f r f' r' h k = search (rules, some_rival)
 
 origin_one : (man : Man) (s : State) (a b : ℕ) (f r f' r' : Bool) → IsOrigin man s a b f r
     → IsOrigin man s a b f' r' → (f ≡ f') × (r ≡ r')
 origin_one man s a b f r f' r' h k = search (rules, man_shown)
 
 sign_one : (s t : State) → Alike s t → (x y : Sign) → IsSign s x → IsSign t y → x ≡ y
-sign_one s t like x y h k = search (rules, in_check, alike_back, can_move)
+sign_one s t like x y h k = search (rules, can_move)
 
 style_one : (man : Man) (s : State) (a b : ℕ) (p : Option Man) (x y : Style)
     → IsExport man s a b p x → IsExport man s a b p y → x ≡ y
-style_one man s a b p x y h k = search (rules, origin_one, same_style, sign_one, after_one)
+style_one man s a b p x y h k = search (rules, origin_one, sign_one)
 
 -- a legal move has one text
 pub one_text : OneTextAMove
@@ -84,35 +74,17 @@ rival man s x y to None b c small legal other h f r =
 rival man s x y to (Some new) b c small legal other h f r =
     absurd (other (legal.promotes.0.0 refl).0)
 
--- a pawn on the square over which another would step
-stands : (pieces : List Piece) (turn : Colour) (x mid : ℕ) → piece_at pieces x
-    ≡ piece_of turn Man.Pawn → piece_at pieces mid ≡ Piece.Empty → mid ≡ x → ⊥
-stands pieces turn x mid own free e =
-    not_free turn Man.Pawn (sym own ∙ subst (λ (n : ℕ). piece_at pieces n ≡ Piece.Empty) e free)
-
-same_rows : (turn : Colour) (n x y to : ℕ) → IsAhead turn n x to → IsAhead turn n y to
-    → file x ≡ file y → x ≡ y
-same_rows turn n x y to h k e = search rules
-
-middle : (turn : Colour) (x y to : ℕ) → IsAhead turn 1 x to → IsAhead turn 2 y to
-    → file x ≡ file y → file x ≡ file to → (y + to) / 2 ≡ x
-middle turn x y to h k e f = search rules
-
 -- no pawn goes ahead to a square on which another of its file captures
-pawn_apart : (x y to : ℕ) → file x ≡ file y → file x ≡ file to → abs_diff (file y) (file to) ≡ 1 → ⊥
-pawn_apart x y to e ahead aside = omega arith
-
 pawn_from : (turn : Colour) (pieces : List Piece) (passed : Option ℕ) (x y to : ℕ)
     → piece_at pieces x ≡ piece_of turn Man.Pawn
     → piece_at pieces y ≡ piece_of turn Man.Pawn → PawnMoves pieces turn passed x to
     → PawnMoves pieces turn passed y to → file x ≡ file y → x ≡ y
-pawn_from turn pieces passed x y to own own' pawn_moves pawn_moves' e =
-    search (rules, same_rows, stands, middle, pawn_apart)
+pawn_from turn pieces passed x y to own own' pawn_moves pawn_moves' e = search rules
 
 pawn_shows : (t : Bool) (x y to : ℕ) → nat_eq (file x) (file to) ≡ t
     → not (nat_eq (file x) (file to)) ≡ not (nat_eq (file y) (file to))
     → (not (nat_eq (file x) (file to)) ≡ true → file x ≡ file y) → file x ≡ file y
-pawn_shows t x y to e h f = search (rules, nat_tests)
+pawn_shows t x y to e h f = search rules
 
 -- what is shown keeps a man's move apart from another's
 from_shown : (man : Man) (s : State) (x y to : ℕ) (p : Option Man) (b c : Bool) → x < 64 → y < 64
@@ -149,8 +121,7 @@ from_one false r man s x y to p style style' small small' legal legal' export h 
     let Place : Bool → Bool → Type 0 =
     λ b c. 8 * (if style.by_rank then x / 8 else 0) + (if style.by_file then x % 8 else 0)
     ≡ 8 * (if c then y / 8 else 0) + (if b then y % 8 else 0) in
-    let place : Place style.by_file style.by_rank =
-    search rules in
+    let place : Place style.by_file style.by_rank = search rules in
     let shown = shown_same style.by_file style.by_rank x y place in
     from_shown man s x y to p style.by_file style.by_rank small small' legal legal' export.origin
     (sym (h.takes e) ∙ k.takes e') shown.0 shown.1
@@ -168,12 +139,8 @@ unfolding IsSan Fits
 one_fits s text x to y to' p p' sx st sy st' h k =
     let Text : Style → Man → ℕ → ℕ → Option Man → List ℕ → Type 0 =
     λ style man a b p text. IsRead (read s.turn text) style man s a b p in
-    let rd : Text h.2.0 h.0 x to p text =
-    subst (λ (t : List ℕ). Text h.2.0 h.0 x to p t) (sym h.2.2)
-    (read_move s h.2.0 h.0 x to p sx st h.1) in
-    let rk : Text k.2.0 k.0 y to' p' text =
-    subst (λ (t : List ℕ). Text k.2.0 k.0 y to' p' t) (sym k.2.1)
-    (read_move s k.2.0 k.0 y to' p' sy st' k.1) in
+    let rd : Text h.2.0 h.0 x to p text = search (rules, read_move) in
+    let rk : Text k.2.0 k.0 y to' p' text = search (rules, read_move) in
     let man : k.0 ≡ h.0 = sym rk.is_man ∙ rd.is_man in
     let goal : to' ≡ to = sym rk.is_goal ∙ rd.is_goal in
     let promotion : p' ≡ p = sym rk.is_promotion ∙ rd.is_promotion in

@@ -1,25 +1,8 @@
 -- What is read of a move's text is the move.
-use Rattle.std.proofs.Common.{◌≡◌, ◌≢◌, ◌∙◌, ℕ, ◌+◌, ◌-◌, ◌%◌, ◌/◌, ◌<◌, Bool, true, false, not, nat_eq, if◌then◌else◌, List, [], ◌∷◌, ◌++◌, fold, refl, ap, arith, rules}
-use Rattle.{std.{specs.Prelude.{Option, Some, None}, proofs.lemmas.{Bool.Decides.{nat_tests}, List.Sums.{fold-append}}}, dgt_values.specs.Board.{square_name}}
-use Rattle.dgt_chess.specs.{declared.{pieces.Man.{Man}, san.{Sign.{Sign}, Style.{Style}}, san_reader.Scan.{Scan}}, Attacks.{file}}
-use Rattle.dgt_chess.specs.San.{castling_letter, castling_text, file_letter, man_letter, ordinary_text, promotion_text, rank_digit, shown, sign_text}
-use Rattle.dgt_chess.specs.Scanning.{is_file, is_rank, scan, start, step, with_file, with_rank}
-
-is_file_letter : (k : ℕ) → k < 8 → is_file (97 + k) ≡ true
-is_file_letter k small = grind (arith, nat_tests)
-
-not_file_digit : (r : ℕ) → r < 8 → is_file (56 - r) ≡ false
-not_file_digit r small = grind (arith, nat_tests)
-
-is_rank_digit : (r : ℕ) → r < 8 → is_rank (56 - r) ≡ true
-is_rank_digit r small = grind (arith, nat_tests)
-
-step_file : (s : Scan) (k : ℕ) → k < 8 → step s (97 + k) ≡ with_file s k
-step_file s k small = rw (is_file_letter k small) (ap (with_file s) (omega arith))
-
-step_rank : (s : Scan) (r : ℕ) → r < 8 → step s (56 - r) ≡ with_rank s r
-step_rank s r small =
-    rw (not_file_digit r small, is_rank_digit r small) (ap (with_rank s) (omega arith))
+use Rattle.std.{proofs.Common.{◌≡◌, ◌≢◌, ◌∙◌, ℕ, ◌%◌, ◌/◌, ◌<◌, Bool, true, false, not, nat_eq, if◌then◌else◌, List, [], ◌∷◌, ◌++◌, fold, refl, ap, rules}, specs.Prelude.{Option}}
+use Rattle.{std.{specs.Prelude.{Some, None}, proofs.lemmas.{List.Sums.{fold-append}}}, dgt_values.specs.Board.{square_name}, dgt_chess.specs.declared.pieces.Man.{Man}}
+use Rattle.dgt_chess.specs.{declared.{san.{Sign.{Sign}, Style.{Style}}, san_reader.Scan.{Scan}}, Attacks.{file}, San.{castling_letter, castling_text, file_letter, man_letter, ordinary_text}}
+use Rattle.dgt_chess.specs.{San.{promotion_text, rank_digit, shown, sign_text}, Scanning.{scan, start, step, with_file, with_rank}}
 
 then_part : (s t u : Scan) (xs ys : List ℕ) → fold step s xs ≡ t → fold step t ys ≡ u
     → fold step s (xs ++ ys) ≡ u
@@ -75,12 +58,12 @@ scan_man m = search rules
 
 scan_file : (m : Man) (b : Bool) (square : ℕ)
     → fold step (after_man m) (shown b (file_letter square)) ≡ after_file m b (square % 8)
-scan_file m b square = search (rules, step_file)
+scan_file m b square = search rules
 
 scan_rank : (m : Man) (b : Bool) (file : ℕ) (c : Bool) (square : ℕ) → square < 64
     → fold step (after_file m b file) (shown c (rank_digit square))
     ≡ after_rank m b file c (square / 8)
-scan_rank m b file c square small = search (rules, step_rank)
+scan_rank m b file c square small = search rules
 
 scan_takes : (m : Man) (b : Bool) (file : ℕ) (c : Bool) (row : ℕ) (takes : Bool)
     → fold step (after_rank m b file c row) (shown takes 120) ≡ after_takes m b file c row takes
@@ -88,7 +71,7 @@ scan_takes m b file c row takes = search rules
 
 scan_square : (s : Scan) (square : ℕ) → square < 64 → fold step s (square_name square)
     ≡ with_rank (with_file s (square % 8)) (square / 8)
-scan_square s square small = search (rules, step_file, step_rank)
+scan_square s square small = search rules
 
 scan_promotion : (s : Scan) (row : ℕ) (equals : Bool) (p : Option Man) → p ≢ Some Man.Pawn
     → s.equals ≡ false → s.promotion ≡ None → fold step (with_rank s row) (promotion_text equals p)

@@ -1,9 +1,8 @@
 -- No two legal moves share a text, and a legal move has one text.
-use Rattle.std.{proofs.Common.{◌≡◌, ◌≢◌, ℕ, ◌+◌, ◌*◌, ◌%◌, ◌/◌, ◌<◌, Bool, true, false, not, nat_eq, if◌then◌else◌, ◌++◌, refl, sym, subst, arith, rules}, specs.Int.{abs_diff}}
-use Rattle.{std.{specs.Prelude.{Option, Some, None}, proofs.lemmas.Bool.Decides.{nat_tests}}, dgt_chess.specs.declared.{pieces.{Colour.{Colour}, Man.{Man}}, san.Style.{Style}}}
-use Rattle.dgt_chess.specs.{declared.{san_reader.Reading.{Reading}, state.State.{State}}, Attacks.{file, Adjoins}, Rules.{board, Castles, CastlesWith, LegalBy, Moves, Promotes}}
-use Rattle.dgt_chess.specs.{San.{captures, castling_letter, castling_text, is_castling, move_text, ordinary_text, sign_text}, Scanning.{castling_goal, read}}
-use Rattle.dgt_chess.proofs.SanReads.{scan_castling, scan_ordinary, used_equals}
+use Rattle.std.{proofs.Common.{◌≡◌, ◌≢◌, ℕ, ◌+◌, ◌*◌, ◌%◌, ◌/◌, ◌<◌, Bool, true, false, not, nat_eq, if◌then◌else◌, ◌++◌, refl, rules}, specs.{Int.{abs_diff}, Prelude.{Option}}}
+use Rattle.{std.{specs.Prelude.{Some}}, dgt_chess.specs.declared.{pieces.{Colour.{Colour}, Man.{Man}}, san.Style.{Style}, san_reader.Reading.{Reading}}}
+use Rattle.dgt_chess.specs.{declared.state.State.{State}, Attacks.{file}, Rules.{board, Castles, CastlesWith, LegalBy, Moves, Promotes}, San.{captures, castling_letter, castling_text}}
+use Rattle.dgt_chess.{specs.{San.{is_castling, move_text, ordinary_text, sign_text}, Scanning.{castling_goal, read}}, proofs.SanReads.{scan_castling, scan_ordinary, used_equals}}
 
 -- the reading of a text is this move's
 pub record IsRead (r : Reading) (style : Style) (man : Man) (state : State) (from to : ℕ)
@@ -20,34 +19,23 @@ pub record IsRead (r : Reading) (style : Style) (man : Man) (state : State) (fro
       → r.a ≡ 8 * (if style.by_rank then from / 8 else 0) + (if style.by_file then from % 8 else 0)
   pub takes : is_castling man from to ≡ false → r.takes ≡ captures man (board state) from to
 
-king_none : (s : State) (to : ℕ) (p : Option Man) → Promotes Man.King s to p → p ≡ None
-king_none s to p h = search rules
-
 not_pawn : (man : Man) (s : State) (to : ℕ) (p : Option Man) → Promotes man s to p
     → p ≢ Some Man.Pawn
 not_pawn man s to p h = h.1
-
--- the square to which a king castles
-adjoins_no : (a b : ℕ) → nat_eq (abs_diff (file a) (file b)) 2 ≡ true → ¬ (Adjoins a b)
-adjoins_no a b e h = grind (arith, nat_tests)
 
 abbrev pub home : Colour → ℕ
 home Colour.White = 60
 home Colour.Black = 4
 
-at_goal : (c : Colour) (b goal : ℕ) → castling_goal c (not (nat_eq (file goal) 6)) ≡ goal → b ≡ goal
-    → b ≡ castling_goal c (not (nat_eq (file b) 6))
-at_goal c b goal e f =
-    subst (λ (x : ℕ). x ≡ castling_goal c (not (nat_eq (file x) 6))) (sym f) (sym e)
-
+-- the square to which a king castles
 leads : (c : Colour) (s : State) (a b : ℕ) → Castles s c a b
     → (b ≡ castling_goal c (not (nat_eq (file b) 6))) × (a ≡ home c)
 unfolding CastlesWith
-leads c s a b castles = search (rules, at_goal)
+leads c s a b castles = search rules
 
 king_castles : (s : State) (a b : ℕ) → Moves Man.King s a b → nat_eq (abs_diff (file a) (file b)) 2
     ≡ true → Castles s s.turn a b
-king_castles s a b moves e = search (rules, adjoins_no)
+king_castles s a b moves e = search rules
 
 -- of a castling
 read_castling : (s : State) (style : Style) (from to : ℕ) (p : Option Man)
@@ -57,7 +45,7 @@ read_castling : (s : State) (style : Style) (from to : ℕ) (p : Option Man)
 unfolding read
 read_castling s style from to p legal e =
     let way = leads s.turn s from to (king_castles s from to legal.moves e) in
-    search (rules, king_none, scan_castling)
+    search (rules, scan_castling)
 
 -- of any other move
 pub same_promotion : (style : Style) (zero : Bool) (man : Man) (takes : Bool) (from to : ℕ)
@@ -71,12 +59,6 @@ pub same_promotion : (style : Style) (zero : Bool) (man : Man) (takes : Bool) (f
     ≡ ordinary_text style man takes from to p
 same_promotion style zero man takes from to p = search rules
 
--- the number of the file and the row that are shown
-small_origin : (b c : Bool) (a : ℕ) → a < 64
-    → 8 * ((if c then a / 8 else 0) % 8) + (if b then a % 8 else 0) % 8
-    ≡ 8 * (if c then a / 8 else 0) + (if b then a % 8 else 0)
-small_origin b c a h = search rules
-
 read_ordinary : (s : State) (style : Style) (man : Man) (from to : ℕ) (p : Option Man) → from < 64
     → to < 64 → LegalBy man s from to p → is_castling man from to ≡ false → IsRead (read s.turn
     (ordinary_text style man
@@ -85,7 +67,7 @@ read_ordinary : (s : State) (style : Style) (man : Man) (from to : ℕ) (p : Opt
 unfolding read
 read_ordinary s style man from to p small small' legal e =
     rw (scan_ordinary style man (captures man (board s) from to) from to p small small'
-    (not_pawn man s to p legal.promotes)) (search (rules, same_promotion, small_origin))
+    (not_pawn man s to p legal.promotes)) (search rules)
 
 read_by : (castles : Bool) (s : State) (style : Style) (man : Man) (from to : ℕ) (p : Option Man)
     → from < 64 → to < 64 → LegalBy man s from to p → is_castling man from to ≡ castles
@@ -110,4 +92,4 @@ read_move s style man from to p small small' legal =
 -- a castling begins at home
 pub king_home : (man : Man) (s : State) (a b : ℕ) (p : Option Man) → LegalBy man s a b p
     → is_castling man a b ≡ true → a ≡ home s.turn
-king_home man s a b p legal e = search (rules, leads, king_castles)
+king_home man s a b p legal e = search (rules, leads)

@@ -1,11 +1,10 @@
 -- The state in which a game begins is possible.
 use Rattle.std.{proofs.Common.{subst, ◌≡◌, ℕ, zero, suc, ◌+◌, ◌<◌, refl, arith, List, [], ◌∷◌, length, inl, inr, Bool, true, false, rules}, specs.Prelude.{◌⊎◌, None, ◌&&◌, nat_eq, nat_lt}}
-use Rattle.{std.proofs.lemmas.Bool.Decides.{nat_tests}, dgt_values.specs.declared.pieces.Piece.{Piece}}
-use Rattle.dgt_values.specs.declared.pieces.Piece.TheVariants.{WhitePawn, WhiteKnight, WhiteBishop, WhiteRook, WhiteQueen, WhiteKing, BlackPawn, BlackKing, FirstExtra, SecondExtra, ThirdExtra}
-use Rattle.{dgt_values.specs.Board.{start_pieces}, dgt_chess.specs.declared.{possible.Rights.{Rights}, pieces.{Colour.{Colour, TheVariants.{White, Black}}, Man.{Man}}}}
-use Rattle.dgt_chess.specs.declared.pieces.Man.TheVariants.{Pawn, Knight, Bishop, Rook, Queen, King}
-use Rattle.dgt_chess.specs.{Attacks.{piece_at, piece_of, row, Attacks, Diagonal, IsAttacked, IsInCheck, IsOpen, OnLine, Straight}, declared.lines.Line.{Line, TheVariants.{File}}}
-use Rattle.dgt_chess.{specs.Possible.{HasOneKing, HasNoExtra, HasNoStray, HasPassed, IsPossible}, proofs.OneMove.{both}}
+use Rattle.{dgt_values.specs.declared.pieces.Piece.{Piece, TheVariants.{WhitePawn, WhiteKnight, WhiteBishop, WhiteRook, WhiteQueen, WhiteKing, BlackPawn}}}
+use Rattle.{dgt_values.specs.{declared.pieces.Piece.TheVariants.{BlackKing, FirstExtra, SecondExtra, ThirdExtra}, Board.{start_pieces}}, dgt_chess.specs.declared.possible.Rights.{Rights}}
+use Rattle.dgt_chess.specs.{declared.pieces.{Colour.{Colour, TheVariants.{White, Black}}, Man.{Man, TheVariants.{Pawn, Knight, Bishop, Rook, Queen, King}}}, Attacks.{piece_at, piece_of, row, Attacks}}
+use Rattle.dgt_chess.specs.{Attacks.{IsAttacked, IsInCheck, IsOpen, OnLine, Straight}, declared.lines.Line.{Line, TheVariants.{File}}, Possible.{HasOneKing, HasNoExtra, HasNoStray}}
+use Rattle.dgt_chess.{specs.Possible.{HasPassed, IsPossible}, proofs.OneMove.{both}}
 
 -- the pieces at the beginning
 abbrev fits : ℕ → Piece → Bool
@@ -29,7 +28,7 @@ all_fit n (piece ∷ pieces) = fits n piece && all_fit (n + 1) pieces
 fit : (n : ℕ) (pieces : List Piece) → all_fit n pieces ≡ true → (k : ℕ) → k < length pieces
     → fits (n + k) (piece_at pieces k) ≡ true
 fit n [] all k small = absurd (omega arith)
-fit n (piece ∷ pieces) all zero small = search (rules, both)
+fit n (piece ∷ pieces) all zero small = search rules
 fit n (piece ∷ pieces) all (suc k) small =
     let P : ℕ → Type 0 = λ m. fits m (piece_at pieces k) ≡ true in
     let same : n + 1 + k ≡ n + suc k = omega arith in
@@ -44,10 +43,10 @@ stands s piece small here =
     subst P here (subst S same (fit 0 start_pieces refl s small))
 
 equals : (a b : ℕ) → nat_eq a b ≡ true → a ≡ b
-equals a b t = grind (arith, nat_tests)
+equals a b t = grind arith
 
 above : (a b : ℕ) → nat_lt a b ≡ true → a < b
-above a b t = grind (arith, nat_tests)
+above a b t = grind arith
 
 white_low : (s : ℕ) (man : Man) → s < 64 → piece_at start_pieces s ≡ piece_of White man → 47 < s
 white_low s Pawn small here =
@@ -62,7 +61,7 @@ white_low s King small here = let at = equals s 60 (stands s WhiteKing small her
 blocked : (line : Line) (a at : ℕ) (P : Type 0) → 47 < a → 4 < at → at < 47 → OnLine line 4 at
     → piece_at start_pieces at ≡ BlackPawn → ((a < 4) × P)
     ⊎ ((4 < a) × IsOpen line start_pieces 4 a) → ⊥
-blocked line a at P low above below on pawn slides = search (rules, above)
+blocked line a at P low above below on pawn slides = search rules
 
 not_straight : (a : ℕ) → 47 < a → Straight start_pieces a 4 → ⊥
 not_straight a low h = elim h [
@@ -70,11 +69,8 @@ not_straight a low h = elim h [
   | inr along ↦ blocked File a 12 _ low (omega arith) (omega arith) refl refl along.1
 ]
 
-not_diagonal : (a : ℕ) → 47 < a → Diagonal start_pieces a 4 → ⊥
-not_diagonal a low h = search (rules, blocked)
-
 no_attack : (man : Man) (a : ℕ) → 47 < a → Attacks man White start_pieces a 4 → ⊥
-no_attack man a low h = search (rules, not_diagonal, not_straight)
+no_attack man a low h = search (rules, not_straight)
 
 no_check : ¬ (IsInCheck start_pieces Black)
 unfolding IsAttacked
@@ -113,10 +109,10 @@ pawn_rows : (s : ℕ) (colour : Colour) → s < 64 → piece_at start_pieces s �
     → (row s ≡ 0) ⊎ (row s ≡ 7) → ⊥
 pawn_rows s White small here edge =
     let parts = both (nat_lt 47 s) (nat_lt s 56) (stands s WhitePawn small here) in
-    search (rules, above)
+    search rules
 pawn_rows s Black small here edge =
     let parts = both (nat_lt 7 s) (nat_lt s 16) (stands s BlackPawn small here) in
-    search (rules, above)
+    search rules
 
 no_stray : HasNoStray start_pieces
 unfolding HasNoStray

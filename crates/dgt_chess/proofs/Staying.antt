@@ -1,11 +1,10 @@
 -- A legal move leads from a possible state to a possible one.
-use Rattle.std.proofs.{lemmas.Bool.{cases_eq}, Common.{subst, ◌≡◌, ℕ, ◌+◌, ◌/◌, ◌<◌, ◌≤◌, ◌∙◌, sym, ap, arith, List, inl, inr, Bool, true, rules}}
-use Rattle.{std.{specs.{Prelude.{◌≢◌, ◌⊎◌, Option, Some, None, if◌then◌else◌, nat_eq, IsTrue}, Int.{abs_diff}}, proofs.lemmas.Bool.Decides.{nat_tests}}, dgt_values.specs.declared.pieces.Piece.{Piece}}
-use Rattle.dgt_chess.specs.declared.{possible.Rights.{Rights}, state.State.{State}, pieces.{Colour.{Colour, TheVariants.{White, Black}}, Man.{Man}}}
-use Rattle.dgt_chess.specs.{declared.pieces.Man.TheVariants.{Pawn, Knight, Bishop, Rook, Queen, King}, Attacks.{piece_at, piece_of, other, file, row, IsAhead, IsFree, IsInCheck}}
-use Rattle.dgt_chess.specs.Possible.{HasOneKing, HasKings, HasNoExtra, HasNoStray, HasPassed, HasRights, IsAtHome, IsPassedOver, IsPossible}
-use Rattle.dgt_chess.specs.Rules.{board, passed, pieces_after, PawnMoves, Promotes, LegalBy, first_row, last_row, remains, rights_after, passed_after, number_after}
-use Rattle.dgt_chess.proofs.{Unique.{Effect, same_man, same_kind, same_side, not_free, not_theirs, no_extra}, OneMove.{put, effect_of, spared}}
+use Rattle.std.{proofs.{lemmas.Bool.{cases_eq}, Common.{subst, ◌≡◌, ℕ, ◌+◌, ◌/◌, ◌<◌, ◌≤◌, ◌∙◌, sym, ap, arith, List, inl, inr, Bool, true, rules}}, specs.Prelude.{◌≢◌, ◌⊎◌, Option, Some, None}}
+use Rattle.{std.{specs.{Prelude.{if◌then◌else◌, nat_eq, IsTrue}, Int.{abs_diff}}}, dgt_values.specs.declared.pieces.Piece.{Piece}}
+use Rattle.dgt_chess.specs.{declared.{possible.Rights.{Rights}, state.State.{State}, pieces.{Colour.{Colour}, Man.{Man, TheVariants.{Pawn, Knight, Bishop, Rook, Queen, King}}}}, Attacks.{piece_at}}
+use Rattle.dgt_chess.specs.{Attacks.{piece_of, other, file, row, IsAhead, IsFree, IsInCheck}, Possible.{HasOneKing, HasKings, HasNoExtra, HasNoStray, HasPassed, HasRights, IsAtHome, IsPassedOver}}
+use Rattle.dgt_chess.specs.{Possible.{IsPossible}, Rules.{board, passed, pieces_after, Promotes, LegalBy, first_row, remains, rights_after, passed_after, number_after}}
+use Rattle.dgt_chess.proofs.{Unique.{Effect, same_man, same_kind}, OneMove.{put, effect_of, spared}}
 
 -- ---- kings
 
@@ -16,21 +15,12 @@ their_king : (old new : List Piece) (turn : Colour) (a b : ℕ) (man : Man)
 unfolding HasOneKing
 their_king old new turn a b man e spared king =
     let k = king.0 in
-    let off_a : k ≢ a = λ same.
-    not_theirs turn e.begins.0 King (sym e.begins.1 ∙ ap (piece_at old) (sym same) ∙ king.2) in
+    let off_a : k ≢ a = search rules in
     let off_b : k ≢ b = λ same. spared (ap (piece_at old) (sym same) ∙ king.2) in
     let stays : piece_at new k ≡ piece_of (other turn) King = elim (e.keeps k off_a off_b) [
       | inl same ↦ same ∙ king.2
-      | inr more ↦ elim more [
-        | inl pawn ↦ let wrong : King ≡ Pawn =
-            same_kind (other turn) (other turn) King Pawn (sym king.2 ∙ pawn) in cc
-        | inr rest ↦ elim rest [
-          | inl free ↦ absurd (not_free (other turn) King (sym king.2 ∙ free.1))
-          | inr rook ↦ let wrong : King ≡ Rook =
-              same_kind (other turn) turn King Rook (sym king.2 ∙ rook.1) in cc
-        ]
-      ]
-    ] in (search (rules, stays, not_free, not_theirs))
+      | inr more ↦ search rules
+    ] in search rules
 
 own_king : (old new : List Piece) (turn : Colour) (a b : ℕ) (man : Man) → b < 64 → a < 64
     → Effect old new turn a b man → (piece_at old a ≡ piece_of turn King → man ≡ King)
@@ -39,7 +29,7 @@ unfolding HasOneKing
 own_king old new turn a b man b_small a_small e remains_king was_king king =
     let k = king.0 in
     elim (cases_eq k a) [
-      | inl same ↦ search (rules, not_free, same_kind)
+      | inl same ↦ search rules
       | inr off_a ↦
           let no_king : man ≢ King = λ crowned. off_a (sym (king.3 a a_small (was_king crowned))) in
           let off_b : k ≢ b = λ same. e.target King (ap (piece_at old) (sym same) ∙ king.2) in
@@ -53,22 +43,7 @@ own_king old new turn a b man b_small a_small e remains_king was_king king =
                 | inr rook ↦ absurd (no_king rook.0)
               ]
             ]
-          ] in (
-            k,
-            king.1,
-            stays,
-            λ s small here. elim (e.sees s) [
-              | inl empty ↦ absurd (not_free turn King (sym here ∙ empty))
-              | inr more ↦ elim more [
-                | inl kept ↦ king.3 s small (sym kept.0 ∙ here)
-                | inr rest ↦ elim rest [
-                  | inl own ↦ absurd (no_king (same_kind turn turn man King (sym own.0 ∙ here)))
-                  | inr rook ↦ let wrong : Rook ≡ King =
-                      same_kind turn turn Rook King (sym rook ∙ here) in cc
-                ]
-              ]
-            ],
-          )
+          ] in search rules
     ]
 
 both_kings : (pieces : List Piece) (turn : Colour) → HasOneKing pieces turn
@@ -83,45 +58,26 @@ king_of pieces turn kings = search rules
 no_new_extra : (old new : List Piece) (turn : Colour) (a b : ℕ) (man : Man)
     → Effect old new turn a b man → HasNoExtra old → HasNoExtra new
 unfolding HasNoExtra
-no_new_extra old new turn a b man e known s small = search (rules, no_extra)
+no_new_extra old new turn a b man e known s small = search rules
 
 no_new_stray : (old new : List Piece) (turn : Colour) (a b : ℕ) (man : Man)
     → Effect old new turn a b man
     → (man ≡ Pawn → (row b ≡ 0) ⊎ (row b ≡ 7) → ⊥) → HasNoStray old → HasNoStray new
 unfolding HasNoStray
-no_new_stray old new turn a b man e within pawns s small astray =
-    search (rules, not_free, same_kind)
-
-ahead_of : (pieces : List Piece) (turn : Colour) (stepped : Option ℕ) (a b : ℕ)
-    → PawnMoves pieces turn stepped a b → IsAhead turn 1 a b ⊎ IsAhead turn 2 a b
-ahead_of pieces turn stepped a b moves = elim moves [
-  | inl step ↦ inl step.1
-  | inr more ↦ elim more [ inl double ↦ inr double.1 | inr take ↦ inl take.0.1 ]
-]
-
-pawn_within : (turn : Colour) (a b : ℕ) → IsAhead turn 1 a b ⊎ IsAhead turn 2 a b
-    → ((row a ≡ 0) ⊎ (row a ≡ 7) → ⊥)
-    → a < 64 → b < 64 → row b ≢ last_row turn → (row b ≡ 0) ⊎ (row b ≡ 7) → ⊥
-pawn_within White a b ahead a_within a_small b_small not_last edge = search rules
-pawn_within Black a b ahead a_within a_small b_small not_last edge = search rules
+no_new_stray old new turn a b man e within pawns s small astray = search rules
 
 -- a man that is a pawn afterwards was one, and was not promoted
-still_pawn : (man : Man) (promotion : Option Man) → promotion ≢ Some Pawn → put man promotion ≡ Pawn
-    → (man ≡ Pawn) × (promotion ≡ None)
-still_pawn man promotion other_than same = search rules
-
 within_of : (state : State) (man : Man) (a b : ℕ) (promotion : Option Man) → a < 64 → b < 64
     → HasNoStray (board state)
     → LegalBy man state a b promotion → put man promotion ≡ Pawn → (row b ≡ 0) ⊎ (row b ≡ 7) → ⊥
 unfolding HasNoStray
-within_of state man a b promotion a_small b_small pawns legal same edge =
-    search (rules, still_pawn, pawn_within, ahead_of)
+within_of state man a b promotion a_small b_small pawns legal same edge = search rules
 
 -- ---- rights
 
 remains_means : (unmoved : Bool) (home corner a b : ℕ) → IsTrue (remains unmoved home corner a b)
     → IsTrue unmoved × (home ≢ a) × (home ≢ b) × (corner ≢ a) × (corner ≢ b)
-remains_means unmoved home corner a b h = search (rules, nat_tests)
+remains_means unmoved home corner a b h = search rules
 
 home_stays : (old new : List Piece) (turn colour : Colour) (a b home corner : ℕ) (man : Man)
     (unmoved : Bool) → home < 64 → a < 64 → Effect old new turn a b man
@@ -132,7 +88,7 @@ unfolding HasOneKing
 home_stays old new turn colour a b home corner man unmoved home_small a_small e was_king king
     at_home right =
     let means = remains_means unmoved home corner a b right in
-    let stood = at_home means.0 in (search (rules, same_kind, not_free, same_side, was_king))
+    let stood = at_home means.0 in search rules
 
 -- ---- the passed square
 
@@ -141,7 +97,7 @@ rows_apart : (a b : ℕ) (square : ℕ) (t : Bool)
 rows_apart a b square t e = search rules
 
 two_rows : (a b : ℕ) → nat_eq (abs_diff (row a) (row b)) 2 ≡ true → abs_diff (row a) (row b) ≡ 2
-two_rows a b t = grind (arith, nat_tests)
+two_rows a b t = grind arith
 
 one_row : (turn : Colour) (a b : ℕ) → IsAhead turn 1 a b → abs_diff (row a) (row b) ≢ 2
 one_row turn a b ahead = search rules
@@ -155,18 +111,6 @@ record Passes (old new : List Piece) (turn : Colour) (a b : ℕ) : Type 0 where
   pub over : IsFree new ((a + b) / 2)
   pub before : piece_at new b ≡ piece_of turn Pawn
 
-double_rows : (turn : Colour) (a b : ℕ) → IsAhead turn 2 a b → row a ≡ first_row turn
-    → row b ≢ last_row turn
-double_rows turn a b ahead from = search rules
-
-between : (turn : Colour) (a b : ℕ) → file a ≡ file b → IsAhead turn 2 a b → ((a + b) / 2 ≢ a)
-    × ((a + b) / 2 ≢ b)
-between turn a b files ahead = search rules
-
-no_promotion : (state : State) (b : ℕ) (promotion : Option Man) → Promotes Pawn state b promotion
-    → row b ≢ last_row state.turn → promotion ≡ None
-no_promotion state b promotion promotes not_last = search rules
-
 double : (state : State) (a b : ℕ) (promotion : Option Man) (new : List Piece)
     → LegalBy Pawn state a b promotion
     → Effect (board state) new state.turn a b (put Pawn promotion) → abs_diff (row a) (row b) ≡ 2
@@ -175,15 +119,14 @@ double state a b promotion new legal e apart = elim legal.moves [
   | inl step ↦ absurd (one_row state.turn a b step.1 apart)
   | inr more ↦ elim more [
     | inl two ↦
-        search (rules, between, no_promotion, double_rows, put, not_free)
+        search rules
     | inr take ↦ absurd (one_row state.turn a b take.0.1 apart)
   ]
 ]
 
 over_square : (old new : List Piece) (turn : Colour) (a b : ℕ) → Passes old new turn a b
     → IsPassedOver new (other turn) ((a + b) / 2)
-over_square old new White a b p = search rules
-over_square old new Black a b p = search rules
+over_square old new turn a b p = search rules
 
 passes_stay : (state : State) (man : Man) (a b : ℕ) (promotion : Option Man) (new : List Piece)
     → LegalBy man state a b promotion → Effect (board state) new state.turn a b (put man promotion)
@@ -247,11 +190,10 @@ stays state man a b promotion a_small b_small possible legal =
           (their_king (board state) new state.turn a b (put man promotion) e
           (spared state man a b legal.moves)
           (king_of (board state) (other state.turn) possible.kings))
-          (let K : Colour → Type 0 = λ c. HasOneKing new c in subst K (twice state.turn)
-          (own_king (board state) new state.turn a b
-          (put man promotion) b_small a_small e king crowned one));
+          (let K : Colour → Type 0 = λ c. HasOneKing new c in
+          subst K (twice state.turn) (search (rules, own_king)));
       known = no_new_extra (board state) new state.turn a b (put man promotion) e possible.known;
-      pawns = search (rules, no_new_stray, put, within_of);
+      pawns = search (rules, no_new_stray, within_of);
       safe = subst S (twice state.turn) legal.safe;
       homes = rights_stay state (put man promotion) a b new a_small e crowned one possible.homes;
       steps = passes_stay state man a b promotion new legal e;

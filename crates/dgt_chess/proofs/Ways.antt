@@ -1,22 +1,21 @@
 -- Moves by lines, and sets of squares.
-use Rattle.std.proofs.{lemmas.{Bool.{cases_eq}, Nat.{pow_pos, Bits.{and_pow, bit_at-lt, bit_at_or}}}, Common.{◌≡◌, ◌↔◌, ℕ, ◌<◌, refl, List, inl, inr, rules}}
-use Rattle.{std.specs.{Prelude.{◌≢◌, ◌⊎◌, ◌+◌, ◌/◌, bit_or, IsBitSet, Option}, Int.{bit_at}}, dgt_values.specs.declared.pieces.Piece.{Piece}, dgt_chess.specs.declared.lines.Line.{Line}}
-use Rattle.dgt_chess.specs.declared.{lines.Line.TheVariants.{Rank, File}, listing.Mover.{Mover}, state.State.{State}, pieces.{Colour.{Colour, TheVariants.{White, Black}}, Man.{Man}}}
-use Rattle.dgt_chess.specs.{declared.pieces.Man.TheVariants.{Pawn, Knight, Bishop, Rook, Queen, King}, Attacks.{file, row, IsAhead, IsFree, Jumps, Slides}}
-use Rattle.dgt_chess.{specs.{Rules.{board, passed, CanGo, Castles, Moves, PawnMoves}, Steps.{IsMover}}, proofs.{Loose.{moves_by}, OneMove.{with_parts}, Rays.{sees}}}
+use Rattle.std.{proofs.{lemmas.Nat.Bits.{and_pow, bit_at_or}, Common.{◌≡◌, ◌↔◌, ℕ, refl, List, inl, inr, rules}}, specs.{Prelude.{◌≢◌, ◌⊎◌, ◌+◌, ◌/◌, bit_or, IsBitSet, Option}, Int.{bit_at}}}
+use Rattle.{dgt_values.specs.declared.pieces.Piece.{Piece}, dgt_chess.specs.declared.{lines.Line.{Line, TheVariants.{Rank, File}}, listing.Mover.{Mover}, state.State.{State}, pieces.Colour.{Colour}}}
+use Rattle.dgt_chess.specs.{declared.pieces.Man.{Man, TheVariants.{Pawn, Knight, Bishop, Rook, Queen, King}}, Attacks.{file, IsAhead, IsFree, Jumps, Slides}, Rules.{board, passed, CanGo, Castles}}
+use Rattle.dgt_chess.{specs.{Rules.{Moves, PawnMoves}, Steps.{IsMover}}, proofs.{Loose.{moves_by}, OneMove.{with_parts}, Rays.{sees}}}
 
 -- ---- sets
 
 set_of : (n k : ℕ) → bit_at n k ≡ 1 → IsBitSet n k
-set_of n k one zero = search (rules, pow_pos, and_pow)
+set_of n k one zero = search (rules, and_pow)
 
 of_set : (n k : ℕ) → IsBitSet n k → bit_at n k ≡ 1
-of_set n k set = search (rules, cases_eq, and_pow, bit_at-lt)
+of_set n k set = search (rules, and_pow)
 
 pub in_union : (m n k : ℕ) → IsBitSet (bit_or m n) k ↔ (IsBitSet m k ⊎ IsBitSet n k)
 in_union m n k =
     let both = bit_at_or m n k in
-    search (rules, bit_at-lt, of_set, cases_eq, set_of)
+    search (rules, of_set, set_of)
 
 -- ---- lines
 
@@ -26,8 +25,7 @@ step_by pieces turn a b files ahead = search rules
 
 double_by : (pieces : List Piece) (turn : Colour) (a b : ℕ) → file a ≡ file b
     → IsAhead turn 2 a b → IsFree pieces ((a + b) / 2) → Slides File pieces a b
-double_by pieces White a b files ahead free = search rules
-double_by pieces Black a b files ahead free = search rules
+double_by pieces turn a b files ahead free = search rules
 
 pawn_by : (pieces : List Piece) (turn : Colour) (stepped : Option ℕ) (a b : ℕ)
     → PawnMoves pieces turn stepped a b → (line : Line) × Slides line pieces a b
@@ -43,20 +41,9 @@ pawn_by pieces turn stepped a b moves = elim moves [
 ]
 
 -- a king castles over a part of the way to its rook
-short_by : (pieces : List Piece) (a b home corner goal : ℕ) → a ≡ home → b ≡ goal
-    → home < goal → goal < corner → row home ≡ row goal → Slides Rank pieces home corner
-    → Slides Rank pieces a b
-short_by pieces a b home corner goal from to some within row_same slides = search rules
-
-long_by : (pieces : List Piece) (a b home corner goal : ℕ) → a ≡ home → b ≡ goal
-    → goal < home → corner < goal → row home ≡ row goal → Slides Rank pieces home corner
-    → Slides Rank pieces a b
-long_by pieces a b home corner goal from to some within row_same slides = search rules
-
 castle_by : (state : State) (turn : Colour) (a b : ℕ) → Castles state turn a b
     → Slides Rank (board state) a b
-castle_by state White a b castles = search (rules, with_parts, short_by, long_by)
-castle_by state Black a b castles = search (rules, with_parts, short_by, long_by)
+castle_by state turn a b castles = search (rules, with_parts)
 
 -- ---- all moves but a knight's
 

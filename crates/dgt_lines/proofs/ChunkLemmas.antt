@@ -2,7 +2,7 @@
 use Rattle.std.proofs.Common.{◌≡◌, ℕ, ◌+◌, ◌-◌, ◌≤◌, List, [], ◌∷◌, ◌++◌, Bool, false, Result, Ok, Err, IsErrAnd, OnOk, refl, ◌∙◌, ap, sym, subst, arith, length, take, drop, append_assoc, append-nil}
 use Rattle.{std.proofs.{Common.{length-append, rules}, Math.Seq.{take-add}, lemmas.List.{length-take-le, take-append-drop, take_rest}}, dgt_command.specs.Encoding.{AreBytes}}
 use Rattle.{dgt_command.proofs.DivisionLemmas.{bytes_right}, dgt_lines.specs.{Marks.{Waits}, Printing.{GathersPrefix, GathersMore, PrintsMore}, Writing.{Gathered, Stopped, Writes}}}
-use Rattle.dgt_lines.{specs.declared.{faults.RunFault.{RunFault}, streams.Sink.{Ghosts as Sink}, faults.RunFault.TheVariants.{WriteFailed}}, proofs.GatherLemmas.{gathered_none, gathered_out}}
+use Rattle.dgt_lines.{specs.declared.{faults.RunFault.{RunFault}, streams.Sink.{Ghosts as Sink}, faults.RunFault.TheVariants.{WriteFailed}}, proofs.GatherLemmas.{gathered_out}}
 use Rattle.dgt_lines.proofs.{GatherLemmas.{gathers_then, stopped_longer}, Printed.{on_ok}}
 
 -- bytes of a chunk that come after its first i
@@ -41,7 +41,7 @@ module _ {S : Type 0} {W : Sink S} {P : List ℕ → List ℕ → Type 0} (bytes
   -- they end no event
   pub gathers_none : {a : S} {held : List ℕ} → P (bytes ++ take used rest) (text ++ [])
       → GathersPrefix W (held, held) a a (Ok used) P bytes rest text
-  gathers_none {a = a} {held = held} has = search (rules, gathered_none, append-nil)
+  gathers_none {a = a} {held = held} has = search rules
 
   module _ {a b : S} {held held' : List ℕ} (more : List ℕ)
       (has : P (bytes ++ take used rest) (text ++ more)) where
@@ -64,7 +64,7 @@ module _ {S : Type 0} {W : Sink S} {P : List ℕ → List ℕ → Type 0} where
   -- before the first call
   pub gathered_first : (a : S) (held bytes text : List ℕ) → held ≡ [] → P bytes text
       → GathersMore {A = Unit {0}} W ([], held) a a (Ok tt) P (bytes ++ []) text
-  gathered_first a held bytes text e has = search (rules, gathered_none, append-nil)
+  gathered_first a held bytes text e has = search rules
 
   module _ (a b c : S) (i bytes text : List ℕ)
       (p : GathersMore {A = Unit {0}} W ([], i) a b (Ok tt) P bytes text)
@@ -93,8 +93,7 @@ module _ {S : Type 0} {W : Sink S} {P : List ℕ → List ℕ → Type 0} where
         (k ∙ q.gathers.0, q.gathers.1) in
         let whole : ((text ++ p.more) ++ q.more) ++ others
         ≡ text ++ ((p.more ++ q.more) ++ others) =
-        ap (λ l. l ++ others) (append_assoc text p.more q.more)
-        ∙ append_assoc text (p.more ++ q.more) others in
+        search (rules, append_assoc) in
         search (rules, stopped_longer)
 
   -- after the last call, all is written

@@ -1,11 +1,10 @@
 -- Which clocks are reported, and that the other reports are those without them.
-use Rattle.std.proofs.{Common.{◌≡◌, ◌≢◌, ℕ, List, [], ◌∷◌, ◌++◌, Option, Some, None, refl, ◌∙◌, ap, append-nil, map, rules}, lemmas.{Bool.{false≢true}, Slice.Eq.{bytes_eq-Decides}}}
-use Rattle.{std.specs.{List.{last_or}, Prelude.{bytes_eq, option_map, Bool, true, false}}, dgt_message.specs.{Clock.{ClockState}, Content.{clock_message, Content.{no_clock}}}}
-use Rattle.{dgt_decode.specs.Grammar.{Event, Message, Placed, events}, dgt_lines.specs.{Clocks.{clock_text}, Pictures.{PlacedPicture}, Reports.{ClockLeavesReports, HiddenClockIsSilent}}}
-use Rattle.dgt_lines.specs.Reports.{LastLineIsClock, OtherClocksAreReported, Report, SaysClock, Shows, ShowsClock, clock_after_event, clock_after_events, clock_reports, clocking, clocks_shown}
-use Rattle.dgt_lines.specs.{Reports.{new_state, reports, reports_at, state_after_event, state_after_events, without_clock}, declared.clocks.ShownClock.{ShownClock}}
-use Rattle.dgt_lines.{specs.declared.{doubts.PictureState.{PictureState}, clocks.ShownClock.TheVariants.{Hidden, Unknown, Known}}, proofs.{DoubtLemmas.{always_hidden}, PictureLemmas.{last_or-append}}}
-use Rattle.dgt_lines.proofs.ReportLemmas.{of_clock, of_raised, reports-append}
+use Rattle.std.{proofs.Common.{◌≡◌, ◌≢◌, ℕ, List, [], ◌∷◌, ◌++◌, Option, Some, None, refl, ◌∙◌, ap, append-nil, rules}, specs.{List.{last_or}, Prelude.{option_map, Bool, true, false}}}
+use Rattle.{dgt_message.specs.{Clock.{ClockState}, Content.{clock_message}}, dgt_decode.specs.Grammar.{Event, Message, Placed, events}, dgt_lines.specs.Clocks.{clock_text}}
+use Rattle.dgt_lines.specs.Reports.{ClockLeavesReports, HiddenClockIsSilent, LastLineIsClock, OtherClocksAreReported, Report, SaysClock, ShowsClock, clock_after_event, clock_after_events}
+use Rattle.dgt_lines.specs.Reports.{clock_reports, clocking, clocks_shown, new_state, reports, reports_at, state_after_event, state_after_events, without_clock}
+use Rattle.dgt_lines.{specs.declared.{clocks.ShownClock.{ShownClock, TheVariants.{Hidden, Unknown, Known}}, doubts.PictureState.{PictureState}}, proofs.DoubtLemmas.{always_hidden}}
+use Rattle.dgt_lines.proofs.{PictureLemmas.{last_or-append}, ReportLemmas.{reports-append}}
 
 -- ---- the reports but those of the clock
 
@@ -21,7 +20,7 @@ hidden state = record state { clock = Hidden }
 
 one_stays : (place : ℕ) (event : Event) (before : PictureState)
     → without_clock (reports_at place event before) ≡ reports_at place event (hidden before)
-one_stays place event before = search (rules, of_clock, of_raised)
+one_stays place event before = search rules
 
 one_hidden : (event : Event) (before : PictureState)
     → hidden (state_after_event before event) ≡ state_after_event (hidden before) event
@@ -47,16 +46,12 @@ clocks-append [] ys = refl
 clocks-append (ShowsClock place text ∷ xs) ys = ap (λ l. text ∷ l) (clocks-append xs ys)
 clocks-append (_ ∷ xs) ys = clocks-append xs ys
 
-shows_no_clock : (xs : List PlacedPicture) → clocks_shown (map Shows xs) ≡ []
-shows_no_clock [] = refl
-shows_no_clock (x ∷ xs) = shows_no_clock xs
-
 -- an event has no line of the clock if what it says of the clock has none
 one_silent : (place : ℕ) (event : Event) (before : PictureState)
     → ((clock : ClockState) → event ≡ Message (clock_message clock)
     → clocks_shown (clock_reports place (clock_text clock) before.clock) ≡ [])
     → clocks_shown (reports_at place event before) ≡ []
-one_silent place event before h = search (rules, shows_no_clock, of_raised)
+one_silent place event before h = search rules
 
 all_silent : (before : PictureState) (xs : List Placed) → before.clock ≡ Hidden
     → clocks_shown (reports before xs) ≡ []
@@ -97,7 +92,7 @@ one_last : (place : ℕ) (event : Event) (before : PictureState) (clock : Option
     → before.clock ≡ shown_of clock
     → last_or (option_map clock_text clock) (clocks_shown (reports_at place event before))
     ≡ option_map clock_text (clock_after_event clock event)
-one_last place event before clock h = search (rules, shows_no_clock, of_raised, bytes_eq-Decides)
+one_last place event before clock h = search rules
 
 all_last : (xs : List Placed) (before : PictureState) (clock : Option ClockState)
     → before.clock ≡ shown_of clock
@@ -127,22 +122,21 @@ now doubts earlier = state_after_events (new_state doubts true) earlier
 one_more : (doubts : Bool) (earlier : List Placed) (x : Placed) (reported : List Report)
     → reports_at x.place x.event (now doubts earlier) ≡ reported
     → clocking doubts (earlier ++ x ∷ []) ≡ clocking doubts earlier ++ reported
-one_more doubts earlier x reported e = search (rules, reports-append, append-nil)
+one_more doubts earlier x reported e = search (rules, reports-append)
 
 clock_at : (doubts : Bool) (earlier : List Placed) (x : Placed) (clock : ClockState)
-    → SaysClock x clock
-    → reports_at x.place x.event (now doubts earlier)
+    → SaysClock x clock → reports_at x.place x.event (now doubts earlier)
     ≡ clock_reports x.place (clock_text clock) (shown_of (clock_after_events None earlier))
 clock_at doubts earlier x clock s = search (rules, all_shown)
 
 other_news : (place : ℕ) (text : List ℕ) (clock : Option ClockState)
     → option_map clock_text clock ≢ Some text
     → clock_reports place text (shown_of clock) ≡ ShowsClock place text ∷ []
-other_news place text clock n = search (rules, bytes_eq-Decides)
+other_news place text clock n = search rules
 
 same_news : (place : ℕ) (text : List ℕ) (clock : Option ClockState)
     → option_map clock_text clock ≡ Some text → clock_reports place text (shown_of clock) ≡ []
-same_news place text clock h = search (rules, false≢true, bytes_eq-Decides)
+same_news place text clock h = search rules
 
 pub other_clocks_are_reported : OtherClocksAreReported
 other_clocks_are_reported = record {
@@ -155,5 +149,5 @@ other_clocks_are_reported = record {
       (clock_at doubts earlier x clock s
       ∙ same_news x.place (clock_text clock) (clock_after_events None earlier) h)
       ∙ append-nil _;
-  silent = search (rules, one_more, clocks-append, one_silent, append-nil);
+  silent = search (rules, one_more, clocks-append, one_silent);
 }

@@ -1,8 +1,7 @@
 -- Decimal digits, from the last one to the first.
-use Rattle.std.proofs.Common.{◌≡◌, ℕ, zero, suc, ◌+◌, ◌-◌, ◌*◌, ◌/◌, ◌%◌, ◌^◌, ◌<◌, Bool, true, ◌&&◌, T, eqb, eqb→eq, eq-zero-or-pos, get_or, List, [], ◌∷◌, ◌++◌, refl, sym, ◌∙◌, ap, length, arith}
-use Rattle.std.proofs.{Common.{replicate, append_assoc, length-append, ◌⊎◌, inl, inr, w64, rules}, Math.Nat.{div-div-eq-div-mul, pow-suc}, lemmas.{Bool.{cases_lt}, Fmt.{decimal_digit, decimal_step}}}
-use Rattle.{std.{proofs.lemmas.{Grind.{common_steps}, List.{replicate_more}, Nat.{le_bytes_8}}, specs.{Int.{to_le_bytes}, Prelude.{decimal}}}, dgt_lines.specs.Lines.{padded_decimal}}
-use Rattle.dgt_lines.specs.declared.lines.TheConstants.{PAIRS}
+use Rattle.std.proofs.Common.{◌≡◌, ℕ, zero, suc, ◌+◌, ◌-◌, ◌*◌, ◌/◌, ◌%◌, ◌^◌, ◌<◌, Bool, true, ◌&&◌, T, eqb, eqb→eq, eq-zero-or-pos, get_or, List, [], ◌∷◌, ◌++◌, refl, sym, ◌∙◌, arith, replicate}
+use Rattle.std.proofs.{Common.{append_assoc, length-append, ◌⊎◌, inl, inr, w64, rules}, Math.Nat.{div-div-eq-div-mul, pow-suc}, lemmas.{Fmt.{decimal_digit, decimal_step}}}
+use Rattle.{std.{proofs.lemmas.{Grind.{common_steps}, List.{replicate_more}}, specs.Int.{to_le_bytes}}, dgt_lines.specs.{Lines.{padded_decimal}, declared.lines.TheConstants.{PAIRS}}}
 use lib.Ieee.Fits.{and_l, and_r}
 
 -- the digits of a number, of which 0 has none, with leading zeros to at least this many
@@ -15,11 +14,11 @@ pub prefix-last : (width n : ℕ) → n < 2 ^ 64 → (0 < n) ⊎ (0 < width)
     → prefix width n ≡ prefix (width - 1) (n / 10) ++ (48 + n % 10) ∷ []
 prefix-last width zero h k = search (rules, replicate_more)
 prefix-last width (suc n) h k =
-    search (rules, cases_lt, decimal_digit, decimal_step, length-append, append_assoc)
+    search (rules, decimal_digit, decimal_step, length-append, append_assoc)
 
 -- all digits, if there is at least one
 pub prefix-all : (width n : ℕ) → 0 < width → prefix width n ≡ padded_decimal width n
-prefix-all width n h = grind (arith, common_steps, decimal_digit, replicate_more)
+prefix-all width n h = grind (arith, common_steps, decimal_digit)
 
 -- without its last digit a number is below a smaller power of ten
 tenth : (n k : ℕ) → n < 10 ^ suc k → n / 10 < 10 ^ k
@@ -36,8 +35,7 @@ prefix-last_digits (suc k) n h b =
     search (rules, prefix-last, tenth, prefix-last_digits k (n / 10) (tenth n k h) (omega arith))
 
 -- eight digits
-padded_eight : (n : ℕ) → n < 100000000
-    → padded_decimal 8 n
+padded_eight : (n : ℕ) → n < 100000000 → padded_decimal 8 n
     ≡ (48 + n / 10000000 % 10) ∷ (48 + n / 1000000 % 10) ∷ (48 + n / 100000 % 10)
     ∷ (48 + n / 10000 % 10) ∷ (48 + n / 1000 % 10) ∷ (48 + n / 100 % 10) ∷ (48 + n / 10 % 10)
     ∷ (48 + n % 10) ∷ []
@@ -45,8 +43,7 @@ padded_eight n h = sym (prefix-all 8 n (omega arith)) ∙ prefix-last_digits 8 n
     (omega arith) ∙ simp div-div-eq-div-mul refl
 
 -- eight digits, from four pairs
-pub padded_pairs : (n : ℕ) → n < 100000000
-    → padded_decimal 8 n
+pub padded_pairs : (n : ℕ) → n < 100000000 → padded_decimal 8 n
     ≡ (48 + n / 10000 / 100 / 10) ∷ (48 + n / 10000 / 100 % 10) ∷ (48 + n / 10000 % 100 / 10)
     ∷ (48 + n / 10000 % 100 % 10) ∷ (48 + n % 10000 / 100 / 10) ∷ (48 + n % 10000 / 100 % 10)
     ∷ (48 + n % 10000 % 100 / 10) ∷ (48 + n % 10000 % 100 % 10) ∷ []
@@ -76,7 +73,7 @@ pub padded_word : (n word : ℕ) → n < 100000000
     → word ≡ (pair (n / 10000 / 100) + 65536 * pair (n / 10000 % 100))
     + 4294967296 * (pair (n % 10000 / 100) + 65536 * pair (n % 10000 % 100))
     → to_le_bytes w64 word ≡ padded_decimal 8 n
-padded_word n word small is = search (rules, padded_pairs, le_bytes_8)
+padded_word n word small is = search (rules, padded_pairs)
 
 -- the same if there is a digit
 pub tenth_below : (n k : ℕ) → n < 10 ^ k → 0 < k → n / 10 < 10 ^ (k - 1)

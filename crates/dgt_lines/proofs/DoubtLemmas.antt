@@ -1,11 +1,10 @@
 -- Which faults are reported, and that the pictures are.
 use Rattle.std.proofs.{Common.{◌≡◌, ◌⊎◌, true, false, ℕ, List, [], ◌∷◌, ◌++◌, Option, Some, refl, sym, ◌∙◌, ap, inl, inr, append-nil, map, rules}, lemmas.{Grind.{fold-append}, List.{map-append}}}
-use Rattle.{std.specs.{List.{AllByRecursion, flat_map}, Prelude.{option_map, ⊤}}, dgt_values.specs.declared.pieces.Piece.{Piece}, dgt_message.specs.{Content.{Content}, Picture.{picture_after}}}
-use Rattle.{dgt_message.specs.Content.Content.{dump, field}, dgt_decode.specs.Grammar.{Event, Message, Placed, at_place, events}, dgt_lines.specs.Pictures.{PlacedPicture, picture_after_event}}
-use Rattle.dgt_lines.specs.{Pictures.{picture_line, picture_set, pictures}, Reports.{Report, Shows, Doubts, DoubtsKeepThePicture, DoubtsLeavePictures, FirstFaultsAreReported, IgnoredFaultsAreSilent}}
-use Rattle.dgt_lines.specs.Reports.{IsFault, IsNoFault, IsSure, doubt_after, doubt_after_fault, doubt_cleared, doubt_raised, doubting, fault_reports, message_reports, new_state, pictures_shown}
-use Rattle.dgt_lines.specs.{Reports.{report_line, reports, reports_at, state_after_event, state_after_events}, declared.doubts.{Doubt.{Doubt}, PictureState.{PictureState}}}
-use Rattle.dgt_lines.{specs.declared.{clocks.ShownClock.TheVariants.{Hidden}, doubts.Doubt.TheVariants.{Ignored, Clear}}, proofs.ReportLemmas.{of_clock, of_raised, reports-append}}
+use Rattle.{std.specs.{List.{AllByRecursion, flat_map}, Prelude.{option_map, ⊤}}, dgt_values.specs.declared.pieces.Piece.{Piece}, dgt_message.specs.Content.{Content, Content.{dump, field}}}
+use Rattle.{dgt_decode.specs.Grammar.{Event, Message, Placed, at_place, events}, dgt_lines.specs.{Pictures.{PlacedPicture, picture_after_event, picture_line, picture_set, pictures}, Reports.{Report}}}
+use Rattle.dgt_lines.specs.Reports.{Shows, Doubts, DoubtsKeepThePicture, DoubtsLeavePictures, FirstFaultsAreReported, IgnoredFaultsAreSilent, IsFault, IsNoFault, IsSure, doubt_raised, doubting}
+use Rattle.dgt_lines.specs.{Reports.{new_state, pictures_shown, report_line, reports, reports_at, state_after_event, state_after_events}, declared.doubts.{Doubt.{Doubt}, PictureState.{PictureState}}}
+use Rattle.dgt_lines.{specs.declared.{clocks.ShownClock.TheVariants.{Hidden}, doubts.Doubt.TheVariants.{Ignored, Clear}}, proofs.ReportLemmas.{reports-append}}
 
 -- ---- the picture
 
@@ -25,17 +24,11 @@ shown_are_pictures : (before : PictureState) (xs : List Placed)
 shown_are_pictures before [] = refl
 shown_are_pictures before (x ∷ xs) =
     let after = state_after_event before x.event in
-    search (rules, one_picture, shown_are_pictures after xs, of_clock, of_raised)
+    search (rules, shown_are_pictures after xs)
 
 pub doubts_leave_pictures : DoubtsLeavePictures
 doubts_leave_pictures doubts clock bytes =
     shown_are_pictures (new_state doubts clock) (events bytes)
-
--- ---- a doubt after a message is as before it, or cleared
-
-doubt_or_cleared : (P : Doubt → Type 0) (doubt : Doubt) (said : Content) → P doubt
-    → P (doubt_cleared doubt) → P (doubt_after doubt said)
-doubt_or_cleared P doubt said p q = search rules
 
 -- ---- if the clock is not shown
 
@@ -54,25 +47,15 @@ always_hidden before [] h = h
 always_hidden before (x ∷ xs) h =
     always_hidden (state_after_event before x.event) xs (still_hidden before x.event h)
 
-hidden_message : (place : ℕ) (said : Content) (before : PictureState) → before.clock ≡ Hidden
-    → message_reports place said before ≡ sets place (Message said) before
-hidden_message place said before h = search rules
-
 -- ---- if faults raise no doubt
-
-ignored_fault : (picture : Option (List Piece)) → doubt_after_fault picture Ignored ≡ Ignored
-ignored_fault picture = search rules
-
-silent_fault : (place : ℕ) (picture : Option (List Piece)) → doubt_raised place picture Ignored ≡ []
-silent_fault place picture = search rules
 
 module _ (before : PictureState) (ignored : before.doubt ≡ Ignored) where
   still_ignored : (event : Event) → (state_after_event before event).doubt ≡ Ignored
-  still_ignored event = search (rules, doubt_or_cleared, ignored_fault)
+  still_ignored event = search rules
 
   one_ignored : (place : ℕ) (event : Event) → before.clock ≡ Hidden
       → reports_at place event before ≡ sets place event before
-  one_ignored place event h = search (rules, hidden_message, silent_fault)
+  one_ignored place event h = search rules
 
 all_ignored : (before : PictureState) (xs : List Placed) → before.doubt ≡ Ignored
     → before.clock ≡ Hidden → reports before xs ≡ map Shows (pictures before.picture xs)
@@ -108,14 +91,6 @@ settled_fault : (place : ℕ) (picture : Option (List Piece)) (doubt : Doubt) �
     → doubt_raised place picture doubt ≡ Doubts place ∷ []
 settled_fault place picture doubt h = search rules
 
-unsettled_fault : (place : ℕ) (picture : Option (List Piece)) (doubt : Doubt)
-    → (Settled picture doubt → ⊥) → doubt_raised place picture doubt ≡ []
-unsettled_fault place picture doubt h = search rules
-
-fault_unsettles : (picture : Option (List Piece)) (doubt : Doubt)
-    → Settled picture (doubt_after_fault picture doubt) → ⊥
-fault_unsettles picture doubt h = search rules
-
 was_settled : (f : List Piece → List Piece) (picture : Option (List Piece)) (doubt : Doubt)
     → Settled (option_map f picture) doubt → Settled picture doubt
 was_settled f picture doubt h = search rules
@@ -138,7 +113,7 @@ MayRaise _ = ⊤
 
 event_may : (before : PictureState) (event : Event) → MayRaise before.doubt
     → MayRaise (state_after_event before event).doubt
-event_may before event h = search (rules, doubt_or_cleared)
+event_may before event h = search rules
 
 events_may : (before : PictureState) (xs : List Placed) → MayRaise before.doubt
     → MayRaise (state_after_events before xs).doubt
@@ -170,7 +145,7 @@ module _ (before : PictureState) (place : ℕ) (xs : List Placed)
 
   since_event : (event : Event) → IsSettled (state_after_event before event)
       → Since before (at_place place event ∷ xs)
-  since_event event h = search (rules, since_message, fault_unsettles)
+  since_event event h = search (rules, since_message)
 
 sure_later : (x : Placed) (xs : List Placed) → IsSure xs → IsSure (x ∷ xs)
 sure_later x xs s = record {
@@ -195,10 +170,6 @@ settled_sure xs h = elim (since start xs h) [ inl k ↦ absurd k.0 | inr s ↦ s
 
 -- ---- what is reported of one event more
 
-fault_at : (place : ℕ) (event : Event) (before : PictureState) → IsFault event
-    → reports_at place event before ≡ fault_reports place before
-fault_at place event before f = search rules
-
 one_more : (earlier : List Placed) (x : Placed) (reported : List Report)
     → reports_at x.place x.event (state_after_events start earlier) ≡ reported
     → doubting (earlier ++ x ∷ []) ≡ doubting earlier ++ reported
@@ -208,8 +179,8 @@ one_more earlier x reported e =
 pub first_faults_are_reported : FirstFaultsAreReported
 first_faults_are_reported = record {
   nothing = refl;
-  first = search (rules, one_more, fault_at, settled_fault, sure_settled);
-  later = search (rules, one_more, fault_at, unsettled_fault, settled_sure, append-nil);
-  messages = search (rules, one_more, hidden_message, always_hidden, picture_kept);
-  unreadable = search (rules, one_more, append-nil);
+  first = search (rules, one_more, settled_fault, sure_settled);
+  later = search (rules, one_more, settled_sure);
+  messages = search (rules, one_more, always_hidden, picture_kept);
+  unreadable = search (rules, one_more);
 }

@@ -1,12 +1,10 @@
 -- The events of bytes that come after others, and what an engine keeps of them.
-use Rattle.std.proofs.{Common.{◌≡◌, ℕ, ◌+◌, ◌-◌, ◌≤◌, List, [], ◌++◌, Option, Some, IfSome, MatchOption, sym, ◌∙◌, ap, length, arith, map, take, rules}, lemmas.Grind.{flat_map-append}}
-use Rattle.{std.{proofs.lemmas.List.{length-take-le, take-take, take_all}, specs.List.{flat_map}}, dgt_decode.specs.Feeding.{FirstEvent, IsWholeMessage, at_place_if_any, chunk_events}}
-use Rattle.dgt_decode.{specs.{Grammar.{Event, at_place, events, message_event, unfinished_message}, Laws.{UnfinishedAppend, ChunksAdd}}, proofs.{Beginnings.{frames-whole}, Wholes.{whole_unfinished}}}
-use Rattle.dgt_lines.specs.Lines.{events_after, lines, lines_after}
+use Rattle.std.proofs.{Common.{◌≡◌, ℕ, ◌+◌, ◌≤◌, List, [], ◌++◌, Option, Some, IfSome, MatchOption, length, take, rules}, lemmas.{Grind.{flat_map-append}, List.{length-take-le}}}
+use Rattle.{std.proofs.lemmas.List.{take-take, take_all}, dgt_decode.specs.{Feeding.{FirstEvent, IsWholeMessage, at_place_if_any, chunk_events}, Grammar.{Event, message_event, unfinished_message}}}
+use Rattle.{dgt_decode.{specs.Laws.{ChunksAdd}, proofs.{Beginnings.{frames-whole}, Wholes.{whole_unfinished}}}, dgt_lines.specs.Lines.{events_after, lines, lines_after}}
 
 -- the lines of bytes, and of a chunk after them
-pub lines-append : ChunksAdd → (bytes chunk : List ℕ)
-    → lines (bytes ++ chunk)
+pub lines-append : ChunksAdd → (bytes chunk : List ℕ) → lines (bytes ++ chunk)
     ≡ lines bytes ++ lines_after (unfinished_message bytes) (length bytes) chunk
 lines-append chunks bytes chunk = search (rules, flat_map-append)
 
@@ -26,13 +24,6 @@ module _ (kept bytes chunk : List ℕ) (n : ℕ)
       ≡ at_place_if_any (offset + n) event
   events_found offset event h counted = search (rules, first_events)
 
-  -- what it holds then
-  pub held_then : UnfinishedAppend → (kept' : List ℕ) → unfinished_message kept'
-      ≡ unfinished_message (unfinished_message kept ++ take n chunk)
-      → unfinished_message kept' ≡ unfinished_message (bytes ++ take n chunk)
-  held_then still kept' e =
-      e ∙ ap (λ held. unfinished_message (held ++ take n chunk)) same ∙ sym (still bytes _)
-
 -- ---- a whole message at the front of bytes, if the framer holds nothing
 
 module _ (kept rest : List ℕ) (n : ℕ) (none : unfinished_message kept ≡ [])
@@ -43,16 +34,13 @@ module _ (kept rest : List ℕ) (n : ℕ) (none : unfinished_message kept ≡ []
   first_whole =
       let found =
       rw (length-take-le n rest within) at (frames-whole kept rest n none within
-      whole).frames.first in (
-        within,
-        rw (take-take n n rest (omega arith)) at found.1,
-        λ k h. rw (take-take k n rest (omega arith)) at (found.2 k h),
-      )
+      whole).frames.first in
+      search (rules, take-take)
 
   -- nothing is unfinished after it
   pub held_whole : unfinished_message kept
       ≡ unfinished_message (unfinished_message kept ++ take n rest)
-  held_whole = search (rules, whole_unfinished, frames-whole)
+  held_whole = search (rules, whole_unfinished)
 
 pub some_of : {A : Type 0} (P : Type 0) (Q R : A → Type 0) (o : Option A) → ((a : A) → Q a → R a)
     → MatchOption o P Q → IfSome o R

@@ -10,8 +10,7 @@ module _ {S : Type 0} (W : Sink S) where
   -- some text, and then a call that writes more
   pub writes_then : {A : Type 0} (a b c : S) (s t : List ℕ) (r : Result A RunFault) → Wrote W a b s
       → Writes W b c r t → Writes W a c r (s ++ t)
-  writes_then a b c s t (Ok x) p q = grind (arith, common_steps)
-  writes_then a b c s t (Err e) p q = search (rules, append_assoc)
+  writes_then a b c s t r p q = search (rules, append_assoc)
 
   -- what stops at a text stops at a longer one
   pub stopped_longer : (a b : S) (s t : List ℕ) → Stopped W a b s → Stopped W a b (s ++ t)
@@ -23,13 +22,11 @@ module _ {S : Type 0} (W : Sink S) where
   -- what was held is written, and the text after it
   pub gathers_through : {A : Type 0} (h : List ℕ) (a b c : S) (r : Result A RunFault) (s : List ℕ)
       → Wrote W a b h → Writes W b c r s → Gathers W (h, []) a c r s
-  gathers_through h a b c (Ok x) s p q =
-      record {
-        out = h ++ s;
-        whole = sym (append-nil (h ++ s));
-        wrote =
-            writes_then a b c h s (Ok x) p q;
-      }
+  gathers_through h a b c (Ok x) s p q = record {
+    out = h ++ s;
+    whole = sym (append-nil (h ++ s));
+    wrote = writes_then a b c h s (Ok x) p q;
+  }
   gathers_through {A = A} h a b c (Err e) s p q = writes_then {A = A} a b c h s (Err e) p q
 
   -- some text, and then a call that gathers more
@@ -41,7 +38,7 @@ module _ {S : Type 0} (W : Sink S) where
     whole = search (rules, append_assoc);
     wrote = writes_then a b c p.out q.out (Ok x) p.wrote q.wrote;
   }
-  gathers_then {A = A} h i j a b c s t (Err e) p q = search (rules, append_assoc, writes_then)
+  gathers_then {A = A} h i j a b c s t (Err e) p q = search (rules, append_assoc)
 
   pub gathered_then : (h i j : List ℕ) (a b c : S) (s t : List ℕ) → Gathered W h i a b s
       → Gathered W i j b c t → Gathered W h j a c (s ++ t)
@@ -68,22 +65,14 @@ module _ {S : Type 0} (W : Sink S) where
 
   -- a call that gathers nothing
   pub puts_none : (h : List ℕ) (a : S) → Puts {A = Unit {0}} W (h, h) a a (Ok tt) []
-  puts_none h a =
-      record {
-        output = gathered_none h a;
-        dropped = tt;
-        no_flush = λ e. e;
-        waits =
-            rw append-nil (λ w. w);
-      }
+  puts_none h a = search rules
 
   -- the exit of a `?` on a call that makes room for a text
   pub puts_refused : {A : Type 0} (h j : List ℕ) (a b : S) (text : List ℕ) (r : Result A RunFault)
       (e : RunFault) → IsErrAnd r (λ y. y ≡ e) → (e ≡ WriteFailed) × Stopped W a b (h ++ [])
       → j ≡ [] → (W.flushed a ≡ false → W.flushed b ≡ false) → Puts W (h, j) a b r text
   puts_refused h j a b text (Ok x) e k q dropped no_flush = absurd k
-  puts_refused {A = A} h j a b text (Err y) e k q dropped no_flush =
-      grind (arith, common_steps, gathers_first)
+  puts_refused {A = A} h j a b text (Err y) e k q dropped no_flush = grind (arith, common_steps)
 
   -- a text of which a prefix is held already
   pub gathers_via : {A : Type 0} (h i j k : List ℕ) (a b c : S) (s t : List ℕ)

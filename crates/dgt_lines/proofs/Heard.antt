@@ -2,7 +2,7 @@
 use Rattle.{std.{proofs.Common.{◌≡◌, ◌+◌, List, ℕ, [], ◌++◌, Option, Some, Result, length, refl, sym, ◌∙◌, ap, append-nil, take, rules}, specs.List.{flat_map}}, dgt_decode.specs.Feeding.{FirstEvent}}
 use Rattle.{dgt_decode.specs.{Feeding.{at_place_if_any}, Grammar.{Event, events, unfinished_message}, Laws.{UnfinishedAppend, ChunksAdd}}, dgt_lines.specs.Lines.{event_line, lines, lines_after}}
 use Rattle.dgt_lines.specs.{Lines.{placed_line}, Monitoring.{IsMonitored}, Printing.{HasEventLines, HasPrintedEvents, IsPrinted}, declared.faults.RunFault.{RunFault}}
-use Rattle.dgt_lines.proofs.{EventLemmas.{events_found, held_then, lines-append}, Printed.{stands_by}}
+use Rattle.dgt_lines.proofs.{EventLemmas.{events_found, lines-append}, Printed.{stands_by}}
 
 lines-none : lines [] ≡ []
 unfolding events
@@ -21,7 +21,7 @@ module _ {kept bytes text : List ℕ} (h : HasPrintedEvents kept bytes text)
     pub heard_more : (event : Option Event) → FirstEvent (unfinished_message kept) chunk n event
         → HasPrintedEvents kept' (bytes ++ take n chunk)
         (text ++ flat_map placed_line (at_place_if_any (offset + n) event))
-    heard_more event found = search (rules, events_found, lines-append, held_then)
+    heard_more event found = search (rules, events_found, lines-append)
 
     -- one that found an event
     pub heard_event : (event : Event) → FirstEvent (unfinished_message kept) chunk n (Some event)

@@ -1,5 +1,5 @@
 -- Lines in parts.
-use Rattle.{std.proofs.Common.{◌≡◌, ℕ, Bool, List, [], ◌∷◌, ◌++◌, Result, ◌∙◌, ap, ◌<◌, append_assoc, codes, length, length-append, sym, rules}, dgt_lines.specs.Lines.{line, offset_text}}
+use Rattle.{std.proofs.Common.{◌≡◌, ℕ, Bool, List, [], ◌∷◌, ◌++◌, Result, ◌∙◌, ap, ◌<◌, append_assoc, length, length-append, sym, rules}, dgt_lines.specs.Lines.{line, offset_text}}
 use Rattle.dgt_lines.specs.{Lines.{unfinished_line, unfinished_text}, Marks.{Waits}, Writing.{Gathered, Gathers}, declared.{faults.RunFault.{RunFault}, streams.Sink.{Ghosts as Sink}}}
 use Rattle.dgt_lines.proofs.GatherLemmas.{gathers_via}
 
@@ -24,7 +24,7 @@ pub line_waits : (held : List ℕ) (offset : ℕ) (said all : List ℕ) (flushed
     → all ≡ held ++ line offset said → Waits all flushed
 line_waits held offset said all flushed e none =
     let whole = ap length (sym none ∙ e) in
-    search (rules, length-append, codes)
+    search (rules, length-append)
 
 pub unfinished_line-none : (held : List ℕ) (offset : ℕ) → 0 ≡ length held
     → unfinished_line offset held ≡ []

@@ -1,16 +1,10 @@
 -- The lines of a host's commands, for all bytes that were read.
-use Rattle.std.proofs.{Common.{◌≡◌, ◌≤◌, ◌+◌, ◌-◌, ℕ, List, [], ◌++◌, Result, length, refl, ap, arith, length-append, take, rules}, lemmas.List.{length-take-le}}
-use Rattle.{dgt_command.specs.{Content.{EventContent}, Encoding.{AreBytes}, Words.{IsPartial, IsWord, word_bytes}}, dgt_lines.specs.{CommandLaws.{EachIsPrinted}, CommandLines.{Prints, command_line}}}
-use Rattle.dgt_lines.{specs.{Commanding.{IsListed}, Printing.{HasCommandLines, IsPrinted}, declared.faults.RunFault.{RunFault}}, proofs.{Printed.{stands_by}, PrintedWords.{texts_append}}}
-use Rattle.dgt_lines.proofs.PrintedWords.{part_is_printed, word_is_printed}
+use Rattle.{std.proofs.Common.{◌≡◌, ◌≤◌, ◌+◌, ◌-◌, ℕ, List, [], ◌++◌, Result, length, refl, length-append, take, rules}, dgt_command.specs.{Content.{EventContent}, Encoding.{AreBytes}}}
+use Rattle.{dgt_command.specs.Words.{IsPartial, IsWord}, dgt_lines.specs.{CommandLaws.{EachIsPrinted}, CommandLines.{Prints, command_line}, Commanding.{IsListed}, Printing.{HasCommandLines}}}
+use Rattle.dgt_lines.{specs.{Printing.{IsPrinted}, declared.faults.RunFault.{RunFault}}, proofs.PrintedWords.{texts_append, part_is_printed, word_is_printed}}
 
 pub listed_none : IsPartial [] → (held : List ℕ) → held ≡ [] → Prints 0 [] held []
 listed_none none held h = rw h (part_is_printed 0 [] none)
-
--- what is left of a word is a part of the bytes
-rest_short : (bytes rest text : List ℕ) → Prints 0 bytes rest text → length rest ≤ length bytes
-rest_short bytes rest text h =
-    omega (arith, ap length h.are_words.whole, length-append (word_bytes h.words) rest)
 
 -- ---- after a call of `advance`, with a chunk of which it used n bytes
 
@@ -23,14 +17,13 @@ module _ {held bytes text : List ℕ} (h : Prints 0 bytes held text) where
   listed_event chunk n offset event within counted none word held' e =
       let place = 0 + (length bytes - length held) in
       let same : place + length (held ++ take n chunk) ≡ offset + n =
-      search (rules, rest_short, length-append, length-take-le) in
-      rw (e, ← same)
-      (search (rules, texts_append, word_is_printed))
+      search (rules, length-append) in
+      search (rules, texts_append, word_is_printed)
 
   -- they complete none
   pub listed_part : (more held' : List ℕ) → held' ≡ held ++ more → IsPartial held'
       → Prints 0 (bytes ++ more) held' (text ++ [])
-  listed_part more held' e part = search (rules, texts_append, part_is_printed)
+  listed_part more held' e part = search (rules, texts_append)
 
   -- whatever comes after
   pub listed_on : EachIsPrinted → (more : List ℕ) → AreBytes (held ++ more)
@@ -41,4 +34,4 @@ module _ {held bytes text : List ℕ} (h : Prints 0 bytes held text) where
 
 pub listed : {A : Type 0} (r : Result A RunFault) (bytes out : List ℕ)
     → IsPrinted HasCommandLines r bytes out → IsListed r bytes out
-listed r bytes out p = search (rules, stands_by)
+listed r bytes out p = search rules

@@ -2,7 +2,7 @@
 use Rattle.{std.proofs.Common.{◌≡◌, ◌+◌, ◌-◌, List, ℕ, [], ◌∷◌, ◌++◌, Some, Option, Result, refl, sym, ◌∙◌, ap, append_assoc, append-nil, length, take, rules}, dgt_stored.specs.Stored.{Says}}
 use Rattle.{dgt_stored.specs.Stored.{StoredContent}, dgt_decode.specs.{Feeding.{FirstEvent, at_place_if_any}, Grammar.{Event, Placed, at_place, events, unfinished_message}, Laws.{UnfinishedAppend}}}
 use Rattle.{dgt_decode.specs.Laws.{ChunksAdd}, dgt_lines.specs.{Lines.{events_after}, Logging.{IsLogged}, Logs.{HasLog, log_body, stored_lines}, Printing.{HasLogLines, HasPrintedLog, IsPrinted}}}
-use Rattle.dgt_lines.{specs.declared.faults.RunFault.{RunFault}, proofs.{EventLemmas.{events_found, held_then}, Printed.{stands_by}}}
+use Rattle.dgt_lines.{specs.declared.faults.RunFault.{RunFault}, proofs.{EventLemmas.{events_found}}}
 
 -- events in a row
 log_append : (placed later : List Placed) (text others : List ℕ) → HasLog placed text
@@ -54,7 +54,7 @@ module _ {kept bytes text : List ℕ} (h : HasPrintedLog kept bytes text) (chunk
         → HasPrintedLog kept' (bytes ++ take n chunk) (text ++ more)
     logged_more event found more has =
         let same = events_found kept bytes chunk n h.held offset event found counted in
-        search (rules, log_append, held_then)
+        search (rules, log_append)
 
     -- one that found an event
     pub logged_event : (event : Event) → FirstEvent (unfinished_message kept) chunk n (Some event)
@@ -68,15 +68,9 @@ module _ {kept bytes text : List ℕ} (h : HasPrintedLog kept bytes text) (chunk
   pub logged_on : EachBody → (more : List ℕ)
       → (others : List ℕ) × (last : List ℕ) × HasLogLines (bytes ++ more) (text ++ others) last
   logged_on each more =
-      let later = some_log each (events_after (unfinished_message bytes) (length bytes) more) in (
-        later.0,
-        [],
-        (
-          rw (chunks.behind bytes more) (log_append (events bytes) _ text later.0 h.has later.1),
-          refl,
-        ),
-      )
+      let later = some_log each (events_after (unfinished_message bytes) (length bytes) more) in
+      search (rules, log_append)
 
 pub logged : {A : Type 0} (r : Result A RunFault) (bytes out : List ℕ)
     → IsPrinted HasLogLines r bytes out → IsLogged r bytes out
-logged r bytes out p = search (rules, append-nil, stands_by)
+logged r bytes out p = search rules

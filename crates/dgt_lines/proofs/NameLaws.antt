@@ -1,5 +1,5 @@
 -- An event has one name or none, and so events have one text.
-use Rattle.{std.proofs.Common.{◌≡◌, ℕ, List, [], ◌∷◌, ◌++◌, Option, Some, ◌∙◌, ap, sym, rules}, dgt_message.specs.{Content.Content.{carried}, declared.known.KnownCode.{KnownCode}}}
+use Rattle.{std.proofs.Common.{◌≡◌, ℕ, List, [], ◌∷◌, ◌++◌, Option, Some, ◌∙◌, ap, sym, rules}, dgt_message.specs.{declared.known.KnownCode.{KnownCode}}}
 use Rattle.{dgt_decode.specs.Grammar.{Event, Placed}, dgt_names.specs.{Names.{IsBattery, IsSignal}, declared.{battery.BatteryState.{BatteryState}, clock.Signal.{Signal}}}}
 use Rattle.dgt_lines.specs.NamedLines.{AreNamedLines, HasCarriedName, IsNamed, IsOwnText, IsTextOf, battery_text, named_line}
 
@@ -29,7 +29,7 @@ module _
 
   pub one_name : (event : Event) (one other : Option (List ℕ)) → IsNamed event one
       → IsNamed event other → one ≡ other
-  one_name event one other p q = search (rules, one_text_of, one_carried)
+  one_name event one other p q = search (rules, one_carried)
 
   pub one_text : (placed : List Placed) (one other : List ℕ) → AreNamedLines placed one
       → AreNamedLines placed other → one ≡ other

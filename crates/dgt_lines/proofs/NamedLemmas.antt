@@ -5,8 +5,8 @@ use Rattle.{dgt_decode.specs.{Feeding.{at_place_if_any}, Grammar.{Event, Message
 use Rattle.{dgt_names.{specs.Names.{IsSignal, IsText}, proofs.SaidOrNot.{Decided, battery_or_none, signal_or_none, text_or_none}}, dgt_lines.specs.Lines.{event_text, events_after, offset_text}}
 use Rattle.dgt_lines.specs.{NamedLines.{AreMonitored, AreNamedLines, HasCarriedName, IsNamed, IsOwnText, IsTextOf, battery_text, name_text, named_line, signal_text, times_name}, Printing.{GathersOne}}
 use Rattle.dgt_lines.specs.{Printing.{HasNamedLines, HasPrintedNames, IsNameText, IsNamedLine, IsPrinted}, Writing.{Gathered, Gathers, Stopped}, declared.faults.RunFault.{RunFault}}
-use Rattle.dgt_lines.{specs.declared.{streams.Sink.{Ghosts as Sink}, faults.RunFault.TheVariants.{WriteFailed}}, proofs.{EventLemmas.{events_found, held_then}, GatherLemmas.{gathers_first}}}
-use Rattle.dgt_lines.proofs.{GatherLemmas.{gathers_stopped, gathers_then}, Printed.{stands_by}}
+use Rattle.dgt_lines.{specs.declared.{streams.Sink.{Ghosts as Sink}, faults.RunFault.TheVariants.{WriteFailed}}, proofs.{EventLemmas.{events_found}, GatherLemmas.{gathers_first}}}
+use Rattle.dgt_lines.proofs.{GatherLemmas.{gathers_stopped, gathers_then}}
 
 -- ---- each event has a name or none
 
@@ -40,8 +40,7 @@ name_of _ = (None, refl)
 -- ---- one line
 
 named_parts : (offset : ℕ) (event : Event) (name : Option (List ℕ)) (suffix : List ℕ)
-    → suffix ≡ name_text name
-    → named_line (at_place offset event) name
+    → suffix ≡ name_text name → named_line (at_place offset event) name
     ≡ (offset_text offset ++ 32 ∷ event_text event) ++ (suffix ++ codes "\n")
 named_parts offset event name suffix e = rw e (simp append_assoc refl)
 
@@ -125,7 +124,7 @@ module _ {kept bytes text : List ℕ} (h : HasPrintedNames kept bytes text) (chu
         → FirstEvent (unfinished_message kept) chunk n event
         → AreNamedLines (at_place_if_any (offset + n) event) more
         → HasPrintedNames kept' (bytes ++ take n chunk) (text ++ more)
-    named_more event more found p = search (rules, events_found, named_behind, held_then)
+    named_more event more found p = search (rules, events_found, named_behind)
 
     -- one that found an event
     pub named_event : (event : Event) (more : List ℕ)
@@ -149,4 +148,4 @@ module _ {kept bytes text : List ℕ} (h : HasPrintedNames kept bytes text) (chu
 
 pub monitored_names : {A : Type 0} (r : Result A RunFault) (bytes out : List ℕ)
     → IsPrinted HasNamedLines r bytes out → AreMonitored r bytes out
-monitored_names r bytes out p = search (rules, stands_by)
+monitored_names r bytes out p = search rules

@@ -1,7 +1,7 @@
 -- Pictures that events set, one event after another.
-use Rattle.std.proofs.{Common.{◌≡◌, ℕ, List, [], ◌∷◌, ◌++◌, Option, Some, None, refl, ap, append_assoc, length, map, rules}, lemmas.{Grind.{flat_map-append, fold-append}, List.{map-append}}}
-use Rattle.{std.specs.{List.{flat_map, last_or}, Prelude.{fold}}, dgt_values.specs.declared.pieces.Piece.{Piece}, dgt_decode.specs.Grammar.{Event, Placed, events, unfinished_message}}
-use Rattle.{dgt_decode.specs.Laws.{ChunksAdd}, dgt_lines.specs.{Lines.{events_after}, Pictures.{LastLineIsPicture, PlacedPicture, made_by, picture_after_event, picture_after_events, picture_line}}}
+use Rattle.std.proofs.{Common.{◌≡◌, ℕ, List, [], ◌∷◌, ◌++◌, Option, Some, None, refl, append_assoc, length, map, rules}, lemmas.{Grind.{flat_map-append, fold-append}}}
+use Rattle.{std.specs.{List.{last_or}, Prelude.{fold}}, dgt_values.specs.declared.pieces.Piece.{Piece}, dgt_decode.specs.Grammar.{Event, Placed, events, unfinished_message}}
+use Rattle.{dgt_decode.specs.Laws.{ChunksAdd}, dgt_lines.specs.{Lines.{events_after}, Pictures.{LastLineIsPicture, PlacedPicture, made_by, picture_after_event, picture_after_events}}}
 use Rattle.dgt_lines.specs.Pictures.{picture_lines, picture_reported, pictures, pictures_text}
 
 -- what more events make
@@ -46,7 +46,7 @@ pictures_last : (before : Option (List Piece)) (xs : List Placed)
 pictures_last before [] = refl
 pictures_last before (x ∷ xs) =
     let after = picture_after_event before x.event in
-    search (rules, map-append, last_or-append, pictures_last after xs)
+    search (rules, pictures_last after xs)
 
 pub last_line_is_picture : LastLineIsPicture
 last_line_is_picture bytes = pictures_last None (events bytes)

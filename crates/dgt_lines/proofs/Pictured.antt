@@ -2,8 +2,7 @@
 use Rattle.{std.{proofs.Common.{◌≡◌, ◌+◌, List, ℕ, [], ◌++◌, Option, Some, Result, refl, sym, ◌∙◌, ap, append-nil, length, take, rules}, specs.List.{flat_map}}, dgt_decode.specs.Feeding.{FirstEvent}}
 use Rattle.{dgt_decode.specs.{Feeding.{at_place_if_any}, Grammar.{Event, events, unfinished_message}, Laws.{UnfinishedAppend, ChunksAdd}}, dgt_lines.specs.{Lines.{events_after}, Picturing.{HasText}}}
 use Rattle.dgt_lines.specs.{Printing.{HasPrintedReports, HasReportLines, IsPrinted}, Reports.{report_line, report_lines, reports_at, state_after_event, state_after_events, state_from, text_from}}
-use Rattle.dgt_lines.{specs.declared.{doubts.PictureState.{PictureState}, faults.RunFault.{RunFault}}, proofs.{EventLemmas.{events_found, held_then}, Printed.{stands_by}}}
-use Rattle.dgt_lines.proofs.ReportLemmas.{state_from-append, text_from-append}
+use Rattle.dgt_lines.{specs.declared.{doubts.PictureState.{PictureState}, faults.RunFault.{RunFault}}, proofs.{EventLemmas.{events_found}, ReportLemmas.{state_from-append, text_from-append}}}
 
 text_none : (first : PictureState) → text_from first [] ≡ []
 unfolding events
@@ -29,8 +28,7 @@ module _ {first state : PictureState} {kept bytes text : List ℕ}
         → HasPrintedReports first kept'
         (state_after_events state (at_place_if_any (offset + n) event)) (bytes ++ take n chunk)
         (text ++ report_lines state (at_place_if_any (offset + n) event))
-    pictured_more event found =
-        search (rules, events_found, text_from-append, state_from-append, held_then)
+    pictured_more event found = search (rules, events_found, text_from-append, state_from-append)
 
     -- one that found an event
     pub pictured_event : (event : Event) → FirstEvent (unfinished_message kept) chunk n (Some event)
@@ -42,8 +40,7 @@ module _ {first state : PictureState} {kept bytes text : List ℕ}
         (pictured_more (Some event) found)
 
   -- whatever comes after
-  pub pictured_on : (more : List ℕ)
-      → (others : List ℕ) × (last : List ℕ)
+  pub pictured_on : (more : List ℕ) → (others : List ℕ) × (last : List ℕ)
       × HasReportLines first (bytes ++ more) (text ++ others) last
   pictured_on more =
       let others =
@@ -56,4 +53,4 @@ module _ {first state : PictureState} {kept bytes text : List ℕ}
 
 pub reported : {A : Type 0} (r : Result A RunFault) (first : PictureState) (bytes out : List ℕ)
     → IsPrinted (HasReportLines first) r bytes out → HasText (text_from first) r bytes out
-reported r first bytes out p = search (rules, append-nil, stands_by)
+reported r first bytes out p = search rules

@@ -1,5 +1,5 @@
 -- The state between two reads of an engine that prints.
-use Rattle.std.proofs.{Common.{◌≡◌, ◌+◌, ℕ, List, [], ◌++◌, Result, Ok, Err, IsErrAnd, OnOk, length, refl, sym, ◌∙◌, subst, arith, append-nil, length-append, rules}, KnownBytes.{Consumes-trans}}
+use Rattle.std.proofs.{Common.{◌≡◌, ◌+◌, ℕ, List, [], ◌++◌, Result, Ok, Err, IsErrAnd, OnOk, length, refl, subst, arith, rules}}
 use Rattle.{std.{proofs.lemmas.Grind.{common_steps}, specs.Io.KnownBytes.{Consumes}}, dgt_lines.specs.{Monitoring.{IsInSink}, Printing.{IsPrinted}, Turns.{Ran, change, InTurns}, Writing.{Wrote}}}
 use Rattle.dgt_lines.specs.{Writing.{Stopped, Writes, InARow}, declared.{faults.RunFault.{RunFault}, streams.{Sink.{Ghosts as Sink}, Source.{Ghosts as Source}}}}
 use Rattle.dgt_lines.{specs.declared.faults.RunFault.TheVariants.{WriteFailed}, proofs.TurnLemmas.{BetweenReads}}
@@ -22,8 +22,7 @@ module _ {T : Type 0} {W : Sink T} (row : InARow W) {HasPrinted : List ℕ → L
       (bytes chunk more : List ℕ) (h : Printed W c d HasPrinted offset bytes) → length chunk ≡ n
       → Wrote W d d' more → Wrote W d' d'' [] → HasPrinted' (bytes ++ chunk) (h.text ++ more)
       → Printed W c d'' HasPrinted' (offset + n) (bytes ++ chunk)
-  printed_more c d d' d'' offset n bytes chunk more h m w f has =
-      grind (arith, common_steps, append-nil, length-append)
+  printed_more c d d' d'' offset n bytes chunk more h m w f has = grind (arith, common_steps)
 
 -- ---- how the run ends
 
@@ -38,15 +37,13 @@ module _ {S T : Type 0} {R : Source S} {W : Sink T} (row : InARow W)
   printed_end b' d' last (Ok x) t h p has w = (
     t.bytes,
     h.text ++ last,
-    subst (Consumes (R.left a) (R.left b')) (append-nil t.bytes)
-        (Consumes-trans _ _ _ t.bytes [] t.given p),
+    search rules,
     (row.writes c d d' h.text last (Ok x) h.wrote w).appends,
     (tt, record { text = h.text; last = last; has = has; stands = refl }),
   )
   printed_end b' d' last (Err e) t h p has w =
       let stop = (row.writes c d d' h.text last (Err e) h.wrote w).1 in
-      subst (λ f. let r : Result (Unit {0}) RunFault = Err f in Ran R W (change a b') (change c d')
-      (InTurns limit r (IsPrinted HasLines r))) (sym w.0) (search (rules, append-nil))
+      search rules
 
   -- at a write that was refused, of the lines of a chunk
   pub printed_stopped : (b' : S) (d' : T) (chunk more last : List ℕ)
@@ -58,8 +55,7 @@ module _ {S T : Type 0} {R : Source S} {W : Sink T} (row : InARow W)
   printed_stopped b' d' chunk more last (Ok x) e t h p has k q = absurd k
   printed_stopped b' d' chunk more last (Err y) e t h p has k q =
       let stop = row.longer c d' _ last (row.writes c d d' h.text more (Err e) h.wrote q).1 in
-      subst (λ f. let r : Result (Unit {0}) RunFault = Err f in Ran R W (change a b') (change c d')
-      (InTurns limit r (IsPrinted HasLines r))) (sym (k ∙ q.0)) (grind (arith, common_steps))
+      grind (arith, common_steps)
 
 -- ---- what is said of a run
 

@@ -1,5 +1,5 @@
 -- The text of bytes that come in chunks.
-use Rattle.std.proofs.{Common.{◌≡◌, ℕ, ◌+◌, ◌-◌, List, [], ◌∷◌, ◌++◌, refl, sym, ◌∙◌, ap, length, arith, append_assoc, append-nil, length-append, rules}, lemmas.Grind.{flat_map-append, common_steps}}
+use Rattle.std.proofs.{Common.{◌≡◌, ℕ, ◌+◌, List, [], ◌∷◌, ◌++◌, refl, sym, ◌∙◌, ap, length, arith, append_assoc, append-nil, length-append, rules}, lemmas.Grind.{flat_map-append, common_steps}}
 use Rattle.{std.specs.List.{AllByRecursion}, dgt_command.specs.{Content.{EventContent}, Laws.{EachHasItsWords}, Words.{IsWord, IsPartial, Word, word_bytes}}}
 use Rattle.dgt_lines.specs.{CommandLaws.{EachIsPrinted, EachIsPrintedOnce, TextsAppend}, CommandLines.{Prints, command_line, word_lines}}
 
@@ -21,23 +21,8 @@ word_lines-append k (x ∷ xs) ys =
 pub texts_append : TextsAppend
 texts_append k s t r q text others h g = record {
   words = h.words ++ g.words;
-  are_words = record {
-    each = all_words-append h.words g.words h.are_words.each g.are_words.each;
-    whole =
-        ap (λ l. l ++ t) h.are_words.whole
-        ∙ append_assoc (word_bytes h.words) r t
-        ∙ ap (λ l. word_bytes h.words ++ l) g.are_words.whole
-        ∙ sym (append_assoc (word_bytes h.words) (word_bytes g.words) q)
-        ∙ ap (λ l. l ++ q) (sym (flat_map-append (λ (word : Word). word.bytes) h.words g.words));
-    partial = g.are_words.partial;
-  };
-  said =
-      let e : k + (length s - length r) ≡ k + length (word_bytes h.words) =
-      omega (arith, ap length h.are_words.whole, length-append (word_bytes h.words) r) in
-      ap (λ l. l ++ others) h.said
-      ∙ ap (λ l. word_lines k h.words ++ l) g.said
-      ∙ ap (λ n. word_lines k h.words ++ word_lines n g.words) e
-      ∙ sym (word_lines-append k h.words g.words);
+  are_words = search (rules, all_words-append, append_assoc, flat_map-append);
+  said = search (rules, length-append, word_lines-append);
 }
 
 -- one word
@@ -45,7 +30,7 @@ pub word_is_printed : IsPartial [] → (k : ℕ) (word : List ℕ) (event : Even
     → IsWord event word → Prints k word [] (command_line (k + length word) event)
 word_is_printed none k word event h = record {
   words = record { event = event; bytes = word } ∷ [];
-  are_words = search (rules, append-nil);
+  are_words = search rules;
   said = sym (append-nil (command_line (k + length word) event));
 }
 

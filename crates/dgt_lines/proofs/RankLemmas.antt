@@ -1,10 +1,9 @@
 -- The texts of ranks.
 use Prim.Native.Char.{code as ascii}
-use Rattle.std.proofs.Common.{length-append, length-take-le, take-take, true≢false, Bool, ◌≤◌, ◌-◌, ◌&&◌, subst, true, false, slice_index_or, ◌≡◌, ℕ, zero, suc, ◌+◌, ◌*◌, ◌/◌, ◌%◌, ◌<◌, List, [], ◌∷◌}
-use Rattle.std.proofs.{Common.{◌++◌, ◌∙◌, ap, append_assoc, append-nil, arith, drop, get_or, length, refl, sym, take, rules}, Math.Seq.{take-append_seam}, lemmas.{Bool.{ne_eqb}, Grind.{common_steps}}}
-use Rattle.std.{proofs.lemmas.List.{take_more_set, drop-drop, drop-set-add, drop-set-lt, take-set-le}, specs.{List.{join_with_byte}, Prelude.{◌≢◌, codes, flat_map, slice_set}}}
-use Rattle.dgt_values.specs.{Board.{piece_code, piece_letter}, Placement.{placement_text, rank_text_after, ranks_text, run_text}, declared.pieces.Piece.{Piece, TheVariants.{Empty}}}
-use Rattle.dgt_values.proofs.Placing.{one_more_empty, one_more_piece}
+use Rattle.std.proofs.Common.{take-take, true≢false, Bool, ◌≤◌, ◌-◌, ◌&&◌, subst, true, false, slice_index_or, ◌≡◌, ℕ, zero, suc, ◌+◌, ◌*◌, ◌/◌, ◌%◌, ◌<◌, List, [], ◌∷◌, ◌++◌, ◌∙◌, ap, append_assoc}
+use Rattle.std.proofs.{Common.{arith, drop, get_or, length, refl, sym, take, rules}, Math.Seq.{take-append_seam}, lemmas.{Grind.{common_steps}, List.{take_more_set, drop-drop}}}
+use Rattle.{std.{proofs.lemmas.List.{drop-set-add, take-set-le}, specs.{List.{join_with_byte}, Prelude.{◌≢◌, codes, flat_map, slice_set}}}, dgt_values.specs.Board.{piece_code, piece_letter}}
+use Rattle.dgt_values.{specs.{Placement.{placement_text, rank_text_after, ranks_text, run_text}, declared.pieces.Piece.{Piece, TheVariants.{Empty}}}, proofs.Placing.{one_more_empty, one_more_piece}}
 
 -- ---- one rank, a piece after another
 
@@ -29,13 +28,6 @@ pub record RankSoFar (written : List ℕ) (was_empty : Bool) (last seen : ℕ) (
   pub no_digit : was_empty ≡ false → empty ≡ 0
   pub few : empty ≤ seen
 
-run_digit : (empty : ℕ) → 0 < empty → run_text empty ≡ (ascii "0" + empty) ∷ []
-run_digit empty some = rw (ne_eqb empty 0 (λ h. omega arith)) refl
-
--- one digit is a byte
-run_short : (empty : ℕ) → 0 < empty → length (run_text empty) ≡ 1
-run_short empty some = rw (run_digit empty some) refl
-
 module _ (rank : List Piece) (i len last : ℕ) (bytes whole : List ℕ)
     (inside : i < length rank) where
   -- one empty square more of a run
@@ -45,21 +37,20 @@ module _ (rank : List Piece) (i len last : ℕ) (bytes whole : List ℕ)
       (drop (i + 1) rank) whole
   counted before room e =
       let some = before.digit refl in
-      let long : len ≡ length before.prefix + 1 =
-      grind (arith, common_steps, length-append, run_short, length-take-le) in
+      let long : len ≡ length before.prefix + 1 = grind (arith, common_steps) in
       let next : len - 1 + 1 ≡ len = omega arith in
       let prefix : take (len - 1) bytes ≡ before.prefix =
       sym (take-take (len - 1) len bytes (omega arith)) ∙ ap (take (len - 1)) before.ends
       ∙ ap (λ n. take n (before.prefix ++ run_text before.empty)) (omega arith)
       ∙ take-append_seam before.prefix (run_text before.empty) in
-      search (rules, take_more_set, run_digit, one_more_empty, true≢false)
+      search (rules, take_more_set, one_more_empty)
 
   -- the first empty square of a run
   pub begun : RankSoFar (take len bytes) false last i (drop i rank) whole → len < length bytes
       → get_or rank i Empty ≡ Empty
       → RankSoFar (take (len + 1) (slice_set bytes len (ascii "1"))) true (ascii "1") (i + 1)
       (drop (i + 1) rank) whole
-  begun before room e = search (rules, append-nil, take_more_set, one_more_empty, true≢false)
+  begun before room e = search (rules, take_more_set, one_more_empty)
 
   -- a piece
   pub lettered : (was_empty : Bool) (letter : ℕ)
@@ -67,8 +58,7 @@ module _ (rank : List Piece) (i len last : ℕ) (bytes whole : List ℕ)
       → get_or rank i Empty ≢ Empty → letter ≡ piece_letter (get_or rank i Empty)
       → RankSoFar (take (len + 1) (slice_set bytes len letter)) false letter (i + 1)
       (drop (i + 1) rank) whole
-  lettered was_empty letter before room ne e =
-      search (rules, take_more_set, append-nil, one_more_piece, true≢false)
+  lettered was_empty letter before room ne e = search (rules, take_more_set, one_more_piece)
 
   -- with the byte at k - 1 written, k bytes are
   abbrev NextSoFar : ℕ → ℕ → Bool → Type 0
@@ -79,8 +69,7 @@ module _ (rank : List Piece) (i len last : ℕ) (bytes whole : List ℕ)
       → RankSoFar (take len bytes) was_empty last i (drop i rank) whole → len ≤ length bytes
       → (empty ≡ true → get_or rank i Empty ≡ Empty) → (empty && was_empty) ≡ true → k ≡ len
       → next ≡ last + 1 → NextSoFar k next empty
-  counted_next was_empty empty k next before room is both ek en =
-      search (rules, counted, true≢false)
+  counted_next was_empty empty k next before room is both ek en = search (rules, counted)
 
   pub other_next : (was_empty empty : Bool) (k next : ℕ)
       → RankSoFar (take len bytes) was_empty last i (drop i rank) whole → len < length bytes
@@ -109,9 +98,7 @@ module _ (rank : List Piece) (i len last : ℕ) (bytes whole : List ℕ)
           subst
           (λ n. RankSoFar (take (len + 1) (slice_set bytes len n)) true n (i + 1)
           (drop (i + 1) rank) whole) (sym (one (is refl))) (begun before room (is refl))
-      go was_empty false before both is is_not =
-          let piece : get_or rank i Empty ≢ Empty = λ h. true≢false (sym (is_not h)) in
-          lettered was_empty next before room piece (letter piece)
+      go was_empty false before both is is_not = search (rules, lettered)
 
 -- nothing is written of a rank
 pub so_far_none : (rank : List Piece) → RankSoFar [] false 0 0 rank (rank_text_after 0 rank)
@@ -136,9 +123,7 @@ ranks_text-set : (n q r : ℕ) (pieces : List Piece) (piece : Piece) → q < n �
 ranks_text-set zero q r pieces piece h k = absurd (omega arith)
 ranks_text-set (suc n) zero r pieces piece h k =
     let first : 8 * 0 + r ≡ r = omega arith in
-    rw first
-    (ap (λ l. rank_text (take 8 (slice_set pieces r piece)) ∷ ranks_text n l)
-    (drop-set-lt 8 pieces r piece k))
+    rw first (search rules)
 ranks_text-set (suc n) (suc q) r pieces piece h k =
     let s = 8 * q + r in
     let later : 8 * suc q + r ≡ 8 + s = omega arith in

@@ -1,18 +1,7 @@
 -- Reports of events, one event after another.
-use Rattle.std.{proofs.{Common.{◌≡◌, ℕ, List, [], ◌∷◌, ◌++◌, Option, ap, length, rules}, lemmas.Grind.{flat_map-append, fold-append}}, specs.List.{flat_map}}
-use Rattle.{dgt_values.specs.declared.pieces.Piece.{Piece}, dgt_decode.specs.{Grammar.{Placed, events, unfinished_message}, Laws.{ChunksAdd}}, dgt_lines.specs.{Lines.{events_after}, Reports.{Report}}}
-use Rattle.dgt_lines.specs.Reports.{Doubts, ShowsClock, clock_reports, doubt_raised, report_line, report_lines, reports, reports_at, state_after_event, state_after_events, state_from, text_from}
-use Rattle.dgt_lines.{specs.declared.{clocks.ShownClock.{ShownClock}, doubts.{Doubt.{Doubt}, PictureState.{PictureState}}}, proofs.PictureLemmas.{made_by-append}}
-
--- what a fault reports is nothing or a doubt
-pub of_raised : (P : List Report → Type 0) (place : ℕ) (picture : Option (List Piece))
-    (doubt : Doubt) → P [] → P (Doubts place ∷ []) → P (doubt_raised place picture doubt)
-of_raised P place picture doubt none one = search rules
-
--- what a text of the clock reports is nothing or the text
-pub of_clock : (P : List Report → Type 0) (place : ℕ) (text : List ℕ) (clock : ShownClock) → P []
-    → P (ShowsClock place text ∷ []) → P (clock_reports place text clock)
-of_clock P place text clock none one = search rules
+use Rattle.{std.proofs.{Common.{◌≡◌, ℕ, List, ◌++◌, length, rules}, lemmas.Grind.{flat_map-append, fold-append}}, dgt_decode.specs.{Grammar.{Placed, unfinished_message}, Laws.{ChunksAdd}}}
+use Rattle.dgt_lines.specs.{Lines.{events_after}, Reports.{report_lines, reports, reports_at, state_after_event, state_after_events, state_from, text_from}}
+use Rattle.dgt_lines.{specs.declared.doubts.PictureState.{PictureState}, proofs.PictureLemmas.{made_by-append}}
 
 pub reports-append : (before : PictureState) (xs ys : List Placed)
     → reports before (xs ++ ys) ≡ reports before xs ++ reports (state_after_events before xs) ys

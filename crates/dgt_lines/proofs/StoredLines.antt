@@ -1,8 +1,8 @@
 -- The lines of the stored events of a body, one after another.
-use Rattle.std.proofs.Common.{◌≡◌, ◌+◌, ◌-◌, ◌<◌, ◌≤◌, ℕ, List, [], ◌∷◌, ◌++◌, Result, Ok, Err, IsErrAnd, refl, sym, ◌∙◌, ap, subst, arith, length, take, drop, append_assoc, append-nil, length-drop}
-use Rattle.{std.proofs.{Common.{rules}, Math.Seq.{drop-append_seam}, lemmas.List.{drop-drop, take_rest}}, dgt_stored.specs.Stored.{IsFirst, Says, StoredContent, stored_bytes}}
-use Rattle.{dgt_stored.proofs.Bodies.{shorter}, dgt_lines.specs.{Lines.{line}, Logs.{stored_lines, stored_text}, Printing.{Puts}, declared.{faults.RunFault.{RunFault}, streams.Sink.{Ghosts as Sink}}}}
-use Rattle.dgt_lines.proofs.{ChunkLemmas.{waits_then}, GatherLemmas.{gathers_then, puts_none, stopped_longer}, Printed.{on_ok}}
+use Rattle.std.proofs.{lemmas.Grind.{common_steps}, Common.{◌≡◌, ◌+◌, ◌-◌, ◌<◌, ◌≤◌, ℕ, List, [], ◌∷◌, ◌++◌, Result, Ok, Err, IsErrAnd, ap, arith, length, take, drop, append_assoc, append-nil}}
+use Rattle.{std.proofs.{Common.{length-drop, rules}, Math.Seq.{drop-append_seam}, lemmas.List.{drop-drop, take_rest}}, dgt_stored.specs.Stored.{IsFirst, Says, StoredContent, stored_bytes}}
+use Rattle.dgt_lines.proofs.{ChunkLemmas.{waits_then}, GatherLemmas.{gathers_then, puts_none}, Printed.{on_ok}}
+use Rattle.{dgt_lines.specs.{Lines.{line}, Logs.{stored_lines, stored_text}, Printing.{Puts}, declared.{faults.RunFault.{RunFault}, streams.Sink.{Ghosts as Sink}}}}
 
 -- ---- calls that gather, one after another
 
@@ -25,10 +25,6 @@ module _ {S : Type 0} {W : Sink S} where
     no_flush = λ f. q.no_flush (p.no_flush f);
     waits = on_ok r (λ f w. waits_then i j (h ++ s) t _ _ _ p.waits f (rw append_assoc w)) q.waits;
   }
-
-  puts_longer : {A : Type 0} (h j : List ℕ) (a c : S) (s t : List ℕ) (e : RunFault)
-      → Puts {A = A} W (h, j) a c (Err e) s → Puts {A = A} W (h, j) a c (Err e) (s ++ t)
-  puts_longer h j a c s t e p = search (rules, append_assoc, stopped_longer)
 
 -- ---- the lines of a body
 
@@ -55,8 +51,7 @@ module _ {S : Type 0} (W : Sink S) where
   module _ (h i j : List ℕ) (a b c : S) (before at : ℕ) (body : List ℕ)
       (things : List StoredContent)
       (some : PutSome h i a b before at body things) (within : at < length body) where
-    pub put_more : (used : ℕ)
-        → ((stored : StoredContent) (later : List ℕ)
+    pub put_more : (used : ℕ) → ((stored : StoredContent) (later : List ℕ)
         → IsFirst (take (length body - at) (drop at body)) stored later
         → (used ≡ length (stored_bytes stored)) × Puts {A = ℕ} W (i, j) b c (Ok used)
         (line (before + at + length (stored_bytes stored)) (stored_text stored)))
@@ -82,8 +77,7 @@ module _ {S : Type 0} (W : Sink S) where
               said = some.said ++ text;
               left = more;
               says = rw later says.2;
-              whole = whole ∙ sym (append_assoc some.said text _)
-                  ∙ ap (λ n. (some.said ++ text) ++ stored_lines n more) next;
+              whole = search (rules, append_assoc);
               puts = puts_then h i j a b c some.said text (Ok tt) some.puts (puts_as used tt put.1);
             }
 
@@ -100,15 +94,10 @@ module _ {S : Type 0} (W : Sink S) where
         go [] none whole = absurd (omega (arith, ap length none, length-drop at body, within))
         go (stored ∷ more) says whole =
             let put = puts stored says.0 (rw (take_rest body at) says.1) in
-            let text = line (before + at + length (stored_bytes stored)) (stored_text stored) in
-            let stop : Result (Unit {0}) RunFault = Err e in
-            rw whole (subst (λ l. Puts W (h, j) a c stop l) (append_assoc some.said text _)
-            (puts_longer h j a c (some.said ++ text) _ e
-            (puts_then h i j a b c some.said text stop some.puts (stops_as e stop refl put.1))))
+            search (rules, append_assoc)
 
   pub put_all : (h i : List ℕ) (a b : S) (before at : ℕ) (body : List ℕ)
-      (things : List StoredContent)
-      → length body ≤ at → PutSome h i a b before at body things
+      (things : List StoredContent) → length body ≤ at → PutSome h i a b before at body things
       → Puts {A = Unit {0}} W (h, i) a b (Ok tt) (stored_lines before things)
   put_all h i a b before at body things all some = go some.left some.says some.whole
     where
@@ -116,6 +105,4 @@ module _ {S : Type 0} (W : Sink S) where
           → stored_lines before things ≡ some.said ++ stored_lines (before + at) left
           → Puts {A = Unit {0}} W (h, i) a b (Ok tt) (stored_lines before things)
       go [] none whole = rw (whole, append-nil) some.puts
-      go (stored ∷ more) says whole =
-          absurd
-          (omega (arith, all, length-drop at body, shorter (drop at body) says.0 stored says.1))
+      go (stored ∷ more) says whole = grind (arith, common_steps)

@@ -52,14 +52,13 @@ next_read {taken = taken} p more n buffer bound given not_refused no_end counted
     flushed = let not_ended = no_end (λ h. some h.0) in record {
       bytes = p.bytes ++ take n buffer;
       given = Consumes-trans _ _ _ p.bytes (take n buffer) p.given given;
-      each =
-          omega (
-            arith,
-            p.each,
-            some,
-            length-append p.bytes (take n buffer),
-            length-take-le n buffer bound,
-          );
+      each = omega (
+        arith,
+        p.each,
+        some,
+        length-append p.bytes (take n buffer),
+        length-take-le n buffer bound,
+      );
       not_failed = not_refused ∙ p.not_failed;
       not_ended = not_ended ∙ p.not_ended;
       source_in_time = λ f e. in_time (p.not_failed ∙ f) (p.not_ended ∙ e) ∙ p.source_in_time f e;

@@ -1,11 +1,8 @@
-use Rattle.{std.proofs.Common.{◌≡◌, ℕ, ◌+◌, ◌∙◌, [], ◌∷◌, sym, ap, inl, inr}, dgt_chess.specs.{declared.state.State.{State}, Draws.{Counts, OneCount}}}
+use Rattle.{std.proofs.Common.{rules, ◌≡◌, ℕ, ◌+◌, ◌∙◌, [], ◌∷◌, sym, ap}, dgt_chess.specs.{declared.state.State.{State}, Draws.{Counts, OneCount}}}
 use Rattle.dgt_chess.proofs.laws.one_count.Goals as goal
 
 same_counts : (one state : State) (n m : ℕ) → Counts one state n → Counts one state m → n ≡ m
-same_counts one state n m first second = elim first [
-  | inl a ↦ elim second [ inl b ↦ a.1 ∙ sym b.1 | inr b ↦ absurd (b.0 a.0) ]
-  | inr a ↦ elim second [ inl b ↦ absurd (a.0 b.0) | inr b ↦ a.1 ∙ sym b.1 ]
-]
+same_counts one state n m first second = search rules
 
 one_count : OneCount
 one_count [] state n m first second = first ∙ sym second

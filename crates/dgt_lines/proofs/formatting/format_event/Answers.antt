@@ -1,4 +1,4 @@
-use Rattle.{std.proofs.Common.{ap, append-nil, rules}, hex.specs.Hex.{encode_lower}, dgt_lines.proofs.HexLemmas.{encode_lower-nil}}
+use Rattle.{std.proofs.Common.{append-nil, rules}, dgt_lines.proofs.HexLemmas.{encode_lower-nil}}
 use Rattle.dgt_lines.proofs.formatting.format_event.Goals as goal
 
 pub returns-in-None-clause-text : goal.returns-in-None-clause-text

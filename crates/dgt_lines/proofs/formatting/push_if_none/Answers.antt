@@ -1,4 +1,4 @@
-use Rattle.{std.proofs.{Common.{ap, append-nil, rules}, lemmas.Bool.{eqb-true}}, hex.specs.Hex.{encode_lower}, dgt_lines.proofs.HexLemmas.{encode_lower-nil}}
+use Rattle.{std.proofs.{Common.{append-nil, rules}, lemmas.Bool.{eqb-true}}, dgt_lines.proofs.HexLemmas.{encode_lower-nil}}
 use Rattle.dgt_lines.proofs.formatting.push_if_none.Goals as goal
 
 pub returns-then-is_empty : goal.returns-then-is_empty

@@ -8,9 +8,8 @@ had_or_both None new prefix rest had whole appends = cc
 had_or_both (Some x) None prefix rest had whole appends = absurd appends
 had_or_both (Some x) (Some y) [] rest had whole appends =
     inl (ap Some (appends ∙ append-nil x) ∙ had)
-had_or_both (Some x) (Some y) (p ∷ []) rest had whole appends =
-    inr (grind (arith, had, whole, appends))
-had_or_both (Some x) (Some y) (p ∷ q ∷ more) rest had whole appends = grind (arith, whole)
+had_or_both (Some x) (Some y) (p ∷ []) rest had whole appends = inr (grind arith)
+had_or_both (Some x) (Some y) (p ∷ q ∷ more) rest had whole appends = grind arith
 
 pub returns : goal.returns
 returns g c a b fault stops had = search (rules, had_or_both)

@@ -2,8 +2,7 @@ use Rattle.{std.proofs.Common.{arith, refl}, dgt_lines.proofs.TextLemmas.{padded
 use Rattle.dgt_lines.proofs.naming.push_number.Goals as goal
 
 pub returns-clause-text : goal.returns-clause-text
-returns-clause-text c =
-    rw (
-      c.push_decimal.ensures.bytes,
-      padded_one c.args.number (omega (arith, c.ranges.number.fits)),
-    ) refl
+returns-clause-text c = rw (
+  c.push_decimal.ensures.bytes,
+  padded_one c.args.number (omega (arith, c.ranges.number.fits)),
+) refl

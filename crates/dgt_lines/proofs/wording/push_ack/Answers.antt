@@ -1,4 +1,4 @@
-use Rattle.{std.proofs.{Common.{ap, append_assoc, codes, rules}, lemmas.List.{take_all}}, dgt_lines.{specs.Lines.{message_text}, proofs.TextLemmas.{spaced_text, spaced_text-take, words_text-bytes}}}
+use Rattle.{std.proofs.{Common.{append_assoc, codes, rules}, lemmas.List.{take_all}}, dgt_lines.{specs.Lines.{message_text}, proofs.TextLemmas.{spaced_text, spaced_text-take, words_text-bytes}}}
 use Rattle.dgt_lines.proofs.wording.push_ack.Goals as goal
 
 pub loop-byte-preserved : goal.loop-byte-preserved

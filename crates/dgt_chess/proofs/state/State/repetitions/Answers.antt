@@ -1,21 +1,14 @@
-use Rattle.std.proofs.{Common.{◌≡◌, ℕ, ◌+◌, ◌<◌, ◌≤◌, ◌∙◌, List, ◌∷◌, length, get_or, drop, sym, ap, subst, refl, arith, inl, inr}, lemmas.List.{drop_all, drop_more}}
-use Rattle.dgt_chess.specs.{declared.state.State.{State}, Draws.{Counts, Repeats}}
+use Rattle.{std.proofs.{Common.{rules, ◌≡◌, ℕ, ◌+◌, ◌<◌, ◌≤◌, List, length, get_or, drop, sym, subst, refl, arith}, lemmas.List.{drop_all, drop_more}}, dgt_chess.specs.declared.state.State.{State}}
+use Rattle.dgt_chess.specs.Draws.{Counts, Repeats}
 use Rattle.dgt_chess.proofs.state.State.repetitions.Goals as goal
 
 at_most_one : (one state : State) (n : ℕ) → Counts one state n → n ≤ 1
-at_most_one one state n counts = elim counts [
-  | inl same ↦ let e = same.1 in omega arith
-  | inr other ↦ let e = other.1 in
-      omega arith
-]
+at_most_one one state n counts = search rules
 
 next : (history : List State) (one state : State) (i n m : ℕ) → i < length history
     → one ≡ get_or history i one → Counts one state n → Repeats (drop (i + 1) history) state m
     → Repeats (drop i history) state (n + m)
-next history one state i n m within here counts more =
-    let P : List State → Type 0 = λ l. Repeats l state (n + m) in
-    subst P (ap (λ x. x ∷ drop (i + 1) history) here ∙ sym (drop_more history i one within))
-    (n, m, counts, more, refl)
+next history one state i n m within here counts more = search (rules, drop_more)
 
 pub loop-one-preserved : goal.loop-one-preserved
 loop-one-preserved c =

@@ -1,6 +1,5 @@
-use Rattle.std.proofs.{Common.{rules, ◌+◌, ◌-◌, ◌<◌, ◌⊎◌, inl, inr, ap, arith, append_assoc, drop, take}, lemmas.{Fmt.{decimal_digit}, List.{drop-set, take_rest}}}
-use Rattle.dgt_lines.proofs.{DecimalLemmas.{prefix, prefix-all, prefix-last, none_below, tenth_below}, TextLemmas.{padded_one}, gathering.Outgoing.push_decimal.Goals.{then-rest-gt0}}
-use Rattle.dgt_lines.proofs.gathering.Outgoing.push_decimal.Goals.{else-rest-gt0+then-at-width}
+use Rattle.{std.proofs.{Common.{rules, ◌-◌, ◌<◌, ◌⊎◌, inl, inr, arith, append_assoc}, lemmas.{Fmt.{decimal_digit}, List.{drop-set, take_rest}}}, dgt_lines.proofs.DecimalLemmas.{prefix, prefix-all}}
+use Rattle.dgt_lines.proofs.{DecimalLemmas.{prefix-last, none_below, tenth_below}, TextLemmas.{padded_one}, gathering.Outgoing.push_decimal.Goals.{then-rest-gt0, else-rest-gt0+then-at-width}}
 use Rattle.dgt_lines.proofs.gathering.Outgoing.push_decimal.Goals as goal
 
 pub returns-then-width-eq1-clause-bytes : goal.returns-then-width-eq1-clause-bytes

@@ -1,4 +1,4 @@
-use Rattle.{std.proofs.Common.{ap, append-nil, append_assoc, rules}, dgt_lines.proofs.HexLemmas.{encode_lower-nil, encode_lower-take}}
+use Rattle.{std.proofs.Common.{append-nil, append_assoc, rules}, dgt_lines.proofs.HexLemmas.{encode_lower-nil, encode_lower-take}}
 use Rattle.dgt_lines.proofs.gathering.Outgoing.push_hex.Goals as goal
 
 pub loop-byte-init : goal.loop-byte-init

@@ -1,4 +1,4 @@
-use Rattle.{std.proofs.{Common.{rules, arith, length}, lemmas.List.{length-set}}, dgt_lines.proofs.{RankLemmas.{counted_next, other_next, so_far_none}, pictures.RankText.form.Goals.{then-counts}}}
+use Rattle.{std.proofs.{Common.{rules, arith}, lemmas.List.{length-set}}, dgt_lines.proofs.{RankLemmas.{counted_next, other_next, so_far_none}, pictures.RankText.form.Goals.{then-counts}}}
 use Rattle.dgt_lines.proofs.pictures.RankText.form.Goals.{else-counts}
 use Rattle.dgt_lines.proofs.pictures.RankText.form.Goals as goal
 
