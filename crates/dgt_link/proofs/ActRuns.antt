@@ -1,4 +1,5 @@
 -- How far a run of acts has come.
+use Rattle.std.proofs.Common.{rules}
 use Rattle.std.{proofs.{Common.{◌≡◌, refl, sym, ap, ◌∙◌, ℕ, ◌+◌, ◌<◌, List, [], ◌∷◌, ◌++◌, length, take, get_or, map, arith}, lemmas.List.{map-append, take_more}}, specs.List.{AllByRecursion}}
 use Rattle.dgt_link.specs.{Step.{RunsBy, done_count}, View.{WorldView}, declared.acts.Outcome.{Outcome}}
 
@@ -52,6 +53,5 @@ module _ {A : Type 0} (Does : A → WorldView → Outcome → WorldView → Type
           outcomes ++ outcome ∷ [],
           omega (arith, done_count-push outcomes outcome, counted, one),
           rw (one_act_more acts index act within e, map-append content (take index acts) (act ∷ []))
-              (run-push (map content (take index acts)) outcomes (content act) outcome old now new
-              runs step),
+              (search (rules, run-push)),
         )

@@ -20,14 +20,7 @@ requests-sending move sending = search rules
 
 pub requests-act : (act : ActContent) (moves : List Move) → AreMovesOfAct act moves
     → flat_map requests moves ≡ act_requests Outcome.Done act
-requests-act (ActContent.Change square piece) moves e = rw e refl
-requests-act (ActContent.ClockRead clock) moves e = rw e refl
-requests-act (ActContent.Host command) moves e = rw e refl
-requests-act ActContent.BoardSend moves (move, sending, e) = rw e (requests-sending move sending)
-requests-act (ActContent.ToBoard bytes) moves (count, e) = rw e (requests-takes count)
-requests-act (ActContent.ToHost bytes) moves (count, e) = rw e (requests-hears count)
-requests-act ActContent.Break moves e = rw e refl
-requests-act ActContent.HostBreak moves (noise, is_noise, e) = rw e refl
+requests-act act moves e = search (rules, requests-sending, requests-takes, requests-hears)
 
 pub requests-step : (act : ActContent) (outcome : Outcome) (moves : List Move)
     → AreMovesOfStep act outcome moves → flat_map requests moves ≡ act_requests outcome act
@@ -87,10 +80,7 @@ act_is_no_break (ActContent.Change square piece) moves other e = rw e (λ f. cc,
 act_is_no_break (ActContent.ClockRead clock) moves other e = rw e (λ f. cc, tt)
 act_is_no_break (ActContent.Host command) moves other e = rw e (λ f. cc, tt)
 act_is_no_break ActContent.BoardSend moves other (move, sending, e) =
-    rw e (
-      sending_is_none (λ move. move ≢ Move.Break) (λ f. cc) (λ square f. cc) (λ f. cc) move sending,
-      tt,
-    )
+    search (rules, sending_is_none)
 act_is_no_break (ActContent.ToBoard bytes) moves other (count, e) =
     rw e (all_replicate (λ move. move ≢ Move.Break) count Move.Take (λ f. cc))
 act_is_no_break (ActContent.ToHost bytes) moves other (count, e) =
@@ -103,12 +93,7 @@ act_is_other : (act : ActContent) (moves : List Move) → act ≢ ActContent.Hos
 act_is_other (ActContent.Change square piece) moves other e = rw e (λ is. is, tt)
 act_is_other (ActContent.ClockRead clock) moves other e = rw e (λ is. is, tt)
 act_is_other (ActContent.Host command) moves other e = rw e (λ is. is, tt)
-act_is_other ActContent.BoardSend moves other (move, sending, e) =
-    rw e (
-      sending_is_none (λ move. ¬ (IsHostBreak move)) (λ is. is) (λ square is. is) (λ is. is) move
-          sending,
-      tt,
-    )
+act_is_other ActContent.BoardSend moves other (move, sending, e) = search (rules, sending_is_none)
 act_is_other (ActContent.ToBoard bytes) moves other (count, e) =
     rw e (all_replicate (λ move. ¬ (IsHostBreak move)) count Move.Take (λ is. is))
 act_is_other (ActContent.ToHost bytes) moves other (count, e) =

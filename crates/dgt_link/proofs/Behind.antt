@@ -1,4 +1,6 @@
 -- The effect of an act on a world that stands for a state after garbage.
+use Rattle.std.proofs.Common.{arith}
+use Rattle.std.proofs.lemmas.Grind.{common_steps}
 use Rattle.std.proofs.Common.{◌≡◌, refl, sym, ap, ◌∙◌, ◌⊎◌, inl, inr, ℕ, ◌≤◌, List, [], ◌∷◌, ◌++◌, length, take, drop, replicate, Option, Some, None, false, append_assoc, rules}
 use Rattle.{std.{proofs.lemmas.{Grind.{flat_map-append}, List.{append-nil}}, specs.List.{flat_map}}, dgt_values.specs.declared.{kinds.Kind.{Kind}, pieces.Piece.{Piece}}}
 use Rattle.dgt_message.specs.{Clock.{ClockState}, Content.{Content, IsMessage, answered_kind}, Encoding.{Encodes, encoding}, Picture.{clock_after, picture_after}}
@@ -41,10 +43,7 @@ knows_no_more : (known host : HostView) (messages : List Content) → KnowsNoMor
 knows_no_more known host [] less = less
 knows_no_more known host (message ∷ messages) less =
     knows_no_more (host_after_message known message) (host_after_message host message) messages
-    (record {
-      picture = picture_no_more known.picture host.picture message less.picture;
-      clock = clock_no_more known.clock host.clock message less.clock;
-    })
+    (search (rules, picture_no_more, clock_no_more))
 
 -- ---- what is awaited
 
@@ -163,8 +162,7 @@ module _ (laws : Grammars) where
             let ran : after_moves (awaiting x host.awaited) moves
             ≡ with_host (awaiting x host.awaited) (host_after_messages state_host prefix.heard)
             prefix.left =
-            hears prefix.heard prefix.left (awaiting x host.awaited) state_host prefix.all
-            (record { picture = refl; clock = refl; awaited = refl }) in
+            search (rules, hears, awaiting) in
             let sound : IsSound
             (with_host (awaiting x host.awaited) (host_after_messages state_host prefix.heard)
             prefix.left)
@@ -213,8 +211,7 @@ module _ (laws : Grammars) where
           hear_garbage garbage (next ∷ more) world count x stands unknown
           (same_behind (all_heard world count) (drop count world.up.bytes)
           (next ∷ more ++ flat_map encoding x.up)
-          (whole ∙ ap (λ (g : List ℕ). g ++ flat_map encoding x.up) e
-          ∙ append_assoc (all_heard world count) (next ∷ more) (flat_map encoding x.up)))
+          (grind (arith, common_steps, flat_map, append_assoc, all_heard)))
       go (inr (more, e, f)) (inl none) =
           let is : all_heard world count ≡ more = e ∙ ap (λ (g : List ℕ). g ++ more) none in
           hear_true garbage more world count x world.host stands
@@ -228,8 +225,7 @@ module _ (laws : Grammars) where
           hear_true garbage (b ∷ more) world count x (host_after_events world.host (events garbage))
           stands (record { picture = inl unknown.0; clock = inl unknown.1 })
           (λ a. events_await world.host (events garbage) (coming_kinds x) a)
-          (ap (λ (bytes : List ℕ). host_after_events world.host (events bytes)) e
-          ∙ behind_garbage laws.begins_anew laws.reads.places world.host garbage more b top)
+          (search (rules, behind_garbage))
           (ap unfinished_message e ∙ (laws.begins_anew garbage more b top).1) f
 
   change_behind : (garbage : List ℕ) (world : WorldView) (square : ℕ) (piece : Piece)

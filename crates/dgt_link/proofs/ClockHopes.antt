@@ -42,9 +42,7 @@ module _ (behind : ActsBehind) where
   pub clock_promises : (world after : WorldView) → IsClockFollowing world
       → FaultyStep (sends CommandContent.Clock) world Outcome.Done after
       → IsClockPromisedWorld after
-  clock_promises =
-      asked_promises behind follows_clock stops_clock ClockIsComing clock_hope CommandContent.Clock
-      refl clock_is_asked
+  clock_promises = search (rules, asked_promises, clock_hope, clock_is_asked)
 
   pub keeps_clock_following : (act : FaultyContent) (world after : WorldView) (answer : Outcome)
       → loses_step act ≡ false → stops_clock act ≡ false → IsClockFollowing world

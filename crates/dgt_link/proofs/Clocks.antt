@@ -77,9 +77,7 @@ clock_keeps_coming : (x : MachineState) (move : Move) → move ≢ Move.Break �
     → ClockIsComing x → ClockIsComing (after_move x move)
 clock_keeps_coming x (Move.Change square piece) other also coming = coming
 clock_keeps_coming x (Move.HandClock clock) other also coming = coming
-clock_keeps_coming x (Move.Ask command) other also coming =
-    ask_comes (coming_clock x) x.board.reported_clock x.board.owed x.down
-    (EventContent.Read command ∷ []) coming
+clock_keeps_coming x (Move.Ask command) other also coming = search (rules, ask_comes, coming_clock)
 clock_keeps_coming x Move.Take other also coming = take_keeps x x.down refl coming
 clock_keeps_coming x Move.Reply other also coming = reply_keeps x x.board.owed refl coming
 clock_keeps_coming x (Move.Report square) other also coming =
@@ -89,8 +87,7 @@ clock_keeps_coming x (Move.Report square) other also coming =
     (λ h. coming)
 clock_keeps_coming x Move.ReportClock other also coming =
     cond_both x.board.times_owed (after_reported x (clock_message x.board.clock)) x ClockIsComing
-    (λ h. sent_comes x.board x.host_clock x.up (clock_message x.board.clock) x.board.owed x.down
-    coming) (λ h. coming)
+    (search (rules, sent_comes)) (λ h. coming)
 clock_keeps_coming x Move.Hear other also coming = hear_keeps x x.up refl coming
 clock_keeps_coming x Move.Break other also coming = absurd (other refl)
 clock_keeps_coming x (Move.HostBreak noise is_noise) other also coming = absurd (also tt)

@@ -1,9 +1,9 @@
 -- What a world at fault keeps, and how a host that starts over, or requests a dump, knows the board
 -- again.
-use Rattle.std.proofs.Common.{◌≡◌, ◌≢◌, ◌⊎◌, refl, sym, ap, subst, ◌∙◌, inl, inr, ℕ, List, [], ◌∷◌, ◌++◌, length, drop, replicate, map, Option, Some, false, true, Bool, append_assoc, arith}
+use Rattle.std.proofs.Common.{◌≡◌, ◌≢◌, ◌⊎◌, refl, sym, ap, ◌∙◌, inl, inr, ℕ, List, [], ◌∷◌, ◌++◌, length, drop, replicate, map, Option, Some, false, true, Bool, append_assoc, arith}
 use Rattle.std.proofs.{Common.{rules}, lemmas.{Bool.{false≢true}, Grind.{common_steps}, List.{append-nil, Elements.{filter_map-append, Contains-append_right, Contains-push_cases}}}}
 use Rattle.{std.specs.{List.{cons_option, flat_map}, Prelude.{IsTrue, Contains, filter, filter_map}}, dgt_values.specs.declared.kinds.Kind.{Kind}, dgt_message.specs.Content.{Content}}
-use Rattle.{dgt_message.specs.Encoding.{encoding}, dgt_command.specs.{Content.{CommandContent, EventContent}, Encoding.{AreBytes, command_encoding}, Laws.{EachDividesOnce}, Words.{Divides}}}
+use Rattle.{dgt_message.specs.Encoding.{encoding}, dgt_command.specs.{Content.{CommandContent, EventContent}, Encoding.{AreBytes}, Laws.{EachDividesOnce}, Words.{Divides}}}
 use Rattle.{dgt_command.{specs.Words.{IsNoiseList, IsPartial}, proofs.DivisionLemmas.{bytes_append, bytes_left, bytes_right}}, dgt_board.specs.{Sending.{pending_messages}, State.{BoardState}}}
 use Rattle.{dgt_board.specs.{State.{after_line_lost, command_mode, effects, follows_clock}, declared.modes.Mode.{Mode}}, dgt_host.specs.Host.{follow_bytes, restart_bytes}}
 use Rattle.dgt_link.specs.{Act.{ActContent}, Clocks.{ClockIsComing}, Faults.{FaultyBecomes, FaultyContent, FaultyRuns, FaultyStep, is_break}, Healing.{AwaitsWhatComes, Counted, IsFaultyWorld}}
@@ -60,17 +60,10 @@ effects_sound board events sound =
 module _ (laws : Grammars) where
   becomes_sane : (act : ActContent) (world after : WorldView) → IsSane world
       → Becomes act world after → IsSane after
-  becomes_sane (ActContent.Change square piece) world after sane same =
-      rw same
-      (assumption
-      (move_sound (state_of_board world.board.state) (Move.Change square piece) sane.board))
-  becomes_sane (ActContent.ClockRead clock) world after sane same =
-      rw same
-      (assumption (move_sound (state_of_board world.board.state) (Move.HandClock clock) sane.board))
+  becomes_sane (ActContent.Change square piece) world after sane same = search (rules, move_sound)
+  becomes_sane (ActContent.ClockRead clock) world after sane same = search (rules, move_sound)
   becomes_sane (ActContent.Host command) world after sane (encodes, same) =
-      rw same
-      (assumption
-      (bytes_append world.down.bytes (command_encoding command) sane.down encodes.are_bytes))
+      search (rules, bytes_append)
   becomes_sane ActContent.BoardSend world after sane (message, is_next, encodes, same) =
       let x = state_of_board world.board.state in
       let by = next_is_sent x message is_next in
@@ -198,17 +191,13 @@ other_is_out : (other : CommandContent) → sets_mode other ≡ false → (comma
     → Contains (filter sets_mode commands) other → ⊥
 other_is_out other none [] has = nothing_contained other has
 other_is_out other none (CommandContent.Reset ∷ commands) has =
-    first_is_out other CommandContent.Reset commands none refl (other_is_out other none commands)
-    has
+    search (rules, first_is_out, other_is_out other none commands)
 other_is_out other none (CommandContent.Update ∷ commands) has =
-    first_is_out other CommandContent.Update commands none refl (other_is_out other none commands)
-    has
+    search (rules, first_is_out, other_is_out other none commands)
 other_is_out other none (CommandContent.UpdateBoard ∷ commands) has =
-    first_is_out other CommandContent.UpdateBoard commands none refl
-    (other_is_out other none commands) has
+    search (rules, first_is_out, other_is_out other none commands)
 other_is_out other none (CommandContent.UpdateNice ∷ commands) has =
-    first_is_out other CommandContent.UpdateNice commands none refl
-    (other_is_out other none commands) has
+    search (rules, first_is_out, other_is_out other none commands)
 other_is_out other none (_ ∷ commands) has = other_is_out other none commands has
 
 modes_stay : (commands : List CommandContent)
@@ -327,8 +316,7 @@ module _ (laws : Grammars) where
       let all : owed ++ filter_map kind_of_event (events ++ (noise ++ anew))
       ≡ (owed ++ filter_map kind_of_event events) ++ Kind.Dump ∷ []
       = search (rules, append_assoc) in
-      subst (λ (kinds : List Kind). IsSubsequence (Kind.Dump ∷ []) kinds) (sym all)
-      (subsequence_at_end (Kind.Dump ∷ []) (owed ++ filter_map kind_of_event events))
+      search (rules, subsequence_at_end)
 
   -- the restart bytes after what leaves this rest
   anew_divides_behind : (bytes : List ℕ) (events : List EventContent) (rest : List ℕ)
@@ -494,9 +482,7 @@ module _ (laws : Grammars) (acts : List FaultyContent) (world after : WorldView)
       run_holds laws acts world answers after (nothing_counted false) (sane_holds world sane) runs
 
   pub in_step_counted_holds : IsInStep world → Holds (counted_by true acts answers) after
-  in_step_counted_holds is =
-      run_holds laws acts world answers after (nothing_counted true) (in_step_holds world sane is)
-      runs
+  in_step_counted_holds is = search (rules, run_holds, acts, in_step_holds)
 
 -- ---- when everything is quiet
 
@@ -508,8 +494,7 @@ pub quiet_behind : EachDividesOnce → (garbage : List ℕ) (world : WorldView) 
     → StandsBehind garbage world x → IsQuietWorld world → IsQuiet x
 quiet_behind once garbage world x stands quiet =
     let up = nothing_said x.up
-    (right_empty garbage (flat_map encoding x.up)
-    (sym (rw (quiet.unread, quiet.up) at stands.up))) in
+    (search (rules, right_empty)) in
     record {
       up = up;
       down = (once.1 [] x.down [] [] [] (rw (quiet.partial, quiet.down) at stands.down)
@@ -552,14 +537,7 @@ stands_behind : (world : WorldView) (x : MachineState) → StandsFor world x →
 stands_behind world x stands = search rules
 
 pub world_in_step : (world : WorldView) → IsWorld world → IsInStep world
-world_in_step world is =
-    record {
-      garbage = [];
-      state = is.state;
-      stands =
-          stands_behind world is.state is.stands;
-      holds = tt;
-    }
+world_in_step world is = search (rules, stands_behind)
 
 pub world_in_turn : (world : WorldView) → IsWorld world → IsInTurnWorld world
 world_in_turn world is = search (rules, stands_behind)

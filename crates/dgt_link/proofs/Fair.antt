@@ -116,8 +116,7 @@ none_can act (first ∷ acts) world after (answer ∷ answers) found (between, s
     go rest (inl e) = ap (λ (other : ActContent). done_count (outcome other world ∷ [])) (sym e)
         ∙ ap (λ (one : Outcome). done_count (one ∷ [])) (sym step.answers) ∙ here
     go rest (inr later) =
-        subst (λ (w : WorldView). done_count (outcome act w ∷ []) ≡ 0) same
-        (rest later (omega (arith, none, both)))
+        search (rules, done_count, outcome)
 none_can act _ world after _ found never none = absurd never
 
 -- ---- a world in which no side can move
@@ -177,34 +176,18 @@ effects_identity board (event ∷ events) = effects_identity board events
 
 becomes_fit : (act : ActContent) (world after : WorldView) → IsSettling act
     → Becomes act world after → KeepsFit world after
-becomes_fit ActContent.BoardSend world after is (message, is_next, encodes, same) =
-    rw same (record { squares = refl; clock = refl }, refl, refl)
-becomes_fit (ActContent.ToBoard count) world after is delivers =
-    rw (delivers.leaves, delivers.taken.state) (
-      effects_same_game world.board.state delivers.taken.events,
-      effects_identity world.board.state delivers.taken.events,
-      refl,
-    )
-becomes_fit (ActContent.ToHost count) world after is same =
-    rw same (record { squares = refl; clock = refl }, refl, refl)
-becomes_fit _ world after none same = absurd none
+becomes_fit act world after is delivers = search (rules, effects_same_game, effects_identity)
 
 step_fit : (act : ActContent) (world after : WorldView) (answer : Outcome) → IsSettling act
     → Step act world answer after → KeepsFit world after
-step_fit act world after Outcome.Done is step = becomes_fit act world after is step.leaves
-step_fit act world after _ is step =
-    rw step.leaves (record { squares = refl; clock = refl }, refl, refl)
+step_fit act world after answer is step = search (rules, becomes_fit)
 
 run_fit : (acts : List ActContent) (world after : WorldView) (answers : List Outcome)
     → AllByRecursion IsSettling acts → Runs acts world answers after → KeepsFit world after
 run_fit [] world after [] all same = rw same (record { squares = refl; clock = refl }, refl, refl)
 run_fit (act ∷ acts) world after (answer ∷ answers) all (between, step, runs) =
     let first = step_fit act world between answer all.0 step in
-    let rest = run_fit acts between after answers all.1 runs in (
-      record { squares = rest.0.squares ∙ first.0.squares; clock = rest.0.clock ∙ first.0.clock },
-      rest.1 ∙ first.1,
-      rest.2 ∙ first.2,
-    )
+    let rest = run_fit acts between after answers all.1 runs in search rules
 run_fit _ world after _ all never = absurd never
 
 still_fits : (world after : WorldView) → KeepsFit world after → SendsFit world → SendsFit after
@@ -247,8 +230,7 @@ module _ (none_owed : (board : BoardState) → next_message board ≡ None → b
           let same : parts.between ≡ world =
           none_done round world parts.between parts.ones parts.runs e in
           let last : after ≡ parts.between
-          = rests_on later parts.between after parts.others (rounds_settle rounds later more)
-          (rw same rested) parts.more in
+          = search (rules, rests_on, rounds_settle) in
           inr (rw (last, same) rested)
       go (inl enough) (suc done) e = inl (omega (arith, enough, counted, e))
       go (inr rested) (suc done) e = inr rested

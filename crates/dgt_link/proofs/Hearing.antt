@@ -1,5 +1,5 @@
 -- What a host hears of consecutive messages, in whatever parts.
-use Rattle.{std.{proofs.Common.{◌≡◌, refl, sym, ap, ◌∙◌, ◌⊎◌, inl, inr, ℕ, ◌+◌, List, [], ◌∷◌, ◌++◌, length, rules}, specs.{List.{flat_map}, Prelude.{map}}}, dgt_message.specs.Content.{Content}}
+use Rattle.{std.{proofs.Common.{◌≡◌, refl, sym, ap, ◌⊎◌, inl, inr, ℕ, ◌+◌, List, [], ◌∷◌, ◌++◌, length, rules}, specs.{List.{flat_map}, Prelude.{map}}}, dgt_message.specs.Content.{Content}}
 use Rattle.{dgt_message.specs.{Content.{IsMessage}, Encoding.{encoding}}, dgt_decode.specs.Grammar.{Event, Message, Placed, at_place, events, shifted, unfinished_message}}
 use Rattle.{dgt_decode.proofs.Division.{nil_raised}, dgt_host.specs.Host.{HostView, host_after_events, host_after_message}, dgt_link.specs.{Readers.{Reads}, Stands.{AreEncoded}}}
 use Rattle.dgt_link.proofs.Lists.{IsShorter, Reaches, prefixes, left_empty, not_empty, right_empty}
@@ -58,18 +58,14 @@ module _ (reads : Reads) where
   prefix_waits : (word prefix more : List ℕ) (next : ℕ) (y : Placed) → events word ≡ y ∷ []
       → unfinished_message word ≡ []
       → word ≡ prefix ++ next ∷ more → (events prefix ≡ []) × (unfinished_message prefix ≡ prefix)
-  prefix_waits word prefix more next y read held e = go (events prefix) refl
+  prefix_waits word prefix more next y read held e =
+      go (events prefix) refl
     where
       go : (es : List Placed) → events prefix ≡ es
           → (events prefix ≡ []) × (unfinished_message prefix ≡ prefix)
       go [] f = (f, reads.quiet_held prefix f)
       go (x ∷ xs) f =
-          let rest : List ℕ = next ∷ more in
-          let none = nothing_more prefix rest x y xs f (rw e at read) in
-          let all : unfinished_message prefix ++ next ∷ more ≡ []
-          = sym (reads.quiet_held (unfinished_message prefix ++ rest) none)
-          ∙ sym (reads.unfinished_append prefix rest) ∙ rw e at held in
-          absurd (not_empty (unfinished_message prefix) next more all)
+          search (rules, nothing_more, not_empty)
 
   -- the messages in a prefix of messages in a row, and the rest of them
   pub record IsPrefix (prefix more : List ℕ) (messages : List Content) : Type 0 where

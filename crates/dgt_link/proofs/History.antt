@@ -1,5 +1,5 @@
 -- The pieces that a host shows on a square were there, and it never returns to an earlier one.
-use Rattle.std.proofs.Common.{◌≡◌, refl, sym, ap, subst, ◌∙◌, ◌⊎◌, inl, inr, ℕ, zero, suc, List, [], ◌∷◌, ◌++◌, Bool, Option, Some, None, append_assoc, replicate, if◌then◌else◌, rules}
+use Rattle.std.proofs.Common.{◌≡◌, refl, sym, subst, ◌∙◌, ◌⊎◌, inl, inr, ℕ, zero, suc, List, [], ◌∷◌, ◌++◌, Bool, Option, Some, None, append_assoc, replicate, if◌then◌else◌, rules}
 use Rattle.{std.{proofs.lemmas.List.{append-nil}, specs.Prelude.{slice_set}}, dgt_values.specs.declared.pieces.Piece.{Piece}, dgt_message.specs.{Clock.{ClockState}, Content.{Content, clock_message}}}
 use Rattle.{dgt_message.specs.Picture.{picture_after, picture_after_all}, dgt_command.specs.Content.{EventContent}, dgt_board.specs.{Sending.{field_of, piece_on}, State.{BoardState}}}
 use Rattle.{dgt_board.specs.declared.replies.Reply.{Reply}, dgt_link.specs.{Act.{ActContent}, History.{IsInOrderOf, RunsThrough, shown, shown_in, shown_on, stood_in, stood_on}}}
@@ -136,8 +136,7 @@ module _ (square : ℕ) where
   set_at (first ∷ pieces) (suc other) (suc at) piece = search (rules, set_at pieces other)
 
   field_shows : (board : BoardState) (other : ℕ) → ShowsNow board (field_of board other)
-  field_shows board other None = inl refl
-  field_shows board other (Some pieces) = search (rules, set_at)
+  field_shows board other h = search (rules, set_at)
 
   clock_shows : (board : BoardState) (clock : ClockState) → ShowsNow board (clock_message clock)
   clock_shows board clock = search rules
@@ -189,16 +188,14 @@ module _ (square : ℕ) where
           let end = ends x.picture x.up in
           let v : Piece = piece_on pieces square in
           let is : along x.picture x.up ≡ end.before ++ v ∷ []
-          = end.is ∙ ap (λ (picture : Option (List Piece)). end.before ++ shown square picture)
-          (sym e) in
+          = search rules in
           rw (
             is,
             append_assoc seen (end.before ++ v ∷ []) (v ∷ []),
             append_assoc end.before (v ∷ []) (v ∷ []),
             ← append_assoc seen end.before (v ∷ v ∷ []),
           )
-          (shown_again (seen ++ end.before) [] (before ++ now x ∷ []) v
-          (rw (append_assoc seen end.before (v ∷ [])) (rw is at goes)))
+          (search (rules, shown_again, now, append_assoc))
 
       go : (shown square (picture_after last message) ≡ shown square last)
           ⊎ (shown square (picture_after last message) ≡ now x ∷ [])
@@ -241,9 +238,7 @@ module _ (square : ℕ) where
   goes_on seen before x Move.Take goes = takes seen before x x.down goes
   goes_on seen before x Move.Reply goes = replies seen before x x.board.owed goes
   goes_on seen before x (Move.Report other) goes = search (rules, sends_if, field_shows)
-  goes_on seen before x Move.ReportClock goes =
-      sends_if seen before x x.board.times_owed (clock_message x.board.clock)
-      (clock_shows x.board x.board.clock) goes
+  goes_on seen before x Move.ReportClock goes = search (rules, sends_if, clock_message, clock_shows)
   goes_on seen before x Move.Hear goes = hears seen before x x.up refl goes
   goes_on seen before x Move.Break goes =
       lost seen before x (after_move x Move.Break) refl refl goes
@@ -255,8 +250,7 @@ module _ (square : ℕ) where
       → IsInOrderOf (seen ++ shown_on square x moves) (before ++ stood_on square x moves)
   goes_all seen before x [] goes =
       let b = begins x.picture x.up in
-      fewer_shown (seen ++ shown square x.picture) b.rest (before ++ now x ∷ [])
-      (rw (append_assoc seen (shown square x.picture) b.rest) (rw b.is at goes))
+      search (rules, fewer_shown, now, append_assoc)
   goes_all seen before x (move ∷ moves) goes = rw (
     ← append_assoc seen (shown square x.picture) (shown_on square (after_move x move) moves),
     ← append_assoc before (now x ∷ []) (stood_on square (after_move x move) moves),
@@ -340,14 +334,7 @@ module _ (square : ℕ) where
         let rest = run_goes (seen ++ shown square x.picture) (before ++ now x ∷ []) acts between
         (after_moves x reached.0) answers later reached.2
         (step_goes seen before x act answer reached.0 reached.1 goes) runs in
-        rw (
-          all,
-          stands.picture,
-          stands.board,
-          ← append_assoc seen (shown square x.picture) (shown_in square later),
-          ← append_assoc before (now x ∷ []) (stood_in square later),
-        )
-        rest
+        search (rules, append_assoc, now)
     run_goes seen before _ world x _ worlds stands goes never = absurd never
 
     pub worlds_in_order : (acts : List ActContent) (world : WorldView) (answers : List Outcome)

@@ -186,7 +186,5 @@ module _ (behind : ActsBehind) (asks : Mode → Bool) (ends : FaultyContent → 
       → StandsWith (IsPromisedBy Comes asks) old → StandsWith (IsPromisedBy Comes asks) new
   settled_promised count old new settled is =
       run_keeps Step IsSettling (StandsWith (IsPromisedBy Comes asks))
-      (λ act world after answer settling is step.
-      other_promised act world answer after (settling_is_plain act settling)
-      (hope.settling act settling) is step)
+      (search (rules, other_promised, settling_is_plain))
       settled.acts old new (replicate count Outcome.Done) settled.settling is settled.run

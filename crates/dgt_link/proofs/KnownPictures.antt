@@ -155,7 +155,8 @@ since_later x moves move prefix back before sent since sends same =
 module _ (x : MachineState) (sound : IsSound x) (moves : List Move) (each : SinceEach x moves) where
   -- a move that hears nothing
   other_since : (move : Move) → IsPlain move → move ≢ Move.Hear → SinceEach x (moves ++ move ∷ [])
-  other_since move plain other prefix back up = go (one_at_most (after_moves x moves) move)
+  other_since move plain other prefix back up =
+      go (one_at_most (after_moves x moves) move)
     where
       y : MachineState
       y = after_moves x moves
@@ -181,9 +182,7 @@ module _ (x : MachineState) (sound : IsSound x) (moves : List Move) (each : Sinc
           none (ap (λ (picture : Option (List Piece)). picture_after_all picture prefix) same))
       go (inr (message, is)) = elim (last_of prefix back (after_moves x moves).up message
           (ap (λ (sent : List Content). (after_moves x moves).up ++ sent) (sym is) ∙ under_way)) [
-            | inl none ↦ rw none
-                (since_now x (moves ++ move ∷ []) prefix sound
-                (up ∙ ap (λ (rest : List Content). prefix ++ rest) none ∙ append-nil prefix))
+            | inl none ↦ search (rules, since_now, append-nil)
             | inr (rest, ends, before) ↦ rw ends
                 (since_later x moves move prefix rest prefix (message ∷ [])
                 (each prefix rest before) is
@@ -192,7 +191,8 @@ module _ (x : MachineState) (sound : IsSound x) (moves : List Move) (each : Sinc
 
   -- the host hears a message, if there is one
   hear_since : SinceEach x (moves ++ Move.Hear ∷ [])
-  hear_since prefix back up = go (after_moves x moves).up refl
+  hear_since prefix back up =
+      go (after_moves x moves).up refl
     where
       led : after_moves x (moves ++ Move.Hear ∷ [])
           ≡ after_hear (after_moves x moves) (after_moves x moves).up
@@ -204,9 +204,7 @@ module _ (x : MachineState) (sound : IsSound x) (moves : List Move) (each : Sinc
           let still : after_moves x (moves ++ Move.Hear ∷ []) ≡ after_moves x moves
           = led ∙ ap (λ (said : List Content). after_hear (after_moves x moves) said) none in
           subst (λ (rest : List Content). Since x (moves ++ Move.Hear ∷ []) prefix rest)
-          (append-nil back) (since_later x moves Move.Hear prefix back prefix []
-          (each prefix back (ap (λ (z : MachineState). z.up) (sym still) ∙ up)) refl
-          (ap (λ (z : MachineState). picture_after_all z.picture prefix) still))
+          (append-nil back) (search (rules, since_later))
       go (message ∷ rest) is =
           let heard : after_moves x (moves ++ Move.Hear ∷ [])
           ≡ after_hear (after_moves x moves) (message ∷ rest)
@@ -272,15 +270,14 @@ module _ (behind : ActsBehind) where
       (answers : List Outcome) (x : MachineState)
       → AllByRecursion (λ act. is_break act ≡ false) acts → StandsBehind garbage world x
       → Runs acts world answers after → Reached acts answers x after
-  run_behind [] garbage world after [] x all stands same =
-      record {
-        garbage = garbage;
-        moves = [];
-        are_moves = refl;
-        plain = tt;
-        stands =
-            rw same stands;
-      }
+  run_behind [] garbage world after [] x all stands same = record {
+    garbage = garbage;
+    moves = [];
+    are_moves = refl;
+    plain = tt;
+    stands =
+        rw same stands;
+  }
   run_behind (act ∷ acts) garbage world after (answer ∷ answers) x all stands
       (between, step, runs) =
       let first = behind act garbage world answer between x all.0 stands step in
@@ -290,8 +287,7 @@ module _ (behind : ActsBehind) where
         garbage = rest.garbage;
         moves = first.1 ++ rest.moves;
         are_moves = (first.1, rest.moves, first.2, rest.are_moves, refl);
-        plain = all_append IsPlain first.1 rest.moves
-            (step_is_plain act answer first.1 all.0 first.2) rest.plain;
+        plain = search (rules, all_append, step_is_plain);
         stands = rw (moves-append x first.1 rest.moves) rest.stands;
       }
   run_behind _ garbage world after _ x all stands none = absurd none

@@ -76,8 +76,7 @@ stays : (board : BoardView) (bytes : List ℕ) → length board.state.owed < 8
 stays board bytes room part = (
   after_bytes board bytes None,
   record { events = []; divided = (refl, part); state = refl },
-  not_full
-      (length board.state.owed) room,
+  search (rules, not_full),
 )
 
 -- bytes of which only the last may complete a frame
@@ -128,9 +127,7 @@ taken_more : TakingsAppend → (before now new : BoardView) (bytes : List ℕ) (
     → HasTaken before (take (moved + n) bytes) new
 taken_more append before now new bytes moved n (inl (none, same)) next =
     rw (take-add moved n bytes, none) (rw (none, same) at next)
-taken_more append before now new bytes moved n (inr taken) next =
-    rw (take-add moved n bytes)
-    (append before now new (take moved bytes) (take n (drop moved bytes)) taken.1 next)
+taken_more append before now new bytes moved n (inr taken) next = search (rules, take-add)
 
 -- fewer than this many before, this many, or more
 data Fewer (fewer moved n : ℕ) : Type 0 where
@@ -164,10 +161,7 @@ taking_more append board now new line left after moved n taking more within room
     record {
       within = within;
       taken =
-          inr (
-            omega (arith, more),
-            taken_more append board now new line.bytes moved n taking.taken next',
-          );
+          search (rules, taken_more);
       left_is = left_on line left after moved n taking.left_is e;
       earlier = λ fewer some less. earlier_than fewer some (fewer_than fewer moved n less) calm';
     }
@@ -178,17 +172,11 @@ taking_more append board now new line left after moved n taking more within room
         × (is_full between.state ≡ false)
     earlier_than fewer some (sooner less) calm = taking.earlier fewer some less
     earlier_than fewer some (just same) calm = (
-      now,
-      rw same (some_taken board now line.bytes moved (rw same at some) taking.taken),
-      not_full
-          (length now.state.owed) room,
-    )
+        search (rules, some_taken, not_full)
+        )
     earlier_than fewer some (later k positive less is) calm = let found = calm k positive less in (
-      found.0,
-      subst (λ (m : ℕ). HasTaken board (take m line.bytes) found.0) (sym is)
-          (taken_more append board now found.0 line.bytes moved k taking.taken found.1),
-      found.2,
-    )
+        search (rules, taken_more)
+        )
 
 -- the rest of the line
 pub left_length : (before now : BoardView) (line left : LineContents) (moved : ℕ)

@@ -24,7 +24,8 @@ module _
   -- a board that is full after some bytes took no more of them
   no_further : (count : ℕ) (world one other : WorldView) (first : Delivers count world one)
       (second : Delivers count world other) → first.moved < second.moved → ⊥
-  no_further count world one other first second less = go first.ended
+  no_further count world one other first second less =
+      go first.ended
     where
       go : (first.moved ≡ count)
           ⊎ ((first.moved ≡ length world.down.bytes) ⊎ IsTrue (is_full first.board.state)) → ⊥
@@ -33,10 +34,8 @@ module _
       go (inr (inr full)) =
           let stop = second.earlier first.moved first.some less in
           let same : first.board ≡ stop.0
-          = one_taking world.board first.board stop.0 (take first.moved world.down.bytes)
-          first.taken stop.1 in
-          false≢true
-          (sym stop.2 ∙ ap (λ (board : BoardView). is_full board.state) (sym same) ∙ full)
+          = search rules in
+          search (rules, false≢true, is_full)
 
   one_delivery : (count : ℕ) (world one other : WorldView) → Delivers count world one
       → Delivers count world other → one ≡ other

@@ -31,9 +31,7 @@ promised_follows world is =
 module _ (behind : ActsBehind) where
   pub dump_promises : (world after : WorldView) → IsFollowing world
       → FaultyStep (sends CommandContent.Dump) world Outcome.Done after → IsPromisedWorld after
-  dump_promises =
-      asked_promises behind updates stops PictureIsComing picture_hope CommandContent.Dump refl
-      dump_is_coming
+  dump_promises = search (rules, asked_promises, picture_hope, dump_is_coming)
 
   module _ (laws : Grammars) where
     -- ---- a host that starts over
@@ -91,8 +89,7 @@ module _ (behind : ActsBehind) where
         kept behind updates stops PictureIsComing picture_hope loses_step (λ bytes. refl) refl
         (Follows updates) IsSane (other_following behind updates stops PictureIsComing picture_hope)
         (λ bytes old new keeps. garbled (Follows updates) (λ x mode. mode) bytes old new)
-        (λ act old new begins ends sane step.
-        promised_follows new (anew_heals act old new begins sane step))
+        (search (rules, promised_follows, anew_heals))
 
     pub keeps_promised : (act : FaultyContent) (world after : WorldView) (answer : Outcome)
         → is_fault act ≡ false → stops act ≡ false → IsSane world → IsPromisedWorld world

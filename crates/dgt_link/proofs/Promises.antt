@@ -143,9 +143,7 @@ sent-mode : (x : MachineState) (message : Content) (test : Bool)
 sent-mode x message test = search rules
 
 pub noise-modes : (noise : List EventContent) → IsNoiseList noise → filter_map event_mode noise ≡ []
-noise-modes noise is_noise =
-    nothing_of_noise event_mode (λ message. refl) (λ leds. refl) (refl, refl, refl) (λ byte. refl)
-    noise is_noise
+noise-modes noise is_noise = search (rules, nothing_of_noise, event_mode)
 
 pub anew-mode : (x : MachineState) (noise : List EventContent) (is_noise : IsNoiseList noise)
     → coming_mode (after_move x (Move.HostBreak noise is_noise)) ≡ Mode.UpdateBoard
@@ -174,13 +172,7 @@ pub record IsComing (commands : List CommandContent) (x : MachineState) : Type 0
   pub mode : coming_mode x ≡ last_mode before (filter_map command_mode commands)
 
 pub nothing_asked : (x : MachineState) → IsComing [] x
-nothing_asked x =
-    record {
-      picture = λ h. absurd (nothing_contained CommandContent.Dump h);
-      before =
-          coming_mode x;
-      mode = refl;
-    }
+nothing_asked x = search (rules, nothing_contained, coming_mode)
 
 pub asked-mode : (commands : List CommandContent) (command : CommandContent) (before mode : Mode)
     → mode ≡ last_mode before (filter_map command_mode commands)

@@ -2,7 +2,7 @@
 use Rattle.std.proofs.{Common.{◌≡◌, refl, sym, ◌∙◌, ◌⊎◌, ℕ, zero, suc, ◌<◌, List, [], ◌∷◌, Option, Some, Bool, false, cond, length, get_or, arith, rules}, lemmas.Bool.{cond-true}}
 use Rattle.std.{proofs.lemmas.{Bool.{false≢true, eqb-true, not-false}, Grind.{common_steps}, List.{get_or_default, same_lists, FromFn.{get_or-range_with_len}}}, specs.Prelude.{◌==◌, not, IsTrue}}
 use Rattle.{std.specs.Prelude.{IsSome, filter, map}, dgt_values.{specs.{Board.{piece_code}, declared.pieces.Piece.{Piece}}, proofs.PieceCodes.{same_code}}, dgt_message.specs.Clock.{ClockState}}
-use Rattle.{dgt_board.specs.{Sending.{differs, every_square, piece_on}, State.{BoardState, follows_clock, updates}}, dgt_link.specs.{Machine.{MachineState}, Promise.{IsPromised, IsQuiet}}}
+use Rattle.{dgt_board.specs.{Sending.{differs, every_square}, State.{BoardState, follows_clock, updates}}, dgt_link.specs.{Machine.{MachineState}, Promise.{IsPromised, IsQuiet}}}
 use Rattle.dgt_link.{specs.{Promise.{PictureIsComing, coming_mode}, Sound.{IsSound, IsExact, IsUnknownOr}}, proofs.Lists.{left_empty, nothing_contained, right_empty}}
 use Rattle.dgt_link.proofs.Subsequences.{subsequence_of_nothing}
 
@@ -35,7 +35,8 @@ same_unless_differs reported piece h = search (rules, same_code, eqb-true, not-f
 -- if no square differs, the board has reported its squares
 none_differs : (board : BoardState) → length board.squares ≡ 64 → length board.reported_squares ≡ 64
     → filter (differs board) every_square ≡ [] → board.reported_squares ≡ board.squares
-none_differs board squares reported none = same_lists board.reported_squares board.squares
+none_differs board squares reported none =
+    same_lists board.reported_squares board.squares
     (reported ∙ sym squares) same_at
   where
     same_at : (k : ℕ) (d : Piece) → k < length board.reported_squares
@@ -44,10 +45,7 @@ none_differs board squares reported none = same_lists board.reported_squares boa
         let below : k < 64 = rw reported at h in
         let within : k < length board.squares = rw squares below in
         let at = every_square-at k below in
-        get_or_default board.reported_squares k d Piece.Empty h
-        ∙ same_unless_differs (piece_on board.reported_squares k) (piece_on board.squares k)
-        (rw at.1 at (filter_empty (differs board) every_square k 0 at.0 none))
-        ∙ get_or_default board.squares k Piece.Empty d within
+        search (rules, get_or_default, same_unless_differs, filter_empty)
 
 -- what a board with nothing to send has reported
 pub record IsUpToDate (board : BoardState) : Type 0 where

@@ -20,8 +20,7 @@ pub promised_at_quiet : EachDividesOnce → (world : WorldView) → IsPromisedWo
     → IsQuietWorld world → world.host.picture ≡ Some world.board.state.squares
 promised_at_quiet once world is quiet =
     let still = quiet_behind once is.garbage world is.state is.stands quiet in
-    rw is.stands.board
-    (host_knows is.stands.picture (promised_picture is.state is.stands.sound is.holds still))
+    search (rules, host_knows, promised_picture)
 
 -- ---- at rest
 

@@ -1,5 +1,5 @@
 -- What a board sends next is sent by one of the moves of the machine.
-use Rattle.std.{specs.Prelude.{slice_get, filter}, proofs.Common.{◌≡◌, refl, ap, ◌∙◌, ◌⊎◌, inl, inr, ℕ, List, [], ◌∷◌, ◌++◌, Some, Bool, true, false, ◌&&◌, cond, map, drop, rules}}
+use Rattle.std.{specs.Prelude.{slice_get, filter}, proofs.Common.{◌≡◌, refl, ◌⊎◌, inl, inr, ℕ, List, [], ◌∷◌, ◌++◌, Some, Bool, true, false, cond, map, drop, rules}}
 use Rattle.{std.proofs.lemmas.{Bool.{cond-true, and_from}, Option.{same_Some}}, dgt_message.specs.Content.{Content, clock_message}, dgt_board.specs.Sending.{after_sending, after_reporting}}
 use Rattle.dgt_board.specs.{Sending.{clock_news, differs, field_of, next_message, reply_message, unreported_squares}, State.{updates}, declared.replies.Reply.{Reply}}
 use Rattle.dgt_link.specs.Machine.{IsSending, Move, MachineState, after_move, after_reply, after_reported}
@@ -55,10 +55,7 @@ report_is_sent : (x : MachineState) (message : Content) → x.board.owed ≡ []
 report_is_sent x message none (square, asks, differing, same) = (
   Move.Report square,
   tt,
-  cond-true (updates x.board.mode && differs x.board square)
-      (after_reported x (field_of x.board square)) x
-      (and_from (updates x.board.mode) (differs x.board square) asks differing)
-      ∙ without_reply x (field_of x.board square) none ∙ ap (sent_state x) same,
+  search (rules, cond-true, and_from, without_reply, sent_state),
 )
 
 clock_is_sent : (x : MachineState) (message : Content) → x.board.owed ≡ []
@@ -66,8 +63,7 @@ clock_is_sent : (x : MachineState) (message : Content) → x.board.owed ≡ []
 clock_is_sent x message none (owed, same) = (
   Move.ReportClock,
   tt,
-  cond-true x.board.times_owed (after_reported x (clock_message x.board.clock)) x owed
-      ∙ without_reply x (clock_message x.board.clock) none ∙ ap (sent_state x) same,
+  search (rules, cond-true, clock_message, without_reply, sent_state),
 )
 
 next_of : (x : MachineState) (owed : List Reply) (message : Content) → x.board.owed ≡ owed
@@ -77,8 +73,7 @@ next_of : (x : MachineState) (owed : List Reply) (message : Content) → x.board
 next_of x (first ∷ rest) message e h = (
   Move.Reply,
   tt,
-  reply_is_sent x first rest x.board.owed e ∙ ap (sent_state x)
-      (same_Some (reply_message x.board first) message h),
+  search (rules, reply_is_sent, sent_state, same_Some),
 )
 next_of x [] message e h = search (rules, first_field, report_is_sent, clock_is_sent, first_news)
 

@@ -240,8 +240,7 @@ in_order_more : (acts : List ActContent) (act : ActContent) (old now new : World
 in_order_more [] act old now new same next step = (
   new,
   subst (λ (w : WorldView). IsNext w act) same next,
-  subst
-      (λ (w : WorldView). Step act w Outcome.Done new) same step,
+  search rules,
   refl,
 )
 in_order_more (first ∷ acts) act old now new (between, is, done, rest) next step =
@@ -306,8 +305,7 @@ pub settled_clock : EachDividesOnce → (count : ℕ) (old new : WorldView) → 
     → new.host.clock ≡ Some old.board.state.clock
 settled_clock law count old new settled exact quiet follows =
     let same = (settled_kept count old new settled).clock in
-    world_clock_reported law new exact.state exact.stands quiet exact.exact follows ∙ ap
-    (λ (clock : ClockState). Some clock) same
+    search (rules, world_clock_reported)
 
 pub work_fits : (world : WorldView)
     → ((board : BoardState) → backlog board ≤ length board.owed + 65)
@@ -373,6 +371,5 @@ module _ (keeps : (act : ActContent) (world after : WorldView) (answer : Outcome
       let first = step_steps act world between answer is all.0 step in
       let rest =
       run_steps acts between after answers (keeps act world between answer is step) all.1 runs in
-      let both = count_first answer answers in
-      omega (arith, first, rest, both)
+      search (rules, count_first)
   run_steps _ world after _ is all none = absurd none

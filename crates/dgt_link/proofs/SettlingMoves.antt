@@ -1,7 +1,7 @@
 -- From each sound state takes, sendings and hears lead to a quiet one.
-use Rattle.std.proofs.{Common.{arith, ◌≡◌, ◌≢◌, refl, ap, ◌∙◌, ◌⊎◌, inl, inr, ℕ, ◌<◌, ◌≤◌, zero, suc, List, [], ◌∷◌, Some, None, Bool, cond, Option, rules}, lemmas.Grind.{common_steps}}
-use Rattle.{std.{proofs.lemmas.List.{length-append}, specs.List.{AllByRecursion}}, dgt_values.specs.declared.pieces.Piece.{Piece}, dgt_message.specs.Content.{Content}}
-use Rattle.{dgt_command.specs.Content.{EventContent}, dgt_board.specs.{Sending.{next_message, pending_messages}, declared.modes.Mode.{Mode}}, dgt_link.specs.Machine.{MachineState, after_move}}
+use Rattle.std.proofs.{Common.{arith, ◌≡◌, ◌≢◌, refl, ◌∙◌, ◌⊎◌, inl, inr, ℕ, ◌<◌, ◌≤◌, zero, suc, List, [], ◌∷◌, Some, None, Bool, cond, Option, rules}, lemmas.Grind.{common_steps}}
+use Rattle.{std.{proofs.lemmas.List.{length-append}, specs.List.{AllByRecursion}}, dgt_message.specs.Content.{Content}}
+use Rattle.{dgt_command.specs.Content.{EventContent}, dgt_board.specs.{Sending.{next_message}, declared.modes.Mode.{Mode}}, dgt_link.specs.Machine.{MachineState, after_move}}
 use Rattle.dgt_link.specs.{Machine.{after_moves, after_reported, IsSending, Move}, Promise.{IsPromised, IsQuiet, PictureIsComing, coming_mode, mode_after, requests}, Settling.{IsSettlingMove}}
 use Rattle.dgt_link.{specs.{Settling.{SettlesBy, moves_left}, Sound.{IsSound}}, proofs.{AfterMoves.{moves_sound}, Backlogs.{BacklogFalls, BacklogRises}, Promises.{move-mode, picture_keeps_coming}}}
 use Rattle.dgt_link.proofs.{Quiet.{promised_picture}, Sending.{next_is_sent}, Soundness.{move_sound}, Taking.{HasSameGame, effect_leaves, same_game}, WorldsByState.{nothing_first}}
@@ -35,19 +35,15 @@ module _ (falls : BacklogFalls) (rises : BacklogRises) where
 
   -- a state is quiet, or a move leads closer
   nearer : (x : MachineState) → IsSound x → IsQuiet x ⊎ ((move : Move) × NearerBy x move)
-  nearer x sound = up x.up refl
+  nearer x sound =
+      up x.up refl
     where
       down : x.up ≡ [] → next_message x.board ≡ None → (events : List EventContent)
           → x.down ≡ events
           → IsQuiet x ⊎ ((move : Move) × NearerBy x move)
       down none_up none [] e =
           inl
-          (record {
-            up = none_up;
-            down = e;
-            pending =
-                nothing_first (pending_messages x.board) none;
-          })
+          (search (rules, nothing_first))
       down none_up none (event ∷ later) e = inr (Move.Take, takes_nearer x event later e)
 
       next : x.up ≡ [] → (message : Option Content) → next_message x.board ≡ message
@@ -129,5 +125,4 @@ pub settling_picture : (x : MachineState) (moves : List Move) → IsSound x → 
 settling_picture x moves sound promised all quiet =
     let promised' : IsPromised (after_moves x moves)
     = search (rules, settling_comes, settling_mode) in
-    promised_picture (after_moves x moves) (moves_sound x moves sound) promised' quiet ∙ ap
-    (λ (squares : List Piece). Some squares) (settling_squares x moves all)
+    search (rules, promised_picture, moves_sound, settling_squares)

@@ -1,5 +1,5 @@
 -- Each move keeps a sound state sound, and an exact one exact.
-use Rattle.std.proofs.{Common.{◌≡◌, refl, ap, ◌∙◌, List, [], ◌∷◌, ◌++◌, ◌&&◌, length, append_assoc, rules}, lemmas.{Bool.{cond_both, false≢true}, List.{length-set, Elements.{filter_map-append}}}}
+use Rattle.std.proofs.{Common.{◌≡◌, refl, ◌∙◌, List, [], ◌∷◌, ◌++◌, ◌&&◌, length, append_assoc, rules}, lemmas.{Bool.{cond_both, false≢true}, List.{length-set, Elements.{filter_map-append}}}}
 use Rattle.{std.specs.{List.{cons_option}, Prelude.{filter_map, map, option_to_list}}, dgt_values.specs.declared.{kinds.Kind.{Kind}, pieces.Piece.{Piece}}, dgt_message.specs.Clock.{ClockState}}
 use Rattle.{dgt_message.specs.Content.{Content, clock_message, answered_kind}, dgt_command.specs.{Content.{CommandContent, EventContent, requested_kind}, Words.{IsNoiseList}}}
 use Rattle.{dgt_board.specs.{Sending.{differs, field_of}, State.{IdentityContent, updates}, declared.replies.Reply.{Reply}}}
@@ -51,10 +51,7 @@ ask-kinds x command = search (rules, filter_map-append, one_more, append_assoc)
 
 take-kinds : (x : MachineState) (event : EventContent) (rest : List EventContent)
     → x.down ≡ event ∷ rest → coming_kinds (after_take x (event ∷ rest)) ≡ coming_kinds x
-take-kinds x event rest e =
-    rw e
-    (ap (λ (kinds : List Kind). filter_map answered_kind x.up ++ kinds)
-    (effect-kinds x.board event rest))
+take-kinds x event rest e = search (rules, effect-kinds)
 
 take_sound : (x : MachineState) (down : List EventContent) → x.down ≡ down → IsSound x
     → IsSound (after_take x down)
@@ -89,9 +86,7 @@ new_exact position clock identity h =
 
 pub noise-kinds : (noise : List EventContent) → IsNoiseList noise
     → filter_map kind_of_event noise ≡ []
-noise-kinds noise is_noise =
-    nothing_of_noise kind_of_event (λ message. refl) (λ leds. refl) (refl, refl, refl)
-    (λ byte. refl) noise is_noise
+noise-kinds noise is_noise = search (rules, nothing_of_noise, kind_of_event)
 
 -- of the requests of a host that starts over, only a dump has a kind
 host_break-kinds : (x : MachineState) (noise : List EventContent) (is_noise : IsNoiseList noise)
@@ -112,12 +107,7 @@ pub board_sound : (x : MachineState) → IsSound x → IsSound (state_of_board x
 board_sound x sound = search rules
 
 pub taking-kinds : (x : MachineState) → coming_kinds (after_move x Move.Take) ≡ coming_kinds x
-taking-kinds x = go x.down refl
-  where
-    go : (down : List EventContent) → x.down ≡ down
-        → coming_kinds (after_take x down) ≡ coming_kinds x
-    go [] e = refl
-    go (event ∷ rest) e = take-kinds x event rest e
+taking-kinds x = search (rules, coming_kinds, take-kinds)
 
 replying-kinds : (x : MachineState) (owed : List Reply) → x.board.owed ≡ owed
     → coming_kinds (after_reply x owed) ≡ coming_kinds x
@@ -165,20 +155,8 @@ break_exact x sound = new_exact x.board.squares x.board.clock x.board.identity s
 
 pub move_exact : (x : MachineState) (move : Move) → ¬ (IsHostBreak move) → IsExact x
     → IsExact (after_move x move)
-move_exact x (Move.Change square piece) other exact =
-    record {
-      sound = move_sound x (Move.Change square piece) exact.sound;
-      clock =
-          exact.clock;
-      awaited = exact.awaited;
-    }
-move_exact x (Move.HandClock clock) other exact =
-    record {
-      sound = move_sound x (Move.HandClock clock) exact.sound;
-      clock = exact.clock;
-      awaited =
-          exact.awaited;
-    }
+move_exact x (Move.Change square piece) other exact = search (rules, move_sound)
+move_exact x (Move.HandClock clock) other exact = search (rules, move_sound)
 move_exact x (Move.Ask command) other exact = record {
   sound = move_sound x (Move.Ask command) exact.sound;
   clock = exact.clock;

@@ -49,11 +49,7 @@ hears (message ∷ messages) left x host e of =
     let first : after_move x Move.Hear ≡ with_host x after (messages ++ left)
     = ap (after_hear x) e ∙ rw (of.picture, of.clock, of.awaited) refl in
     ap (λ (y : MachineState). after_moves y (replicate (length messages) Move.Hear)) first
-    ∙ hears messages left (with_host x after (messages ++ left)) after refl (record {
-      picture = refl;
-      clock = refl;
-      awaited = refl;
-    })
+    ∙ hears messages left (with_host x after (messages ++ left)) after refl (search rules)
 
 -- a prefix of a line, and the rest of it
 pub prefix_of : (held bytes : List ℕ) (count : ℕ)
@@ -152,8 +148,7 @@ module _ (laws : Grammars) where
         board = taken.state ∙ ap (λ (state : BoardState). effects state taken.events) same;
         down = prefix.2;
         partial =
-            laws.left (world.board.partial ++ take moved world.down.bytes) board.partial
-            taken.events taken.divided;
+            search rules;
       }
 
   take_reaches : (world : WorldView) (count : ℕ) (after : WorldView) (x : MachineState)
@@ -251,12 +246,7 @@ pub record HasRooms (world after : WorldView) : Type 0 where
   pub down : after.down.capacity ≡ world.down.capacity
 
 pub same_rooms : (world after : WorldView) → after ≡ world → HasRooms world after
-same_rooms world after same =
-    record {
-      up = ap (λ (w : WorldView). w.up.capacity) same;
-      down =
-          ap (λ (w : WorldView). w.down.capacity) same;
-    }
+same_rooms world after same = search rules
 
 pub becomes_rooms : (act : ActContent) (world after : WorldView) → Becomes act world after
     → HasRooms world after
