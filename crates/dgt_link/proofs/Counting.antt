@@ -67,7 +67,6 @@ module _ (laws : Grammars) where
   becomes_sane ActContent.BoardSend world after sane (message, is_next, encodes, same) =
       let x = state_of_board world.board.state in
       let by = next_is_sent x message is_next in
-      let y = after_move x by.0 in
       let sound : IsSound (state_of_board (after_move x by.0).board)
       = commanded_sound (after_move x by.0) [] (move_sound x by.0 sane.board) in
       rw same (assumption (rw by.2 at sound))
@@ -348,8 +347,6 @@ module _ (laws : Grammars) where
       let divided = laws.once.0 (world.board.partial ++ bytes)
       (laws.bytes world.board.partial bytes sane.partial are) in
       let anew = anew_divides_behind (world.board.partial ++ bytes) divided.0 divided.1 divided.2 in
-      let events : List EventContent =
-      divided.0 ++ (anew.0 ++ map EventContent.Read commands_anew) in
       record {
         garbage = up;
         state = commanded_state world.board.state
@@ -445,7 +442,7 @@ module _ (laws : Grammars) where
       absurd (false≢true in_step)
   follows_after c FaultyContent.GiveUp world Outcome.Done after holds step in_step =
       given_up_follows c.in_turn c.asked world after (holds.follows in_step) step.leaves
-  follows_after c FaultyContent.GiveUp world _ after holds step in_step = let a = step.answers in cc
+  follows_after c FaultyContent.GiveUp world _ after holds step in_step = cc
   follows_after c FaultyContent.Restart world Outcome.Done after holds step in_step =
       restart_follows laws world after holds.sane step.leaves
   follows_after c FaultyContent.Restart world _ after holds step in_step =

@@ -87,7 +87,6 @@ module _ (behind : ActsBehind) where
         goes (between, others, step, runs, is) unread up =
         let reached = behind act garbage world answer between x all.0 stands step in
         let y : MachineState = after_moves x reached.1 in
-        let here : other ≡ world = cc in
         let rest_is : others ≡ earlier ++ first ∷ later = cc in
         let rest = comes_goes (before ++ now square x ∷ []) acts reached.0 between
         (after_moves x reached.1) answers

@@ -158,7 +158,7 @@ module _ (behind : ActsBehind) (asks : Mode → Bool) (ends : FaultyContent → 
         absurd (false≢true (sym going ∙ hope.breaks))
     plain_kept ActContent.HostBreak world after Outcome.Done going given is step =
         anew (FaultyContent.Plain ActContent.HostBreak) world after refl going given step
-    plain_kept ActContent.HostBreak world after _ going given is step = let a = step.answers in cc
+    plain_kept ActContent.HostBreak world after _ going given is step = cc
     plain_kept act world after answer going given is step =
         others act world answer after refl going is (plain_step act world answer after step)
 

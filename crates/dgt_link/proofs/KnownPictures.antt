@@ -16,7 +16,6 @@ last_of : {X : Type 0} (prefix back xs : List X) (x : X) → xs ++ x ∷ [] ≡ 
 last_of [] back xs x e = inr (xs, sym e, refl)
 last_of (first ∷ prefix) back [] x e = search (rules, right_empty)
 last_of (first ∷ prefix) back (y ∷ xs) x e =
-    let same : y ≡ first = cc in
     let more : xs ++ x ∷ [] ≡ prefix ++ back = cc in
     search (rules, last_of prefix back xs x more)
 

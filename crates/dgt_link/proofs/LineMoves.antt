@@ -154,8 +154,6 @@ pub taking_more : TakingsAppend
 taking_more append board now new line left after moved n taking more within room next calm e =
     let rest : left.bytes ≡ drop moved line.bytes =
     ap (λ (l : LineContents). l.bytes) taking.left_is in
-    let next' : HasTaken now (take n (drop moved line.bytes)) new
-    = subst (λ (l : List ℕ). HasTaken now (take n l) new) rest next in
     let calm' : StaysUnfinished now (drop moved line.bytes) n =
     subst (λ (l : List ℕ). StaysUnfinished now l n) rest calm in
     record {

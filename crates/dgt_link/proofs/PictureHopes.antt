@@ -58,11 +58,11 @@ module _ (behind : ActsBehind) where
         → IsInStep after
     plain_in_step ActContent.Break world Outcome.Done after sane is step =
         follows_in_step true [] after (break_follows laws world after sane step.leaves)
-    plain_in_step ActContent.Break world _ after sane is step = let a = step.answers in cc
+    plain_in_step ActContent.Break world _ after sane is step = cc
     plain_in_step ActContent.HostBreak world Outcome.Done after sane is step =
         follows_in_step true commands_anew after
         (host_break_follows laws world after sane step.leaves)
-    plain_in_step ActContent.HostBreak world _ after sane is step = let a = step.answers in cc
+    plain_in_step ActContent.HostBreak world _ after sane is step = cc
     plain_in_step act world answer after sane is step = search (rules, led, plain_step)
 
     pub keeps_in_step : (act : FaultyContent) (world after : WorldView) (answer : Outcome)
@@ -134,10 +134,10 @@ module _ (behind : ActsBehind) where
         → FaultyStep (FaultyContent.Plain act) world answer after → IsInTurnWorld after
     plain_in_turn ActContent.Break world Outcome.Done after sane is step =
         turn_of [] after (break_follows laws world after sane step.leaves)
-    plain_in_turn ActContent.Break world _ after sane is step = let a = step.answers in cc
+    plain_in_turn ActContent.Break world _ after sane is step = cc
     plain_in_turn ActContent.HostBreak world Outcome.Done after sane is step =
         anew_in_turn (FaultyContent.Plain ActContent.HostBreak) world after refl sane step
-    plain_in_turn ActContent.HostBreak world _ after sane is step = let a = step.answers in cc
+    plain_in_turn ActContent.HostBreak world _ after sane is step = cc
     plain_in_turn act world answer after sane is step =
         other_in_turn act world answer after refl is (plain_step act world answer after step)
 

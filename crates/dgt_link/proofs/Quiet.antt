@@ -43,7 +43,6 @@ none_differs board squares reported none =
         → get_or board.reported_squares k d ≡ get_or board.squares k d
     same_at k d h =
         let below : k < 64 = rw reported at h in
-        let within : k < length board.squares = rw squares below in
         let at = every_square-at k below in
         search (rules, get_or_default, same_unless_differs, filter_empty)
 

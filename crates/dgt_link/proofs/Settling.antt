@@ -116,7 +116,6 @@ module _ (falls : BacklogFalls) where
   pub send_works : (world after : WorldView) → length world.board.state.reported_squares ≡ 64
       → Becomes ActContent.BoardSend world after → work_left after < work_left world
   send_works world after squares (message, is_next, encodes, same) =
-      let less = falls world.board.state message squares is_next in
       grind (arith, common_steps, at_most_one)
 
 -- a delivery takes as many bytes as it moves out of the down line
@@ -135,7 +134,6 @@ module _ (short : WordsAreShort) (within : NoWordBeginsAPart) (rises : BacklogRi
       let few = few_taken short within world.board.partial
       (take delivers.moved world.down.bytes) delivers.board.partial taken.events partial
       taken.divided in
-      let more = rises world.board.state taken.events in
       grind (arith, common_steps)
 
 module _ (short : WordsAreShort) (within : NoWordBeginsAPart) (rises : BacklogRises) where
@@ -349,8 +347,6 @@ module _ (short : WordsAreShort) (within : NoWordBeginsAPart) (rises : BacklogRi
   take_steps world after count partial delivers =
       let weighed = mul-le-mul_left (world.up.capacity + 1)
       (take_raises short within rises world after count partial delivers) in
-      let bytes =
-      ap (λ (n : ℕ). (world.up.capacity + 2) * n) (take_leaves world after count delivers) in
       grind (arith, common_steps)
 
 module _ (keeps : (act : ActContent) (world after : WorldView) (answer : Outcome) → IsWorld world

@@ -24,7 +24,6 @@ module _ (falls : BacklogFalls) (rises : BacklogRises) where
       → next_message x.board ≡ Some message → (move : Move) × NearerBy x move
   sends_nearer x message sound e =
       let sent = next_is_sent x message e in
-      let less = falls x.board message sound.reported_squares e in
       grind (arith, common_steps, length-append, sending_settles)
 
   takes_nearer : (x : MachineState) (event : EventContent) (later : List EventContent)
