@@ -2,7 +2,7 @@
 use Rattle.std.proofs.{Common.{◌≡◌, refl, sym, List, [], ◌∷◌, ◌++◌, false, length, map, arith, rules}, lemmas.{Bool.{false≢true}, List.Elements.{Contains-append_left, Contains-push}}}
 use Rattle.{std.specs.Prelude.{Contains, IsTrue, filter_map, unwrap_or}, dgt_command.specs.Content.{CommandContent}, dgt_board.specs.{State.{command_mode, updates}, declared.modes.Mode.{Mode}}}
 use Rattle.dgt_link.specs.{Act.{ActContent}, Faults.{AreCalm, FaultyContent, stops}, Promise.{IsAsked, IsAskedBy, act_requests, commands_after, last_mode, run_requests}}
-use Rattle.dgt_link.{specs.declared.acts.Outcome.{Outcome}, proofs.{AfterMoves.{commands_after-append}, Counts.{one_of_three, still_asked}, Promises.{asked-mode}}}
+use Rattle.dgt_link.{specs.declared.acts.Outcome.{Outcome}, proofs.{AfterMoves.{commands_after-append}, Counts.{still_asked}, Promises.{asked-mode}}}
 
 act_still_asked : (commands : List CommandContent) (act : ActContent) (answer : Outcome)
     → stops (FaultyContent.Plain act) ≡ false → IsAsked commands
@@ -46,7 +46,7 @@ IsUpdating =
 
 sets_updates : (before : Mode) (mode : CommandContent) → IsUpdating mode
     → IsTrue (updates (unwrap_or (command_mode mode) before))
-sets_updates before mode = search (rules, one_of_three)
+sets_updates before mode = search rules
 
 mode_then_dump : (commands : List CommandContent) (mode : CommandContent) → IsUpdating mode
     → IsAsked ((commands ++ mode ∷ []) ++ CommandContent.Dump ∷ [])

@@ -20,12 +20,11 @@ requests-sending move sending = search rules
 
 pub requests-act : (act : ActContent) (moves : List Move) → AreMovesOfAct act moves
     → flat_map requests moves ≡ act_requests Outcome.Done act
-requests-act act moves e = search (rules, requests-sending, requests-takes, requests-hears)
+requests-act act moves e = search (rules, requests-takes, requests-hears)
 
 pub requests-step : (act : ActContent) (outcome : Outcome) (moves : List Move)
     → AreMovesOfStep act outcome moves → flat_map requests moves ≡ act_requests outcome act
-requests-step act outcome moves are =
-    search (rules, requests-sending, requests-takes, requests-hears)
+requests-step act outcome moves are = search (rules, requests-takes, requests-hears)
 
 requests-run : (acts : List ActContent) (outcomes : List Outcome) (moves : List Move)
     → AreMovesOfRun acts outcomes moves → flat_map requests moves ≡ run_requests acts outcomes
@@ -79,8 +78,7 @@ pub act_is_no_break : (act : ActContent) (moves : List Move) → act ≢ ActCont
 act_is_no_break (ActContent.Change square piece) moves other e = rw e (λ f. cc, tt)
 act_is_no_break (ActContent.ClockRead clock) moves other e = rw e (λ f. cc, tt)
 act_is_no_break (ActContent.Host command) moves other e = rw e (λ f. cc, tt)
-act_is_no_break ActContent.BoardSend moves other (move, sending, e) =
-    search (rules, sending_is_none)
+act_is_no_break ActContent.BoardSend moves other (move, sending, e) = search rules
 act_is_no_break (ActContent.ToBoard bytes) moves other (count, e) =
     rw e (all_replicate (λ move. move ≢ Move.Break) count Move.Take (λ f. cc))
 act_is_no_break (ActContent.ToHost bytes) moves other (count, e) =
@@ -93,7 +91,7 @@ act_is_other : (act : ActContent) (moves : List Move) → act ≢ ActContent.Hos
 act_is_other (ActContent.Change square piece) moves other e = rw e (λ is. is, tt)
 act_is_other (ActContent.ClockRead clock) moves other e = rw e (λ is. is, tt)
 act_is_other (ActContent.Host command) moves other e = rw e (λ is. is, tt)
-act_is_other ActContent.BoardSend moves other (move, sending, e) = search (rules, sending_is_none)
+act_is_other ActContent.BoardSend moves other (move, sending, e) = search rules
 act_is_other (ActContent.ToBoard bytes) moves other (count, e) =
     rw e (all_replicate (λ move. ¬ (IsHostBreak move)) count Move.Take (λ is. is))
 act_is_other (ActContent.ToHost bytes) moves other (count, e) =

@@ -10,7 +10,7 @@ use Rattle.{dgt_host.specs.Host.{host_after_events, host_after_message}, dgt_lin
 use Rattle.dgt_link.specs.{Machine.{MachineState, Move, after_moves}, Readers.{Grammars}, Sound.{IsSound, IsSubsequence, IsUnknownOr, coming_kinds}, Step.{Becomes, Step, with_state}, View.{WorldView}}
 use Rattle.dgt_link.{specs.{View.{with_bytes, without_first}, declared.acts.Outcome.{Outcome}}, proofs.{AfterMoves.{moves_sound}, Dividing.{divides_command}, Hearing.{heard_of, heard_prefix}}}
 use Rattle.dgt_link.proofs.{Hearing.{host_after_messages}, Lists.{IsShorter, Reaches, all_append, prefixes, not_empty}, Sending.{next_is_sent}, Soundness.{ask-kinds, asked_sound, move_sound}}
-use Rattle.dgt_link.proofs.{Standing.{prefix_of, hears, taken_state, takes, with_host, taken_as}, Subsequences.{awaited_after-subsequence, subsequence_append, subsequence_later}}
+use Rattle.dgt_link.proofs.{Standing.{prefix_of, hears, taken_state, takes, with_host, taken_as}, Subsequences.{awaited_after-subsequence, subsequence_append}}
 
 -- a message is sent
 abbrev pub Sends : Content → WorldView → WorldView → Type 0
@@ -43,13 +43,13 @@ knows_no_more : (known host : HostView) (messages : List Content) → KnowsNoMor
 knows_no_more known host [] less = less
 knows_no_more known host (message ∷ messages) less =
     knows_no_more (host_after_message known message) (host_after_message host message) messages
-    (search (rules, picture_no_more, clock_no_more))
+    (search rules)
 
 -- ---- what is awaited
 
 event_awaits : (host : HostView) (event : Event) (kinds : List Kind)
     → IsSubsequence host.awaited kinds → IsSubsequence (host_after_event host event).awaited kinds
-event_awaits host event kinds h = search (rules, awaited_after-subsequence, subsequence_later)
+event_awaits host event kinds h = search (rules, awaited_after-subsequence)
 
 events_await : (host : HostView) (reported : List Placed) (kinds : List Kind)
     → IsSubsequence host.awaited kinds
@@ -162,7 +162,7 @@ module _ (laws : Grammars) where
             let ran : after_moves (awaiting x host.awaited) moves
             ≡ with_host (awaiting x host.awaited) (host_after_messages state_host prefix.heard)
             prefix.left =
-            search (rules, hears, awaiting) in
+            search (rules, hears) in
             let sound : IsSound
             (with_host (awaiting x host.awaited) (host_after_messages state_host prefix.heard)
             prefix.left)
@@ -211,7 +211,7 @@ module _ (laws : Grammars) where
           hear_garbage garbage (next ∷ more) world count x stands unknown
           (same_behind (all_heard world count) (drop count world.up.bytes)
           (next ∷ more ++ flat_map encoding x.up)
-          (grind (arith, common_steps, flat_map, append_assoc, all_heard)))
+          (grind (arith, common_steps)))
       go (inr (more, e, f)) (inl none) =
           let is : all_heard world count ≡ more = e ∙ ap (λ (g : List ℕ). g ++ more) none in
           hear_true garbage more world count x world.host stands

@@ -44,7 +44,7 @@ none_next (Some message) is none = cc
 
 pub one_is_next : (world : WorldView) (act other : ActContent) → IsNext world act
     → IsNext world other → act ≡ other
-one_is_next world act other x y = search (rules, empty_line, none_next)
+one_is_next world act other x y = search rules
 
 is_empty : (bytes : List ℕ) → (0 < length bytes → ⊥) → bytes ≡ []
 is_empty bytes none = grind (arith, common_steps)
@@ -65,7 +65,7 @@ rests_without_next world none =
 
 pub next_until_rest : (world : WorldView) (act : ActContent) → IsNext world act
     → IsRestedWorld world → ⊥
-next_until_rest world act x rested = search (rules, empty_line, none_next)
+next_until_rest world act x rested = search rules
 
 -- ---- a restart
 
@@ -93,5 +93,4 @@ sending_settles move is = search rules
 pub moves-squares : (one : Act) (moves : List Move) (x : MachineState)
     → AreMovesOfAct (act_content one) moves
     → (after_moves x moves).board.squares ≡ squares_after x.board.squares (one ∷ [])
-moves-squares one moves x same =
-    search (rules, settling_squares, sending_settles, takes_settle, hears_settle)
+moves-squares one moves x same = search (rules, settling_squares, takes_settle, hears_settle)

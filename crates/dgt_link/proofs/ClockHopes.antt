@@ -3,7 +3,7 @@ use Rattle.{std.{proofs.Common.{◌≡◌, refl, inr, List, [], ◌∷◌, Some,
 use Rattle.{dgt_board.specs.{State.{command_mode, follows_clock}, declared.modes.Mode.{Mode}}, dgt_link.specs.Clocks.{ClockIsComing, IsClockFollowing, IsClockPromised, IsClockPromisedWorld}}
 use Rattle.dgt_link.specs.{Clocks.{stops_clock}, Faults.{FaultyContent, FaultyStep, begins_anew, is_fault, loses_step, sends}, Healing.{Counted, IsClockHealing, IsInStep}, Promise.{last_mode}}
 use Rattle.dgt_link.{specs.{Promise.{mode_after}, View.{IsQuietWorld, WorldView}, declared.acts.Outcome.{Outcome}}, proofs.{Behind.{ActsBehind}, Clocks.{clock_is_asked, promised_clock}}}
-use Rattle.dgt_link.proofs.{Clocks.{step_keeps_clock}, Counting.{Holds, follows_with, host_knows, quiet_behind}, Hopes.{Follows, Hope, garbled, asked_promises, kept, other_following, other_promised}}
+use Rattle.dgt_link.proofs.{Clocks.{step_keeps_clock}, Counting.{Holds, host_knows, quiet_behind}, Hopes.{Follows, Hope, garbled, asked_promises, kept, other_following, other_promised}}
 use Rattle.dgt_link.proofs.{Hopes.{set_promises}, Settling.{by_settling}}
 
 pub clock_at_quiet : EachDividesOnce → (world : WorldView) → IsClockPromisedWorld world
@@ -76,4 +76,4 @@ followed_from_any before (mode ∷ modes) h = h
 
 pub clock_healing_promised : (c : Counted) (world : WorldView) → Holds c world → IsClockHealing c
     → IsClockPromisedWorld world
-clock_healing_promised c world holds healing = search (rules, follows_with, followed_from_any)
+clock_healing_promised c world holds healing = search (rules, followed_from_any)

@@ -12,8 +12,8 @@ use Rattle.dgt_link.specs.{Machine.{MachineState, Move, after_move, after_moves,
 use Rattle.dgt_link.specs.{Readers.{Grammars}, Sound.{IsSound, IsSubsequence, IsUnknownOr, coming_kinds, kind_of_event, kind_of_reply}, Stands.{AreMovesOfStep, IsWorld, StandsFor}, Step.{Becomes}}
 use Rattle.dgt_link.{specs.{Step.{Runs, Step}, View.{IsQuietWorld, LineContents, WorldView, line_holding}, declared.acts.Outcome.{Outcome}}, proofs.AfterMoves.{moves_come, moves_sound}}
 use Rattle.dgt_link.proofs.{Asking.{requests-step}, Behind.{awaiting, step_behind}, Clocks.{clock_is_asked, step_keeps_clock}, Dividing.{anew_divides}, Lists.{nothing_contained, right_empty}}
-use Rattle.dgt_link.proofs.{Promises.{IsComing, last_mode-append, noise-modes, nothing_asked}, Quiet.{quiet_awaited}, Sending.{next_is_sent}, Soundness.{asked_sound, board_sound, move_sound}}
-use Rattle.dgt_link.proofs.{Soundness.{new_sound, noise-kinds}, Standing.{becomes_rooms, same_rooms, taken_state, takes}, Subsequences.{subsequence_at_end}, WorldsByState.{nothing_first}}
+use Rattle.dgt_link.proofs.{Promises.{IsComing, last_mode-append, nothing_asked}, Quiet.{quiet_awaited}, Sending.{next_is_sent}, Soundness.{asked_sound, board_sound, move_sound}}
+use Rattle.dgt_link.proofs.{Soundness.{new_sound, noise-kinds}, Standing.{taken_state, takes}, Subsequences.{subsequence_at_end}, WorldsByState.{nothing_first}}
 
 -- ---- bytes
 
@@ -60,8 +60,8 @@ effects_sound board events sound =
 module _ (laws : Grammars) where
   becomes_sane : (act : ActContent) (world after : WorldView) → IsSane world
       → Becomes act world after → IsSane after
-  becomes_sane (ActContent.Change square piece) world after sane same = search (rules, move_sound)
-  becomes_sane (ActContent.ClockRead clock) world after sane same = search (rules, move_sound)
+  becomes_sane (ActContent.Change square piece) world after sane same = search rules
+  becomes_sane (ActContent.ClockRead clock) world after sane same = search rules
   becomes_sane (ActContent.Host command) world after sane (encodes, same) =
       search (rules, bytes_append)
   becomes_sane ActContent.BoardSend world after sane (message, is_next, encodes, same) =
@@ -80,7 +80,7 @@ module _ (laws : Grammars) where
       })
   becomes_sane (ActContent.ToHost count) world after sane same =
       rw same (record { board = sane.board; partial = sane.partial; down = sane.down })
-  becomes_sane ActContent.Break world after sane same = search (rules, lost_sound, no_bytes)
+  becomes_sane ActContent.Break world after sane same = search rules
   becomes_sane ActContent.HostBreak world after sane same =
       rw same (record { board = sane.board; partial = sane.partial; down = bytes_restart })
 
@@ -92,7 +92,7 @@ module _ (laws : Grammars) where
       rw same (record { board = sane.board; partial = sane.partial; down = sane.down })
   faulty_sane (FaultyContent.GarbleDown bytes) world after sane (are, same) =
       rw same (record { board = sane.board; partial = sane.partial; down = are })
-  faulty_sane FaultyContent.BoardLost world after sane same = search (rules, lost_sound)
+  faulty_sane FaultyContent.BoardLost world after sane same = search rules
   faulty_sane FaultyContent.GiveUp world after sane same =
       rw same (record { board = sane.board; partial = sane.partial; down = sane.down })
   faulty_sane FaultyContent.Restart world after sane same =
@@ -130,7 +130,7 @@ follows_in_step in_turn asked world f = follows_with (λ x. Unit {0}) f tt
 
 -- nothing was requested yet
 pub in_step_follows : (world : WorldView) → IsInStep world → Follows false [] world
-in_step_follows world is = search (rules, nothing_asked, nothing_contained, false≢true)
+in_step_follows world is = search rules
 
 -- a requested reading arrives, even if it was just requested
 asked_clock : (asked : List CommandContent) (command : CommandContent) (x : MachineState)
@@ -184,19 +184,19 @@ first_is_out : (other command : CommandContent) (commands : List CommandContent)
     → sets_mode other ≡ false → sets_mode command ≡ true
     → (Contains (filter sets_mode commands) other → ⊥)
     → Contains (command ∷ filter sets_mode commands) other → ⊥
-first_is_out other command commands none sets later has = search (rules, false≢true)
+first_is_out other command commands none sets later has = search rules
 
 other_is_out : (other : CommandContent) → sets_mode other ≡ false → (commands : List CommandContent)
     → Contains (filter sets_mode commands) other → ⊥
 other_is_out other none [] has = nothing_contained other has
 other_is_out other none (CommandContent.Reset ∷ commands) has =
-    search (rules, first_is_out, other_is_out other none commands)
+    search (rules, other_is_out other none commands)
 other_is_out other none (CommandContent.Update ∷ commands) has =
-    search (rules, first_is_out, other_is_out other none commands)
+    search (rules, other_is_out other none commands)
 other_is_out other none (CommandContent.UpdateBoard ∷ commands) has =
-    search (rules, first_is_out, other_is_out other none commands)
+    search (rules, other_is_out other none commands)
 other_is_out other none (CommandContent.UpdateNice ∷ commands) has =
-    search (rules, first_is_out, other_is_out other none commands)
+    search (rules, other_is_out other none commands)
 other_is_out other none (_ ∷ commands) has = other_is_out other none commands has
 
 modes_stay : (commands : List CommandContent)
@@ -220,7 +220,7 @@ forgotten x = commanded_state x.board x.down
 pub forgotten_stands : (garbage : List ℕ) (world : WorldView) (up : LineContents) (x : MachineState)
     → StandsBehind garbage world x
     → StandsBehind (world.host.unread ++ up.bytes) (record world { up = up }) (forgotten x)
-forgotten_stands garbage world up x stands = search (rules, commanded_sound, append-nil)
+forgotten_stands garbage world up x stands = search rules
 
 -- garbage replaces what is under way to the host
 pub garbled_stands : (bytes : List ℕ) (world after : WorldView) (garbage : List ℕ)
@@ -270,11 +270,12 @@ given_up_follows in_turn asked world after f same = record {
 module _ (laws : Grammars) where
   pub break_follows : (world after : WorldView) → IsSane world
       → Becomes ActContent.Break world after → Follows true [] after
-  break_follows world after sane same = rw same
+  break_follows world after sane same =
+      rw same
       (record {
         garbage = [];
         state = state_of_board (after_line_lost world.board.state);
-        stands = search (rules, lost_sound);
+        stands = search rules;
         comes = nothing_asked (state_of_board (after_line_lost world.board.state));
         clock = λ has. absurd (nothing_contained CommandContent.Clock has);
         awaits = λ turn. tt;
@@ -285,8 +286,7 @@ module _ (laws : Grammars) where
       → last_mode before
       (filter_map event_mode (events ++ (noise ++ map EventContent.Read commands_anew)))
       ≡ Mode.UpdateBoard
-  anew_mode before events noise is_noise =
-      search (rules, filter_map-append, last_mode-append, noise-modes)
+  anew_mode before events noise is_noise = search (rules, filter_map-append, last_mode-append)
 
   anew_comes : (board : BoardState) (events noise : List EventContent) → IsNoiseList noise
       → IsComing commands_anew
@@ -336,7 +336,7 @@ module _ (laws : Grammars) where
 
   -- a host that starts over requests no reading
   no_reading_anew : Contains commands_anew CommandContent.Clock → ⊥
-  no_reading_anew has = search (rules, nothing_contained)
+  no_reading_anew has = search rules
 
   -- the host awaits only the dump, and its restart bytes follow these, and then garbage to the host
   anew_follows : (world after : WorldView) (bytes up : List ℕ) → IsSane world
@@ -351,7 +351,7 @@ module _ (laws : Grammars) where
         garbage = up;
         state = commanded_state world.board.state
             (divided.0 ++ (anew.0 ++ map EventContent.Read commands_anew));
-        stands = search (rules, commanded_sound, append-nil, append_assoc);
+        stands = search (rules, append_assoc);
         comes = anew_comes world.board.state divided.0 anew.0 anew.1;
         clock = λ has. absurd (no_reading_anew has);
         awaits = λ turn. rw awaited (anew_awaits world.board.state divided.0 anew.0 anew.1);
@@ -479,7 +479,7 @@ module _ (laws : Grammars) (acts : List FaultyContent) (world after : WorldView)
       run_holds laws acts world answers after (nothing_counted false) (sane_holds world sane) runs
 
   pub in_step_counted_holds : IsInStep world → Holds (counted_by true acts answers) after
-  in_step_counted_holds is = search (rules, run_holds, acts, in_step_holds)
+  in_step_counted_holds is = search (rules, run_holds, in_step_holds)
 
 -- ---- when everything is quiet
 
@@ -545,7 +545,7 @@ pub empty_in_step : (world : WorldView) → IsSane world → world.down.bytes �
 empty_in_step world sane down partial = record {
   garbage = world.host.unread ++ world.up.bytes;
   state = state_of_board world.board.state;
-  stands = search (rules, append-nil);
+  stands = search rules;
   holds = tt;
 }
 
@@ -571,5 +571,4 @@ world_is_faulty world is = search (rules, world_is_sane)
 
 pub step_is_faulty : Grammars → (act : FaultyContent) (world after : WorldView) (answer : Outcome)
     → IsFaultyWorld world → FaultyStep act world answer after → IsFaultyWorld after
-step_is_faulty laws act world after answer is step =
-    search (rules, step_sane, same_rooms, becomes_rooms)
+step_is_faulty laws act world after answer is step = search (rules, step_sane)

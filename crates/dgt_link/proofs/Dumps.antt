@@ -4,7 +4,7 @@ use Rattle.{std.specs.{List.{AllByRecursion}, Prelude.{IsSome}}, dgt_values.spec
 use Rattle.{dgt_board.specs.{Sending.{next_message}, State.{BoardState}}, dgt_link.specs.{Act.{ActContent}, Faults.{is_break}, Healing.{IsInStep, StandsBehind, StandsWith}, History.{IsInOrderOf}}}
 use Rattle.dgt_link.specs.{History.{RunsThrough, shown, shown_in, stood_in}, Machine.{MachineState, Move, after_moves}, Readers.{Grammars}, Sound.{coming_picture}, Stands.{AreMovesOfStep}}
 use Rattle.dgt_link.{specs.{Step.{Runs, Step}, View.{WorldView}, declared.acts.Outcome.{Outcome}}, proofs.{ActRuns.{run_keeps}, Behind.{ActsBehind, Sends, after_sent, sent_behind}}}
-use Rattle.dgt_link.proofs.{Counting.{forgotten, forgotten_stands, nothing_said}, History.{Goes, along, goes_all, later_shown, now, sends, step_goes}, Hopes.{led}, KnownPictures.{comes_by_all}}
+use Rattle.dgt_link.proofs.{Counting.{forgotten, forgotten_stands, nothing_said}, History.{Goes, along, goes_all, later_shown, now, step_goes}, Hopes.{led}, KnownPictures.{comes_by_all}}
 use Rattle.dgt_link.proofs.{KnownPictures.{known_behind, seen_by_all, step_is_plain}, Lists.{not_empty, right_empty}}
 
 -- no act is a break
@@ -30,7 +30,7 @@ nothing_comes garbage world x stands unread up = search (rules, nothing_said, ri
 
 all_heard : (world : WorldView) → StandsWith PictureComes world → world.host.unread ≡ []
     → world.up.bytes ≡ [] → world.host.picture ≡ Some world.board.state.reported_squares
-all_heard world is unread up = search (rules, nothing_comes, known_behind)
+all_heard world is unread up = search (rules, nothing_comes)
 
 first_is : (acts : List ActContent) (world : WorldView) (answers : List Outcome) (first : WorldView)
     (later : List WorldView) → RunsThrough acts world answers (first ∷ later) → first ≡ world
@@ -61,7 +61,7 @@ module _ (behind : ActsBehind) where
         reached.0 between (after_moves x reached.1) answers later all.1 reached.3
         (seen_by_all x reached.1 (step_is_plain act answer reached.1 all.0 reached.2) some)
         (step_goes square seen before x act answer reached.1 reached.2 goes) runs in
-        search (rules, known_behind, append_assoc, now)
+        search (rules, append_assoc)
     known_goes seen before _ garbage world x _ worlds all stands some goes never = absurd never
 
     -- a picture is to come, and is known once nothing is under way
@@ -96,7 +96,7 @@ module _ (behind : ActsBehind) where
         ((before ++ now square x ∷ []) ++ now square y ∷ [])
         (step_goes square [] before x act answer reached.1 reached.2 goes)) (rw rest_is at runs)
         unread up in
-        search (rules, append_assoc, now)
+        search (rules, append_assoc)
     comes_goes before _ garbage world x _ (other ∷ earlier) first later all stands comes goes never
         unread up =
         absurd never
@@ -144,4 +144,4 @@ module _ (behind : ActsBehind) where
         rw is.stands.board
         (comes_goes square (now square start ∷ []) acts (world.host.unread ++ world.up.bytes)
         between started answers earlier first later all (sent_stands between step) refl
-        (search (rules, sends, start, started)) (rw rest_is at runs) unread up)
+        (search rules) (rw rest_is at runs) unread up)

@@ -1,11 +1,11 @@
 -- Whatever the schedule, a world comes to rest if each side moves again and again.
 use Rattle.std.proofs.Common.{arith, ◌≡◌, refl, sym, ap, subst, ◌∙◌, ◌⊎◌, inl, inr, ℕ, ◌+◌, ◌<◌, ◌≤◌, zero, suc, List, [], ◌∷◌, ◌++◌, Some, None, Bool, true, cond, length, if◌then◌else◌, rules}
-use Rattle.std.{proofs.lemmas.{Bool.{eqb-true, ltb-true}, List.{length-append, length-map}, Option.{same_Some}}, specs.{List.{AllByRecursion}, Prelude.{Contains, slice_get, map}}}
+use Rattle.std.{proofs.lemmas.{List.{length-append, length-map}}, specs.{List.{AllByRecursion}, Prelude.{Contains, slice_get, map}}}
 use Rattle.{dgt_message.specs.{Clock.{ClockState}, Content.{Content, clock_message}, Encoding.{encoding}}, dgt_command.specs.{Content.{EventContent}, Laws.{NoWordBeginsAPart, WordsAreShort}}}
 use Rattle.dgt_board.specs.{Sending.{clock_news, field_of, next_message, reply_message, unreported_squares}, State.{BoardState, IsShortClock, IsShortIdentity, effect, effects}}
 use Rattle.{dgt_board.specs.declared.replies.Reply.{Reply}, dgt_link.specs.{Act.{ActContent}, Healing.{IsRestedWorld}, Settling.{HasRounds, IsRound, IsSettling, steps_left}, Stands.{IsWorld}}}
 use Rattle.dgt_link.{specs.{Step.{Runs, Step, done_count, moves_nothing, outcome, Becomes}, View.{LineContents, WorldView}, declared.acts.Outcome.{Outcome}}, proofs.Backlogs.{BacklogFalls}}
-use Rattle.dgt_link.proofs.{Backlogs.{BacklogRises}, Lists.{Contains-cons, all_append, nothing_contained}, Settling.{by_settling, count_first, no_bytes, run_steps}, Taking.{HasSameGame}}
+use Rattle.dgt_link.proofs.{Backlogs.{BacklogRises}, Lists.{Contains-cons, all_append, nothing_contained}, Settling.{count_first, no_bytes, run_steps}, Taking.{HasSameGame}}
 use Rattle.dgt_link.proofs.Taking.{effects_same_game}
 
 -- each message that the board sends fits into the empty up line, whatever it owes and has reported
@@ -30,13 +30,13 @@ module _ (board : BoardState) (squares : length board.squares ≡ 64)
   news_is_short : (owed : Bool) (message : Content)
       → slice_get (if owed then clock_message board.clock ∷ [] else []) 0 ≡ Some message
       → length (encoding message) ≤ 67
-  news_is_short owed message e = search (rules, same_Some, clock_is_short)
+  news_is_short owed message e = search (rules, clock_is_short)
 
   fields_are_short : (fields : List ℕ) (message : Content)
       → slice_get (map (field_of board) fields ++ clock_news board) 0 ≡ Some message
       → length (encoding message) ≤ 67
   fields_are_short [] message e = news_is_short board.times_owed message e
-  fields_are_short (square ∷ fields) message e = search (rules, same_Some, field_is_short)
+  fields_are_short (square ∷ fields) message e = search rules
 
   all_are_short : (owed : List Reply) (message : Content)
       → slice_get
@@ -44,7 +44,7 @@ module _ (board : BoardState) (squares : length board.squares ≡ 64)
       ++ (map (field_of board) (unreported_squares board) ++ clock_news board)) 0 ≡ Some message
       → length (encoding message) ≤ 67
   all_are_short [] message e = fields_are_short (unreported_squares board) message e
-  all_are_short (reply ∷ owed) message e = search (rules, same_Some, length-map, clock_is_short)
+  all_are_short (reply ∷ owed) message e = search (rules, length-map, clock_is_short)
 
 -- ---- runs in two parts
 
@@ -76,7 +76,7 @@ run_split (act ∷ first) later world after [] none = absurd none
 count_both : (ones others : List Outcome)
     → done_count (ones ++ others) ≡ done_count ones + done_count others
 count_both [] others = omega arith
-count_both (one ∷ ones) others = search (rules, count_first, count_both ones others)
+count_both (one ∷ ones) others = search (rules, count_both ones others)
 
 -- ---- acts of which none is done
 
@@ -116,7 +116,7 @@ none_can act (first ∷ acts) world after (answer ∷ answers) found (between, s
     go rest (inl e) = ap (λ (other : ActContent). done_count (outcome other world ∷ [])) (sym e)
         ∙ ap (λ (one : Outcome). done_count (one ∷ [])) (sym step.answers) ∙ here
     go rest (inr later) =
-        search (rules, done_count, outcome)
+        search rules
 none_can act _ world after _ found never none = absurd never
 
 -- ---- a world in which no side can move
@@ -127,12 +127,12 @@ nothing_if nothing h = search rules
 
 line_empty : (count : ℕ) (line : LineContents) → 0 < count → moves_nothing count line ≡ true
     → line.bytes ≡ []
-line_empty count line some none = search (rules, eqb-true, no_bytes)
+line_empty count line some none = search (rules, no_bytes)
 
 none_sent : (world : WorldView) → SendsFit world → world.up.bytes ≡ []
     → done_count (outcome ActContent.BoardSend world ∷ []) ≡ 0
     → next_message world.board.state ≡ None
-none_sent world fits empty h = search (rules, ltb-true)
+none_sent world fits empty h = search rules
 
 none_taken : (count : ℕ) (world : WorldView) → 0 < count → world.board.state.owed ≡ []
     → done_count (outcome (ActContent.ToBoard count) world ∷ []) ≡ 0 → world.down.bytes ≡ []
@@ -156,7 +156,7 @@ rests_on : (acts : List ActContent) (world after : WorldView) (answers : List Ou
 rests_on [] world after [] all rested same = same
 rests_on (act ∷ acts) world after (answer ∷ answers) all rested (between, step, runs) =
     let same : between ≡ world
-    = search (rules, same_if_none, by_settling) in
+    = search rules in
     rests_on acts between after answers all.1 (rw same rested) runs ∙ same
 rests_on _ world after _ all rested never = absurd never
 

@@ -45,7 +45,7 @@ pub ran_all : (acts : List Act) (world after : WorldView) (answers : List Outcom
 ran_all [] world after [] same count = rw same (record { all = refl; squares = refl })
 ran_all (one ∷ acts) world after (Outcome.Done ∷ answers) (between, step, runs) count =
     let rest = ran_all acts between after answers runs (omega (arith, count)) in
-    search (rules, one_act, one_more)
+    search (rules, one_act)
 ran_all (one ∷ acts) world after (_ ∷ answers) (between, step, runs) count =
     absurd (omega (arith, few_done acts between after answers runs, count))
 ran_all _ world after _ none count = absurd none
@@ -180,7 +180,7 @@ all_done-map (one ∷ acts) =
 
 pub asking_is_asked : (acts : List Act)
     → AskForPicture acts ↔ IsAskedBy (map act_content acts) (map (λ one. Outcome.Done) acts)
-asking_is_asked acts = search (rules, act_content, all_done-map, asked_if_done, asked_back)
+asking_is_asked acts = search (rules, asked_if_done, asked_back)
 
 -- ---- acts that request the picture, and calm ones after them
 
@@ -192,7 +192,7 @@ AsksForBoth asking = IsTrue asking.dump × IsTrue asking.updates
 
 both_with : (asking : Asking) (one : Command) → stops (sends (command_content one)) ≡ false
     → AsksForBoth asking → AsksForBoth (asking_with asking one)
-both_with asking one calm both = search (rules, false≢true)
+both_with asking one calm both = search rules
 
 still_both : (asking : Asking) (acts : List Act) → AreCalm (map plain_of acts) → AsksForBoth asking
     → AsksForBoth (asking_after asking acts)

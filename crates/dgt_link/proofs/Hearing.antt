@@ -52,7 +52,7 @@ module _ (reads : Reads) where
   -- after bytes with an event, the rest of a message completes none
   nothing_more : (prefix rest : List ℕ) (x y : Placed) (xs : List Placed) → events prefix ≡ x ∷ xs
       → events (prefix ++ rest) ≡ y ∷ [] → events (unfinished_message prefix ++ rest) ≡ []
-  nothing_more prefix rest x y xs e whole = search (rules, nil_raised, right_empty, tail_same)
+  nothing_more prefix rest x y xs e whole = search (rules, nil_raised, right_empty)
 
   -- a part of a message completes no event, and all of it is held
   prefix_waits : (word prefix more : List ℕ) (next : ℕ) (y : Placed) → events word ≡ y ∷ []
@@ -84,8 +84,7 @@ module _ (reads : Reads) where
 
   pub heard_prefix : (prefix more : List ℕ) (messages : List Content)
       → AreEncoded messages (prefix ++ more) → IsPrefix prefix more messages
-  heard_prefix prefix more [] encoded =
-      search (rules, left_empty, no_events, right_empty, nothing_unfinished)
+  heard_prefix prefix more [] encoded = search (rules, left_empty, no_events, right_empty)
   heard_prefix prefix more (message ∷ messages) encoded =
       go (λ others f. heard_prefix others more messages
       (record { are_messages = encoded.are_messages.1; in_a_row = sym f }))

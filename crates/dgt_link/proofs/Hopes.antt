@@ -3,7 +3,7 @@ use Rattle.std.{proofs.{Common.{◌≡◌, refl, sym, ◌∙◌, ℕ, List, [], 
 use Rattle.{dgt_command.specs.Content.{CommandContent}, dgt_board.specs.{State.{command_mode}, declared.modes.Mode.{Mode}}, dgt_link.specs.{Act.{ActContent}, Faults.{FaultyBecomes, FaultyContent}}}
 use Rattle.dgt_link.specs.{Faults.{FaultyStep, begins_anew, is_break, sends}, Healing.{IsInStep, StandsWith}, Machine.{MachineState, Move, after_moves}, Promise.{IsPromisedBy, act_requests}}
 use Rattle.dgt_link.specs.{Promise.{coming_mode, mode_after}, Settling.{IsSettling, SettlesIn}, Stands.{AreMovesOfStep}, Step.{Step}, View.{WorldView}, declared.acts.Outcome.{Outcome}}
-use Rattle.dgt_link.proofs.{ActRuns.{run_keeps}, Asking.{mode-step}, Behind.{ActsBehind}, Counting.{forgotten, garbled_stands, given_up_stands, plain_step}, Settling.{by_settling}}
+use Rattle.dgt_link.proofs.{ActRuns.{run_keeps}, Asking.{mode-step}, Behind.{ActsBehind}, Counting.{forgotten, garbled_stands, plain_step}, Settling.{by_settling}}
 
 -- the mode to come asks for changes
 abbrev pub Follows : (Mode → Bool) → MachineState → Type 0
@@ -49,7 +49,7 @@ garbled Q keeps bytes world after is same = record {
 -- the host gives up what it awaits
 pub given_up : (Q : MachineState → Type 0) (world after : WorldView) (answer : Outcome)
     → StandsWith Q world → FaultyStep FaultyContent.GiveUp world answer after → StandsWith Q after
-given_up Q world after answer is step = search (rules, given_up_stands)
+given_up Q world after answer is step = search rules
 
 module _ (asks : Mode → Bool) (ends : FaultyContent → Bool) (Comes : MachineState → Type 0)
     (hope : Hope asks ends Comes) where

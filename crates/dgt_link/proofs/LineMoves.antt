@@ -1,6 +1,6 @@
 -- The bytes moved out of a line, some at a time.
 use Rattle.std.proofs.Common.{◌≡◌, refl, sym, subst, ap, ◌∙◌, ◌⊎◌, inl, inr, ℕ, ◌+◌, ◌-◌, ◌<◌, ◌≤◌, List, [], ◌∷◌, ◌++◌, Option, Some, None, length, take, drop, get_or, suc, false, IsTrue, IfSome}
-use Rattle.std.proofs.{Common.{IfNone, arith, drop-cons, append_assoc, rules}, Math.Seq.{take-add, take-append_seam}, lemmas.{Bool.{le-ltb, lt-leb}, List.{drop-drop, length-drop, length-take}}}
+use Rattle.std.proofs.{Common.{IfNone, arith, drop-cons, append_assoc, rules}, Math.Seq.{take-add, take-append_seam}, lemmas.{Bool.{lt-leb}, List.{drop-drop, length-drop, length-take}}}
 use Rattle.{std.{proofs.lemmas.{List.{length-take-le, take-take, take-append-drop, take_all}, Bool.Decides.{leb_tells}}, specs.Prelude.{nat_le}}, dgt_message.specs.Content.{Content}}
 use Rattle.{dgt_message.specs.Encoding.{Encodes, encoding}, dgt_command.specs.{Content.{EventContent}, Words.{IsPartial, IsWord}}, dgt_board.specs.{Sending.{after_sending}, View.{Polls, BoardView}}}
 use Rattle.{dgt_board.specs.{View.{HasTaken, after_bytes}, declared.sending.Polled.{Polled}}, dgt_host.specs.Host.{HostView, host_after, HeardInChunks}, dgt_link.specs.Step.{Delivers}}
@@ -27,7 +27,7 @@ pub polled_is_sent : (count room : ℕ) (next : Option Content) (before after : 
     × (after ≡ record before { state = after_sending before.state message })
     × (left ≡ with_bytes line (encoding message)))
 polled_is_sent count room next before after line left old new more none short rest e =
-    search (rules, le-ltb, append_assoc, take-append_seam)
+    search (rules, append_assoc, take-append_seam)
 
 -- ---- the board takes
 
@@ -76,7 +76,7 @@ stays : (board : BoardView) (bytes : List ℕ) → length board.state.owed < 8
 stays board bytes room part = (
   after_bytes board bytes None,
   record { events = []; divided = (refl, part); state = refl },
-  search (rules, not_full),
+  search rules,
 )
 
 -- bytes of which only the last may complete a frame
@@ -170,7 +170,7 @@ taking_more append board now new line left after moved n taking more within room
         × (is_full between.state ≡ false)
     earlier_than fewer some (sooner less) calm = taking.earlier fewer some less
     earlier_than fewer some (just same) calm = (
-        search (rules, some_taken, not_full)
+        search rules
         )
     earlier_than fewer some (later k positive less is) calm = let found = calm k positive less in (
         search (rules, taken_more)
@@ -193,8 +193,7 @@ pub taking_ends : (world : WorldView) (count moved : ℕ) (before now : BoardVie
     → ((moved ≡ count) ⊎ ((moved ≡ length line.bytes) ⊎ IsTrue (is_full now.state)))
     → Delivers count (record world { board = before; down = line })
     (record world { board = now; down = left })
-taking_ends world count moved before now line left taking some most ended =
-    search (rules, some_taken)
+taking_ends world count moved before now line left taking some most ended = search rules
 
 -- ---- the host hears
 

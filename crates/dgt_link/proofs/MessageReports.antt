@@ -1,6 +1,6 @@
 -- What a message from the board reports of its squares and of its clock.
-use Rattle.std.proofs.{Common.{◌≡◌, refl, ◌⊎◌, ℕ, List, [], ◌∷◌, ◌++◌, Option, Some, None, length, rules}, lemmas.{Bool.{and_parts, eqb-true, false≢true}, List.{length-set}}}
-use Rattle.{std.{proofs.lemmas.Slice.Eq.{bytes_eq-Decides}, specs.Prelude.{IsTrue, not}}, dgt_values.specs.declared.pieces.Piece.{Piece}, dgt_message.specs.Clock.{ClockState}}
+use Rattle.std.proofs.{Common.{◌≡◌, refl, ◌⊎◌, ℕ, List, [], ◌∷◌, ◌++◌, Option, Some, None, length, rules}}
+use Rattle.{std.{specs.Prelude.{IsTrue, not}}, dgt_values.specs.declared.pieces.Piece.{Piece}, dgt_message.specs.Clock.{ClockState}}
 use Rattle.{dgt_message.specs.{Content.{Content, clock_message, answered_kind}, Picture.{clock_after, clock_after_all, picture_after, picture_after_all}}, dgt_board.specs.Sending.{field_of}}
 use Rattle.dgt_board.specs.{Sending.{reply_message, reported_squares_after, reported_clock_after, times_owed_after}, State.{BoardState, is_reported, owed_when_handed, follows_clock}}
 use Rattle.{dgt_board.specs.declared.{modes.Mode.{Mode}, replies.Reply.{Reply}}, dgt_link.specs.Sound.{IsUnknownOr, kind_of_reply}}
@@ -26,13 +26,12 @@ absent raw raw' status status' e f = rw (e, f)
 
 pub owed_or_reported : (reported : Option ClockState) (clock : ClockState)
     → IsTrue (not (is_reported reported clock)) ⊎ (reported ≡ Some clock)
-owed_or_reported reported clock =
-    search (rules, and_parts, eqb-true, absent, bytes_eq-Decides, false≢true)
+owed_or_reported reported clock = search rules
 
 pub handed_or_reported : (mode : Mode) (reported : Option ClockState) (clock : ClockState)
     → IsTrue (follows_clock mode)
     → IsTrue (owed_when_handed mode (is_reported reported clock)) ⊎ (reported ≡ Some clock)
-handed_or_reported mode reported clock h = search (rules, false≢true, owed_or_reported)
+handed_or_reported mode reported clock h = search rules
 
 -- what the board counts as reported after a message is what the host then knows
 pub record ReportedIsHeard (board : BoardState) (message : Content) : Type 0 where
@@ -50,7 +49,7 @@ pub record ReportedIsHeard (board : BoardState) (message : Content) : Type 0 whe
 
 pub field_reports : (board : BoardState) (square : ℕ)
     → ReportedIsHeard board (field_of board square)
-field_reports board square = search (rules, length-set)
+field_reports board square = search rules
 
 pub clock_reports : (board : BoardState) → ReportedIsHeard board (clock_message board.clock)
 clock_reports board = search rules
@@ -65,7 +64,7 @@ pub record IsPlain (board : BoardState) (message : Content) : Type 0 where
 
 pub reply_reports : (board : BoardState) (reply : Reply)
     → ReportedIsHeard board (reply_message board reply)
-reply_reports board reply = search (rules, clock_reports)
+reply_reports board reply = search rules
 
 -- the message of an owed reply is of its kind, and therefore the clock's message has none
 pub clock_message-kind : (clock : ClockState) → answered_kind (clock_message clock) ≡ None
@@ -73,7 +72,7 @@ clock_message-kind clock = search rules
 
 pub reply_message-kind : (board : BoardState) (reply : Reply)
     → answered_kind (reply_message board reply) ≡ kind_of_reply reply
-reply_message-kind board reply = search (rules, clock_message-kind)
+reply_message-kind board reply = search rules
 
 pub picture_reported : (board : BoardState) (message : Content) → ReportedIsHeard board message
     → (picture : Option (List Piece)) (up : List Content)

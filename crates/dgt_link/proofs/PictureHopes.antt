@@ -4,7 +4,7 @@ use Rattle.{dgt_command.specs.Content.{CommandContent}, dgt_board.specs.{State.{
 use Rattle.dgt_link.specs.{Faults.{FaultyStep, begins_anew, is_break, is_fault, loses_step, sends, stops}, Healing.{IsFollowing, IsInStep, IsInTurnWorld, IsPromisedWorld, IsSane}}
 use Rattle.dgt_link.specs.{Machine.{MachineState, Move, after_moves, commands_anew}, Promise.{IsPromised, PictureIsComing, mode_after}, Readers.{Grammars}, Settling.{IsSettling, SettlesIn}}
 use Rattle.dgt_link.{specs.{Stands.{AreMovesOfRun, AreMovesOfStep}, Step.{Step}, View.{WorldView}, declared.acts.Outcome.{Outcome}}, proofs.{ActRuns.{run_keeps}, Asking.{dump_is_coming}}}
-use Rattle.dgt_link.proofs.{Asking.{step_keeps_coming}, Behind.{ActsBehind}, Clocks.{no_break}, Counting.{Follows as Counted, break_follows, follows_in_step, follows_with, given_up_stands}}
+use Rattle.dgt_link.proofs.{Asking.{step_keeps_coming}, Behind.{ActsBehind}, Clocks.{no_break}, Counting.{Follows as Counted, break_follows, follows_in_step, follows_with}}
 use Rattle.dgt_link.proofs.{Counting.{host_break_follows, plain_step, restart_follows}, Hopes.{Follows, Hope, asked_promises, garbled, given_up, kept, led, other_following, other_promised}}
 use Rattle.dgt_link.proofs.{Hopes.{settling_is_plain, stays_promised}, Promises.{anew_is_promised, coming_promise}, Settling.{by_settling}, Standing.{moves-append}}
 
@@ -144,7 +144,7 @@ module _ (behind : ActsBehind) where
     -- nothing is awaited any more
     pub given_up_in_turn : (world after : WorldView) (answer : Outcome) → IsInStep world
         → FaultyStep FaultyContent.GiveUp world answer after → IsInTurnWorld after
-    given_up_in_turn world after answer is step = search (rules, given_up_stands)
+    given_up_in_turn world after answer is step = search rules
 
     pub keeps_in_turn : (act : FaultyContent) (world after : WorldView) (answer : Outcome)
         → is_fault act ≡ false → IsSane world → IsInTurnWorld world
@@ -205,5 +205,5 @@ module _
       → Q after
   sane_keeps P Q kept acts world after answers all is q runs =
       (run_keeps FaultyStep P (λ w. IsSane w × Q w)
-      (search (rules, sane_after, kept)) acts world after
+      (search (rules, sane_after)) acts world after
       answers all (is, q) runs).1

@@ -13,12 +13,12 @@ pub restart_runs : (later : List FaultyContent) (world after : WorldView) (answe
     → FaultyRuns (FaultyContent.Restart ∷ later) world answers after
     → (begun : WorldView) × (others : List Outcome) × FaultyStep FaultyContent.Restart world
     Outcome.Done begun × FaultyRuns later begun others after
-restart_runs later world after answers room none = search (rules, restart_is_done)
+restart_runs later world after answers room none = search rules
 
 pub restart_done : (world after : WorldView) (answer : Outcome)
     → FaultyStep FaultyContent.Restart world answer after
     → (answer ≡ Outcome.Done) ↔ (length world.down.bytes + 257 ≤ world.down.capacity)
-restart_done world after answer step = search (rules, restart_is_done)
+restart_done world after answer step = search rules
 
 -- ---- a host that gives up what it awaits
 

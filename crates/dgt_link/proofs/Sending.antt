@@ -1,6 +1,6 @@
 -- What a board sends next is sent by one of the moves of the machine.
 use Rattle.std.{specs.Prelude.{slice_get, filter}, proofs.Common.{◌≡◌, refl, ◌⊎◌, inl, inr, ℕ, List, [], ◌∷◌, ◌++◌, Some, Bool, true, false, cond, map, drop, rules}}
-use Rattle.{std.proofs.lemmas.{Bool.{cond-true, and_from}, Option.{same_Some}}, dgt_message.specs.Content.{Content, clock_message}, dgt_board.specs.Sending.{after_sending, after_reporting}}
+use Rattle.{dgt_message.specs.Content.{Content, clock_message}, dgt_board.specs.Sending.{after_sending, after_reporting}}
 use Rattle.dgt_board.specs.{Sending.{clock_news, differs, field_of, next_message, reply_message, unreported_squares}, State.{updates}, declared.replies.Reply.{Reply}}
 use Rattle.dgt_link.specs.Machine.{IsSending, Move, MachineState, after_move, after_reply, after_reported}
 
@@ -33,7 +33,7 @@ first_kept : (field : ℕ → Content) (test : ℕ → Bool) (square : ℕ) (res
     (others : List Content) (message : Content) (passes : Bool) → test square ≡ passes
     → slice_get (map field (cond passes (square ∷ rest) rest) ++ others) 0 ≡ Some message
     → FirstField true field test message ⊎ (slice_get (map field rest ++ others) 0 ≡ Some message)
-first_kept field test square rest others message passes e h = search (rules, same_Some)
+first_kept field test square rest others message passes e h = search rules
 
 first_field : (asks : Bool) (field : ℕ → Content) (test : ℕ → Bool) (squares : List ℕ)
     (others : List Content) (message : Content)
@@ -47,7 +47,7 @@ first_field true field test (square ∷ squares) others message h =
 
 first_news : (owed : Bool) (news message : Content)
     → slice_get (cond owed (news ∷ []) []) 0 ≡ Some message → (owed ≡ true) × (news ≡ message)
-first_news owed news message h = search (rules, same_Some)
+first_news owed news message h = search rules
 
 report_is_sent : (x : MachineState) (message : Content) → x.board.owed ≡ []
     → FirstField (updates x.board.mode) (field_of x.board) (differs x.board) message
@@ -55,7 +55,7 @@ report_is_sent : (x : MachineState) (message : Content) → x.board.owed ≡ []
 report_is_sent x message none (square, asks, differing, same) = (
   Move.Report square,
   tt,
-  search (rules, cond-true, and_from, without_reply, sent_state),
+  search rules,
 )
 
 clock_is_sent : (x : MachineState) (message : Content) → x.board.owed ≡ []
@@ -63,7 +63,7 @@ clock_is_sent : (x : MachineState) (message : Content) → x.board.owed ≡ []
 clock_is_sent x message none (owed, same) = (
   Move.ReportClock,
   tt,
-  search (rules, cond-true, clock_message, without_reply, sent_state),
+  search rules,
 )
 
 next_of : (x : MachineState) (owed : List Reply) (message : Content) → x.board.owed ≡ owed
@@ -73,9 +73,9 @@ next_of : (x : MachineState) (owed : List Reply) (message : Content) → x.board
 next_of x (first ∷ rest) message e h = (
   Move.Reply,
   tt,
-  search (rules, reply_is_sent, sent_state, same_Some),
+  search rules,
 )
-next_of x [] message e h = search (rules, first_field, report_is_sent, clock_is_sent, first_news)
+next_of x [] message e h = search (rules, first_field, report_is_sent, clock_is_sent)
 
 -- the message that a board sends next is sent by a move
 pub next_is_sent : (x : MachineState) (message : Content) → next_message x.board ≡ Some message

@@ -1,10 +1,10 @@
 -- From each sound state takes, sendings and hears lead to a quiet one.
 use Rattle.std.proofs.{Common.{arith, ◌≡◌, ◌≢◌, refl, ◌∙◌, ◌⊎◌, inl, inr, ℕ, ◌<◌, ◌≤◌, zero, suc, List, [], ◌∷◌, Some, None, Bool, cond, Option, rules}, lemmas.Grind.{common_steps}}
-use Rattle.{std.{proofs.lemmas.List.{length-append}, specs.List.{AllByRecursion}}, dgt_message.specs.Content.{Content}}
+use Rattle.{std.{specs.List.{AllByRecursion}}, dgt_message.specs.Content.{Content}}
 use Rattle.{dgt_command.specs.Content.{EventContent}, dgt_board.specs.{Sending.{next_message}, declared.modes.Mode.{Mode}}, dgt_link.specs.Machine.{MachineState, after_move}}
 use Rattle.dgt_link.specs.{Machine.{after_moves, after_reported, IsSending, Move}, Promise.{IsPromised, IsQuiet, PictureIsComing, coming_mode, mode_after, requests}, Settling.{IsSettlingMove}}
 use Rattle.dgt_link.{specs.{Settling.{SettlesBy, moves_left}, Sound.{IsSound}}, proofs.{AfterMoves.{moves_sound}, Backlogs.{BacklogFalls, BacklogRises}, Promises.{move-mode, picture_keeps_coming}}}
-use Rattle.dgt_link.proofs.{Quiet.{promised_picture}, Sending.{next_is_sent}, Soundness.{move_sound}, Taking.{HasSameGame, effect_leaves, same_game}, WorldsByState.{nothing_first}}
+use Rattle.dgt_link.proofs.{Quiet.{promised_picture}, Sending.{next_is_sent}, Soundness.{move_sound}, Taking.{HasSameGame}, WorldsByState.{nothing_first}}
 
 sending_settles : (move : Move) → IsSending move → IsSettlingMove move
 sending_settles move is = search rules
@@ -24,7 +24,7 @@ module _ (falls : BacklogFalls) (rises : BacklogRises) where
       → next_message x.board ≡ Some message → (move : Move) × NearerBy x move
   sends_nearer x message sound e =
       let sent = next_is_sent x message e in
-      grind (arith, common_steps, length-append, sending_settles)
+      grind (arith, common_steps, sending_settles)
 
   takes_nearer : (x : MachineState) (event : EventContent) (later : List EventContent)
       → x.down ≡ event ∷ later → NearerBy x Move.Take
@@ -61,8 +61,9 @@ module _ (falls : BacklogFalls) (rises : BacklogRises) where
 
   reached_within : (most : ℕ) (x : MachineState) → IsSound x → moves_left x ≤ most
       → (moves : List Move) × SettlesBy moves x
-  reached_within zero x sound few = grind (arith, common_steps, nearer)
-  reached_within (suc most) x sound few = go (reached_within most) (nearer x sound)
+  reached_within zero x sound few = grind (arith, common_steps)
+  reached_within (suc most) x sound few =
+      go (reached_within most) (nearer x sound)
     where
       go : ((y : MachineState) → IsSound y → moves_left y ≤ most
           → (moves : List Move) × SettlesBy moves y)
@@ -80,11 +81,11 @@ module _ (falls : BacklogFalls) (rises : BacklogRises) where
 
 reported_same_game : (x : MachineState) (asks : Bool) (message : Content)
     → HasSameGame x.board (cond asks (after_reported x message) x).board
-reported_same_game x asks message = search (rules, same_game)
+reported_same_game x asks message = search rules
 
 move_same_game : (x : MachineState) (move : Move) → IsSettlingMove move
     → HasSameGame x.board (after_move x move).board
-move_same_game x move is = search (rules, reported_same_game, same_game, effect_leaves)
+move_same_game x move is = search rules
 
 settling_keeps_mode : (before : Mode) (move : Move) → IsSettlingMove move
     → mode_after before (requests move) ≡ before
