@@ -5,15 +5,13 @@ use Rattle.dgt_link.{specs.Faults.{is_fault, loses_step, sends, stops}}
 
 -- ---- each kind
 
-pub fault_is : (act : FaultyContent)
-    → (is_fault act ≡ true)
+pub fault_is : (act : FaultyContent) → (is_fault act ≡ true)
     ↔ (((bytes : List ℕ) × (act ≡ FaultyContent.GarbleUp bytes))
     ⊎ (((bytes : List ℕ) × (act ≡ FaultyContent.GarbleDown bytes))
     ⊎ (act ≡ FaultyContent.BoardLost)))
 fault_is act = search rules
 
-pub loses_step_is : (act : FaultyContent)
-    → (loses_step act ≡ true)
+pub loses_step_is : (act : FaultyContent) → (loses_step act ≡ true)
     ↔ (((bytes : List ℕ) × (act ≡ FaultyContent.GarbleDown bytes))
     ⊎ (act ≡ FaultyContent.BoardLost))
 loses_step_is act = search rules
@@ -63,8 +61,7 @@ pub all_calm : (acts : List FaultyContent)
     → AreCalm acts
 all_calm = all_of (λ act. (is_fault act ≡ false) × (stops act ≡ false))
 
-pub all_clock_calm : (acts : List FaultyContent)
-    → ((act : FaultyContent) → Contains acts act
+pub all_clock_calm : (acts : List FaultyContent) → ((act : FaultyContent) → Contains acts act
     → (is_fault act ≡ false) × (stops_clock act ≡ false)) → AreClockCalm acts
 all_clock_calm = all_of (λ act. (is_fault act ≡ false) × (stops_clock act ≡ false))
 

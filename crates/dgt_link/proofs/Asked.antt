@@ -25,8 +25,7 @@ acts_still_asked commands (act ∷ acts) (answer ∷ answers) calm is =
     (act_still_asked commands act answer calm.0.1 is))
 
 -- the requests of later acts, whatever the first ones requested
-after_any : (more : List ActContent) (others : List Outcome)
-    → ((commands : List CommandContent)
+after_any : (more : List ActContent) (others : List Outcome) → ((commands : List CommandContent)
     → IsAsked (commands_after commands (run_requests more others)))
     → (commands : List CommandContent) (acts : List ActContent) (answers : List Outcome)
     → length answers ≡ length acts

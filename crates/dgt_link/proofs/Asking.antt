@@ -1,6 +1,6 @@
 -- What acts request of the board, how they change the promise, and which of their moves are breaks.
 use Rattle.std.{proofs.{Common.{◌≡◌, ◌≢◌, refl, ℕ, zero, suc, List, [], ◌∷◌, replicate, arith, rules}, lemmas.Grind.{flat_map-append}}, specs.{List.{AllByRecursion}, Prelude.{Contains, flat_map}}}
-use Rattle.{dgt_command.specs.Content.{CommandContent}, dgt_link.specs.{Act.{ActContent}, Machine.{IsHostBreak, IsSending, MachineState, Move, after_move, after_moves}, Promise.{IsAskedBy}}}
+use Rattle.{dgt_command.specs.Content.{CommandContent}, dgt_link.specs.{Act.{ActContent}, Machine.{IsHostBreak, MachineState, Move, after_move, after_moves}, Promise.{IsAskedBy}}}
 use Rattle.dgt_link.specs.{Promise.{IsPromised, IsRestarted, PictureIsComing, act_requests, coming_mode, mode_after, requests, run_requests}, Stands.{AreMovesOfAct, AreMovesOfRun, AreMovesOfStep}}
 use Rattle.dgt_link.{specs.declared.acts.Outcome.{Outcome}, proofs.{AfterMoves.{moves-mode, moves_promise}, Lists.{all_append, all_replicate}, Promises.{anew_is_promised, dump_asked}}}
 use Rattle.dgt_link.proofs.Promises.{picture_keeps_coming}
@@ -14,9 +14,6 @@ requests-takes (suc count) = requests-takes count
 requests-hears : (count : ℕ) → flat_map requests (replicate count Move.Hear) ≡ []
 requests-hears zero = refl
 requests-hears (suc count) = requests-hears count
-
-requests-sending : (move : Move) → IsSending move → flat_map requests (move ∷ []) ≡ []
-requests-sending move sending = search rules
 
 pub requests-act : (act : ActContent) (moves : List Move) → AreMovesOfAct act moves
     → flat_map requests moves ≡ act_requests Outcome.Done act
@@ -52,12 +49,6 @@ pub dump_is_coming : (x : MachineState) (moves : List Move)
     → PictureIsComing (after_moves x moves)
 dump_is_coming x moves e = rw e (dump_asked x)
 
--- a break is always done, and is its own move
-pub break_moves : (x : MachineState) (outcome : Outcome) (moves : List Move)
-    → outcome ≡ Outcome.Done → AreMovesOfStep ActContent.Break outcome moves
-    → after_moves x moves ≡ after_move x Move.Break
-break_moves x outcome moves e are = search rules
-
 -- a host break is always done, and restarts the host
 pub host_break_moves : (x : MachineState) (outcome : Outcome) (moves : List Move)
     → outcome ≡ Outcome.Done → AreMovesOfStep ActContent.HostBreak outcome moves
@@ -68,10 +59,6 @@ host_break_moves x Outcome.Done moves e (noise, is_noise, are) =
 host_break_moves x _ moves e are = cc
 
 -- ---- an act that isn't a break has other moves than that, and so has one that isn't a host break
-
-sending_is_none : (P : Move → Type 0) → P Move.Reply → ((square : ℕ) → P (Move.Report square))
-    → P Move.ReportClock → (move : Move) → IsSending move → P move
-sending_is_none P reply report clock move sending = search rules
 
 pub act_is_no_break : (act : ActContent) (moves : List Move) → act ≢ ActContent.Break
     → AreMovesOfAct act moves → AllByRecursion (λ move. move ≢ Move.Break) moves

@@ -1,16 +1,14 @@
 -- The effect of an act on a world that stands for a state after garbage.
-use Rattle.std.proofs.Common.{arith}
-use Rattle.std.proofs.lemmas.Grind.{common_steps}
-use Rattle.std.proofs.Common.{◌≡◌, refl, sym, ap, ◌∙◌, ◌⊎◌, inl, inr, ℕ, ◌≤◌, List, [], ◌∷◌, ◌++◌, length, take, drop, replicate, Option, Some, None, false, append_assoc, rules}
-use Rattle.{std.{proofs.lemmas.{Grind.{flat_map-append}, List.{append-nil}}, specs.List.{flat_map}}, dgt_values.specs.declared.{kinds.Kind.{Kind}, pieces.Piece.{Piece}}}
-use Rattle.dgt_message.specs.{Clock.{ClockState}, Content.{Content, IsMessage, answered_kind}, Encoding.{Encodes, encoding}, Picture.{clock_after, picture_after}}
-use Rattle.{dgt_command.specs.Content.{CommandContent}, dgt_board.specs.{Sending.{after_sending, next_message}, State.{BoardState, after_change, after_hand_clock}}, dgt_decode.specs.Grammar.{Event}}
-use Rattle.{dgt_decode.specs.{Grammar.{Placed, events, shifted, unfinished_message}, Laws.{BeginsAnew}}, dgt_host.specs.Host.{HostView, awaited_after, host_after, host_after_event}}
-use Rattle.{dgt_host.specs.Host.{host_after_events, host_after_message}, dgt_link.specs.{Act.{ActContent}, Faults.{is_break}, Healing.{AwaitsWhatComes, StandsBehind, StandsBehindAfter}}}
-use Rattle.dgt_link.specs.{Machine.{MachineState, Move, after_moves}, Readers.{Grammars}, Sound.{IsSound, IsSubsequence, IsUnknownOr, coming_kinds}, Step.{Becomes, Step, with_state}, View.{WorldView}}
-use Rattle.dgt_link.{specs.{View.{with_bytes, without_first}, declared.acts.Outcome.{Outcome}}, proofs.{AfterMoves.{moves_sound}, Dividing.{divides_command}, Hearing.{heard_of, heard_prefix}}}
-use Rattle.dgt_link.proofs.{Hearing.{host_after_messages}, Lists.{IsShorter, Reaches, all_append, prefixes, not_empty}, Sending.{next_is_sent}, Soundness.{ask-kinds, asked_sound, move_sound}}
-use Rattle.dgt_link.proofs.{Standing.{prefix_of, hears, taken_state, takes, with_host, taken_as}, Subsequences.{awaited_after-subsequence, subsequence_append}}
+use Rattle.std.proofs.Common.{arith, ◌≡◌, refl, sym, ap, ◌∙◌, ◌⊎◌, inl, inr, ℕ, ◌≤◌, List, [], ◌∷◌, ◌++◌, length, take, drop, replicate, Some, None, false, append_assoc, rules}
+use Rattle.{std.{proofs.lemmas.{Grind.{common_steps, flat_map-append}, List.{append-nil}}, specs.List.{flat_map}}, dgt_values.specs.declared.{kinds.Kind.{Kind}, pieces.Piece.{Piece}}}
+use Rattle.{dgt_message.specs.{Clock.{ClockState}, Content.{Content, IsMessage, answered_kind}, Encoding.{Encodes, encoding}}, dgt_command.specs.Content.{CommandContent}}
+use Rattle.{dgt_board.specs.{Sending.{after_sending, next_message}, State.{BoardState, after_change, after_hand_clock}}, dgt_decode.specs.Grammar.{Event, Placed, events, shifted, unfinished_message}}
+use Rattle.{dgt_decode.specs.Laws.{BeginsAnew}, dgt_host.specs.Host.{HostView, awaited_after, host_after, host_after_event, host_after_events, host_after_message}, dgt_link.specs.Act.{ActContent}}
+use Rattle.dgt_link.specs.{Faults.{is_break}, Healing.{AwaitsWhatComes, StandsBehind, StandsBehindAfter}, Machine.{MachineState, Move, after_moves}, Readers.{Grammars}, Sound.{IsSound, IsSubsequence}}
+use Rattle.dgt_link.specs.{Sound.{IsUnknownOr, coming_kinds}, Step.{Becomes, Step, with_state}, View.{WorldView, with_bytes, without_first}, declared.acts.Outcome.{Outcome}}
+use Rattle.dgt_link.proofs.{AfterMoves.{moves_sound}, Dividing.{divides_command}, Hearing.{heard_of, heard_prefix, host_after_messages}, Lists.{IsShorter, Reaches, all_append, prefixes, not_empty}}
+use Rattle.dgt_link.proofs.{Sending.{next_is_sent}, Soundness.{ask-kinds, asked_sound, move_sound}, Standing.{prefix_of, hears, taken_state, takes, with_host, taken_as}}
+use Rattle.dgt_link.proofs.Subsequences.{awaited_after-subsequence, subsequence_append}
 
 -- a message is sent
 abbrev pub Sends : Content → WorldView → WorldView → Type 0
@@ -29,14 +27,6 @@ after_sent x message = record x { board = after_sending x.board message; up = x.
 record KnowsNoMore (known host : HostView) : Type 0 where
   pub picture : IsUnknownOr known.picture host.picture
   pub clock : IsUnknownOr known.clock host.clock
-
-picture_no_more : (known seen : Option (List Piece)) (message : Content) → IsUnknownOr known seen
-    → IsUnknownOr (picture_after known message) (picture_after seen message)
-picture_no_more known seen message h3 = search rules
-
-clock_no_more : (known seen : Option ClockState) (message : Content) → IsUnknownOr known seen
-    → IsUnknownOr (clock_after known message) (clock_after seen message)
-clock_no_more known seen message h3 = search rules
 
 knows_no_more : (known host : HostView) (messages : List Content) → KnowsNoMore known host
     → KnowsNoMore (host_after_messages known messages) (host_after_messages host messages)

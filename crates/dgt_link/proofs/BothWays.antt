@@ -1,12 +1,9 @@
 -- What follows from the relations of laws, and what is enough for them.
-use Rattle.std.proofs.Common.{rules}
-use Rattle.std.proofs.lemmas.Grind.{common_steps}
-use Rattle.std.proofs.{Common.{◌≡◌, inr, refl, ap, ◌∙◌, ℕ, ◌<◌, List, [], ◌∷◌, ◌++◌, length, arith, Some, None, Option}, lemmas.{Bool.{false≢true}}}
-use Rattle.{std.specs.{List.{AllByRecursion}, Prelude.{IsSome, replicate}}, dgt_message.specs.Content.{Content}}
-use Rattle.{dgt_board.specs.{Sending.{next_message}, declared.modes.Mode.{Mode}}, dgt_link.specs.{Act.{ActContent, act_content}, Headline.{squares_after}, Healing.{IsRestedWorld}}}
-use Rattle.dgt_link.specs.{History.{RunsThrough}, Machine.{IsSending, MachineState, Move, after_moves}, Promise.{IsPromised, IsRestarted, coming_mode}}
-use Rattle.dgt_link.{specs.{Settling.{IsNext, IsSettlingMove}, Stands.{AreMovesOfAct}, Step.{Runs}, View.{WorldView}, declared.acts.{Act.{Act}, Outcome.{Outcome}}}, proofs.Lists.{all_replicate}}
-use Rattle.dgt_link.proofs.{Promises.{anew-mode}, SettlingMoves.{settling_squares}}
+use Rattle.std.{proofs.{Common.{rules, ◌≡◌, inr, refl, ap, ◌∙◌, ℕ, ◌<◌, List, [], ◌∷◌, ◌++◌, length, arith, None, Option}, lemmas.Grind.{common_steps}}, specs.List.{AllByRecursion}}
+use Rattle.{std.specs.Prelude.{IsSome, replicate}, dgt_message.specs.Content.{Content}, dgt_board.specs.{Sending.{next_message}, declared.modes.Mode.{Mode}}, dgt_link.specs.Act.{ActContent}}
+use Rattle.dgt_link.specs.{Act.{act_content}, Headline.{squares_after}, Healing.{IsRestedWorld}, History.{RunsThrough}, Machine.{IsSending, MachineState, Move, after_moves}, Promise.{IsPromised}}
+use Rattle.dgt_link.specs.{Promise.{IsRestarted, coming_mode}, Settling.{IsNext, IsSettlingMove}, Stands.{AreMovesOfAct}, Step.{Runs}, View.{WorldView}, declared.acts.{Act.{Act}, Outcome.{Outcome}}}
+use Rattle.dgt_link.proofs.{Lists.{all_replicate}, Promises.{anew-mode}, SettlingMoves.{settling_squares}}
 
 -- ---- the worlds of a run
 
@@ -34,13 +31,6 @@ passing_runs (act ∷ acts) world (answer ∷ answers) worlds (between, later, s
 passing_runs _ world _ worlds none = absurd none
 
 -- ---- the next step
-
-empty_line : (bytes : List ℕ) (count : ℕ) → 0 < count → count ≡ length bytes → bytes ≡ [] → ⊥
-empty_line bytes count some is none = search rules
-
-none_next : (message : Option Content) → IsSome message → message ≡ None → ⊥
-none_next None is none = absurd (false≢true is)
-none_next (Some message) is none = cc
 
 pub one_is_next : (world : WorldView) (act other : ActContent) → IsNext world act
     → IsNext world other → act ≡ other

@@ -13,7 +13,7 @@ use Rattle.dgt_link.specs.{Readers.{Grammars}, Sound.{IsSound, IsSubsequence, Is
 use Rattle.dgt_link.{specs.{Step.{Runs, Step}, View.{IsQuietWorld, LineContents, WorldView, line_holding}, declared.acts.Outcome.{Outcome}}, proofs.AfterMoves.{moves_come, moves_sound}}
 use Rattle.dgt_link.proofs.{Asking.{requests-step}, Behind.{awaiting, step_behind}, Clocks.{clock_is_asked, step_keeps_clock}, Dividing.{anew_divides}, Lists.{nothing_contained, right_empty}}
 use Rattle.dgt_link.proofs.{Promises.{IsComing, last_mode-append, nothing_asked}, Quiet.{quiet_awaited}, Sending.{next_is_sent}, Soundness.{asked_sound, board_sound, move_sound}}
-use Rattle.dgt_link.proofs.{Soundness.{new_sound, noise-kinds}, Standing.{taken_state, takes}, Subsequences.{subsequence_at_end}, WorldsByState.{nothing_first}}
+use Rattle.dgt_link.proofs.{Soundness.{noise-kinds}, Standing.{taken_state, takes}, Subsequences.{subsequence_at_end}, WorldsByState.{nothing_first}}
 
 -- ---- bytes
 
@@ -42,10 +42,6 @@ commanded_sound : (x : MachineState) (events : List EventContent) → IsSound x
     → IsSound (commanded_state x.board events)
 commanded_sound x events sound =
     asked_sound (state_of_board x.board) events [] (board_sound x sound) tt
-
-lost_sound : (board : BoardState) → IsSound (state_of_board board)
-    → IsSound (state_of_board (after_line_lost board))
-lost_sound board sound = new_sound board.squares board.clock board.identity sound.squares
 
 effects_sound : (board : BoardState) (events : List EventContent) → IsSound (state_of_board board)
     → IsSound (state_of_board (effects board events))
@@ -178,13 +174,6 @@ plain_follows laws act world answer after in_turn asked other f step =
     }
 
 -- ---- the up line is at fault
-
--- a command that sets no mode is not among those that do
-first_is_out : (other command : CommandContent) (commands : List CommandContent)
-    → sets_mode other ≡ false → sets_mode command ≡ true
-    → (Contains (filter sets_mode commands) other → ⊥)
-    → Contains (command ∷ filter sets_mode commands) other → ⊥
-first_is_out other command commands none sets later has = search rules
 
 other_is_out : (other : CommandContent) → sets_mode other ≡ false → (commands : List CommandContent)
     → Contains (filter sets_mode commands) other → ⊥

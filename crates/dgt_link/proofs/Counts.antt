@@ -150,8 +150,7 @@ anew_clock mode = search rules
 
 module _ (acts later : List FaultyContent) (act : FaultyContent) (answers others : List Outcome)
     (same : length answers ≡ length acts) where
-  pub anew_is_healing : begins_anew act ≡ true → AreCalm later
-      → IsHealing
+  pub anew_is_healing : begins_anew act ≡ true → AreCalm later → IsHealing
       (counted_after_all (nothing_counted false) (acts ++ act ∷ later)
       (answers ++ Outcome.Done ∷ others))
   anew_is_healing begins calm =
@@ -162,8 +161,7 @@ module _ (acts later : List FaultyContent) (act : FaultyContent) (answers others
   -- ---- the awaited replies, and that the board reads what was sent
 
   pub in_turn_again : (begins_anew act ≡ true) ⊎ (act ≡ FaultyContent.Plain ActContent.Break)
-      → AreFaultless later
-      → IsInTurn
+      → AreFaultless later → IsInTurn
       (counted_after_all (nothing_counted false) (acts ++ act ∷ later)
       (answers ++ Outcome.Done ∷ others))
   in_turn_again begins none = after_any IsInTurn (act ∷ later) (Outcome.Done ∷ others)
@@ -245,8 +243,7 @@ module _ (mode : CommandContent) (bytes : List ℕ) (later : List FaultyContent)
       healing_goes_on _ later others calm (dump_counts bytes answer mode asks)
 
   pub reading_is_healing : Contains (CommandContent.Update ∷ CommandContent.UpdateNice ∷ []) mode
-      → AreClockCalm later
-      → IsClockHealing
+      → AreClockCalm later → IsClockHealing
       (counted_after_all (nothing_counted true)
       (sends mode ∷ FaultyContent.GarbleUp bytes ∷ sends CommandContent.Clock ∷ later)
       (Outcome.Done ∷ answer ∷ Outcome.Done ∷ others))
@@ -255,8 +252,7 @@ module _ (mode : CommandContent) (bytes : List ℕ) (later : List FaultyContent)
 
 -- a host that gives up, in a world in step
 pub given_up_is_in_turn : (later : List FaultyContent) (answer : Outcome) (others : List Outcome)
-    → AreFaultless later
-    → IsInTurn
+    → AreFaultless later → IsInTurn
     (counted_after_all (nothing_counted true) (FaultyContent.GiveUp ∷ later) (answer ∷ others))
 given_up_is_in_turn later answer others none =
     goes_on IsInTurn (λ act. is_fault act ≡ false) turn_step _ later others none

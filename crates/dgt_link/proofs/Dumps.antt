@@ -1,11 +1,10 @@
 -- After faults: once the board has sent a dump, what the host shows was reported, in this order.
-use Rattle.std.proofs.{Common.{◌≡◌, refl, sym, ap, subst, ◌∙◌, ℕ, List, [], ◌∷◌, ◌++◌, Some, append_assoc, false, rules}, lemmas.{List.{append-nil}, Option.{same_Some}}}
-use Rattle.{std.specs.{List.{AllByRecursion}, Prelude.{IsSome}}, dgt_values.specs.declared.pieces.Piece.{Piece}, dgt_message.specs.{Content.{Content}}}
-use Rattle.{dgt_board.specs.{Sending.{next_message}, State.{BoardState}}, dgt_link.specs.{Act.{ActContent}, Faults.{is_break}, Healing.{IsInStep, StandsBehind, StandsWith}, History.{IsInOrderOf}}}
-use Rattle.dgt_link.specs.{History.{RunsThrough, shown, shown_in, stood_in}, Machine.{MachineState, Move, after_moves}, Readers.{Grammars}, Sound.{coming_picture}, Stands.{AreMovesOfStep}}
-use Rattle.dgt_link.{specs.{Step.{Runs, Step}, View.{WorldView}, declared.acts.Outcome.{Outcome}}, proofs.{ActRuns.{run_keeps}, Behind.{ActsBehind, Sends, after_sent, sent_behind}}}
-use Rattle.dgt_link.proofs.{Counting.{forgotten, forgotten_stands, nothing_said}, History.{Goes, along, goes_all, later_shown, now, step_goes}, Hopes.{led}, KnownPictures.{comes_by_all}}
-use Rattle.dgt_link.proofs.{KnownPictures.{known_behind, seen_by_all, step_is_plain}, Lists.{not_empty, right_empty}}
+use Rattle.std.{proofs.{Common.{◌≡◌, refl, sym, ap, subst, ◌∙◌, ℕ, List, [], ◌∷◌, ◌++◌, Some, append_assoc, false, rules}, lemmas.{List.{append-nil}, Option.{same_Some}}}, specs.List.{AllByRecursion}}
+use Rattle.{std.specs.Prelude.{IsSome}, dgt_values.specs.declared.pieces.Piece.{Piece}, dgt_message.specs.Content.{Content}, dgt_board.specs.{Sending.{next_message}, State.{BoardState}}}
+use Rattle.dgt_link.specs.{Act.{ActContent}, Faults.{is_break}, Healing.{IsInStep, StandsBehind, StandsWith}, History.{IsInOrderOf, RunsThrough, shown, shown_in, stood_in}, Machine.{MachineState}}
+use Rattle.dgt_link.specs.{Machine.{Move, after_moves}, Readers.{Grammars}, Sound.{coming_picture}, Stands.{AreMovesOfStep}, Step.{Runs, Step}, View.{WorldView}, declared.acts.Outcome.{Outcome}}
+use Rattle.dgt_link.proofs.{ActRuns.{run_keeps}, Behind.{ActsBehind, Sends, after_sent, sent_behind}, Counting.{forgotten, forgotten_stands, nothing_said}, History.{Goes, along, goes_all}}
+use Rattle.dgt_link.proofs.{History.{later_shown, now, step_goes}, Hopes.{led}, KnownPictures.{comes_by_all, known_behind, seen_by_all, step_is_plain}, Lists.{not_empty, right_empty}}
 
 -- no act is a break
 abbrev Unbroken : List ActContent → Type 0
@@ -70,8 +69,7 @@ module _ (behind : ActsBehind) where
         (first : WorldView) (later : List WorldView) → Unbroken acts → StandsBehind garbage world x
         → PictureComes x → Goes square [] before x
         → RunsThrough acts world answers (earlier ++ first ∷ later) → first.host.unread ≡ []
-        → first.up.bytes ≡ []
-        → IsInOrderOf (shown_in square (first ∷ later))
+        → first.up.bytes ≡ [] → IsInOrderOf (shown_in square (first ∷ later))
         (before ++ stood_in square (earlier ++ first ∷ later))
     comes_goes before acts garbage world x answers [] first later all stands comes goes runs unread
         up =
@@ -80,8 +78,7 @@ module _ (behind : ActsBehind) where
         known_goes [] before acts garbage world x answers (first ∷ later) all stands
         (rw silent at comes) goes runs
     comes_goes before [] garbage world x [] (other ∷ earlier) first later all stands comes goes only
-        unread up =
-        absurd (not_empty earlier first later cc)
+        unread up = absurd (not_empty earlier first later cc)
     comes_goes before (act ∷ acts) garbage world x (answer ∷ answers) (other ∷ earlier) first later
         all stands comes
         goes (between, others, step, runs, is) unread up =
@@ -98,8 +95,7 @@ module _ (behind : ActsBehind) where
         unread up in
         search (rules, append_assoc)
     comes_goes before _ garbage world x _ (other ∷ earlier) first later all stands comes goes never
-        unread up =
-        absurd never
+        unread up = absurd never
 
   module _ (laws : Grammars) (world : WorldView) (is : IsInStep world)
       (dump : next_message world.board.state ≡ Some (dump_of world)) where

@@ -1,12 +1,11 @@
 -- Whatever the schedule, a world comes to rest if each side moves again and again.
 use Rattle.std.proofs.Common.{arith, ◌≡◌, refl, sym, ap, subst, ◌∙◌, ◌⊎◌, inl, inr, ℕ, ◌+◌, ◌<◌, ◌≤◌, zero, suc, List, [], ◌∷◌, ◌++◌, Some, None, Bool, true, cond, length, if◌then◌else◌, rules}
-use Rattle.std.{proofs.lemmas.{List.{length-append, length-map}}, specs.{List.{AllByRecursion}, Prelude.{Contains, slice_get, map}}}
-use Rattle.{dgt_message.specs.{Clock.{ClockState}, Content.{Content, clock_message}, Encoding.{encoding}}, dgt_command.specs.{Content.{EventContent}, Laws.{NoWordBeginsAPart, WordsAreShort}}}
-use Rattle.dgt_board.specs.{Sending.{clock_news, field_of, next_message, reply_message, unreported_squares}, State.{BoardState, IsShortClock, IsShortIdentity, effect, effects}}
-use Rattle.{dgt_board.specs.declared.replies.Reply.{Reply}, dgt_link.specs.{Act.{ActContent}, Healing.{IsRestedWorld}, Settling.{HasRounds, IsRound, IsSettling, steps_left}, Stands.{IsWorld}}}
-use Rattle.dgt_link.{specs.{Step.{Runs, Step, done_count, moves_nothing, outcome, Becomes}, View.{LineContents, WorldView}, declared.acts.Outcome.{Outcome}}, proofs.Backlogs.{BacklogFalls}}
-use Rattle.dgt_link.proofs.{Backlogs.{BacklogRises}, Lists.{Contains-cons, all_append, nothing_contained}, Settling.{count_first, no_bytes, run_steps}, Taking.{HasSameGame}}
-use Rattle.dgt_link.proofs.Taking.{effects_same_game}
+use Rattle.{std.{proofs.lemmas.List.{length-append, length-map}, specs.{List.{AllByRecursion}, Prelude.{Contains, slice_get, map}}}, dgt_message.specs.{Clock.{ClockState}, Content.{Content}}}
+use Rattle.{dgt_message.specs.{Content.{clock_message}, Encoding.{encoding}}, dgt_command.specs.{Content.{EventContent}, Laws.{NoWordBeginsAPart, WordsAreShort}}, dgt_board.specs.Sending.{clock_news}}
+use Rattle.dgt_board.specs.{Sending.{field_of, next_message, reply_message, unreported_squares}, State.{BoardState, IsShortClock, IsShortIdentity, effect, effects}, declared.replies.Reply.{Reply}}
+use Rattle.dgt_link.specs.{Act.{ActContent}, Healing.{IsRestedWorld}, Settling.{HasRounds, IsRound, IsSettling, steps_left}, Stands.{IsWorld}, Step.{Runs, Step, done_count, moves_nothing, outcome}}
+use Rattle.dgt_link.{specs.{Step.{Becomes}, View.{LineContents, WorldView}, declared.acts.Outcome.{Outcome}}, proofs.{Backlogs.{BacklogFalls, BacklogRises}, Lists.{Contains-cons, all_append}}}
+use Rattle.dgt_link.proofs.{Lists.{nothing_contained}, Settling.{count_first, no_bytes, run_steps}, Taking.{HasSameGame, effects_same_game}}
 
 -- each message that the board sends fits into the empty up line, whatever it owes and has reported
 abbrev SendsFit : WorldView → Type 0
@@ -16,9 +15,6 @@ SendsFit world =
     → next_message board ≡ Some message → length (encoding message) ≤ world.up.capacity
 
 -- ---- no message is longer than a dump
-
-field_is_short : (board : BoardState) (square : ℕ) → length (encoding (field_of board square)) ≤ 67
-field_is_short board square = omega arith
 
 clock_is_short : (clock : ClockState) → IsShortClock clock
     → length (encoding (clock_message clock)) ≤ 67
@@ -38,8 +34,7 @@ module _ (board : BoardState) (squares : length board.squares ≡ 64)
   fields_are_short [] message e = news_is_short board.times_owed message e
   fields_are_short (square ∷ fields) message e = search rules
 
-  all_are_short : (owed : List Reply) (message : Content)
-      → slice_get
+  all_are_short : (owed : List Reply) (message : Content) → slice_get
       (map (reply_message board) owed
       ++ (map (field_of board) (unreported_squares board) ++ clock_news board)) 0 ≡ Some message
       → length (encoding message) ≤ 67
@@ -115,8 +110,7 @@ none_can act (first ∷ acts) world after (answer ∷ answers) found (between, s
         → (first ≡ act) ⊎ Contains acts act → done_count (outcome act world ∷ []) ≡ 0
     go rest (inl e) = ap (λ (other : ActContent). done_count (outcome other world ∷ [])) (sym e)
         ∙ ap (λ (one : Outcome). done_count (one ∷ [])) (sym step.answers) ∙ here
-    go rest (inr later) =
-        search rules
+    go rest (inr later) = search rules
 none_can act _ world after _ found never none = absurd never
 
 -- ---- a world in which no side can move
@@ -223,8 +217,7 @@ module _ (none_owed : (board : BoardState) → next_message board ≡ None → b
           (run_fit round world parts.between parts.ones is.settling parts.runs) fits
 
       go : (rounds ≤ done_count parts.others) ⊎ IsRestedWorld after → (done : ℕ)
-          → done_count parts.ones ≡ done
-          → (suc rounds ≤ done_count answers) ⊎ IsRestedWorld after
+          → done_count parts.ones ≡ done → (suc rounds ≤ done_count answers) ⊎ IsRestedWorld after
       go rest zero e =
           let rested = stuck none_owed round world parts.between parts.ones fits is parts.runs e in
           let same : parts.between ≡ world =

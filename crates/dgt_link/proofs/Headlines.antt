@@ -1,11 +1,10 @@
 -- Acts that were all done: their effect on the board, and their requests.
-use Rattle.std.proofs.lemmas.Grind.{common_steps}
-use Rattle.std.proofs.{Common.{◌≡◌, ◌≢◌, ◌⊎◌, refl, sym, ap, ◌∙◌, ◌≤◌, List, [], ◌∷◌, ◌++◌, length, map, true, arith, false, rules}, lemmas.Bool.{false≢true}}
-use Rattle.std.{proofs.lemmas.List.Elements.{filter_map-append, Contains-append_left, Contains-push}, specs.Prelude.{◌↔◌, Contains, IsTrue, filter_map}}
-use Rattle.dgt_link.{proofs.{Lists.{nothing_contained}, Promises.{last_mode-append}, Taking.{effects_same_game}}, specs.{Act.{act_content}, Faults.{AreCalm, FaultyContent, sends, stops}}}
-use Rattle.dgt_link.specs.{Headline.{AskForPicture, Asking, asking_after, asking_with, nothing_asked, squares_after}, Promise.{IsAskedBy, commands_after, last_mode, run_requests}, Step.{Becomes}}
-use Rattle.{dgt_link.specs.{Step.{Runs, done_count}, View.{WorldView}, declared.acts.{Act.{Act}, Outcome.{Outcome}}}, dgt_values.specs.declared.pieces.Piece.{Piece}}
-use Rattle.{dgt_command.specs.{Content.{CommandContent, command_content}, declared.command.Command.{Command}}, dgt_board.specs.{State.{command_mode, updates}, declared.modes.Mode.{Mode}}}
+use Rattle.std.proofs.{lemmas.{Grind.{common_steps}, Bool.{false≢true}}, Common.{◌≡◌, ◌≢◌, ◌⊎◌, refl, sym, ◌∙◌, ◌≤◌, List, [], ◌∷◌, ◌++◌, length, map, true, arith, false, rules}}
+use Rattle.{std.{proofs.lemmas.List.Elements.{filter_map-append, Contains-append_left, Contains-push}, specs.Prelude.{◌↔◌, Contains, IsTrue, filter_map}}, dgt_link.proofs.Lists.{nothing_contained}}
+use Rattle.dgt_link.{proofs.{Promises.{last_mode-append}, Taking.{effects_same_game}}, specs.{Act.{act_content}, Faults.{AreCalm, FaultyContent, sends, stops}, Headline.{AskForPicture, Asking}}}
+use Rattle.dgt_link.specs.{Headline.{asking_after, asking_with, nothing_asked, squares_after}, Promise.{IsAskedBy, commands_after, last_mode, run_requests}, Step.{Becomes, Runs, done_count}}
+use Rattle.{dgt_link.specs.{View.{WorldView}, declared.acts.{Act.{Act}, Outcome.{Outcome}}}, dgt_values.specs.declared.pieces.Piece.{Piece}, dgt_command.specs.Content.{CommandContent}}
+use Rattle.{dgt_command.specs.{Content.{command_content}, declared.command.Command.{Command}}, dgt_board.specs.{State.{command_mode, updates}, declared.modes.Mode.{Mode}}}
 use Rattle.dgt_command.specs.declared.command.Command.TheVariants as command
 use Rattle.dgt_link.specs.declared.acts.Act.TheVariants as act
 
@@ -70,8 +69,7 @@ dump_more commands asking one is h =
     Contains-append_left commands (command_content one ∷ []) CommandContent.Dump (is.dump h)
 
 mode_more : (commands : List CommandContent) (asking : Asking) (one : Command)
-    → IsAskedFor commands asking
-    → updates
+    → IsAskedFor commands asking → updates
     (last_mode (last_mode Mode.Idle (filter_map command_mode commands))
     (filter_map command_mode (command_content one ∷ []))) ≡ (asking_with asking one).updates
 mode_more commands asking one is = search rules
@@ -172,11 +170,6 @@ asked_back acts asked = (
       asked.dump,
   sym (acts_more [] nothing_asked acts none_asked_for).mode ∙ asked.mode,
 )
-
-all_done-map : (acts : List Act) → all_done acts ≡ map (λ one. Outcome.Done) acts
-all_done-map [] = refl
-all_done-map (one ∷ acts) =
-    ap (λ (others : List Outcome). Outcome.Done ∷ others) (all_done-map acts)
 
 pub asking_is_asked : (acts : List Act)
     → AskForPicture acts ↔ IsAskedBy (map act_content acts) (map (λ one. Outcome.Done) acts)

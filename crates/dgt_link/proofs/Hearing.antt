@@ -19,9 +19,6 @@ host_after_messages host [] = host
 host_after_messages host (message ∷ messages) =
     host_after_messages (host_after_message host message) messages
 
-tail_same : {X : Type 0} (x y : X) (xs ys : List X) → x ∷ xs ≡ y ∷ ys → xs ≡ ys
-tail_same x y xs ys h = cc
-
 -- the events, at whatever places
 abbrev pub known : List Placed → List Event
 known xs = map (λ x. x.event) xs
@@ -58,14 +55,12 @@ module _ (reads : Reads) where
   prefix_waits : (word prefix more : List ℕ) (next : ℕ) (y : Placed) → events word ≡ y ∷ []
       → unfinished_message word ≡ []
       → word ≡ prefix ++ next ∷ more → (events prefix ≡ []) × (unfinished_message prefix ≡ prefix)
-  prefix_waits word prefix more next y read held e =
-      go (events prefix) refl
+  prefix_waits word prefix more next y read held e = go (events prefix) refl
     where
       go : (es : List Placed) → events prefix ≡ es
           → (events prefix ≡ []) × (unfinished_message prefix ≡ prefix)
       go [] f = (f, reads.quiet_held prefix f)
-      go (x ∷ xs) f =
-          search (rules, nothing_more, not_empty)
+      go (x ∷ xs) f = search (rules, nothing_more, not_empty)
 
   -- the messages in a prefix of messages in a row, and the rest of them
   pub record IsPrefix (prefix more : List ℕ) (messages : List Content) : Type 0 where
@@ -98,8 +93,7 @@ module _ (reads : Reads) where
       held = held_alone message encoded.are_messages.0
 
       go : ((others : List ℕ) → flat_map encoding messages ≡ others ++ more
-          → IsPrefix others more messages)
-          → IsShorter prefix (encoding message)
+          → IsPrefix others more messages) → IsShorter prefix (encoding message)
           ⊎ Reaches prefix more (encoding message) (flat_map encoding messages)
           → IsPrefix prefix more (message ∷ messages)
       go on (inl (next, others, e)) =

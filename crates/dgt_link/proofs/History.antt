@@ -1,6 +1,6 @@
 -- The pieces that a host shows on a square were there, and it never returns to an earlier one.
 use Rattle.std.proofs.Common.{◌≡◌, refl, sym, subst, ◌∙◌, ◌⊎◌, inl, inr, ℕ, zero, suc, List, [], ◌∷◌, ◌++◌, Bool, Option, Some, None, append_assoc, replicate, if◌then◌else◌, rules}
-use Rattle.{std.{proofs.lemmas.List.{append-nil}, specs.Prelude.{slice_set}}, dgt_values.specs.declared.pieces.Piece.{Piece}, dgt_message.specs.{Clock.{ClockState}, Content.{Content, clock_message}}}
+use Rattle.{std.{proofs.lemmas.List.{append-nil}, specs.Prelude.{slice_set}}, dgt_values.specs.declared.pieces.Piece.{Piece}, dgt_message.specs.{Content.{Content}}}
 use Rattle.{dgt_message.specs.Picture.{picture_after, picture_after_all}, dgt_command.specs.Content.{EventContent}, dgt_board.specs.{Sending.{field_of, piece_on}, State.{BoardState}}}
 use Rattle.{dgt_board.specs.declared.replies.Reply.{Reply}, dgt_link.specs.{Act.{ActContent}, History.{IsInOrderOf, RunsThrough, shown, shown_in, shown_on, stood_in, stood_on}}}
 use Rattle.dgt_link.specs.{Machine.{MachineState, Move, after_hear, after_move, after_moves, after_reply, after_reported, after_take}, Stands.{AreMovesOfAct, AreMovesOfStep, IsWorld, StandsAfterStep}}
@@ -138,9 +138,6 @@ module _ (square : ℕ) where
   field_shows : (board : BoardState) (other : ℕ) → ShowsNow board (field_of board other)
   field_shows board other h = search (rules, set_at)
 
-  clock_shows : (board : BoardState) (clock : ClockState) → ShowsNow board (clock_message clock)
-  clock_shows board clock = search rules
-
   -- ---- moves
 
   abbrev pub now : MachineState → Piece
@@ -198,8 +195,7 @@ module _ (square : ℕ) where
           (search (rules, shown_again, append_assoc))
 
       go : (shown square (picture_after last message) ≡ shown square last)
-          ⊎ (shown square (picture_after last message) ≡ now x ∷ [])
-          → IsInOrderOf
+          ⊎ (shown square (picture_after last message) ≡ now x ∷ []) → IsInOrderOf
           ((seen ++ along x.picture x.up) ++ shown square (picture_after last message))
           (before ++ now x ∷ [])
       go (inl e) = rw e (same last refl)

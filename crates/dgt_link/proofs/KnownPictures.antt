@@ -1,12 +1,11 @@
 -- A known picture is what the board had reported when it sent the last message that was heard.
-use Rattle.std.proofs.Common.{◌≡◌, ◌≢◌, refl, sym, ap, subst, ◌∙◌, ◌⊎◌, inl, inr, rules, ℕ, List, [], ◌∷◌, ◌++◌, Bool, false, Option, Some, append_assoc, if◌then◌else◌}
-use Rattle.{std.{proofs.lemmas.{List.{append-nil}}, specs.{List.{AllByRecursion}, Prelude.{IsSome}}}, dgt_values.specs.declared.pieces.Piece.{Piece}}
-use Rattle.{dgt_message.specs.{Content.{Content}, Picture.{picture_after, picture_after_all}}, dgt_board.specs.declared.replies.Reply.{Reply}, dgt_link.specs.{Act.{ActContent}, Faults.{is_break}}}
-use Rattle.dgt_link.specs.{Healing.{IsInStep, StandsBehind}, Machine.{IsHostBreak, IsSending, MachineState, Move, after_hear, after_move, after_moves, after_reply, after_reported}}
-use Rattle.dgt_link.specs.{Reported.{IsReportedBy, ReportedBefore, WasReported, first_reply, sent_by, sent_by_all}, Sound.{IsSound, IsUnknownOr, coming_picture}, Stands.{AreMovesOfRun}}
-use Rattle.dgt_link.{specs.{Stands.{AreMovesOfStep}, Step.{Runs}, View.{WorldView}, declared.acts.Outcome.{Outcome}}, proofs.{AfterMoves.{moves_sound}, Asking.{step_is_other}, Behind.{ActsBehind}}}
-use Rattle.dgt_link.proofs.{Clocks.{step_is_no_break}, Counting.{forgotten, forgotten_stands}, History.{in_order}, Lists.{all_append, right_empty}}
-use Rattle.dgt_link.proofs.{Promises.{picture_after_known, picture_stays_known}, Standing.{moves-append}}
+use Rattle.std.proofs.{Common.{◌≡◌, ◌≢◌, refl, sym, ap, subst, ◌∙◌, ◌⊎◌, inl, inr, rules, ℕ, List, [], ◌∷◌, ◌++◌, false, Option, Some, append_assoc}, lemmas.List.{append-nil}}
+use Rattle.{std.specs.{List.{AllByRecursion}, Prelude.{IsSome}}, dgt_values.specs.declared.pieces.Piece.{Piece}, dgt_message.specs.{Content.{Content}, Picture.{picture_after, picture_after_all}}}
+use Rattle.{dgt_board.specs.declared.replies.Reply.{Reply}, dgt_link.specs.{Act.{ActContent}, Faults.{is_break}, Healing.{IsInStep, StandsBehind}, Machine.{IsHostBreak, IsSending, MachineState}}}
+use Rattle.dgt_link.specs.{Machine.{Move, after_hear, after_move, after_moves, after_reply}, Reported.{IsReportedBy, ReportedBefore, WasReported, first_reply, sent_by, sent_by_all}, Sound.{IsSound}}
+use Rattle.dgt_link.specs.{Sound.{IsUnknownOr, coming_picture}, Stands.{AreMovesOfRun, AreMovesOfStep}, Step.{Runs}, View.{WorldView}, declared.acts.Outcome.{Outcome}}
+use Rattle.dgt_link.proofs.{AfterMoves.{moves_sound}, Asking.{step_is_other}, Behind.{ActsBehind}, Clocks.{step_is_no_break}, Counting.{forgotten, forgotten_stands}, History.{in_order}}
+use Rattle.dgt_link.proofs.{Lists.{all_append, right_empty}, Promises.{picture_after_known, picture_stays_known}, Standing.{moves-append}}
 
 -- ---- lists
 
@@ -28,12 +27,6 @@ IsPlain move = (move ≢ Move.Break) × (¬ (IsHostBreak move))
 record Sends (x : MachineState) (move : Move) : Type 0 where
   pub up : (after_move x move).up ≡ x.up ++ sent_by x move
   pub picture : (after_move x move).picture ≡ x.picture
-
-reported_if : (x : MachineState) (asked : Bool) (message : Content)
-    → ((if asked then after_reported x message else x).up
-    ≡ x.up ++ (if asked then message ∷ [] else []))
-    × ((if asked then after_reported x message else x).picture ≡ x.picture)
-reported_if x asked message = search rules
 
 reply_sends : (x : MachineState) (owed : List Reply)
     → ((after_reply x owed).up ≡ x.up ++ first_reply x.board owed)
@@ -153,8 +146,7 @@ since_later x moves move prefix back before sent since sends same =
 module _ (x : MachineState) (sound : IsSound x) (moves : List Move) (each : SinceEach x moves) where
   -- a move that hears nothing
   other_since : (move : Move) → IsPlain move → move ≢ Move.Hear → SinceEach x (moves ++ move ∷ [])
-  other_since move plain other prefix back up =
-      go (one_at_most (after_moves x moves) move)
+  other_since move plain other prefix back up = go (one_at_most (after_moves x moves) move)
     where
       y : MachineState
       y = after_moves x moves
@@ -189,8 +181,7 @@ module _ (x : MachineState) (sound : IsSound x) (moves : List Move) (each : Sinc
 
   -- the host hears a message, if there is one
   hear_since : SinceEach x (moves ++ Move.Hear ∷ [])
-  hear_since prefix back up =
-      go (after_moves x moves).up refl
+  hear_since prefix back up = go (after_moves x moves).up refl
     where
       led : after_moves x (moves ++ Move.Hear ∷ [])
           ≡ after_hear (after_moves x moves) (after_moves x moves).up
@@ -272,8 +263,7 @@ module _ (behind : ActsBehind) where
     moves = [];
     are_moves = refl;
     plain = tt;
-    stands =
-        rw same stands;
+    stands = rw same stands;
   }
   run_behind (act ∷ acts) garbage world after (answer ∷ answers) x all stands
       (between, step, runs) =
@@ -311,7 +301,6 @@ still_known picture (message ∷ up) some =
     still_known (picture_after picture message) up (picture_after_known picture message some)
 
 pub known_behind : (garbage : List ℕ) (world : WorldView) (x : MachineState)
-    → StandsBehind garbage world x → IsSome x.picture
-    → (world.host.picture ≡ x.picture)
+    → StandsBehind garbage world x → IsSome x.picture → (world.host.picture ≡ x.picture)
     × (picture_after_all world.host.picture x.up ≡ Some world.board.state.reported_squares)
 known_behind garbage world x stands some = search (rules, both_known, still_known)

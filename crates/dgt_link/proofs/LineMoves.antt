@@ -1,7 +1,7 @@
 -- The bytes moved out of a line, some at a time.
 use Rattle.std.proofs.Common.{◌≡◌, refl, sym, subst, ap, ◌∙◌, ◌⊎◌, inl, inr, ℕ, ◌+◌, ◌-◌, ◌<◌, ◌≤◌, List, [], ◌∷◌, ◌++◌, Option, Some, None, length, take, drop, get_or, suc, false, IsTrue, IfSome}
-use Rattle.std.proofs.{Common.{IfNone, arith, drop-cons, append_assoc, rules}, Math.Seq.{take-add, take-append_seam}, lemmas.{Bool.{lt-leb}, List.{drop-drop, length-drop, length-take}}}
-use Rattle.{std.{proofs.lemmas.{List.{length-take-le, take-take, take-append-drop, take_all}, Bool.Decides.{leb_tells}}, specs.Prelude.{nat_le}}, dgt_message.specs.Content.{Content}}
+use Rattle.std.proofs.{Common.{IfNone, arith, drop-cons, append_assoc, rules}, Math.Seq.{take-add, take-append_seam}, lemmas.{List.{drop-drop, length-drop, length-take}}}
+use Rattle.{std.{proofs.lemmas.{List.{length-take-le, take-take, take-append-drop, take_all}, Bool.Decides.{leb_tells}}}, dgt_message.specs.Content.{Content}}
 use Rattle.{dgt_message.specs.Encoding.{Encodes, encoding}, dgt_command.specs.{Content.{EventContent}, Words.{IsPartial, IsWord}}, dgt_board.specs.{Sending.{after_sending}, View.{Polls, BoardView}}}
 use Rattle.{dgt_board.specs.{View.{HasTaken, after_bytes}, declared.sending.Polled.{Polled}}, dgt_host.specs.Host.{HostView, host_after, HeardInChunks}, dgt_link.specs.Step.{Delivers}}
 use Rattle.dgt_link.specs.{Step.{StaysUnfinished, is_full, sending_outcome}, View.{LineContents, WorldView, with_bytes, without_first}, declared.acts.Outcome.{Outcome}}
@@ -36,9 +36,6 @@ abbrev TakingsAppend : Type 0
 TakingsAppend =
     (before between after : BoardView) (bytes more : List ℕ) → HasTaken before bytes between
     → HasTaken between more after → HasTaken before (bytes ++ more) after
-
-not_full : (n : ℕ) → n < 8 → nat_le 8 n ≡ false
-not_full n h = lt-leb 8 n h
 
 -- bytes after others, cut before one of them
 cut_bytes : (before bytes : List ℕ) (n : ℕ) → n < length bytes
@@ -118,10 +115,6 @@ pub record IsTaking (before : BoardView) (line : LineContents) (moved : ℕ) (no
   pub left_is : left ≡ without_first line moved
   pub earlier : StaysUnfinished before line.bytes moved
 
-some_taken : (before now : BoardView) (bytes : List ℕ) (moved : ℕ) → 0 < moved
-    → HasTakenAny before bytes moved now → HasTaken before (take moved bytes) now
-some_taken before now bytes moved some h5 = search rules
-
 taken_more : TakingsAppend → (before now new : BoardView) (bytes : List ℕ) (moved n : ℕ)
     → HasTakenAny before bytes moved now → HasTaken now (take n (drop moved bytes)) new
     → HasTaken before (take (moved + n) bytes) new
@@ -158,8 +151,7 @@ taking_more append board now new line left after moved n taking more within room
     subst (λ (l : List ℕ). StaysUnfinished now l n) rest calm in
     record {
       within = within;
-      taken =
-          search (rules, taken_more);
+      taken = search (rules, taken_more);
       left_is = left_on line left after moved n taking.left_is e;
       earlier = λ fewer some less. earlier_than fewer some (fewer_than fewer moved n less) calm';
     }

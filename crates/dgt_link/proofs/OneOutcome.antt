@@ -24,8 +24,7 @@ module _
   -- a board that is full after some bytes took no more of them
   no_further : (count : ℕ) (world one other : WorldView) (first : Delivers count world one)
       (second : Delivers count world other) → first.moved < second.moved → ⊥
-  no_further count world one other first second less =
-      go first.ended
+  no_further count world one other first second less = go first.ended
     where
       go : (first.moved ≡ count)
           ⊎ ((first.moved ≡ length world.down.bytes) ⊎ IsTrue (is_full first.board.state)) → ⊥
@@ -86,8 +85,7 @@ module _
 pub record EncodedOnce : Type 0 where
   pub encodes : (said : Content) → IsMessage said → Encodes said (encoding said)
   pub one_message : (bytes : List ℕ) (first second : Content) → Encodes first bytes
-      → Encodes second bytes
-      → first ≡ second
+      → Encodes second bytes → first ≡ second
   pub none_longer : (bytes more : List ℕ) (first second : Content) → Encodes first bytes
       → Encodes second (bytes ++ more) → more ≡ []
 

@@ -12,8 +12,7 @@ StepsAreMoves = (act : ActContent) (world after : WorldView) (answer : Outcome) 
 pub record Leads : Type 0 where
   pub moves : StepsAreMoves
   pub mode : (act : ActContent) (world after : WorldView) (answer : Outcome) (x y : MachineState)
-      → StandsFor world x
-      → Step act world answer after → StandsFor after y
+      → StandsFor world x → Step act world answer after → StandsFor after y
       → coming_mode y ≡ mode_after (coming_mode x) (act_requests answer act)
   pub kept : (act : ActContent) (world after : WorldView) (answer : Outcome) (x y : MachineState)
       → act ≢ ActContent.Break → StandsFor world x → Step act world answer after → StandsFor after y

@@ -194,8 +194,7 @@ ask_comes_dump commands x command coming h =
     go (inl before) = picture_keeps_coming x (Move.Ask command) (λ e. cc) (coming.picture before)
     go (inr now) = new (Contains-cons CommandContent.Dump command [] now)
 
-pub asked_anew-mode : (before : Mode) (commands : List CommandContent)
-    → Mode.UpdateBoard
+pub asked_anew-mode : (before : Mode) (commands : List CommandContent) → Mode.UpdateBoard
     ≡ last_mode before (filter_map command_mode (commands_after commands (map Some commands_anew)))
 asked_anew-mode before commands =
     asked-mode (commands ++ CommandContent.UpdateBoard ∷ []) CommandContent.Dump before
@@ -259,10 +258,6 @@ pub dump_is_seen : (x : MachineState) (rest : List Reply) → x.board.owed ≡ R
     → coming_picture (after_move x Move.Reply)
     ≡ Some (after_move x Move.Reply).board.reported_squares
 dump_is_seen x rest e = search (rules, picture_after_all-append)
-
-hear_known : (x : MachineState) (up : List Content) → x.up ≡ up → IsSome (coming_picture x)
-    → IsSome (coming_picture (after_hear x up))
-hear_known x up e known = search rules
 
 pub picture_stays_known : (x : MachineState) (move : Move) → move ≢ Move.Break
     → ¬ (IsHostBreak move) → IsSome (coming_picture x) → IsSome (coming_picture (after_move x move))

@@ -1,10 +1,8 @@
 -- A sound state with nothing under way and nothing to be sent.
-use Rattle.std.proofs.{Common.{◌≡◌, refl, sym, ◌∙◌, ◌⊎◌, ℕ, zero, suc, ◌<◌, List, [], ◌∷◌, Option, Some, Bool, false, cond, length, get_or, arith, rules}}
-use Rattle.std.{proofs.lemmas.{Grind.{common_steps}, List.{get_or_default, same_lists, FromFn.{get_or-range_with_len}}}, specs.Prelude.{◌==◌, not, IsTrue}}
-use Rattle.{std.specs.Prelude.{IsSome, filter, map}, dgt_values.{specs.{Board.{piece_code}, declared.pieces.Piece.{Piece}}}, dgt_message.specs.Clock.{ClockState}}
-use Rattle.{dgt_board.specs.{Sending.{differs, every_square}, State.{BoardState, follows_clock, updates}}, dgt_link.specs.{Machine.{MachineState}, Promise.{IsPromised, IsQuiet}}}
-use Rattle.dgt_link.{specs.{Promise.{PictureIsComing, coming_mode}, Sound.{IsSound, IsExact, IsUnknownOr}}, proofs.Lists.{right_empty}}
-use Rattle.dgt_link.proofs.Subsequences.{subsequence_of_nothing}
+use Rattle.std.proofs.{Common.{◌≡◌, refl, sym, ◌∙◌, ◌⊎◌, ℕ, zero, suc, ◌<◌, List, [], ◌∷◌, Option, Some, Bool, false, cond, length, get_or, arith, rules}, lemmas.Grind.{common_steps}}
+use Rattle.{std.{proofs.lemmas.List.{get_or_default, same_lists, FromFn.{get_or-range_with_len}}, specs.Prelude.{IsTrue, IsSome, filter, map}}, dgt_values.specs.declared.pieces.Piece.{Piece}}
+use Rattle.{dgt_message.specs.Clock.{ClockState}, dgt_board.specs.{Sending.{differs, every_square}, State.{BoardState, follows_clock, updates}}, dgt_link.specs.Machine.{MachineState}}
+use Rattle.dgt_link.{specs.{Promise.{IsPromised, IsQuiet, PictureIsComing}, Sound.{IsSound, IsExact, IsUnknownOr}}, proofs.{Lists.{right_empty}, Subsequences.{subsequence_of_nothing}}}
 
 -- ---- nothing is pending
 
@@ -27,10 +25,6 @@ filter_empty test (x ∷ xs) (suc k) d within h =
 every_square-at : (k : ℕ) → k < 64 → (k < length every_square) × (get_or every_square k 0 ≡ k)
 unfolding every_square
 every_square-at k h = (h, get_or-range_with_len 0 64 k 0 h ∙ omega arith)
-
-same_unless_differs : (reported piece : Piece)
-    → not (piece_code reported == piece_code piece) ≡ false → reported ≡ piece
-same_unless_differs reported piece h = search rules
 
 -- if no square differs, the board has reported its squares
 none_differs : (board : BoardState) → length board.squares ≡ 64 → length board.reported_squares ≡ 64
@@ -63,9 +57,6 @@ quiet_picture x sound quiet asks = search (rules, quiet_up_to_date)
 pub picture_has_come : (x : MachineState) → IsSound x → IsQuiet x → PictureIsComing x
     → IsSome x.picture
 picture_has_come x sound quiet h3 = search (rules, quiet_up_to_date)
-
-pub quiet_mode : (x : MachineState) → IsQuiet x → coming_mode x ≡ x.board.mode
-quiet_mode x quiet = rw quiet.down
 
 -- a promised state that is quiet has the board's squares as its picture
 pub promised_picture : (x : MachineState) → IsSound x → IsPromised x → IsQuiet x

@@ -1,11 +1,10 @@
 -- How a world at fault comes to rest, and that it is then quiet if it was promised to heal.
-use Rattle.std.{proofs.{Common.{◌≡◌, refl, sym, ap, ◌∙◌, ◌⊎◌, ℕ, List, [], ◌∷◌, ◌++◌, Option, Some, None, append_assoc, rules}}, specs.List.{AllByRecursion}}
-use Rattle.{std.specs.{List.{flat_map}, Prelude.{IsSome}}, dgt_values.specs.declared.pieces.Piece.{Piece}, dgt_message.specs.{Clock.{ClockState}, Content.{Content, IsMessage}, Encoding.{encoding}}}
-use Rattle.{dgt_command.specs.Laws.{EachDividesOnce}, dgt_board.specs.Sending.{pending_messages}, dgt_decode.specs.Grammar.{unfinished_message}, dgt_link.specs.Clocks.{IsClockPromisedWorld}}
-use Rattle.dgt_link.specs.{Healing.{Counted, IsHealing, IsInTurnWorld, IsPromisedWorld, IsRestedWorld, StandsBehind}, Machine.{MachineState}, Promise.{IsPromised, IsQuiet}, Readers.{Reads}}
-use Rattle.dgt_link.{specs.{Settling.{SettlesIn}, View.{IsQuietWorld, WorldView}}, proofs.{Clocks.{promised_clock}, Counting.{Holds, awaited_has_come, follows_with, host_knows}}}
-use Rattle.dgt_link.proofs.{Counting.{quiet_behind}, Lists.{right_empty}, Promises.{coming_promise}, Quiet.{picture_has_come, promised_picture}, Settling.{nothing_left_unfinished, nothing_partial}}
-use Rattle.dgt_link.proofs.{Settling.{settled_kept}, WorldsByState.{nothing_first}}
+use Rattle.std.{proofs.Common.{◌≡◌, refl, sym, ap, ◌∙◌, ◌⊎◌, ℕ, List, [], ◌∷◌, ◌++◌, Option, Some, None, append_assoc, rules}, specs.{List.{AllByRecursion, flat_map}, Prelude.{IsSome}}}
+use Rattle.{dgt_values.specs.declared.pieces.Piece.{Piece}, dgt_message.specs.{Clock.{ClockState}, Content.{Content, IsMessage}, Encoding.{encoding}}, dgt_command.specs.Laws.{EachDividesOnce}}
+use Rattle.{dgt_board.specs.Sending.{pending_messages}, dgt_decode.specs.Grammar.{unfinished_message}, dgt_link.specs.{Clocks.{IsClockPromisedWorld}, Healing.{Counted, IsHealing, IsInTurnWorld}}}
+use Rattle.dgt_link.specs.{Healing.{IsPromisedWorld, IsRestedWorld, StandsBehind}, Machine.{MachineState}, Promise.{IsPromised, IsQuiet}, Readers.{Reads}, Settling.{SettlesIn}, View.{IsQuietWorld}}
+use Rattle.dgt_link.{specs.View.{WorldView}, proofs.{Clocks.{promised_clock}, Counting.{Holds, awaited_has_come, follows_with, host_knows, quiet_behind}, Lists.{right_empty}}}
+use Rattle.dgt_link.proofs.{Promises.{coming_promise}, Quiet.{picture_has_come, promised_picture}, Settling.{nothing_left_unfinished, nothing_partial, settled_kept}, WorldsByState.{nothing_first}}
 
 -- ---- what counts is promised
 

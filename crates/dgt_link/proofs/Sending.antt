@@ -1,8 +1,7 @@
 -- What a board sends next is sent by one of the moves of the machine.
-use Rattle.std.{specs.Prelude.{slice_get, filter}, proofs.Common.{◌≡◌, refl, ◌⊎◌, inl, inr, ℕ, List, [], ◌∷◌, ◌++◌, Some, Bool, true, false, cond, map, drop, rules}}
-use Rattle.{dgt_message.specs.Content.{Content, clock_message}, dgt_board.specs.Sending.{after_sending, after_reporting}}
-use Rattle.dgt_board.specs.{Sending.{clock_news, differs, field_of, next_message, reply_message, unreported_squares}, State.{updates}, declared.replies.Reply.{Reply}}
-use Rattle.dgt_link.specs.Machine.{IsSending, Move, MachineState, after_move, after_reply, after_reported}
+use Rattle.{std.{specs.Prelude.{slice_get, filter}, proofs.Common.{◌≡◌, refl, ◌⊎◌, inl, inr, ℕ, List, [], ◌∷◌, ◌++◌, Some, Bool, true, false, cond, map, rules}}, dgt_message.specs.Content.{Content}}
+use Rattle.{dgt_message.specs.Content.{clock_message}, dgt_board.specs.{Sending.{after_sending, clock_news, differs, field_of, next_message, reply_message, unreported_squares}, State.{updates}}}
+use Rattle.{dgt_board.specs.declared.replies.Reply.{Reply}, dgt_link.specs.Machine.{IsSending, Move, MachineState, after_move}}
 
 abbrev sent_state : MachineState → Content → MachineState
 sent_state x message = record x { board = after_sending x.board message; up = x.up ++ message ∷ [] }
@@ -10,19 +9,6 @@ sent_state x message = record x { board = after_sending x.board message; up = x.
 -- a move that sends the message
 abbrev SendsIt : MachineState → Content → Type 0
 SendsIt x message = (move : Move) × IsSending move × (after_move x move ≡ sent_state x message)
-
-reply_is_sent : (x : MachineState) (first : Reply) (rest owed : List Reply) → owed ≡ first ∷ rest
-    → after_reply x owed ≡ record x {
-      board = record
-          (after_reporting x.board (reply_message x.board first)) { owed = drop 1 owed };
-      up = x.up ++ reply_message x.board first ∷ [];
-    }
-reply_is_sent x first rest owed e = search rules
-
--- with no reply owed
-without_reply : (x : MachineState) (message : Content) → x.board.owed ≡ []
-    → after_reported x message ≡ sent_state x message
-without_reply x message e = search rules
 
 -- the first of the field updates, or what comes after them
 abbrev FirstField : Bool → (ℕ → Content) → (ℕ → Bool) → Content → Type 0
@@ -44,10 +30,6 @@ first_field true field test [] others message h = inr h
 first_field true field test (square ∷ squares) others message h =
     elim (first_kept field test square (filter test squares) others message (test square) refl h)
     [ inl found ↦ inl found | inr later ↦ first_field true field test squares others message later ]
-
-first_news : (owed : Bool) (news message : Content)
-    → slice_get (cond owed (news ∷ []) []) 0 ≡ Some message → (owed ≡ true) × (news ≡ message)
-first_news owed news message h = search rules
 
 report_is_sent : (x : MachineState) (message : Content) → x.board.owed ≡ []
     → FirstField (updates x.board.mode) (field_of x.board) (differs x.board) message

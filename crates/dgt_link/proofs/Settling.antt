@@ -1,12 +1,12 @@
 -- Why a world comes to rest, and what it keeps on the way.
-use Rattle.std.proofs.Common.{arith, ◌≡◌, ◌≢◌, refl, sym, ap, subst, ◌∙◌, ◌⊎◌, inl, inr, ℕ, ◌+◌, ◌*◌, ◌^◌, ◌<◌, ◌≤◌, ◌==◌, List, [], ◌∷◌, ◌++◌, Some, None, Bool, true, false, cond, length, take, drop}
+use Rattle.std.proofs.Common.{arith, ◌≡◌, ◌≢◌, refl, sym, ap, subst, ◌∙◌, ◌⊎◌, inl, inr, ℕ, ◌+◌, ◌*◌, ◌^◌, ◌<◌, ◌≤◌, ◌==◌, List, [], ◌∷◌, ◌++◌, Some, None, Bool, true, false, cond, length, take}
 use Rattle.std.proofs.{Common.{replicate, append-nil, rules}, Math.Nat.{mul-le-mul_left}, lemmas.{Bool.{ltb-false}, Grind.{common_steps}, List.{length-append}}}
-use Rattle.std.{proofs.lemmas.List.{length-drop, drop_all}, specs.{List.{AllByRecursion, flat_map}, Prelude.{◌↔◌, Contains, IsTrue, IsSome, nat_lt}}}
+use Rattle.std.{proofs.lemmas.List.{drop_all}, specs.{List.{AllByRecursion, flat_map}, Prelude.{◌↔◌, Contains, IsTrue, IsSome, nat_lt}}}
 use Rattle.{dgt_values.specs.declared.pieces.Piece.{Piece}, dgt_message.specs.{Clock.{ClockState}, Content.{Content}, Encoding.{encoding}}, dgt_command.specs.Content.{EventContent}}
 use Rattle.{dgt_command.specs.{Laws.{EachDividesOnce, NoWordBeginsAPart, WordsAreShort}, Words.{Divides, IsPartial}}, dgt_decode.specs.Grammar.{unfinished_message}, dgt_board.specs.Sending.{backlog}}
 use Rattle.{dgt_board.specs.{Sending.{next_message}, State.{BoardState, follows_clock, updates}, declared.modes.Mode.{Mode}}, dgt_link.specs.{Act.{ActContent}, Healing.{IsRestedWorld}}}
 use Rattle.dgt_link.specs.{Machine.{MachineState, after_moves}, Promise.{mode_after, act_requests, IsPromised, PictureIsComing, coming_mode}, Readers.{Reads}, Settling.{AreInOrder, IsNext}}
-use Rattle.dgt_link.specs.{Settling.{IsSettling, SettlesIn, steps_left}, Sound.{IsUnknownOr}, Stands.{AreEncoded, IsExactWorld, IsWorld, StandsFor}, Step.{moves_nothing, Becomes, Delivers, Runs}}
+use Rattle.dgt_link.specs.{Settling.{IsSettling, SettlesIn, steps_left}, Sound.{IsUnknownOr}, Stands.{AreEncoded, IsExactWorld, IsWorld, StandsFor}, Step.{Becomes, Delivers, Runs}}
 use Rattle.dgt_link.{specs.{Step.{Step, done_count}, View.{overflows, IsQuietWorld, WorldView}, Work.{work_left}, declared.acts.Outcome.{Outcome}}, proofs.ActRuns.{run-push, run_keeps}}
 use Rattle.dgt_link.proofs.{Backlogs.{BacklogFalls, BacklogRises}, Hearing.{held_alone, nothing_unfinished}, Lists.{all_append, IsShorter, Reaches, prefixes}, PromisedActs.{Leads}}
 use Rattle.dgt_link.proofs.{Taking.{HasSameGame, effects_same_game}, WorldsByState.{quiet_state, world_awaits_nothing, world_clock_known, world_clock_reported, world_picture, world_picture_reported}}
@@ -117,12 +117,6 @@ module _ (falls : BacklogFalls) where
       → Becomes ActContent.BoardSend world after → work_left after < work_left world
   send_works world after squares (message, is_next, encodes, same) = grind (arith, common_steps)
 
--- a delivery takes as many bytes as it moves out of the down line
-take_leaves : (world after : WorldView) (count : ℕ) (delivers : Delivers count world after)
-    → length (drop delivers.moved world.down.bytes) + delivers.moved ≡ length world.down.bytes
-take_leaves world after count delivers =
-    rw (length-drop delivers.moved world.down.bytes) (omega (arith, delivers.within.1))
-
 module _ (short : WordsAreShort) (within : NoWordBeginsAPart) (rises : BacklogRises) where
   -- each byte of it raises what the board has to send by at most one
   take_raises : (world after : WorldView) (count : ℕ) → IsPartial world.board.partial
@@ -173,11 +167,6 @@ pub nothing_partial : EachDividesOnce → (events : List EventContent) (partial 
     → IsPartial partial → Divides (partial ++ []) events [] → partial ≡ []
 nothing_partial law events partial is divides =
     sym (law.1 (partial ++ []) events [] [] partial divides (append-nil partial, is)).1
-
--- the remaining work is done
-done_at : (act : ActContent) (world after : WorldView) (answer : Outcome) → answer ≡ Outcome.Done
-    → Step act world answer after → Step act world Outcome.Done after
-done_at act world after answer e step = rw e at step
 
 -- one act towards rest
 abbrev pub Moves : WorldView → WorldView → Type 0
@@ -316,10 +305,6 @@ most_work world = let flag = at_most_one (length world.up.bytes) in omega (arith
 
 fits : (capacity needed : ℕ) → nat_lt capacity needed ≡ false → needed ≤ capacity
 fits capacity needed h = ltb-false capacity needed h
-
-hear_steps : (world after : WorldView) (count : ℕ) → moves_nothing count world.up ≡ false
-    → Becomes (ActContent.ToHost count) world after → steps_left after < steps_left world
-hear_steps world after count some same = search (rules, length-drop)
 
 module _ (falls : BacklogFalls) where
   send_steps : (world after : WorldView) → length world.board.state.reported_squares ≡ 64

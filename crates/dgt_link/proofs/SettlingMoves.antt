@@ -1,9 +1,8 @@
 -- From each sound state takes, sendings and hears lead to a quiet one.
-use Rattle.std.proofs.{Common.{arith, ◌≡◌, ◌≢◌, refl, ◌∙◌, ◌⊎◌, inl, inr, ℕ, ◌<◌, ◌≤◌, zero, suc, List, [], ◌∷◌, Some, None, Bool, cond, Option, rules}, lemmas.Grind.{common_steps}}
-use Rattle.{std.{specs.List.{AllByRecursion}}, dgt_message.specs.Content.{Content}}
-use Rattle.{dgt_command.specs.Content.{EventContent}, dgt_board.specs.{Sending.{next_message}, declared.modes.Mode.{Mode}}, dgt_link.specs.Machine.{MachineState, after_move}}
-use Rattle.dgt_link.specs.{Machine.{after_moves, after_reported, IsSending, Move}, Promise.{IsPromised, IsQuiet, PictureIsComing, coming_mode, mode_after, requests}, Settling.{IsSettlingMove}}
-use Rattle.dgt_link.{specs.{Settling.{SettlesBy, moves_left}, Sound.{IsSound}}, proofs.{AfterMoves.{moves_sound}, Backlogs.{BacklogFalls, BacklogRises}, Promises.{move-mode, picture_keeps_coming}}}
+use Rattle.std.{proofs.{Common.{arith, ◌≡◌, ◌≢◌, refl, ◌∙◌, ◌⊎◌, inl, inr, ℕ, ◌<◌, ◌≤◌, zero, suc, List, [], ◌∷◌, Some, None, Option, rules}, lemmas.Grind.{common_steps}}, specs.List.{AllByRecursion}}
+use Rattle.{dgt_message.specs.Content.{Content}, dgt_command.specs.Content.{EventContent}, dgt_board.specs.{Sending.{next_message}, declared.modes.Mode.{Mode}}, dgt_link.specs.Machine.{MachineState}}
+use Rattle.dgt_link.specs.{Machine.{after_move, after_moves, IsSending, Move}, Promise.{IsPromised, IsQuiet, PictureIsComing, coming_mode, mode_after, requests}, Settling.{IsSettlingMove, SettlesBy}}
+use Rattle.dgt_link.{specs.{Settling.{moves_left}, Sound.{IsSound}}, proofs.{AfterMoves.{moves_sound}, Backlogs.{BacklogFalls, BacklogRises}, Promises.{move-mode, picture_keeps_coming}}}
 use Rattle.dgt_link.proofs.{Quiet.{promised_picture}, Sending.{next_is_sent}, Soundness.{move_sound}, Taking.{HasSameGame}, WorldsByState.{nothing_first}}
 
 sending_settles : (move : Move) → IsSending move → IsSettlingMove move
@@ -34,12 +33,10 @@ module _ (falls : BacklogFalls) (rises : BacklogRises) where
 
   -- a state is quiet, or a move leads closer
   nearer : (x : MachineState) → IsSound x → IsQuiet x ⊎ ((move : Move) × NearerBy x move)
-  nearer x sound =
-      up x.up refl
+  nearer x sound = up x.up refl
     where
       down : x.up ≡ [] → next_message x.board ≡ None → (events : List EventContent)
-          → x.down ≡ events
-          → IsQuiet x ⊎ ((move : Move) × NearerBy x move)
+          → x.down ≡ events → IsQuiet x ⊎ ((move : Move) × NearerBy x move)
       down none_up none [] e =
           inl
           (search (rules, nothing_first))
@@ -62,8 +59,7 @@ module _ (falls : BacklogFalls) (rises : BacklogRises) where
   reached_within : (most : ℕ) (x : MachineState) → IsSound x → moves_left x ≤ most
       → (moves : List Move) × SettlesBy moves x
   reached_within zero x sound few = grind (arith, common_steps)
-  reached_within (suc most) x sound few =
-      go (reached_within most) (nearer x sound)
+  reached_within (suc most) x sound few = go (reached_within most) (nearer x sound)
     where
       go : ((y : MachineState) → IsSound y → moves_left y ≤ most
           → (moves : List Move) × SettlesBy moves y)
@@ -78,10 +74,6 @@ module _ (falls : BacklogFalls) (rises : BacklogRises) where
   quiet_is_reached x sound = reached_within (moves_left x) x sound (omega arith)
 
 -- ---- what such moves keep
-
-reported_same_game : (x : MachineState) (asks : Bool) (message : Content)
-    → HasSameGame x.board (cond asks (after_reported x message) x).board
-reported_same_game x asks message = search rules
 
 move_same_game : (x : MachineState) (move : Move) → IsSettlingMove move
     → HasSameGame x.board (after_move x move).board

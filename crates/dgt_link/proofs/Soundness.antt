@@ -1,13 +1,11 @@
 -- Each move keeps a sound state sound, and an exact one exact.
 use Rattle.std.proofs.{Common.{◌≡◌, refl, ◌∙◌, List, [], ◌∷◌, ◌++◌, ◌&&◌, length, append_assoc, rules}, lemmas.{Bool.{cond_both}, List.{length-set, Elements.{filter_map-append}}}}
 use Rattle.{std.specs.{List.{cons_option}, Prelude.{filter_map, map, option_to_list}}, dgt_values.specs.declared.{kinds.Kind.{Kind}, pieces.Piece.{Piece}}, dgt_message.specs.Clock.{ClockState}}
-use Rattle.{dgt_message.specs.Content.{Content, clock_message, answered_kind}, dgt_command.specs.{Content.{CommandContent, EventContent, requested_kind}, Words.{IsNoiseList}}}
-use Rattle.{dgt_board.specs.{Sending.{differs, field_of}, State.{IdentityContent, updates}, declared.replies.Reply.{Reply}}}
-use Rattle.dgt_link.specs.Machine.{IsHostBreak, IsSending, Move, MachineState, commands_anew, new_state, state_of_board, after_move, after_reported, after_take, after_reply, after_hear}
-use Rattle.dgt_link.{specs.Sound.{IsExact, IsSound, IsSubsequence, coming_kinds, kind_of_event, kind_of_reply}, proofs.MessageReports.{ReportedIsHeard, field_reports}}
-use Rattle.dgt_link.proofs.MessageReports.{clock_message-kind, picture_reported, clock_reported_of, clock_after_all-append, handed_or_reported}
-use Rattle.dgt_link.proofs.{Subsequences.{subsequence_at_end, subsequence_append, awaited_after-subsequence, moved_over}, Taking.{effect-kinds}}
-use Rattle.dgt_link.proofs.Taking.{nothing_of_noise}
+use Rattle.{dgt_message.specs.Content.{Content, answered_kind}, dgt_command.specs.{Content.{CommandContent, EventContent, requested_kind}, Words.{IsNoiseList}}, dgt_board.specs.Sending.{differs}}
+use Rattle.{dgt_board.specs.{Sending.{field_of}, State.{IdentityContent, updates}, declared.replies.Reply.{Reply}}, dgt_link.specs.Machine.{IsHostBreak, IsSending, Move, MachineState, commands_anew}}
+use Rattle.dgt_link.specs.{Machine.{new_state, state_of_board, after_move, after_reported, after_take, after_reply, after_hear}, Sound.{IsExact, IsSound, IsSubsequence, coming_kinds, kind_of_event}}
+use Rattle.dgt_link.{specs.Sound.{kind_of_reply}, proofs.MessageReports.{ReportedIsHeard, field_reports, picture_reported, clock_reported_of, clock_after_all-append, handed_or_reported}}
+use Rattle.dgt_link.proofs.{Subsequences.{subsequence_at_end, subsequence_append, awaited_after-subsequence, moved_over}, Taking.{effect-kinds, nothing_of_noise}}
 
 -- the state with other replies owed
 abbrev owing : MachineState → List Reply → MachineState
@@ -38,11 +36,6 @@ reply_exact : (x : MachineState) (owed : List Reply) → x.board.owed ≡ owed �
     → IsExact (after_reply x owed)
 reply_exact x owed e exact = search (rules, send_exact)
 
-report_clock_first : (x : MachineState)
-    → filter_map kind_of_reply x.board.owed ≡ cons_option
-    (answered_kind (clock_message x.board.clock)) (filter_map kind_of_reply x.board.owed)
-report_clock_first x = rw (clock_message-kind x.board.clock)
-
 -- requesting or taking a reply keeps the kinds to come
 pub ask-kinds : (x : MachineState) (command : CommandContent)
     → coming_kinds (after_move x (Move.Ask command))
@@ -60,12 +53,6 @@ take_sound x down e sound = search (rules, take-kinds)
 take_exact : (x : MachineState) (down : List EventContent) → x.down ≡ down → IsExact x
     → IsExact (after_take x down)
 take_exact x down e exact = search (rules, take-kinds)
-
--- the kinds to come, if a message is the first under way
-hear-kinds : (x : MachineState) (message : Content) (rest : List Content) → x.up ≡ message ∷ rest
-    → coming_kinds x
-    ≡ cons_option (answered_kind message) (coming_kinds (after_hear x (message ∷ rest)))
-hear-kinds x message rest e = search rules
 
 hear_sound : (x : MachineState) (up : List Content) → x.up ≡ up → IsSound x
     → IsSound (after_hear x up)

@@ -146,8 +146,7 @@ module _ (laws : Grammars) where
         led = takes taken.events prefix.0 x prefix.1;
         board = taken.state ∙ ap (λ (state : BoardState). effects state taken.events) same;
         down = prefix.2;
-        partial =
-            search rules;
+        partial = search rules;
       }
 
   take_reaches : (world : WorldView) (count : ℕ) (after : WorldView) (x : MachineState)
@@ -243,17 +242,6 @@ module _ (laws : Grammars) where
 pub record HasRooms (world after : WorldView) : Type 0 where
   pub up : after.up.capacity ≡ world.up.capacity
   pub down : after.down.capacity ≡ world.down.capacity
-
-pub same_rooms : (world after : WorldView) → after ≡ world → HasRooms world after
-same_rooms world after same = search rules
-
-pub becomes_rooms : (act : ActContent) (world after : WorldView) → Becomes act world after
-    → HasRooms world after
-becomes_rooms act world after delivers = search rules
-
-step_rooms : (act : ActContent) (world : WorldView) (answer : Outcome) (after : WorldView)
-    → Step act world answer after → HasRooms world after
-step_rooms act world answer after step = search rules
 
 -- ---- what is kept
 

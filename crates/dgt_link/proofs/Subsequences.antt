@@ -1,7 +1,6 @@
 -- Subsequences, and the kinds of a list with an added element.
-use Rattle.std.proofs.{Common.{◌≡◌, refl, inl, inr, List, [], ◌∷◌, ◌++◌, Option, true, append_assoc, rules}}
-use Rattle.{std.specs.{List.{cons_option}, Option.{option_to_list}, Prelude.{◌↔◌}}, dgt_values.specs.declared.kinds.Kind.{Kind}, dgt_host.specs.Host.{awaited_after, is_same_kind}}
-use Rattle.dgt_link.specs.Sound.{IsSubsequence}
+use Rattle.std.{proofs.Common.{◌≡◌, refl, inl, inr, List, [], ◌∷◌, ◌++◌, Option, true, append_assoc, rules}, specs.{List.{cons_option}, Option.{option_to_list}, Prelude.{◌↔◌}}}
+use Rattle.{dgt_values.specs.declared.kinds.Kind.{Kind}, dgt_host.specs.Host.{awaited_after, is_same_kind}, dgt_link.specs.Sound.{IsSubsequence}}
 
 -- the second list may have more in front
 pub subsequence_later : {X : Type 0} (xs : List X) (y : X) (ys : List X) → IsSubsequence xs ys
@@ -33,8 +32,7 @@ subsequence_tail x xs (y ∷ ys) (inl h) = subsequence_later xs y ys h.1
 subsequence_tail x xs (y ∷ ys) (inr h) = subsequence_later xs y ys (subsequence_tail x xs ys h)
 
 -- the first element is somewhere, and the others are after it
-pub first_of_subsequence : {X : Type 0} (x : X) (xs ys : List X)
-    → IsSubsequence (x ∷ xs) ys
+pub first_of_subsequence : {X : Type 0} (x : X) (xs ys : List X) → IsSubsequence (x ∷ xs) ys
     ↔ ((before : List X) × (later : List X) × (ys ≡ before ++ x ∷ later) × IsSubsequence xs later)
 first_of_subsequence {X = X} x xs ys =
     (split ys, λ (before, later, all, h). rw all (join before later h))
@@ -64,10 +62,6 @@ pub awaited_after-subsequence : (awaited : List Kind) (kind : Option Kind) (rest
     → IsSubsequence awaited (cons_option kind rest)
     → IsSubsequence (awaited_after awaited kind) rest
 awaited_after-subsequence awaited kind rest h = search (rules, subsequence_tail)
-
-pub awaited_exactly : (kind : Option Kind) (rest : List Kind)
-    → awaited_after (cons_option kind rest) kind ≡ rest
-awaited_exactly kind rest = search rules
 
 -- ---- the kinds of lists under way
 

@@ -1,5 +1,4 @@
-use Rattle.std.proofs.Common.{rules}
-use Rattle.{std.{proofs.Common.{refl, ℕ, zero, suc, [], ◌∷◌, replicate}, specs.List.{flat_map}}, dgt_link.specs.{Act.{ActContent}, Settling.{HasRounds, IsRound}}}
+use Rattle.{std.{proofs.Common.{rules, refl, ℕ, zero, suc, [], ◌∷◌, replicate}, specs.List.{flat_map}}, dgt_link.specs.{Act.{ActContent}, Settling.{HasRounds, IsRound}}}
 use Rattle.dgt_link.proofs.laws.bounds_in_numbers.Goals as goal
 
 one_round : IsRound (ActContent.BoardSend ∷ ActContent.ToBoard 1 ∷ ActContent.ToHost 1 ∷ [])

@@ -1,5 +1,4 @@
-use Rattle.std.proofs.Common.{rules}
-use Rattle.{std.{specs.Prelude.{◌≡◌, Some, map}}, dgt_link.{specs.{Machine.{IsHostBreak, Move, commands_anew}, Promise.{requests}}, proofs.Asking.{requests-act}}}
+use Rattle.{std.{proofs.Common.{rules}, specs.Prelude.{◌≡◌, Some, map}}, dgt_link.{specs.{Machine.{IsHostBreak, Move, commands_anew}, Promise.{requests}}, proofs.Asking.{requests-act}}}
 use Rattle.dgt_link.proofs.BothWays.{moves-squares}
 use Rattle.dgt_link.proofs.laws.moves_do_as_acts.Goals as goal
 
