@@ -5,13 +5,15 @@ use Rattle.dgt_link.{specs.Faults.{is_fault, loses_step, sends, stops}}
 
 -- ---- each kind
 
-pub fault_is : (act : FaultyContent) → (is_fault act ≡ true)
+pub fault_is : (act : FaultyContent)
+    → (is_fault act ≡ true)
     ↔ (((bytes : List ℕ) × (act ≡ FaultyContent.GarbleUp bytes))
     ⊎ (((bytes : List ℕ) × (act ≡ FaultyContent.GarbleDown bytes))
     ⊎ (act ≡ FaultyContent.BoardLost)))
 fault_is act = search rules
 
-pub loses_step_is : (act : FaultyContent) → (loses_step act ≡ true)
+pub loses_step_is : (act : FaultyContent)
+    → (loses_step act ≡ true)
     ↔ (((bytes : List ℕ) × (act ≡ FaultyContent.GarbleDown bytes))
     ⊎ (act ≡ FaultyContent.BoardLost))
 loses_step_is act = search rules

@@ -64,8 +64,7 @@ restarted-mode x anew = search (rules, anew-mode)
 
 pub restarted_is_promised : (x : MachineState) → IsRestarted x → IsPromised x
 restarted_is_promised x anew = record {
-  coming = inr
-      (grind (arith, common_steps));
+  coming = inr (grind (arith, common_steps));
   mode = rw (restarted-mode x anew) refl;
 }
 

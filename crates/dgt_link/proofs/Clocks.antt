@@ -18,7 +18,7 @@ sent_comes : (board : BoardState) (clock : Option ClockState) (up : List Content
     → Comes (clock_after_all clock up) board.reported_clock owed down
     → Comes (clock_after_all clock (up ++ message ∷ [])) (reported_clock_after board message) owed
     down
-sent_comes board clock up message owed down h6 = search (rules, clock_after_all-append)
+sent_comes board clock up message owed down coming = search (rules, clock_after_all-append)
 
 -- the first owed reply goes under way
 reply_comes : (board : BoardState) (clock : Option ClockState) (up : List Content) (first : Reply)
@@ -26,7 +26,7 @@ reply_comes : (board : BoardState) (clock : Option ClockState) (up : List Conten
     → Comes (clock_after_all clock up) board.reported_clock (first ∷ rest) down
     → Comes (clock_after_all clock (up ++ reply_message board first ∷ []))
     (reported_clock_after board (reply_message board first)) rest down
-reply_comes board clock up first rest down h6 = search (rules, clock_after_all-append)
+reply_comes board clock up first rest down coming = search (rules, clock_after_all-append)
 
 reply_keeps : (x : MachineState) (owed : List Reply) → x.board.owed ≡ owed → ClockIsComing x
     → ClockIsComing (after_reply x owed)

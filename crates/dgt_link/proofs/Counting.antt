@@ -259,16 +259,14 @@ given_up_follows in_turn asked world after f same = record {
 module _ (laws : Grammars) where
   pub break_follows : (world after : WorldView) → IsSane world
       → Becomes ActContent.Break world after → Follows true [] after
-  break_follows world after sane same =
-      rw same
-      (record {
-        garbage = [];
-        state = state_of_board (after_line_lost world.board.state);
-        stands = search rules;
-        comes = nothing_asked (state_of_board (after_line_lost world.board.state));
-        clock = λ has. absurd (nothing_contained CommandContent.Clock has);
-        awaits = λ turn. tt;
-      })
+  break_follows world after sane same = rw same (record {
+    garbage = [];
+    state = state_of_board (after_line_lost world.board.state);
+    stands = search rules;
+    comes = nothing_asked (state_of_board (after_line_lost world.board.state));
+    clock = λ has. absurd (nothing_contained CommandContent.Clock has);
+    awaits = λ turn. tt;
+  })
 
   -- the requests of a host that starts over, after other commands
   anew_mode : (before : Mode) (events noise : List EventContent) → IsNoiseList noise
@@ -479,8 +477,7 @@ nothing_said (message ∷ messages) e = cc
 pub quiet_behind : EachDividesOnce → (garbage : List ℕ) (world : WorldView) (x : MachineState)
     → StandsBehind garbage world x → IsQuietWorld world → IsQuiet x
 quiet_behind once garbage world x stands quiet =
-    let up = nothing_said x.up
-    (search (rules, right_empty)) in
+    let up = nothing_said x.up (search (rules, right_empty)) in
     record {
       up = up;
       down = (once.1 [] x.down [] [] [] (rw (quiet.partial, quiet.down) at stands.down)

@@ -71,7 +71,7 @@ plain_heals c _ _ calm is = record { in_step = is.in_step; asked = is.asked }
 step_heals : (c : Counted) (act : FaultyContent) (answer : Outcome)
     → (is_fault act ≡ false) × (stops act ≡ false) → IsHealing c
     → IsHealing (counted_after c act answer)
-step_heals c act answer h3 is = search (rules, plain_heals)
+step_heals c act answer calm is = search (rules, plain_heals)
 
 pub healing_goes_on : (c : Counted) (acts : List FaultyContent) (answers : List Outcome)
     → AreCalm acts → IsHealing c → IsHealing (counted_after_all c acts answers)
@@ -91,7 +91,7 @@ turn_step c act answer none is = search rules
 turn_begins : (c : Counted) (act : FaultyContent)
     → (begins_anew act ≡ true) ⊎ (act ≡ FaultyContent.Plain ActContent.Break)
     → IsInTurn (counted_after c act Outcome.Done)
-turn_begins c act h2 = search rules
+turn_begins c act begins = search rules
 
 abbrev InStep : Counted → Type 0
 InStep c = IsTrue c.in_step
@@ -150,18 +150,18 @@ anew_clock mode = search rules
 
 module _ (acts later : List FaultyContent) (act : FaultyContent) (answers others : List Outcome)
     (same : length answers ≡ length acts) where
-  pub anew_is_healing : begins_anew act ≡ true → AreCalm later → IsHealing
+  pub anew_is_healing : begins_anew act ≡ true → AreCalm later
+      → IsHealing
       (counted_after_all (nothing_counted false) (acts ++ act ∷ later)
       (answers ++ Outcome.Done ∷ others))
-  anew_is_healing begins calm =
-      after_any IsHealing (act ∷ later) (Outcome.Done ∷ others)
-      (search (rules, healing_goes_on, anew_heals)) (nothing_counted false) acts
-      answers same
+  anew_is_healing begins calm = after_any IsHealing (act ∷ later) (Outcome.Done ∷ others)
+      (search (rules, healing_goes_on, anew_heals)) (nothing_counted false) acts answers same
 
   -- ---- the awaited replies, and that the board reads what was sent
 
   pub in_turn_again : (begins_anew act ≡ true) ⊎ (act ≡ FaultyContent.Plain ActContent.Break)
-      → AreFaultless later → IsInTurn
+      → AreFaultless later
+      → IsInTurn
       (counted_after_all (nothing_counted false) (acts ++ act ∷ later)
       (answers ++ Outcome.Done ∷ others))
   in_turn_again begins none = after_any IsInTurn (act ∷ later) (Outcome.Done ∷ others)
@@ -243,7 +243,8 @@ module _ (mode : CommandContent) (bytes : List ℕ) (later : List FaultyContent)
       healing_goes_on _ later others calm (dump_counts bytes answer mode asks)
 
   pub reading_is_healing : Contains (CommandContent.Update ∷ CommandContent.UpdateNice ∷ []) mode
-      → AreClockCalm later → IsClockHealing
+      → AreClockCalm later
+      → IsClockHealing
       (counted_after_all (nothing_counted true)
       (sends mode ∷ FaultyContent.GarbleUp bytes ∷ sends CommandContent.Clock ∷ later)
       (Outcome.Done ∷ answer ∷ Outcome.Done ∷ others))
@@ -252,7 +253,8 @@ module _ (mode : CommandContent) (bytes : List ℕ) (later : List FaultyContent)
 
 -- a host that gives up, in a world in step
 pub given_up_is_in_turn : (later : List FaultyContent) (answer : Outcome) (others : List Outcome)
-    → AreFaultless later → IsInTurn
+    → AreFaultless later
+    → IsInTurn
     (counted_after_all (nothing_counted true) (FaultyContent.GiveUp ∷ later) (answer ∷ others))
 given_up_is_in_turn later answer others none =
     goes_on IsInTurn (λ act. is_fault act ≡ false) turn_step _ later others none

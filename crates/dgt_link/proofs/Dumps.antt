@@ -69,7 +69,8 @@ module _ (behind : ActsBehind) where
         (first : WorldView) (later : List WorldView) → Unbroken acts → StandsBehind garbage world x
         → PictureComes x → Goes square [] before x
         → RunsThrough acts world answers (earlier ++ first ∷ later) → first.host.unread ≡ []
-        → first.up.bytes ≡ [] → IsInOrderOf (shown_in square (first ∷ later))
+        → first.up.bytes ≡ []
+        → IsInOrderOf (shown_in square (first ∷ later))
         (before ++ stood_in square (earlier ++ first ∷ later))
     comes_goes before acts garbage world x answers [] first later all stands comes goes runs unread
         up =

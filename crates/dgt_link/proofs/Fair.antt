@@ -34,7 +34,8 @@ module _ (board : BoardState) (squares : length board.squares ≡ 64)
   fields_are_short [] message e = news_is_short board.times_owed message e
   fields_are_short (square ∷ fields) message e = search rules
 
-  all_are_short : (owed : List Reply) (message : Content) → slice_get
+  all_are_short : (owed : List Reply) (message : Content)
+      → slice_get
       (map (reply_message board) owed
       ++ (map (field_of board) (unreported_squares board) ++ clock_news board)) 0 ≡ Some message
       → length (encoding message) ≤ 67
@@ -149,8 +150,7 @@ rests_on : (acts : List ActContent) (world after : WorldView) (answers : List Ou
     → after ≡ world
 rests_on [] world after [] all rested same = same
 rests_on (act ∷ acts) world after (answer ∷ answers) all rested (between, step, runs) =
-    let same : between ≡ world
-    = search rules in
+    let same : between ≡ world = search rules in
     rests_on acts between after answers all.1 (rw same rested) runs ∙ same
 rests_on _ world after _ all rested never = absurd never
 
@@ -170,7 +170,7 @@ effects_identity board (event ∷ events) = effects_identity board events
 
 becomes_fit : (act : ActContent) (world after : WorldView) → IsSettling act
     → Becomes act world after → KeepsFit world after
-becomes_fit act world after is delivers = search (rules, effects_same_game, effects_identity)
+becomes_fit act world after is becomes = search (rules, effects_same_game, effects_identity)
 
 step_fit : (act : ActContent) (world after : WorldView) (answer : Outcome) → IsSettling act
     → Step act world answer after → KeepsFit world after
@@ -222,8 +222,7 @@ module _ (none_owed : (board : BoardState) → next_message board ≡ None → b
           let rested = stuck none_owed round world parts.between parts.ones fits is parts.runs e in
           let same : parts.between ≡ world =
           none_done round world parts.between parts.ones parts.runs e in
-          let last : after ≡ parts.between
-          = search (rules, rests_on, rounds_settle) in
+          let last : after ≡ parts.between = search (rules, rests_on, rounds_settle) in
           inr (rw (last, same) rested)
       go (inl enough) (suc done) e = inl (omega (arith, enough, counted, e))
       go (inr rested) (suc done) e = inr rested

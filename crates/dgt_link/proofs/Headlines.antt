@@ -69,7 +69,8 @@ dump_more commands asking one is h =
     Contains-append_left commands (command_content one ∷ []) CommandContent.Dump (is.dump h)
 
 mode_more : (commands : List CommandContent) (asking : Asking) (one : Command)
-    → IsAskedFor commands asking → updates
+    → IsAskedFor commands asking
+    → updates
     (last_mode (last_mode Mode.Idle (filter_map command_mode commands))
     (filter_map command_mode (command_content one ∷ []))) ≡ (asking_with asking one).updates
 mode_more commands asking one is = search rules

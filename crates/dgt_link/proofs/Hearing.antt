@@ -93,7 +93,8 @@ module _ (reads : Reads) where
       held = held_alone message encoded.are_messages.0
 
       go : ((others : List ℕ) → flat_map encoding messages ≡ others ++ more
-          → IsPrefix others more messages) → IsShorter prefix (encoding message)
+          → IsPrefix others more messages)
+          → IsShorter prefix (encoding message)
           ⊎ Reaches prefix more (encoding message) (flat_map encoding messages)
           → IsPrefix prefix more (message ∷ messages)
       go on (inl (next, others, e)) =

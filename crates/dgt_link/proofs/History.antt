@@ -136,7 +136,7 @@ module _ (square : ℕ) where
   set_at (first ∷ pieces) (suc other) (suc at) piece = search (rules, set_at pieces other)
 
   field_shows : (board : BoardState) (other : ℕ) → ShowsNow board (field_of board other)
-  field_shows board other h = search (rules, set_at)
+  field_shows board other picture = search (rules, set_at)
 
   -- ---- moves
 
@@ -184,8 +184,7 @@ module _ (square : ℕ) where
       same (Some pieces) e =
           let end = ends x.picture x.up in
           let v : Piece = piece_on pieces square in
-          let is : along x.picture x.up ≡ end.before ++ v ∷ []
-          = search rules in
+          let is : along x.picture x.up ≡ end.before ++ v ∷ [] = search rules in
           rw (
             is,
             append_assoc seen (end.before ++ v ∷ []) (v ∷ []),
@@ -195,7 +194,8 @@ module _ (square : ℕ) where
           (search (rules, shown_again, append_assoc))
 
       go : (shown square (picture_after last message) ≡ shown square last)
-          ⊎ (shown square (picture_after last message) ≡ now x ∷ []) → IsInOrderOf
+          ⊎ (shown square (picture_after last message) ≡ now x ∷ [])
+          → IsInOrderOf
           ((seen ++ along x.picture x.up) ++ shown square (picture_after last message))
           (before ++ now x ∷ [])
       go (inl e) = rw e (same last refl)

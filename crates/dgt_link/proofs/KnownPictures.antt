@@ -292,7 +292,7 @@ module _ (behind : ActsBehind) where
 
 both_known : (known seen : Option (List Piece)) → IsSome known → IsUnknownOr known seen
     → seen ≡ known
-both_known known seen some h3 = search rules
+both_known known seen some either = search rules
 
 still_known : (picture : Option (List Piece)) (up : List Content) → IsSome picture
     → IsSome (picture_after_all picture up)
@@ -301,6 +301,7 @@ still_known picture (message ∷ up) some =
     still_known (picture_after picture message) up (picture_after_known picture message some)
 
 pub known_behind : (garbage : List ℕ) (world : WorldView) (x : MachineState)
-    → StandsBehind garbage world x → IsSome x.picture → (world.host.picture ≡ x.picture)
+    → StandsBehind garbage world x → IsSome x.picture
+    → (world.host.picture ≡ x.picture)
     × (picture_after_all world.host.picture x.up ≡ Some world.board.state.reported_squares)
 known_behind garbage world x stands some = search (rules, both_known, still_known)

@@ -161,12 +161,9 @@ taking_more append board now new line left after moved n taking more within room
         → (between : BoardView) × HasTaken board (take fewer line.bytes) between
         × (is_full between.state ≡ false)
     earlier_than fewer some (sooner less) calm = taking.earlier fewer some less
-    earlier_than fewer some (just same) calm = (
-        search rules
-        )
-    earlier_than fewer some (later k positive less is) calm = let found = calm k positive less in (
-        search (rules, taken_more)
-        )
+    earlier_than fewer some (just same) calm = search rules
+    earlier_than fewer some (later k positive less is) calm =
+        let found = calm k positive less in search (rules, taken_more)
 
 -- the rest of the line
 pub left_length : (before now : BoardView) (line left : LineContents) (moved : ℕ)

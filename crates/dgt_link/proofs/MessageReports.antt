@@ -5,7 +5,8 @@ use Rattle.dgt_board.specs.{Sending.{reply_message, reported_squares_after, repo
 use Rattle.{dgt_board.specs.declared.{modes.Mode.{Mode}, replies.Reply.{Reply}}, dgt_link.specs.Sound.{IsUnknownOr}}
 
 pub picture_after_all-append : (picture : Option (List Piece)) (up : List Content)
-    (message : Content) → picture_after_all picture (up ++ message ∷ [])
+    (message : Content)
+    → picture_after_all picture (up ++ message ∷ [])
     ≡ picture_after (picture_after_all picture up) message
 picture_after_all-append picture [] message = refl
 picture_after_all-append picture (first ∷ up) message =

@@ -32,9 +32,7 @@ module _
       go (inr (inl all)) = omega (arith, all, less, second.within.1)
       go (inr (inr full)) =
           let stop = second.earlier first.moved first.some less in
-          let same : first.board ≡ stop.0
-          = search rules in
-          search rules
+          let same : first.board ≡ stop.0 = search rules in search rules
 
   one_delivery : (count : ℕ) (world one other : WorldView) → Delivers count world one
       → Delivers count world other → one ≡ other

@@ -204,6 +204,5 @@ module _
       → AllByRecursion P acts → IsSane world → Q world → FaultyRuns acts world answers after
       → Q after
   sane_keeps P Q kept acts world after answers all is q runs =
-      (run_keeps FaultyStep P (λ w. IsSane w × Q w)
-      (search (rules, sane_after)) acts world after
+      (run_keeps FaultyStep P (λ w. IsSane w × Q w) (search (rules, sane_after)) acts world after
       answers all (is, q) runs).1

@@ -39,13 +39,13 @@ Comes seen owed down =
 sent_comes : (picture : Option (List Piece)) (up : List Content) (message : Content)
     (owed : List Reply) (down : List EventContent) → Comes (picture_after_all picture up) owed down
     → Comes (picture_after_all picture (up ++ message ∷ [])) owed down
-sent_comes picture up message owed down h5 = search (rules, picture_after_all-append)
+sent_comes picture up message owed down coming = search (rules, picture_after_all-append)
 
 reply_comes : (board : BoardState) (picture : Option (List Piece)) (up : List Content)
     (first : Reply) (rest : List Reply) (down : List EventContent)
     → Comes (picture_after_all picture up) (first ∷ rest) down
     → Comes (picture_after_all picture (up ++ reply_message board first ∷ [])) rest down
-reply_comes board picture up first rest down h6 = search (rules, picture_after_all-append)
+reply_comes board picture up first rest down coming = search (rules, picture_after_all-append)
 
 reply_keeps_picture : (x : MachineState) (owed : List Reply) → x.board.owed ≡ owed
     → PictureIsComing x → PictureIsComing (after_reply x owed)
@@ -194,7 +194,8 @@ ask_comes_dump commands x command coming h =
     go (inl before) = picture_keeps_coming x (Move.Ask command) (λ e. cc) (coming.picture before)
     go (inr now) = new (Contains-cons CommandContent.Dump command [] now)
 
-pub asked_anew-mode : (before : Mode) (commands : List CommandContent) → Mode.UpdateBoard
+pub asked_anew-mode : (before : Mode) (commands : List CommandContent)
+    → Mode.UpdateBoard
     ≡ last_mode before (filter_map command_mode (commands_after commands (map Some commands_anew)))
 asked_anew-mode before commands =
     asked-mode (commands ++ CommandContent.UpdateBoard ∷ []) CommandContent.Dump before

@@ -30,8 +30,7 @@ every_square-at k h = (h, get_or-range_with_len 0 64 k 0 h ∙ omega arith)
 none_differs : (board : BoardState) → length board.squares ≡ 64 → length board.reported_squares ≡ 64
     → filter (differs board) every_square ≡ [] → board.reported_squares ≡ board.squares
 none_differs board squares reported none =
-    same_lists board.reported_squares board.squares
-    (reported ∙ sym squares) same_at
+    same_lists board.reported_squares board.squares (reported ∙ sym squares) same_at
   where
     same_at : (k : ℕ) (d : Piece) → k < length board.reported_squares
         → get_or board.reported_squares k d ≡ get_or board.squares k d
@@ -56,7 +55,7 @@ quiet_picture x sound quiet asks = search (rules, quiet_up_to_date)
 -- when everything is quiet, a picture to come is known
 pub picture_has_come : (x : MachineState) → IsSound x → IsQuiet x → PictureIsComing x
     → IsSome x.picture
-picture_has_come x sound quiet h3 = search (rules, quiet_up_to_date)
+picture_has_come x sound quiet coming = search (rules, quiet_up_to_date)
 
 -- a promised state that is quiet has the board's squares as its picture
 pub promised_picture : (x : MachineState) → IsSound x → IsPromised x → IsQuiet x
@@ -66,7 +65,7 @@ promised_picture x sound promised quiet = grind (arith, common_steps, quiet_pict
 -- the clock, in an exact state with a mode that follows it
 pub reported_clock : (owed : Bool) (reported clock : Option ClockState) → owed ≡ false
     → IsTrue owed ⊎ (reported ≡ clock) → reported ≡ clock
-reported_clock owed reported clock none h4 = search rules
+reported_clock owed reported clock none either = search rules
 
 pub quiet_clock : (x : MachineState) → IsExact x → IsQuiet x → IsTrue (follows_clock x.board.mode)
     → x.host_clock ≡ Some x.board.clock

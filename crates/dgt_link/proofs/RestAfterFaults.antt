@@ -46,7 +46,7 @@ module _ (reads : Reads) where
 
   known_has_no_garbage : {X : Type 0} (picture : Option X) (garbage : List ℕ) (other : Type 0)
       → (garbage ≡ []) ⊎ ((picture ≡ None) × other) → IsSome picture → garbage ≡ []
-  known_has_no_garbage picture garbage other h3 some = search rules
+  known_has_no_garbage picture garbage other either some = search rules
 
   module _ (once : EachDividesOnce) (garbage : List ℕ) (world : WorldView) (x : MachineState)
       (stands : StandsBehind garbage world x) (rested : IsRestedWorld world)

@@ -237,12 +237,6 @@ module _ (laws : Grammars) where
       )
   run_stands _ world _ after x stands none = absurd none
 
--- ---- the lines keep their capacities
-
-pub record HasRooms (world after : WorldView) : Type 0 where
-  pub up : after.up.capacity ≡ world.up.capacity
-  pub down : after.down.capacity ≡ world.down.capacity
-
 -- ---- what is kept
 
 module _ (moves : StepsAreMoves) where

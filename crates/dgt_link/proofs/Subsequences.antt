@@ -32,7 +32,8 @@ subsequence_tail x xs (y ∷ ys) (inl h) = subsequence_later xs y ys h.1
 subsequence_tail x xs (y ∷ ys) (inr h) = subsequence_later xs y ys (subsequence_tail x xs ys h)
 
 -- the first element is somewhere, and the others are after it
-pub first_of_subsequence : {X : Type 0} (x : X) (xs ys : List X) → IsSubsequence (x ∷ xs) ys
+pub first_of_subsequence : {X : Type 0} (x : X) (xs ys : List X)
+    → IsSubsequence (x ∷ xs) ys
     ↔ ((before : List X) × (later : List X) × (ys ≡ before ++ x ∷ later) × IsSubsequence xs later)
 first_of_subsequence {X = X} x xs ys =
     (split ys, λ (before, later, all, h). rw all (join before later h))
