@@ -10,8 +10,7 @@ act_still_asked : (commands : List CommandContent) (act : ActContent) (answer : 
 act_still_asked commands (ActContent.Host command) Outcome.Done calm is =
     still_asked commands command calm is
 act_still_asked commands ActContent.Break answer calm is = absurd (false≢true (sym calm))
-act_still_asked commands ActContent.HostBreak Outcome.Done calm is = search (rules, still_asked)
-act_still_asked commands _ Outcome.Done calm is = is
+act_still_asked commands act Outcome.Done calm is = search (rules, still_asked)
 act_still_asked commands _ _ calm is = is
 
 acts_still_asked : (commands : List CommandContent) (acts : List ActContent)

@@ -1,11 +1,11 @@
 -- What keeps a clock coming, and that it is the board's when the world is quiet.
-use Rattle.std.proofs.{Common.{false, ◌≡◌, ◌≢◌, refl, ◌∙◌, ◌⊎◌, inl, inr, List, [], ◌∷◌, ◌++◌, Option, Some, None, ◌&&◌, rules}, lemmas.Bool.{cond_both}}
-use Rattle.{std.{proofs.lemmas.List.Elements.{Contains-append_left, Contains-push}, specs.{List.{AllByRecursion}, Prelude.{IsSome, Contains}}}, dgt_message.specs.Clock.{ClockState}}
-use Rattle.{dgt_message.specs.{Content.{Content, clock_message}, Picture.{clock_after_all}}, dgt_command.specs.Content.{CommandContent, EventContent}, dgt_board.specs.Sending.{differs}}
-use Rattle.{dgt_board.specs.{Sending.{field_of, reply_message, reported_clock_after}, State.{BoardState, effect, updates}, declared.replies.Reply.{Reply}}, dgt_link.specs.Act.{ActContent}}
-use Rattle.dgt_link.specs.{Clocks.{ClockIsComing, IsClockPromised}, Faults.{is_break}, Machine.{IsHostBreak, Move, MachineState, after_move, after_moves, after_reported, after_take, after_reply}}
-use Rattle.dgt_link.{specs.{Machine.{after_hear}, Promise.{IsQuiet}, Sound.{IsSound, coming_clock}, Stands.{AreMovesOfStep}, declared.acts.Outcome.{Outcome}}, proofs.Asking.{act_is_no_break}}
-use Rattle.dgt_link.proofs.{Asking.{step_is_other}, MessageReports.{clock_after_all-append}, Promises.{effect_owes}, Quiet.{quiet_up_to_date}}
+use Rattle.std.proofs.{Common.{arith, false, ◌≡◌, ◌≢◌, refl, ◌⊎◌, inl, inr, List, [], ◌∷◌, ◌++◌, Option, Some, None, ◌&&◌, rules}, lemmas.{Grind.{common_steps}, Bool.{cond_both}}}
+use Rattle.{std.{proofs.lemmas.List.Elements.{Contains-push}, specs.{List.{AllByRecursion}, Prelude.{IsSome, Contains}}}, dgt_message.specs.{Clock.{ClockState}, Content.{Content, clock_message}}}
+use Rattle.{dgt_message.specs.Picture.{clock_after_all}, dgt_command.specs.Content.{CommandContent, EventContent}, dgt_board.specs.Sending.{differs, field_of, reply_message, reported_clock_after}}
+use Rattle.{dgt_board.specs.{State.{BoardState, effect, updates}, declared.replies.Reply.{Reply}}, dgt_link.specs.{Act.{ActContent}, Clocks.{ClockIsComing, IsClockPromised}, Faults.{is_break}}}
+use Rattle.dgt_link.specs.{Machine.{IsHostBreak, Move, MachineState, after_move, after_moves, after_reported, after_take, after_reply, after_hear}, Promise.{IsQuiet}, Sound.{IsSound, coming_clock}}
+use Rattle.dgt_link.{specs.{Stands.{AreMovesOfStep}, declared.acts.Outcome.{Outcome}}, proofs.{Asking.{act_is_no_break, step_is_other}, MessageReports.{clock_after_all-append}}}
+use Rattle.dgt_link.proofs.{Promises.{effect_owes}, Quiet.{quiet_up_to_date}}
 
 -- a clock to come, in its four ways: under way, owed, requested, never reported
 abbrev Comes : Option ClockState → Option ClockState → List Reply → List EventContent → Type 0
@@ -50,9 +50,7 @@ take_comes : (board : BoardState) (seen : Option ClockState) (event : EventConte
 take_comes board seen event rest (inl known) = inl known
 take_comes board seen event rest (inr (inl owed)) =
     inr (inl (effect_owes board event Reply.Clock owed))
-take_comes board seen event rest (inr (inr (inl asked))) = search (rules, clock_owed)
-take_comes board seen event rest (inr (inr (inr none))) =
-    inr (inr (inr (effect_reported board event ∙ none)))
+take_comes board seen event rest (inr (inr other)) = search (rules, clock_owed, effect_reported)
 
 take_keeps : (x : MachineState) (down : List EventContent) → x.down ≡ down → ClockIsComing x
     → ClockIsComing (after_take x down)
@@ -68,9 +66,7 @@ ask_comes : (seen reported : Option ClockState) (owed : List Reply) (down more :
     → Comes seen reported owed down → Comes seen reported owed (down ++ more)
 ask_comes seen reported owed down more (inl known) = inl known
 ask_comes seen reported owed down more (inr (inl owes)) = inr (inl owes)
-ask_comes seen reported owed down more (inr (inr (inl asked))) =
-    inr (inr (inl (Contains-append_left down more (EventContent.Read CommandContent.Clock) asked)))
-ask_comes seen reported owed down more (inr (inr (inr none))) = inr (inr (inr none))
+ask_comes seen reported owed down more (inr (inr other)) = grind (arith, common_steps)
 
 -- only the breaks end it
 clock_keeps_coming : (x : MachineState) (move : Move) → move ≢ Move.Break → ¬ (IsHostBreak move)

@@ -2,7 +2,7 @@
 -- again.
 use Rattle.std.proofs.Common.{◌≡◌, ◌≢◌, ◌⊎◌, refl, sym, ap, ◌∙◌, inl, inr, ℕ, List, [], ◌∷◌, ◌++◌, length, drop, replicate, map, Option, Some, false, true, Bool, append_assoc, arith}
 use Rattle.std.proofs.{Common.{rules}, lemmas.{Bool.{false≢true}, Grind.{common_steps}, List.{append-nil, Elements.{filter_map-append, Contains-append_right, Contains-push_cases}}}}
-use Rattle.{std.specs.{List.{cons_option, flat_map}, Prelude.{IsTrue, Contains, filter, filter_map}}, dgt_values.specs.declared.kinds.Kind.{Kind}, dgt_message.specs.Content.{Content}}
+use Rattle.{std.specs.{List.{flat_map}, Prelude.{IsTrue, Contains, filter, filter_map}}, dgt_values.specs.declared.kinds.Kind.{Kind}, dgt_message.specs.Content.{Content}}
 use Rattle.{dgt_message.specs.Encoding.{encoding}, dgt_command.specs.{Content.{CommandContent, EventContent}, Encoding.{AreBytes}, Laws.{EachDividesOnce}, Words.{Divides}}}
 use Rattle.{dgt_command.{specs.Words.{IsNoiseList, IsPartial}, proofs.DivisionLemmas.{bytes_append, bytes_left, bytes_right}}, dgt_board.specs.{Sending.{pending_messages}, State.{BoardState}}}
 use Rattle.{dgt_board.specs.{State.{after_line_lost, command_mode, effects, follows_clock}, declared.modes.Mode.{Mode}}, dgt_host.specs.Host.{follow_bytes, restart_bytes}}
@@ -191,15 +191,7 @@ other_is_out other none (_ ∷ commands) has = other_is_out other none commands 
 modes_stay : (commands : List CommandContent)
     → filter_map command_mode (filter sets_mode commands) ≡ filter_map command_mode commands
 modes_stay [] = refl
-modes_stay (CommandContent.Reset ∷ commands) =
-    ap (cons_option (Some Mode.Idle)) (modes_stay commands)
-modes_stay (CommandContent.Update ∷ commands) =
-    ap (cons_option (Some Mode.Update)) (modes_stay commands)
-modes_stay (CommandContent.UpdateBoard ∷ commands) =
-    ap (cons_option (Some Mode.UpdateBoard)) (modes_stay commands)
-modes_stay (CommandContent.UpdateNice ∷ commands) =
-    ap (cons_option (Some Mode.UpdateNice)) (modes_stay commands)
-modes_stay (_ ∷ commands) = modes_stay commands
+modes_stay (command ∷ commands) = search (rules, modes_stay commands)
 
 -- the state that knows nothing of what its board has sent
 abbrev pub forgotten : MachineState → MachineState

@@ -35,8 +35,7 @@ after_any : (P : Counted → Type 0) (more : List FaultyContent) (others : List 
 after_any P more others always c [] [] same = always c
 after_any P more others always c (act ∷ acts) (answer ∷ answers) same =
     after_any P more others always (counted_after c act answer) acts answers (omega (arith, same))
-after_any P more others always c [] (answer ∷ answers) same = absurd (omega (arith, same))
-after_any P more others always c (act ∷ acts) [] same = absurd (omega (arith, same))
+after_any P more others always c acts answers same = search rules
 
 -- ---- the picture
 
@@ -63,9 +62,7 @@ plain_heals : (c : Counted) (act : ActContent) (answer : Outcome)
     → IsHealing (counted_after c (FaultyContent.Plain act) answer)
 plain_heals c ActContent.HostBreak answer calm is = anew_heals
 plain_heals c ActContent.Break answer calm is = absurd (false≢true (sym calm))
-plain_heals c (ActContent.Host command) Outcome.Done calm is =
-    record { in_step = is.in_step; asked = still_asked c.asked command calm is.asked }
-plain_heals c _ Outcome.Done calm is = record { in_step = is.in_step; asked = is.asked }
+plain_heals c act Outcome.Done calm is = search (rules, still_asked)
 plain_heals c _ _ calm is = record { in_step = is.in_step; asked = is.asked }
 
 step_heals : (c : Counted) (act : FaultyContent) (answer : Outcome)
@@ -117,18 +114,7 @@ clock_step c (FaultyContent.Plain (ActContent.Host command)) Outcome.Done (none,
       mode = rw (← asked-mode c.asked command Mode.Idle mode refl)
           (clock_mode_goes_on command mode calm is.mode);
     }
-clock_step c (FaultyContent.Plain ActContent.Break) answer (none, calm) is =
-    absurd (false≢true (sym calm))
-clock_step c (FaultyContent.Plain ActContent.HostBreak) answer (none, calm) is =
-    absurd (false≢true (sym calm))
-clock_step c (FaultyContent.Plain _) Outcome.Done (none, calm) is =
-    record { in_step = is.in_step; asked = is.asked; mode = is.mode }
-clock_step c (FaultyContent.Plain _) _ (none, calm) is =
-    record { in_step = is.in_step; asked = is.asked; mode = is.mode }
-clock_step c FaultyContent.GiveUp answer (none, calm) is =
-    record { in_step = is.in_step; asked = is.asked; mode = is.mode }
-clock_step c FaultyContent.Restart answer (none, calm) is = absurd (false≢true (sym calm))
-clock_step c _ answer (none, calm) is = absurd (false≢true (sym none))
+clock_step c act answer (none, calm) is = search rules
 
 clock_goes_on : (c : Counted) (acts : List FaultyContent) (answers : List Outcome)
     → AreClockCalm acts → IsClockHealing c → IsClockHealing (counted_after_all c acts answers)

@@ -130,8 +130,7 @@ module _ (square : ℕ) where
       → (piece_on (slice_set pieces other piece) at ≡ piece_on pieces at)
       ⊎ ((other ≡ at) × (piece_on (slice_set pieces other piece) at ≡ piece))
   set_at [] other at piece = inl refl
-  set_at (first ∷ pieces) zero zero piece = inr (refl, refl)
-  set_at (first ∷ pieces) zero (suc at) piece = inl refl
+  set_at (first ∷ pieces) zero at piece = search rules
   set_at (first ∷ pieces) (suc other) zero piece = inl refl
   set_at (first ∷ pieces) (suc other) (suc at) piece = search (rules, set_at pieces other)
 

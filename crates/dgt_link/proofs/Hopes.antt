@@ -167,9 +167,7 @@ module _ (behind : ActsBehind) (asks : Mode → Bool) (ends : FaultyContent → 
         → FaultyStep act world answer after → StandsWith Q after
     kept (FaultyContent.Plain act) world after answer none going given is step =
         plain_kept act world after answer going given is step
-    kept (FaultyContent.GarbleUp bytes) world after Outcome.Done none going given is step =
-        up bytes world after none is step.leaves
-    kept (FaultyContent.GarbleUp bytes) world after _ none going given is step = rw step.leaves is
+    kept (FaultyContent.GarbleUp bytes) world after answer none going given is step = search rules
     kept (FaultyContent.GarbleDown bytes) world after answer none going given is step =
         absurd (false≢true (sym none ∙ down bytes))
     kept FaultyContent.BoardLost world after answer none going given is step =

@@ -67,8 +67,7 @@ module _
       search (rules, one_run acts middle one other answers others (rw first.1 at runs) ran)
   one_run [] world one other [] (also ∷ others) e none = absurd none
   one_run [] world one other (answer ∷ answers) others none f = absurd none
-  one_run (act ∷ acts) world one other [] others none f = absurd none
-  one_run (act ∷ acts) world one other (answer ∷ answers) [] runs none = absurd none
+  one_run (act ∷ acts) world one other answers others none f = search rules
 
   -- ---- in a world in which the lines and the board's power may fail
 
