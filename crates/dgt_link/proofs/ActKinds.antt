@@ -1,7 +1,7 @@
 -- Which acts are of which kind.
 use Rattle.std.{proofs.{Common.{◌≡◌, ◌⊎◌, refl, ℕ, suc, List, [], ◌∷◌, true, false, arith, rules}, lemmas.Bool.{false≢true}}, specs.{List.{AllByRecursion}, Prelude.{◌↔◌, Contains}}}
 use Rattle.{dgt_command.specs.Content.{CommandContent}, dgt_link.specs.{Act.{ActContent}, Clocks.{AreClockCalm, stops_clock}, Faults.{AreCalm, AreFaultless, FaultyContent, begins_anew, is_break}}}
-use Rattle.dgt_link.{specs.Faults.{is_fault, loses_step, sends, stops}}
+use Rattle.dgt_link.{specs.Faults.{is_fault, loses_step, sends, stops}, proofs.Lists.{nothing_contained}}
 
 -- ---- each kind
 
@@ -10,17 +10,17 @@ pub fault_is : (act : FaultyContent)
     ↔ (((bytes : List ℕ) × (act ≡ FaultyContent.GarbleUp bytes))
     ⊎ (((bytes : List ℕ) × (act ≡ FaultyContent.GarbleDown bytes))
     ⊎ (act ≡ FaultyContent.BoardLost)))
-fault_is act = search rules
+fault_is act = search (rules, false≢true)
 
 pub loses_step_is : (act : FaultyContent)
     → (loses_step act ≡ true)
     ↔ (((bytes : List ℕ) × (act ≡ FaultyContent.GarbleDown bytes))
     ⊎ (act ≡ FaultyContent.BoardLost))
-loses_step_is act = search rules
+loses_step_is act = search (rules, false≢true)
 
 pub stops_is : (act : FaultyContent) → (stops act ≡ true)
     ↔ ((act ≡ sends CommandContent.Reset) ⊎ (act ≡ FaultyContent.Plain ActContent.Break))
-stops_is act = search rules
+stops_is act = search (rules, false≢true)
 
 abbrev clock_stops : List FaultyContent
 clock_stops = sends CommandContent.Reset ∷ sends CommandContent.UpdateBoard
@@ -38,15 +38,15 @@ a_clock_stop FaultyContent.Restart is = (4, omega arith, refl)
 a_clock_stop _ is = absurd (false≢true is)
 
 pub stops_clock_is : (act : FaultyContent) → (stops_clock act ≡ true) ↔ Contains clock_stops act
-stops_clock_is act = search (rules, a_clock_stop)
+stops_clock_is act = search (rules, a_clock_stop, nothing_contained)
 
 pub begins_is : (act : FaultyContent) → (begins_anew act ≡ true)
     ↔ ((act ≡ FaultyContent.Restart) ⊎ (act ≡ FaultyContent.Plain ActContent.HostBreak))
-begins_is act = search rules
+begins_is act = search (rules, false≢true)
 
 pub break_is : (act : ActContent)
     → (is_break act ≡ true) ↔ ((act ≡ ActContent.Break) ⊎ (act ≡ ActContent.HostBreak))
-break_is act = search rules
+break_is act = search (rules, false≢true)
 
 -- ---- all acts of a list
 
@@ -63,7 +63,8 @@ pub all_calm : (acts : List FaultyContent)
     → AreCalm acts
 all_calm = all_of (λ act. (is_fault act ≡ false) × (stops act ≡ false))
 
-pub all_clock_calm : (acts : List FaultyContent) → ((act : FaultyContent) → Contains acts act
+pub all_clock_calm : (acts : List FaultyContent)
+    → ((act : FaultyContent) → Contains acts act
     → (is_fault act ≡ false) × (stops_clock act ≡ false)) → AreClockCalm acts
 all_clock_calm = all_of (λ act. (is_fault act ≡ false) × (stops_clock act ≡ false))
 
