@@ -1,5 +1,5 @@
 -- How far a run of acts has come.
-use Rattle.std.{proofs.{Common.{◌≡◌, refl, sym, ap, ◌∙◌, ℕ, ◌+◌, ◌<◌, List, [], ◌∷◌, ◌++◌, length, take, get_or, map, arith}, lemmas.List.{map-append, take_more}}, specs.List.{AllByRecursion}}
+use Rattle.std.{proofs.{Common.{rules, ◌≡◌, refl, sym, ap, ◌∙◌, ℕ, ◌+◌, ◌<◌, List, [], ◌∷◌, ◌++◌, length, take, get_or, map, arith}, lemmas.List.{map-append, take_more}}, specs.List.{AllByRecursion}}
 use Rattle.dgt_link.specs.{Step.{RunsBy, done_count}, View.{WorldView}, declared.acts.Outcome.{Outcome}}
 
 done_count-push : (outcomes : List Outcome) (outcome : Outcome)
@@ -15,8 +15,7 @@ module _ {A : Type 0} (Does : A → WorldView → Outcome → WorldView → Type
       → RunsBy Does (acts ++ act ∷ []) world (outcomes ++ outcome ∷ []) after
   run-push [] [] act outcome world between after same step = (after, rw same at step, refl)
   run-push (first ∷ acts) (came ∷ outcomes) act outcome world between after (next, step, rest)
-      last =
-      (next, step, run-push acts outcomes act outcome next between after rest last)
+      last = (next, step, run-push acts outcomes act outcome next between after rest last)
   run-push _ _ act outcome world between after none step = absurd none
 
   -- a property that each of these acts keeps is kept by all of them
@@ -52,6 +51,5 @@ module _ {A : Type 0} (Does : A → WorldView → Outcome → WorldView → Type
           outcomes ++ outcome ∷ [],
           omega (arith, done_count-push outcomes outcome, counted, one),
           rw (one_act_more acts index act within e, map-append content (take index acts) (act ∷ []))
-              (run-push (map content (take index acts)) outcomes (content act) outcome old now new
-              runs step),
+              (search (rules, run-push)),
         )

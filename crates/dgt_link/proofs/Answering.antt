@@ -21,4 +21,4 @@ first_answer x before later message kind exact e none is =
 
 pub never_unasked : (x : MachineState) (later : List Content) (message : Content) → IsExact x
     → x.up ≡ message ∷ later → ¬ (IsUnasked x.awaited (Some (Event.Message message)))
-never_unasked x later message exact e (kind, is, other) = search (rules, first_answer)
+never_unasked x later message exact e (kind, is, other) = search rules

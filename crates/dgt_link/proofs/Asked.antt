@@ -2,7 +2,7 @@
 use Rattle.std.proofs.{Common.{◌≡◌, refl, sym, List, [], ◌∷◌, ◌++◌, false, length, map, arith, rules}, lemmas.{Bool.{false≢true}, List.Elements.{Contains-append_left, Contains-push}}}
 use Rattle.{std.specs.Prelude.{Contains, IsTrue, filter_map, unwrap_or}, dgt_command.specs.Content.{CommandContent}, dgt_board.specs.{State.{command_mode, updates}, declared.modes.Mode.{Mode}}}
 use Rattle.dgt_link.specs.{Act.{ActContent}, Faults.{AreCalm, FaultyContent, stops}, Promise.{IsAsked, IsAskedBy, act_requests, commands_after, last_mode, run_requests}}
-use Rattle.dgt_link.{specs.declared.acts.Outcome.{Outcome}, proofs.{AfterMoves.{commands_after-append}, Counts.{one_of_three, still_asked}, Promises.{asked-mode}}}
+use Rattle.dgt_link.{specs.declared.acts.Outcome.{Outcome}, proofs.{AfterMoves.{commands_after-append}, Counts.{still_asked}, Promises.{asked-mode}}}
 
 act_still_asked : (commands : List CommandContent) (act : ActContent) (answer : Outcome)
     → stops (FaultyContent.Plain act) ≡ false → IsAsked commands
@@ -10,8 +10,7 @@ act_still_asked : (commands : List CommandContent) (act : ActContent) (answer : 
 act_still_asked commands (ActContent.Host command) Outcome.Done calm is =
     still_asked commands command calm is
 act_still_asked commands ActContent.Break answer calm is = absurd (false≢true (sym calm))
-act_still_asked commands ActContent.HostBreak Outcome.Done calm is = search (rules, still_asked)
-act_still_asked commands _ Outcome.Done calm is = is
+act_still_asked commands act Outcome.Done calm is = search (rules, still_asked)
 act_still_asked commands _ _ calm is = is
 
 acts_still_asked : (commands : List CommandContent) (acts : List ActContent)
@@ -25,8 +24,7 @@ acts_still_asked commands (act ∷ acts) (answer ∷ answers) calm is =
     (act_still_asked commands act answer calm.0.1 is))
 
 -- the requests of later acts, whatever the first ones requested
-after_any : (more : List ActContent) (others : List Outcome)
-    → ((commands : List CommandContent)
+after_any : (more : List ActContent) (others : List Outcome) → ((commands : List CommandContent)
     → IsAsked (commands_after commands (run_requests more others)))
     → (commands : List CommandContent) (acts : List ActContent) (answers : List Outcome)
     → length answers ≡ length acts
@@ -46,7 +44,7 @@ IsUpdating =
 
 sets_updates : (before : Mode) (mode : CommandContent) → IsUpdating mode
     → IsTrue (updates (unwrap_or (command_mode mode) before))
-sets_updates before mode = search (rules, one_of_three)
+sets_updates before mode = search rules
 
 mode_then_dump : (commands : List CommandContent) (mode : CommandContent) → IsUpdating mode
     → IsAsked ((commands ++ mode ∷ []) ++ CommandContent.Dump ∷ [])

@@ -1,6 +1,6 @@
 -- What acts request of the board, how they change the promise, and which of their moves are breaks.
 use Rattle.std.{proofs.{Common.{◌≡◌, ◌≢◌, refl, ℕ, zero, suc, List, [], ◌∷◌, replicate, arith, rules}, lemmas.Grind.{flat_map-append}}, specs.{List.{AllByRecursion}, Prelude.{Contains, flat_map}}}
-use Rattle.{dgt_command.specs.Content.{CommandContent}, dgt_link.specs.{Act.{ActContent}, Machine.{IsHostBreak, IsSending, MachineState, Move, after_move, after_moves}, Promise.{IsAskedBy}}}
+use Rattle.{dgt_command.specs.Content.{CommandContent}, dgt_link.specs.{Act.{ActContent}, Machine.{IsHostBreak, MachineState, Move, after_move, after_moves}, Promise.{IsAskedBy}}}
 use Rattle.dgt_link.specs.{Promise.{IsPromised, IsRestarted, PictureIsComing, act_requests, coming_mode, mode_after, requests, run_requests}, Stands.{AreMovesOfAct, AreMovesOfRun, AreMovesOfStep}}
 use Rattle.dgt_link.{specs.declared.acts.Outcome.{Outcome}, proofs.{AfterMoves.{moves-mode, moves_promise}, Lists.{all_append, all_replicate}, Promises.{anew_is_promised, dump_asked}}}
 use Rattle.dgt_link.proofs.Promises.{picture_keeps_coming}
@@ -15,24 +15,13 @@ requests-hears : (count : ℕ) → flat_map requests (replicate count Move.Hear)
 requests-hears zero = refl
 requests-hears (suc count) = requests-hears count
 
-requests-sending : (move : Move) → IsSending move → flat_map requests (move ∷ []) ≡ []
-requests-sending move sending = search rules
-
 pub requests-act : (act : ActContent) (moves : List Move) → AreMovesOfAct act moves
     → flat_map requests moves ≡ act_requests Outcome.Done act
-requests-act (ActContent.Change square piece) moves e = rw e refl
-requests-act (ActContent.ClockRead clock) moves e = rw e refl
-requests-act (ActContent.Host command) moves e = rw e refl
-requests-act ActContent.BoardSend moves (move, sending, e) = rw e (requests-sending move sending)
-requests-act (ActContent.ToBoard bytes) moves (count, e) = rw e (requests-takes count)
-requests-act (ActContent.ToHost bytes) moves (count, e) = rw e (requests-hears count)
-requests-act ActContent.Break moves e = rw e refl
-requests-act ActContent.HostBreak moves (noise, is_noise, e) = rw e refl
+requests-act act moves e = search (rules, requests-takes, requests-hears)
 
 pub requests-step : (act : ActContent) (outcome : Outcome) (moves : List Move)
     → AreMovesOfStep act outcome moves → flat_map requests moves ≡ act_requests outcome act
-requests-step act outcome moves are =
-    search (rules, requests-sending, requests-takes, requests-hears)
+requests-step act outcome moves are = search (rules, requests-takes, requests-hears)
 
 requests-run : (acts : List ActContent) (outcomes : List Outcome) (moves : List Move)
     → AreMovesOfRun acts outcomes moves → flat_map requests moves ≡ run_requests acts outcomes
@@ -60,12 +49,6 @@ pub dump_is_coming : (x : MachineState) (moves : List Move)
     → PictureIsComing (after_moves x moves)
 dump_is_coming x moves e = rw e (dump_asked x)
 
--- a break is always done, and is its own move
-pub break_moves : (x : MachineState) (outcome : Outcome) (moves : List Move)
-    → outcome ≡ Outcome.Done → AreMovesOfStep ActContent.Break outcome moves
-    → after_moves x moves ≡ after_move x Move.Break
-break_moves x outcome moves e are = search rules
-
 -- a host break is always done, and restarts the host
 pub host_break_moves : (x : MachineState) (outcome : Outcome) (moves : List Move)
     → outcome ≡ Outcome.Done → AreMovesOfStep ActContent.HostBreak outcome moves
@@ -77,20 +60,12 @@ host_break_moves x _ moves e are = cc
 
 -- ---- an act that isn't a break has other moves than that, and so has one that isn't a host break
 
-sending_is_none : (P : Move → Type 0) → P Move.Reply → ((square : ℕ) → P (Move.Report square))
-    → P Move.ReportClock → (move : Move) → IsSending move → P move
-sending_is_none P reply report clock move sending = search rules
-
 pub act_is_no_break : (act : ActContent) (moves : List Move) → act ≢ ActContent.Break
     → AreMovesOfAct act moves → AllByRecursion (λ move. move ≢ Move.Break) moves
 act_is_no_break (ActContent.Change square piece) moves other e = rw e (λ f. cc, tt)
 act_is_no_break (ActContent.ClockRead clock) moves other e = rw e (λ f. cc, tt)
 act_is_no_break (ActContent.Host command) moves other e = rw e (λ f. cc, tt)
-act_is_no_break ActContent.BoardSend moves other (move, sending, e) =
-    rw e (
-      sending_is_none (λ move. move ≢ Move.Break) (λ f. cc) (λ square f. cc) (λ f. cc) move sending,
-      tt,
-    )
+act_is_no_break ActContent.BoardSend moves other (move, sending, e) = search rules
 act_is_no_break (ActContent.ToBoard bytes) moves other (count, e) =
     rw e (all_replicate (λ move. move ≢ Move.Break) count Move.Take (λ f. cc))
 act_is_no_break (ActContent.ToHost bytes) moves other (count, e) =
@@ -103,12 +78,7 @@ act_is_other : (act : ActContent) (moves : List Move) → act ≢ ActContent.Hos
 act_is_other (ActContent.Change square piece) moves other e = rw e (λ is. is, tt)
 act_is_other (ActContent.ClockRead clock) moves other e = rw e (λ is. is, tt)
 act_is_other (ActContent.Host command) moves other e = rw e (λ is. is, tt)
-act_is_other ActContent.BoardSend moves other (move, sending, e) =
-    rw e (
-      sending_is_none (λ move. ¬ (IsHostBreak move)) (λ is. is) (λ square is. is) (λ is. is) move
-          sending,
-      tt,
-    )
+act_is_other ActContent.BoardSend moves other (move, sending, e) = search rules
 act_is_other (ActContent.ToBoard bytes) moves other (count, e) =
     rw e (all_replicate (λ move. ¬ (IsHostBreak move)) count Move.Take (λ is. is))
 act_is_other (ActContent.ToHost bytes) moves other (count, e) =

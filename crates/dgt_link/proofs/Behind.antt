@@ -1,14 +1,14 @@
 -- The effect of an act on a world that stands for a state after garbage.
-use Rattle.std.proofs.Common.{◌≡◌, refl, sym, ap, ◌∙◌, ◌⊎◌, inl, inr, ℕ, ◌≤◌, List, [], ◌∷◌, ◌++◌, length, take, drop, replicate, Option, Some, None, false, append_assoc, rules}
-use Rattle.{std.{proofs.lemmas.{Grind.{flat_map-append}, List.{append-nil}}, specs.List.{flat_map}}, dgt_values.specs.declared.{kinds.Kind.{Kind}, pieces.Piece.{Piece}}}
-use Rattle.dgt_message.specs.{Clock.{ClockState}, Content.{Content, IsMessage, answered_kind}, Encoding.{Encodes, encoding}, Picture.{clock_after, picture_after}}
-use Rattle.{dgt_command.specs.Content.{CommandContent}, dgt_board.specs.{Sending.{after_sending, next_message}, State.{BoardState, after_change, after_hand_clock}}, dgt_decode.specs.Grammar.{Event}}
-use Rattle.{dgt_decode.specs.{Grammar.{Placed, events, shifted, unfinished_message}, Laws.{BeginsAnew}}, dgt_host.specs.Host.{HostView, awaited_after, host_after, host_after_event}}
-use Rattle.{dgt_host.specs.Host.{host_after_events, host_after_message}, dgt_link.specs.{Act.{ActContent}, Faults.{is_break}, Healing.{AwaitsWhatComes, StandsBehind, StandsBehindAfter}}}
-use Rattle.dgt_link.specs.{Machine.{MachineState, Move, after_moves}, Readers.{Grammars}, Sound.{IsSound, IsSubsequence, IsUnknownOr, coming_kinds}, Step.{Becomes, Step, with_state}, View.{WorldView}}
-use Rattle.dgt_link.{specs.{View.{with_bytes, without_first}, declared.acts.Outcome.{Outcome}}, proofs.{AfterMoves.{moves_sound}, Dividing.{divides_command}, Hearing.{heard_of, heard_prefix}}}
-use Rattle.dgt_link.proofs.{Hearing.{host_after_messages}, Lists.{IsShorter, Reaches, all_append, prefixes, not_empty}, Sending.{next_is_sent}, Soundness.{ask-kinds, asked_sound, move_sound}}
-use Rattle.dgt_link.proofs.{Standing.{prefix_of, hears, taken_state, takes, with_host, taken_as}, Subsequences.{awaited_after-subsequence, subsequence_append, subsequence_later}}
+use Rattle.std.proofs.Common.{arith, ◌≡◌, refl, sym, ap, ◌∙◌, ◌⊎◌, inl, inr, ℕ, ◌≤◌, List, [], ◌∷◌, ◌++◌, length, take, drop, replicate, Some, None, false, append_assoc, rules}
+use Rattle.{std.{proofs.lemmas.{Grind.{common_steps, flat_map-append}, List.{append-nil}}, specs.List.{flat_map}}, dgt_values.specs.declared.{kinds.Kind.{Kind}, pieces.Piece.{Piece}}}
+use Rattle.{dgt_message.specs.{Clock.{ClockState}, Content.{Content, IsMessage, answered_kind}, Encoding.{Encodes, encoding}}, dgt_command.specs.Content.{CommandContent}}
+use Rattle.{dgt_board.specs.{Sending.{after_sending, next_message}, State.{BoardState, after_change, after_hand_clock}}, dgt_decode.specs.Grammar.{Event, Placed, events, shifted, unfinished_message}}
+use Rattle.{dgt_decode.specs.Laws.{BeginsAnew}, dgt_host.specs.Host.{HostView, awaited_after, host_after, host_after_event, host_after_events, host_after_message}, dgt_link.specs.Act.{ActContent}}
+use Rattle.dgt_link.specs.{Faults.{is_break}, Healing.{AwaitsWhatComes, StandsBehind, StandsBehindAfter}, Machine.{MachineState, Move, after_moves}, Readers.{Grammars}, Sound.{IsSound, IsSubsequence}}
+use Rattle.dgt_link.specs.{Sound.{IsUnknownOr, coming_kinds}, Step.{Becomes, Step, with_state}, View.{WorldView, with_bytes, without_first}, declared.acts.Outcome.{Outcome}}
+use Rattle.dgt_link.proofs.{AfterMoves.{moves_sound}, Dividing.{divides_command}, Hearing.{heard_of, heard_prefix, host_after_messages}, Lists.{IsShorter, Reaches, all_append, prefixes, not_empty}}
+use Rattle.dgt_link.proofs.{Sending.{next_is_sent}, Soundness.{ask-kinds, asked_sound, move_sound}, Standing.{prefix_of, hears, taken_state, takes, with_host, taken_as}}
+use Rattle.dgt_link.proofs.Subsequences.{awaited_after-subsequence, subsequence_append}
 
 -- a message is sent
 abbrev pub Sends : Content → WorldView → WorldView → Type 0
@@ -28,29 +28,18 @@ record KnowsNoMore (known host : HostView) : Type 0 where
   pub picture : IsUnknownOr known.picture host.picture
   pub clock : IsUnknownOr known.clock host.clock
 
-picture_no_more : (known seen : Option (List Piece)) (message : Content) → IsUnknownOr known seen
-    → IsUnknownOr (picture_after known message) (picture_after seen message)
-picture_no_more known seen message h3 = search rules
-
-clock_no_more : (known seen : Option ClockState) (message : Content) → IsUnknownOr known seen
-    → IsUnknownOr (clock_after known message) (clock_after seen message)
-clock_no_more known seen message h3 = search rules
-
 knows_no_more : (known host : HostView) (messages : List Content) → KnowsNoMore known host
     → KnowsNoMore (host_after_messages known messages) (host_after_messages host messages)
 knows_no_more known host [] less = less
 knows_no_more known host (message ∷ messages) less =
     knows_no_more (host_after_message known message) (host_after_message host message) messages
-    (record {
-      picture = picture_no_more known.picture host.picture message less.picture;
-      clock = clock_no_more known.clock host.clock message less.clock;
-    })
+    (search rules)
 
 -- ---- what is awaited
 
 event_awaits : (host : HostView) (event : Event) (kinds : List Kind)
     → IsSubsequence host.awaited kinds → IsSubsequence (host_after_event host event).awaited kinds
-event_awaits host event kinds h = search (rules, awaited_after-subsequence, subsequence_later)
+event_awaits host event kinds h = search (rules, awaited_after-subsequence)
 
 events_await : (host : HostView) (reported : List Placed) (kinds : List Kind)
     → IsSubsequence host.awaited kinds
@@ -163,8 +152,7 @@ module _ (laws : Grammars) where
             let ran : after_moves (awaiting x host.awaited) moves
             ≡ with_host (awaiting x host.awaited) (host_after_messages state_host prefix.heard)
             prefix.left =
-            hears prefix.heard prefix.left (awaiting x host.awaited) state_host prefix.all
-            (record { picture = refl; clock = refl; awaited = refl }) in
+            search (rules, hears) in
             let sound : IsSound
             (with_host (awaiting x host.awaited) (host_after_messages state_host prefix.heard)
             prefix.left)
@@ -213,8 +201,7 @@ module _ (laws : Grammars) where
           hear_garbage garbage (next ∷ more) world count x stands unknown
           (same_behind (all_heard world count) (drop count world.up.bytes)
           (next ∷ more ++ flat_map encoding x.up)
-          (whole ∙ ap (λ (g : List ℕ). g ++ flat_map encoding x.up) e
-          ∙ append_assoc (all_heard world count) (next ∷ more) (flat_map encoding x.up)))
+          (grind (arith, common_steps)))
       go (inr (more, e, f)) (inl none) =
           let is : all_heard world count ≡ more = e ∙ ap (λ (g : List ℕ). g ++ more) none in
           hear_true garbage more world count x world.host stands
@@ -228,8 +215,7 @@ module _ (laws : Grammars) where
           hear_true garbage (b ∷ more) world count x (host_after_events world.host (events garbage))
           stands (record { picture = inl unknown.0; clock = inl unknown.1 })
           (λ a. events_await world.host (events garbage) (coming_kinds x) a)
-          (ap (λ (bytes : List ℕ). host_after_events world.host (events bytes)) e
-          ∙ behind_garbage laws.begins_anew laws.reads.places world.host garbage more b top)
+          (search (rules, behind_garbage))
           (ap unfinished_message e ∙ (laws.begins_anew garbage more b top).1) f
 
   change_behind : (garbage : List ℕ) (world : WorldView) (square : ℕ) (piece : Piece)

@@ -3,7 +3,7 @@ use Rattle.{std.{proofs.Common.{◌≡◌, refl, inr, List, [], ◌∷◌, Some,
 use Rattle.{dgt_board.specs.{State.{command_mode, follows_clock}, declared.modes.Mode.{Mode}}, dgt_link.specs.Clocks.{ClockIsComing, IsClockFollowing, IsClockPromised, IsClockPromisedWorld}}
 use Rattle.dgt_link.specs.{Clocks.{stops_clock}, Faults.{FaultyContent, FaultyStep, begins_anew, is_fault, loses_step, sends}, Healing.{Counted, IsClockHealing, IsInStep}, Promise.{last_mode}}
 use Rattle.dgt_link.{specs.{Promise.{mode_after}, View.{IsQuietWorld, WorldView}, declared.acts.Outcome.{Outcome}}, proofs.{Behind.{ActsBehind}, Clocks.{clock_is_asked, promised_clock}}}
-use Rattle.dgt_link.proofs.{Clocks.{step_keeps_clock}, Counting.{Holds, follows_with, host_knows, quiet_behind}, Hopes.{Follows, Hope, garbled, asked_promises, kept, other_following, other_promised}}
+use Rattle.dgt_link.proofs.{Clocks.{step_keeps_clock}, Counting.{Holds, host_knows, quiet_behind}, Hopes.{Follows, Hope, garbled, asked_promises, kept, other_following, other_promised}}
 use Rattle.dgt_link.proofs.{Hopes.{set_promises}, Settling.{by_settling}}
 
 pub clock_at_quiet : EachDividesOnce → (world : WorldView) → IsClockPromisedWorld world
@@ -42,9 +42,7 @@ module _ (behind : ActsBehind) where
   pub clock_promises : (world after : WorldView) → IsClockFollowing world
       → FaultyStep (sends CommandContent.Clock) world Outcome.Done after
       → IsClockPromisedWorld after
-  clock_promises =
-      asked_promises behind follows_clock stops_clock ClockIsComing clock_hope CommandContent.Clock
-      refl clock_is_asked
+  clock_promises = search (rules, asked_promises, clock_hope, clock_is_asked)
 
   pub keeps_clock_following : (act : FaultyContent) (world after : WorldView) (answer : Outcome)
       → loses_step act ≡ false → stops_clock act ≡ false → IsClockFollowing world
@@ -78,4 +76,4 @@ followed_from_any before (mode ∷ modes) h = h
 
 pub clock_healing_promised : (c : Counted) (world : WorldView) → Holds c world → IsClockHealing c
     → IsClockPromisedWorld world
-clock_healing_promised c world holds healing = search (rules, follows_with, followed_from_any)
+clock_healing_promised c world holds healing = search (rules, followed_from_any)

@@ -1,11 +1,11 @@
 -- What keeps a clock coming, and that it is the board's when the world is quiet.
-use Rattle.std.proofs.{Common.{false, ◌≡◌, ◌≢◌, refl, ◌∙◌, ◌⊎◌, inl, inr, List, [], ◌∷◌, ◌++◌, Option, Some, None, ◌&&◌, rules}, lemmas.Bool.{cond_both, false≢true}}
-use Rattle.{std.{proofs.lemmas.List.Elements.{Contains-append_left, Contains-push}, specs.{List.{AllByRecursion}, Prelude.{IsSome, Contains}}}, dgt_message.specs.Clock.{ClockState}}
-use Rattle.{dgt_message.specs.{Content.{Content, clock_message}, Picture.{clock_after_all}}, dgt_command.specs.Content.{CommandContent, EventContent}, dgt_board.specs.Sending.{differs}}
-use Rattle.{dgt_board.specs.{Sending.{field_of, reply_message, reported_clock_after}, State.{BoardState, effect, updates}, declared.replies.Reply.{Reply}}, dgt_link.specs.Act.{ActContent}}
-use Rattle.dgt_link.specs.{Clocks.{ClockIsComing, IsClockPromised}, Faults.{is_break}, Machine.{IsHostBreak, Move, MachineState, after_move, after_moves, after_reported, after_take, after_reply}}
-use Rattle.dgt_link.{specs.{Machine.{after_hear}, Promise.{IsQuiet}, Sound.{IsSound, coming_clock}, Stands.{AreMovesOfStep}, declared.acts.Outcome.{Outcome}}, proofs.Asking.{act_is_no_break}}
-use Rattle.dgt_link.proofs.{Asking.{step_is_other}, Lists.{nothing_contained}, MessageReports.{clock_after_all-append}, Promises.{effect_owes}, Quiet.{quiet_mode, quiet_up_to_date, reported_clock}}
+use Rattle.std.proofs.{Common.{arith, false, ◌≡◌, ◌≢◌, refl, ◌⊎◌, inl, inr, List, [], ◌∷◌, ◌++◌, Option, Some, None, ◌&&◌, rules}, lemmas.{Grind.{common_steps}, Bool.{cond_both}}}
+use Rattle.{std.{proofs.lemmas.List.Elements.{Contains-push}, specs.{List.{AllByRecursion}, Prelude.{IsSome, Contains}}}, dgt_message.specs.{Clock.{ClockState}, Content.{Content, clock_message}}}
+use Rattle.{dgt_message.specs.Picture.{clock_after_all}, dgt_command.specs.Content.{CommandContent, EventContent}, dgt_board.specs.Sending.{differs, field_of, reply_message, reported_clock_after}}
+use Rattle.{dgt_board.specs.{State.{BoardState, effect, updates}, declared.replies.Reply.{Reply}}, dgt_link.specs.{Act.{ActContent}, Clocks.{ClockIsComing, IsClockPromised}, Faults.{is_break}}}
+use Rattle.dgt_link.specs.{Machine.{IsHostBreak, Move, MachineState, after_move, after_moves, after_reported, after_take, after_reply, after_hear}, Promise.{IsQuiet}, Sound.{IsSound, coming_clock}}
+use Rattle.dgt_link.{specs.{Stands.{AreMovesOfStep}, declared.acts.Outcome.{Outcome}}, proofs.{Asking.{act_is_no_break, step_is_other}, MessageReports.{clock_after_all-append}}}
+use Rattle.dgt_link.proofs.{Promises.{effect_owes}, Quiet.{quiet_up_to_date}}
 
 -- a clock to come, in its four ways: under way, owed, requested, never reported
 abbrev Comes : Option ClockState → Option ClockState → List Reply → List EventContent → Type 0
@@ -18,7 +18,7 @@ sent_comes : (board : BoardState) (clock : Option ClockState) (up : List Content
     → Comes (clock_after_all clock up) board.reported_clock owed down
     → Comes (clock_after_all clock (up ++ message ∷ [])) (reported_clock_after board message) owed
     down
-sent_comes board clock up message owed down h6 = search (rules, clock_after_all-append, false≢true)
+sent_comes board clock up message owed down coming = search (rules, clock_after_all-append)
 
 -- the first owed reply goes under way
 reply_comes : (board : BoardState) (clock : Option ClockState) (up : List Content) (first : Reply)
@@ -26,7 +26,7 @@ reply_comes : (board : BoardState) (clock : Option ClockState) (up : List Conten
     → Comes (clock_after_all clock up) board.reported_clock (first ∷ rest) down
     → Comes (clock_after_all clock (up ++ reply_message board first ∷ []))
     (reported_clock_after board (reply_message board first)) rest down
-reply_comes board clock up first rest down h6 = search (rules, clock_after_all-append, sent_comes)
+reply_comes board clock up first rest down coming = search (rules, clock_after_all-append)
 
 reply_keeps : (x : MachineState) (owed : List Reply) → x.board.owed ≡ owed → ClockIsComing x
     → ClockIsComing (after_reply x owed)
@@ -50,9 +50,7 @@ take_comes : (board : BoardState) (seen : Option ClockState) (event : EventConte
 take_comes board seen event rest (inl known) = inl known
 take_comes board seen event rest (inr (inl owed)) =
     inr (inl (effect_owes board event Reply.Clock owed))
-take_comes board seen event rest (inr (inr (inl asked))) = search (rules, clock_owed)
-take_comes board seen event rest (inr (inr (inr none))) =
-    inr (inr (inr (effect_reported board event ∙ none)))
+take_comes board seen event rest (inr (inr other)) = search (rules, clock_owed, effect_reported)
 
 take_keeps : (x : MachineState) (down : List EventContent) → x.down ≡ down → ClockIsComing x
     → ClockIsComing (after_take x down)
@@ -68,18 +66,14 @@ ask_comes : (seen reported : Option ClockState) (owed : List Reply) (down more :
     → Comes seen reported owed down → Comes seen reported owed (down ++ more)
 ask_comes seen reported owed down more (inl known) = inl known
 ask_comes seen reported owed down more (inr (inl owes)) = inr (inl owes)
-ask_comes seen reported owed down more (inr (inr (inl asked))) =
-    inr (inr (inl (Contains-append_left down more (EventContent.Read CommandContent.Clock) asked)))
-ask_comes seen reported owed down more (inr (inr (inr none))) = inr (inr (inr none))
+ask_comes seen reported owed down more (inr (inr other)) = grind (arith, common_steps)
 
 -- only the breaks end it
 clock_keeps_coming : (x : MachineState) (move : Move) → move ≢ Move.Break → ¬ (IsHostBreak move)
     → ClockIsComing x → ClockIsComing (after_move x move)
 clock_keeps_coming x (Move.Change square piece) other also coming = coming
 clock_keeps_coming x (Move.HandClock clock) other also coming = coming
-clock_keeps_coming x (Move.Ask command) other also coming =
-    ask_comes (coming_clock x) x.board.reported_clock x.board.owed x.down
-    (EventContent.Read command ∷ []) coming
+clock_keeps_coming x (Move.Ask command) other also coming = search (rules, ask_comes)
 clock_keeps_coming x Move.Take other also coming = take_keeps x x.down refl coming
 clock_keeps_coming x Move.Reply other also coming = reply_keeps x x.board.owed refl coming
 clock_keeps_coming x (Move.Report square) other also coming =
@@ -89,8 +83,7 @@ clock_keeps_coming x (Move.Report square) other also coming =
     (λ h. coming)
 clock_keeps_coming x Move.ReportClock other also coming =
     cond_both x.board.times_owed (after_reported x (clock_message x.board.clock)) x ClockIsComing
-    (λ h. sent_comes x.board x.host_clock x.up (clock_message x.board.clock) x.board.owed x.down
-    coming) (λ h. coming)
+    (search (rules, sent_comes)) (λ h. coming)
 clock_keeps_coming x Move.Hear other also coming = hear_keeps x x.up refl coming
 clock_keeps_coming x Move.Break other also coming = absurd (other refl)
 clock_keeps_coming x (Move.HostBreak noise is_noise) other also coming = absurd (also tt)
@@ -132,5 +125,4 @@ clock_is_asked x moves e =
 
 pub promised_clock : (x : MachineState) → IsSound x → IsClockPromised x → IsQuiet x
     → x.host_clock ≡ Some x.board.clock
-promised_clock x sound promised quiet =
-    search (rules, quiet_mode, reported_clock, quiet_up_to_date, nothing_contained, false≢true)
+promised_clock x sound promised quiet = search (rules, quiet_up_to_date)

@@ -1,9 +1,9 @@
 -- What a world at fault keeps, and how a host that starts over, or requests a dump, knows the board
 -- again.
-use Rattle.std.proofs.Common.{◌≡◌, ◌≢◌, ◌⊎◌, refl, sym, ap, subst, ◌∙◌, inl, inr, ℕ, List, [], ◌∷◌, ◌++◌, length, drop, replicate, map, Option, Some, false, true, Bool, append_assoc, arith}
+use Rattle.std.proofs.Common.{◌≡◌, ◌≢◌, ◌⊎◌, refl, sym, ap, ◌∙◌, inl, inr, ℕ, List, [], ◌∷◌, ◌++◌, length, drop, replicate, map, Option, Some, false, true, Bool, append_assoc, arith}
 use Rattle.std.proofs.{Common.{rules}, lemmas.{Bool.{false≢true}, Grind.{common_steps}, List.{append-nil, Elements.{filter_map-append, Contains-append_right, Contains-push_cases}}}}
-use Rattle.{std.specs.{List.{cons_option, flat_map}, Prelude.{IsTrue, Contains, filter, filter_map}}, dgt_values.specs.declared.kinds.Kind.{Kind}, dgt_message.specs.Content.{Content}}
-use Rattle.{dgt_message.specs.Encoding.{encoding}, dgt_command.specs.{Content.{CommandContent, EventContent}, Encoding.{AreBytes, command_encoding}, Laws.{EachDividesOnce}, Words.{Divides}}}
+use Rattle.{std.specs.{List.{flat_map}, Prelude.{IsTrue, Contains, filter, filter_map}}, dgt_values.specs.declared.kinds.Kind.{Kind}, dgt_message.specs.Content.{Content}}
+use Rattle.{dgt_message.specs.Encoding.{encoding}, dgt_command.specs.{Content.{CommandContent, EventContent}, Encoding.{AreBytes}, Laws.{EachDividesOnce}, Words.{Divides}}}
 use Rattle.{dgt_command.{specs.Words.{IsNoiseList, IsPartial}, proofs.DivisionLemmas.{bytes_append, bytes_left, bytes_right}}, dgt_board.specs.{Sending.{pending_messages}, State.{BoardState}}}
 use Rattle.{dgt_board.specs.{State.{after_line_lost, command_mode, effects, follows_clock}, declared.modes.Mode.{Mode}}, dgt_host.specs.Host.{follow_bytes, restart_bytes}}
 use Rattle.dgt_link.specs.{Act.{ActContent}, Clocks.{ClockIsComing}, Faults.{FaultyBecomes, FaultyContent, FaultyRuns, FaultyStep, is_break}, Healing.{AwaitsWhatComes, Counted, IsFaultyWorld}}
@@ -12,8 +12,8 @@ use Rattle.dgt_link.specs.{Machine.{MachineState, Move, after_move, after_moves,
 use Rattle.dgt_link.specs.{Readers.{Grammars}, Sound.{IsSound, IsSubsequence, IsUnknownOr, coming_kinds, kind_of_event, kind_of_reply}, Stands.{AreMovesOfStep, IsWorld, StandsFor}, Step.{Becomes}}
 use Rattle.dgt_link.{specs.{Step.{Runs, Step}, View.{IsQuietWorld, LineContents, WorldView, line_holding}, declared.acts.Outcome.{Outcome}}, proofs.AfterMoves.{moves_come, moves_sound}}
 use Rattle.dgt_link.proofs.{Asking.{requests-step}, Behind.{awaiting, step_behind}, Clocks.{clock_is_asked, step_keeps_clock}, Dividing.{anew_divides}, Lists.{nothing_contained, right_empty}}
-use Rattle.dgt_link.proofs.{Promises.{IsComing, last_mode-append, noise-modes, nothing_asked}, Quiet.{quiet_awaited}, Sending.{next_is_sent}, Soundness.{asked_sound, board_sound, move_sound}}
-use Rattle.dgt_link.proofs.{Soundness.{new_sound, noise-kinds}, Standing.{becomes_rooms, same_rooms, taken_state, takes}, Subsequences.{subsequence_at_end}, WorldsByState.{nothing_first}}
+use Rattle.dgt_link.proofs.{Promises.{IsComing, last_mode-append, nothing_asked}, Quiet.{quiet_awaited}, Sending.{next_is_sent}, Soundness.{asked_sound, board_sound, move_sound}}
+use Rattle.dgt_link.proofs.{Soundness.{noise-kinds}, Standing.{taken_state, takes}, Subsequences.{subsequence_at_end}, WorldsByState.{nothing_first}}
 
 -- ---- bytes
 
@@ -43,10 +43,6 @@ commanded_sound : (x : MachineState) (events : List EventContent) → IsSound x
 commanded_sound x events sound =
     asked_sound (state_of_board x.board) events [] (board_sound x sound) tt
 
-lost_sound : (board : BoardState) → IsSound (state_of_board board)
-    → IsSound (state_of_board (after_line_lost board))
-lost_sound board sound = new_sound board.squares board.clock board.identity sound.squares
-
 effects_sound : (board : BoardState) (events : List EventContent) → IsSound (state_of_board board)
     → IsSound (state_of_board (effects board events))
 effects_sound board events sound =
@@ -60,21 +56,13 @@ effects_sound board events sound =
 module _ (laws : Grammars) where
   becomes_sane : (act : ActContent) (world after : WorldView) → IsSane world
       → Becomes act world after → IsSane after
-  becomes_sane (ActContent.Change square piece) world after sane same =
-      rw same
-      (assumption
-      (move_sound (state_of_board world.board.state) (Move.Change square piece) sane.board))
-  becomes_sane (ActContent.ClockRead clock) world after sane same =
-      rw same
-      (assumption (move_sound (state_of_board world.board.state) (Move.HandClock clock) sane.board))
+  becomes_sane (ActContent.Change square piece) world after sane same = search rules
+  becomes_sane (ActContent.ClockRead clock) world after sane same = search rules
   becomes_sane (ActContent.Host command) world after sane (encodes, same) =
-      rw same
-      (assumption
-      (bytes_append world.down.bytes (command_encoding command) sane.down encodes.are_bytes))
+      search (rules, bytes_append)
   becomes_sane ActContent.BoardSend world after sane (message, is_next, encodes, same) =
       let x = state_of_board world.board.state in
       let by = next_is_sent x message is_next in
-      let y = after_move x by.0 in
       let sound : IsSound (state_of_board (after_move x by.0).board)
       = commanded_sound (after_move x by.0) [] (move_sound x by.0 sane.board) in
       rw same (assumption (rw by.2 at sound))
@@ -88,7 +76,7 @@ module _ (laws : Grammars) where
       })
   becomes_sane (ActContent.ToHost count) world after sane same =
       rw same (record { board = sane.board; partial = sane.partial; down = sane.down })
-  becomes_sane ActContent.Break world after sane same = search (rules, lost_sound, no_bytes)
+  becomes_sane ActContent.Break world after sane same = search rules
   becomes_sane ActContent.HostBreak world after sane same =
       rw same (record { board = sane.board; partial = sane.partial; down = bytes_restart })
 
@@ -100,7 +88,7 @@ module _ (laws : Grammars) where
       rw same (record { board = sane.board; partial = sane.partial; down = sane.down })
   faulty_sane (FaultyContent.GarbleDown bytes) world after sane (are, same) =
       rw same (record { board = sane.board; partial = sane.partial; down = are })
-  faulty_sane FaultyContent.BoardLost world after sane same = search (rules, lost_sound)
+  faulty_sane FaultyContent.BoardLost world after sane same = search rules
   faulty_sane FaultyContent.GiveUp world after sane same =
       rw same (record { board = sane.board; partial = sane.partial; down = sane.down })
   faulty_sane FaultyContent.Restart world after sane same =
@@ -138,7 +126,7 @@ follows_in_step in_turn asked world f = follows_with (λ x. Unit {0}) f tt
 
 -- nothing was requested yet
 pub in_step_follows : (world : WorldView) → IsInStep world → Follows false [] world
-in_step_follows world is = search (rules, nothing_asked, nothing_contained, false≢true)
+in_step_follows world is = search rules
 
 -- a requested reading arrives, even if it was just requested
 asked_clock : (asked : List CommandContent) (command : CommandContent) (x : MachineState)
@@ -187,42 +175,23 @@ plain_follows laws act world answer after in_turn asked other f step =
 
 -- ---- the up line is at fault
 
--- a command that sets no mode is not among those that do
-first_is_out : (other command : CommandContent) (commands : List CommandContent)
-    → sets_mode other ≡ false → sets_mode command ≡ true
-    → (Contains (filter sets_mode commands) other → ⊥)
-    → Contains (command ∷ filter sets_mode commands) other → ⊥
-first_is_out other command commands none sets later has = search (rules, false≢true)
-
 other_is_out : (other : CommandContent) → sets_mode other ≡ false → (commands : List CommandContent)
     → Contains (filter sets_mode commands) other → ⊥
 other_is_out other none [] has = nothing_contained other has
 other_is_out other none (CommandContent.Reset ∷ commands) has =
-    first_is_out other CommandContent.Reset commands none refl (other_is_out other none commands)
-    has
+    search (rules, other_is_out other none commands)
 other_is_out other none (CommandContent.Update ∷ commands) has =
-    first_is_out other CommandContent.Update commands none refl (other_is_out other none commands)
-    has
+    search (rules, other_is_out other none commands)
 other_is_out other none (CommandContent.UpdateBoard ∷ commands) has =
-    first_is_out other CommandContent.UpdateBoard commands none refl
-    (other_is_out other none commands) has
+    search (rules, other_is_out other none commands)
 other_is_out other none (CommandContent.UpdateNice ∷ commands) has =
-    first_is_out other CommandContent.UpdateNice commands none refl
-    (other_is_out other none commands) has
+    search (rules, other_is_out other none commands)
 other_is_out other none (_ ∷ commands) has = other_is_out other none commands has
 
 modes_stay : (commands : List CommandContent)
     → filter_map command_mode (filter sets_mode commands) ≡ filter_map command_mode commands
 modes_stay [] = refl
-modes_stay (CommandContent.Reset ∷ commands) =
-    ap (cons_option (Some Mode.Idle)) (modes_stay commands)
-modes_stay (CommandContent.Update ∷ commands) =
-    ap (cons_option (Some Mode.Update)) (modes_stay commands)
-modes_stay (CommandContent.UpdateBoard ∷ commands) =
-    ap (cons_option (Some Mode.UpdateBoard)) (modes_stay commands)
-modes_stay (CommandContent.UpdateNice ∷ commands) =
-    ap (cons_option (Some Mode.UpdateNice)) (modes_stay commands)
-modes_stay (_ ∷ commands) = modes_stay commands
+modes_stay (command ∷ commands) = search (rules, modes_stay commands)
 
 -- the state that knows nothing of what its board has sent
 abbrev pub forgotten : MachineState → MachineState
@@ -232,7 +201,7 @@ forgotten x = commanded_state x.board x.down
 pub forgotten_stands : (garbage : List ℕ) (world : WorldView) (up : LineContents) (x : MachineState)
     → StandsBehind garbage world x
     → StandsBehind (world.host.unread ++ up.bytes) (record world { up = up }) (forgotten x)
-forgotten_stands garbage world up x stands = search (rules, commanded_sound, append-nil)
+forgotten_stands garbage world up x stands = search rules
 
 -- garbage replaces what is under way to the host
 pub garbled_stands : (bytes : List ℕ) (world after : WorldView) (garbage : List ℕ)
@@ -282,23 +251,21 @@ given_up_follows in_turn asked world after f same = record {
 module _ (laws : Grammars) where
   pub break_follows : (world after : WorldView) → IsSane world
       → Becomes ActContent.Break world after → Follows true [] after
-  break_follows world after sane same = rw same
-      (record {
-        garbage = [];
-        state = state_of_board (after_line_lost world.board.state);
-        stands = search (rules, lost_sound);
-        comes = nothing_asked (state_of_board (after_line_lost world.board.state));
-        clock = λ has. absurd (nothing_contained CommandContent.Clock has);
-        awaits = λ turn. tt;
-      })
+  break_follows world after sane same = rw same (record {
+    garbage = [];
+    state = state_of_board (after_line_lost world.board.state);
+    stands = search rules;
+    comes = nothing_asked (state_of_board (after_line_lost world.board.state));
+    clock = λ has. absurd (nothing_contained CommandContent.Clock has);
+    awaits = λ turn. tt;
+  })
 
   -- the requests of a host that starts over, after other commands
   anew_mode : (before : Mode) (events noise : List EventContent) → IsNoiseList noise
       → last_mode before
       (filter_map event_mode (events ++ (noise ++ map EventContent.Read commands_anew)))
       ≡ Mode.UpdateBoard
-  anew_mode before events noise is_noise =
-      search (rules, filter_map-append, last_mode-append, noise-modes)
+  anew_mode before events noise is_noise = search (rules, filter_map-append, last_mode-append)
 
   anew_comes : (board : BoardState) (events noise : List EventContent) → IsNoiseList noise
       → IsComing commands_anew
@@ -327,8 +294,7 @@ module _ (laws : Grammars) where
       let all : owed ++ filter_map kind_of_event (events ++ (noise ++ anew))
       ≡ (owed ++ filter_map kind_of_event events) ++ Kind.Dump ∷ []
       = search (rules, append_assoc) in
-      subst (λ (kinds : List Kind). IsSubsequence (Kind.Dump ∷ []) kinds) (sym all)
-      (subsequence_at_end (Kind.Dump ∷ []) (owed ++ filter_map kind_of_event events))
+      search (rules, subsequence_at_end)
 
   -- the restart bytes after what leaves this rest
   anew_divides_behind : (bytes : List ℕ) (events : List EventContent) (rest : List ℕ)
@@ -349,7 +315,7 @@ module _ (laws : Grammars) where
 
   -- a host that starts over requests no reading
   no_reading_anew : Contains commands_anew CommandContent.Clock → ⊥
-  no_reading_anew has = search (rules, nothing_contained)
+  no_reading_anew has = search rules
 
   -- the host awaits only the dump, and its restart bytes follow these, and then garbage to the host
   anew_follows : (world after : WorldView) (bytes up : List ℕ) → IsSane world
@@ -360,13 +326,11 @@ module _ (laws : Grammars) where
       let divided = laws.once.0 (world.board.partial ++ bytes)
       (laws.bytes world.board.partial bytes sane.partial are) in
       let anew = anew_divides_behind (world.board.partial ++ bytes) divided.0 divided.1 divided.2 in
-      let events : List EventContent =
-      divided.0 ++ (anew.0 ++ map EventContent.Read commands_anew) in
       record {
         garbage = up;
         state = commanded_state world.board.state
             (divided.0 ++ (anew.0 ++ map EventContent.Read commands_anew));
-        stands = search (rules, commanded_sound, append-nil, append_assoc);
+        stands = search (rules, append_assoc);
         comes = anew_comes world.board.state divided.0 anew.0 anew.1;
         clock = λ has. absurd (no_reading_anew has);
         awaits = λ turn. rw awaited (anew_awaits world.board.state divided.0 anew.0 anew.1);
@@ -457,7 +421,7 @@ module _ (laws : Grammars) where
       absurd (false≢true in_step)
   follows_after c FaultyContent.GiveUp world Outcome.Done after holds step in_step =
       given_up_follows c.in_turn c.asked world after (holds.follows in_step) step.leaves
-  follows_after c FaultyContent.GiveUp world _ after holds step in_step = let a = step.answers in cc
+  follows_after c FaultyContent.GiveUp world _ after holds step in_step = cc
   follows_after c FaultyContent.Restart world Outcome.Done after holds step in_step =
       restart_follows laws world after holds.sane step.leaves
   follows_after c FaultyContent.Restart world _ after holds step in_step =
@@ -494,9 +458,7 @@ module _ (laws : Grammars) (acts : List FaultyContent) (world after : WorldView)
       run_holds laws acts world answers after (nothing_counted false) (sane_holds world sane) runs
 
   pub in_step_counted_holds : IsInStep world → Holds (counted_by true acts answers) after
-  in_step_counted_holds is =
-      run_holds laws acts world answers after (nothing_counted true) (in_step_holds world sane is)
-      runs
+  in_step_counted_holds is = search (rules, run_holds, in_step_holds)
 
 -- ---- when everything is quiet
 
@@ -507,9 +469,7 @@ nothing_said (message ∷ messages) e = cc
 pub quiet_behind : EachDividesOnce → (garbage : List ℕ) (world : WorldView) (x : MachineState)
     → StandsBehind garbage world x → IsQuietWorld world → IsQuiet x
 quiet_behind once garbage world x stands quiet =
-    let up = nothing_said x.up
-    (right_empty garbage (flat_map encoding x.up)
-    (sym (rw (quiet.unread, quiet.up) at stands.up))) in
+    let up = nothing_said x.up (search (rules, right_empty)) in
     record {
       up = up;
       down = (once.1 [] x.down [] [] [] (rw (quiet.partial, quiet.down) at stands.down)
@@ -552,14 +512,7 @@ stands_behind : (world : WorldView) (x : MachineState) → StandsFor world x →
 stands_behind world x stands = search rules
 
 pub world_in_step : (world : WorldView) → IsWorld world → IsInStep world
-world_in_step world is =
-    record {
-      garbage = [];
-      state = is.state;
-      stands =
-          stands_behind world is.state is.stands;
-      holds = tt;
-    }
+world_in_step world is = search (rules, stands_behind)
 
 pub world_in_turn : (world : WorldView) → IsWorld world → IsInTurnWorld world
 world_in_turn world is = search (rules, stands_behind)
@@ -570,7 +523,7 @@ pub empty_in_step : (world : WorldView) → IsSane world → world.down.bytes �
 empty_in_step world sane down partial = record {
   garbage = world.host.unread ++ world.up.bytes;
   state = state_of_board world.board.state;
-  stands = search (rules, append-nil);
+  stands = search rules;
   holds = tt;
 }
 
@@ -596,5 +549,4 @@ world_is_faulty world is = search (rules, world_is_sane)
 
 pub step_is_faulty : Grammars → (act : FaultyContent) (world after : WorldView) (answer : Outcome)
     → IsFaultyWorld world → FaultyStep act world answer after → IsFaultyWorld after
-step_is_faulty laws act world after answer is step =
-    search (rules, step_sane, same_rooms, becomes_rooms)
+step_is_faulty laws act world after answer is step = search (rules, step_sane)

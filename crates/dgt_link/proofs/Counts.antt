@@ -3,17 +3,17 @@ use Rattle.std.proofs.{Common.{arith, ◌≡◌, ◌⊎◌, refl, sym, List, [],
 use Rattle.{std.specs.{List.{AllByRecursion}, Prelude.{Contains, IsTrue, filter_map, unwrap_or}}, dgt_command.specs.Content.{CommandContent}, dgt_board.specs.State.{command_mode, follows_clock}}
 use Rattle.{dgt_board.specs.{State.{updates}, declared.modes.Mode.{Mode}}, dgt_link.specs.{Act.{ActContent}, Clocks.{AreClockCalm, stops_clock}, Faults.{AreCalm, AreFaultless, FaultyContent}}}
 use Rattle.dgt_link.specs.{Faults.{begins_anew, is_fault, loses_step, sends, stops}, Healing.{Counted, IsClockHealing, IsHealing, IsInTurn, counted_after, counted_after_all, counted_anew}}
-use Rattle.dgt_link.{specs.{Healing.{nothing_counted}, Promise.{IsAsked, last_mode}, declared.acts.Outcome.{Outcome}}, proofs.{Lists.{nothing_contained}, Promises.{asked-mode}}}
+use Rattle.dgt_link.{specs.{Healing.{nothing_counted}, Promise.{IsAsked, last_mode}, declared.acts.Outcome.{Outcome}}, proofs.{Promises.{asked-mode}}}
 
 -- ---- lists of commands
 
 pub one_of_two : (P : CommandContent → Type 0) (first second one : CommandContent) → P first
     → P second → Contains (first ∷ second ∷ []) one → P one
-one_of_two P first second one p q has = search (rules, nothing_contained)
+one_of_two P first second one p q has = search rules
 
 pub one_of_three : (P : CommandContent → Type 0) (first second third one : CommandContent) → P first
     → P second → P third → Contains (first ∷ second ∷ third ∷ []) one → P one
-one_of_three P first second third one p q r has = search (rules, one_of_two)
+one_of_three P first second third one p q r has = search rules
 
 -- ---- a property that these acts keep counts after all of them
 
@@ -35,8 +35,7 @@ after_any : (P : Counted → Type 0) (more : List FaultyContent) (others : List 
 after_any P more others always c [] [] same = always c
 after_any P more others always c (act ∷ acts) (answer ∷ answers) same =
     after_any P more others always (counted_after c act answer) acts answers (omega (arith, same))
-after_any P more others always c [] (answer ∷ answers) same = absurd (omega (arith, same))
-after_any P more others always c (act ∷ acts) [] same = absurd (omega (arith, same))
+after_any P more others always c acts answers same = search rules
 
 -- ---- the picture
 
@@ -46,7 +45,7 @@ anew_heals =
 
 mode_goes_on : (command : CommandContent) (mode : Mode) → stops (sends command) ≡ false
     → IsTrue (updates mode) → IsTrue (updates (unwrap_or (command_mode command) mode))
-mode_goes_on command mode calm is = search (rules, false≢true)
+mode_goes_on command mode calm is = search rules
 
 pub still_asked : (commands : List CommandContent) (command : CommandContent)
     → stops (sends command) ≡ false → IsAsked commands → IsAsked (commands ++ command ∷ [])
@@ -63,15 +62,13 @@ plain_heals : (c : Counted) (act : ActContent) (answer : Outcome)
     → IsHealing (counted_after c (FaultyContent.Plain act) answer)
 plain_heals c ActContent.HostBreak answer calm is = anew_heals
 plain_heals c ActContent.Break answer calm is = absurd (false≢true (sym calm))
-plain_heals c (ActContent.Host command) Outcome.Done calm is =
-    record { in_step = is.in_step; asked = still_asked c.asked command calm is.asked }
-plain_heals c _ Outcome.Done calm is = record { in_step = is.in_step; asked = is.asked }
+plain_heals c act Outcome.Done calm is = search (rules, still_asked)
 plain_heals c _ _ calm is = record { in_step = is.in_step; asked = is.asked }
 
 step_heals : (c : Counted) (act : FaultyContent) (answer : Outcome)
     → (is_fault act ≡ false) × (stops act ≡ false) → IsHealing c
     → IsHealing (counted_after c act answer)
-step_heals c act answer h3 is = search (rules, plain_heals, anew_heals, false≢true)
+step_heals c act answer calm is = search (rules, plain_heals)
 
 pub healing_goes_on : (c : Counted) (acts : List FaultyContent) (answers : List Outcome)
     → AreCalm acts → IsHealing c → IsHealing (counted_after_all c acts answers)
@@ -79,32 +76,32 @@ healing_goes_on = goes_on IsHealing (λ act. (is_fault act ≡ false) × (stops 
 
 anew_counts : (P : Counted → Type 0) (c : Counted) (act : FaultyContent) → begins_anew act ≡ true
     → P counted_anew → P (counted_after c act Outcome.Done)
-anew_counts P c act is p = search (rules, false≢true)
+anew_counts P c act is p = search rules
 
 -- ---- the awaited replies, and that the board reads what was sent
 
 turn_step : (c : Counted) (act : FaultyContent) (answer : Outcome) → is_fault act ≡ false
     → IsInTurn c → IsInTurn (counted_after c act answer)
-turn_step c act answer none is = search (rules, false≢true)
+turn_step c act answer none is = search rules
 
 -- the host starts over, or both sides lose the line
 turn_begins : (c : Counted) (act : FaultyContent)
     → (begins_anew act ≡ true) ⊎ (act ≡ FaultyContent.Plain ActContent.Break)
     → IsInTurn (counted_after c act Outcome.Done)
-turn_begins c act h2 = search (rules, anew_counts)
+turn_begins c act begins = search rules
 
 abbrev InStep : Counted → Type 0
 InStep c = IsTrue c.in_step
 
 stays_in_step : (c : Counted) (act : FaultyContent) (answer : Outcome) → loses_step act ≡ false
     → InStep c → InStep (counted_after c act answer)
-stays_in_step c act answer none is = search (rules, false≢true)
+stays_in_step c act answer none is = search rules
 
 -- ---- the clock
 
 clock_mode_goes_on : (command : CommandContent) (mode : Mode) → stops_clock (sends command) ≡ false
     → IsTrue (follows_clock mode) → IsTrue (follows_clock (unwrap_or (command_mode command) mode))
-clock_mode_goes_on command mode calm is = search (rules, false≢true)
+clock_mode_goes_on command mode calm is = search rules
 
 clock_step : (c : Counted) (act : FaultyContent) (answer : Outcome)
     → (is_fault act ≡ false) × (stops_clock act ≡ false) → IsClockHealing c
@@ -117,18 +114,7 @@ clock_step c (FaultyContent.Plain (ActContent.Host command)) Outcome.Done (none,
       mode = rw (← asked-mode c.asked command Mode.Idle mode refl)
           (clock_mode_goes_on command mode calm is.mode);
     }
-clock_step c (FaultyContent.Plain ActContent.Break) answer (none, calm) is =
-    absurd (false≢true (sym calm))
-clock_step c (FaultyContent.Plain ActContent.HostBreak) answer (none, calm) is =
-    absurd (false≢true (sym calm))
-clock_step c (FaultyContent.Plain _) Outcome.Done (none, calm) is =
-    record { in_step = is.in_step; asked = is.asked; mode = is.mode }
-clock_step c (FaultyContent.Plain _) _ (none, calm) is =
-    record { in_step = is.in_step; asked = is.asked; mode = is.mode }
-clock_step c FaultyContent.GiveUp answer (none, calm) is =
-    record { in_step = is.in_step; asked = is.asked; mode = is.mode }
-clock_step c FaultyContent.Restart answer (none, calm) is = absurd (false≢true (sym calm))
-clock_step c _ answer (none, calm) is = absurd (false≢true (sym none))
+clock_step c act answer (none, calm) is = search rules
 
 clock_goes_on : (c : Counted) (acts : List FaultyContent) (answers : List Outcome)
     → AreClockCalm acts → IsClockHealing c → IsClockHealing (counted_after_all c acts answers)
@@ -144,7 +130,7 @@ with_clock c mode =
 anew_clock : (mode : CommandContent)
     → Contains (CommandContent.Update ∷ CommandContent.UpdateNice ∷ []) mode
     → IsClockHealing (with_clock counted_anew mode)
-anew_clock mode = search (rules, one_of_two)
+anew_clock mode = search rules
 
 -- ---- after any acts
 
@@ -155,8 +141,7 @@ module _ (acts later : List FaultyContent) (act : FaultyContent) (answers others
       (counted_after_all (nothing_counted false) (acts ++ act ∷ later)
       (answers ++ Outcome.Done ∷ others))
   anew_is_healing begins calm = after_any IsHealing (act ∷ later) (Outcome.Done ∷ others)
-      (search (rules, healing_goes_on, anew_counts, anew_heals)) (nothing_counted false) acts
-      answers same
+      (search (rules, healing_goes_on, anew_heals)) (nothing_counted false) acts answers same
 
   -- ---- the awaited replies, and that the board reads what was sent
 

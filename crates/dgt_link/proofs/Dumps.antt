@@ -1,11 +1,10 @@
 -- After faults: once the board has sent a dump, what the host shows was reported, in this order.
-use Rattle.std.proofs.{Common.{◌≡◌, refl, sym, ap, subst, ◌∙◌, inr, ℕ, List, [], ◌∷◌, ◌++◌, Some, append_assoc, false, rules}, lemmas.{List.{append-nil}, Option.{same_Some}}}
-use Rattle.{std.specs.{List.{AllByRecursion, flat_map}, Prelude.{IsSome}}, dgt_values.specs.declared.pieces.Piece.{Piece}, dgt_message.specs.{Content.{Content}, Encoding.{encoding}}}
-use Rattle.{dgt_board.specs.{Sending.{next_message}, State.{BoardState}}, dgt_link.specs.{Act.{ActContent}, Faults.{is_break}, Healing.{IsInStep, StandsBehind, StandsWith}, History.{IsInOrderOf}}}
-use Rattle.dgt_link.specs.{History.{RunsThrough, shown, shown_in, stood_in}, Machine.{MachineState, Move, after_moves}, Readers.{Grammars}, Sound.{coming_picture}, Stands.{AreMovesOfStep}}
-use Rattle.dgt_link.{specs.{Step.{Runs, Step}, View.{WorldView}, declared.acts.Outcome.{Outcome}}, proofs.{ActRuns.{run_keeps}, Behind.{ActsBehind, Sends, after_sent, sent_behind}}}
-use Rattle.dgt_link.proofs.{Counting.{forgotten, forgotten_stands, nothing_said}, History.{Goes, along, goes_all, later_shown, now, sends, step_goes}, Hopes.{led}, KnownPictures.{comes_by_all}}
-use Rattle.dgt_link.proofs.{KnownPictures.{known_behind, seen_by_all, step_is_plain}, Lists.{not_empty, right_empty}}
+use Rattle.std.{proofs.{Common.{◌≡◌, refl, sym, ap, subst, ◌∙◌, ℕ, List, [], ◌∷◌, ◌++◌, Some, append_assoc, false, rules}, lemmas.{List.{append-nil}, Option.{same_Some}}}, specs.List.{AllByRecursion}}
+use Rattle.{std.specs.Prelude.{IsSome}, dgt_values.specs.declared.pieces.Piece.{Piece}, dgt_message.specs.Content.{Content}, dgt_board.specs.{Sending.{next_message}, State.{BoardState}}}
+use Rattle.dgt_link.specs.{Act.{ActContent}, Faults.{is_break}, Healing.{IsInStep, StandsBehind, StandsWith}, History.{IsInOrderOf, RunsThrough, shown, shown_in, stood_in}, Machine.{MachineState}}
+use Rattle.dgt_link.specs.{Machine.{Move, after_moves}, Readers.{Grammars}, Sound.{coming_picture}, Stands.{AreMovesOfStep}, Step.{Runs, Step}, View.{WorldView}, declared.acts.Outcome.{Outcome}}
+use Rattle.dgt_link.proofs.{ActRuns.{run_keeps}, Behind.{ActsBehind, Sends, after_sent, sent_behind}, Counting.{forgotten, forgotten_stands, nothing_said}, History.{Goes, along, goes_all}}
+use Rattle.dgt_link.proofs.{History.{later_shown, now, step_goes}, Hopes.{led}, KnownPictures.{comes_by_all, known_behind, seen_by_all, step_is_plain}, Lists.{not_empty, right_empty}}
 
 -- no act is a break
 abbrev Unbroken : List ActContent → Type 0
@@ -26,13 +25,11 @@ step_comes act answer x moves other are =
 -- nothing is under way to the host
 nothing_comes : (garbage : List ℕ) (world : WorldView) (x : MachineState)
     → StandsBehind garbage world x → world.host.unread ≡ [] → world.up.bytes ≡ [] → x.up ≡ []
-nothing_comes garbage world x stands unread up =
-    nothing_said x.up
-    (right_empty garbage (flat_map encoding x.up) (sym (rw (unread, up) at stands.up)))
+nothing_comes garbage world x stands unread up = search (rules, nothing_said, right_empty)
 
 all_heard : (world : WorldView) → StandsWith PictureComes world → world.host.unread ≡ []
     → world.up.bytes ≡ [] → world.host.picture ≡ Some world.board.state.reported_squares
-all_heard world is unread up = search (rules, nothing_comes, known_behind)
+all_heard world is unread up = search (rules, nothing_comes)
 
 first_is : (acts : List ActContent) (world : WorldView) (answers : List Outcome) (first : WorldView)
     (later : List WorldView) → RunsThrough acts world answers (first ∷ later) → first ≡ world
@@ -63,14 +60,7 @@ module _ (behind : ActsBehind) where
         reached.0 between (after_moves x reached.1) answers later all.1 reached.3
         (seen_by_all x reached.1 (step_is_plain act answer reached.1 all.0 reached.2) some)
         (step_goes square seen before x act answer reached.1 reached.2 goes) runs in
-        rw (
-          is,
-          (known_behind garbage world x stands some).0,
-          stands.board,
-          ← append_assoc seen (shown square x.picture) (shown_in square later),
-          ← append_assoc before (now square x ∷ []) (stood_in square later),
-        )
-        rest
+        search (rules, append_assoc)
     known_goes seen before _ garbage world x _ worlds all stands some goes never = absurd never
 
     -- a picture is to come, and is known once nothing is under way
@@ -89,14 +79,12 @@ module _ (behind : ActsBehind) where
         known_goes [] before acts garbage world x answers (first ∷ later) all stands
         (rw silent at comes) goes runs
     comes_goes before [] garbage world x [] (other ∷ earlier) first later all stands comes goes only
-        unread up =
-        absurd (not_empty earlier first later cc)
+        unread up = absurd (not_empty earlier first later cc)
     comes_goes before (act ∷ acts) garbage world x (answer ∷ answers) (other ∷ earlier) first later
         all stands comes
         goes (between, others, step, runs, is) unread up =
         let reached = behind act garbage world answer between x all.0 stands step in
         let y : MachineState = after_moves x reached.1 in
-        let here : other ≡ world = cc in
         let rest_is : others ≡ earlier ++ first ∷ later = cc in
         let rest = comes_goes (before ++ now square x ∷ []) acts reached.0 between
         (after_moves x reached.1) answers
@@ -106,15 +94,9 @@ module _ (behind : ActsBehind) where
         ((before ++ now square x ∷ []) ++ now square y ∷ [])
         (step_goes square [] before x act answer reached.1 reached.2 goes)) (rw rest_is at runs)
         unread up in
-        rw (
-          here,
-          stands.board,
-          ← append_assoc before (now square x ∷ []) (stood_in square (earlier ++ first ∷ later)),
-        )
-        rest
+        search (rules, append_assoc)
     comes_goes before _ garbage world x _ (other ∷ earlier) first later all stands comes goes never
-        unread up =
-        absurd never
+        unread up = absurd never
 
   module _ (laws : Grammars) (world : WorldView) (is : IsInStep world)
       (dump : next_message world.board.state ≡ Some (dump_of world)) where
@@ -159,5 +141,4 @@ module _ (behind : ActsBehind) where
         rw is.stands.board
         (comes_goes square (now square start ∷ []) acts (world.host.unread ++ world.up.bytes)
         between started answers earlier first later all (sent_stands between step) refl
-        (sends square [] [] start started (Content.dump is.state.board.squares)
-        (λ picture. inr refl) refl refl tt) (rw rest_is at runs) unread up)
+        (search rules) (rw rest_is at runs) unread up)

@@ -1,6 +1,6 @@
 -- The derived `==` of acts.
 use Rattle.{std.proofs.Common.{ℕ, refl, rules}, dgt_values.specs.Equality.{EqualIsSameRead, EqualIsSameReadOf}, dgt_message.specs.Content.{clock_seen}, dgt_command.specs.Content.{command_content}}
-use Rattle.{dgt_command.{specs.Equality.{CommandHasArrays}, proofs.Equal.{differ, equal_bytes}}, dgt_link.specs.{Act.{ActContent, ActHasArrays, act_content}, Faults.{FaultyActHasArrays}}}
+use Rattle.{dgt_command.{specs.Equality.{CommandHasArrays}, proofs.Equal.{differ}}, dgt_link.specs.{Act.{ActContent, ActHasArrays, act_content}, Faults.{FaultyActHasArrays}}}
 use Rattle.dgt_link.specs.Faults.{FaultyContent, faulty_content}
 use Rattle.dgt_message.specs.contracts.clock.ClockPartialEq.TheImpl as derived_clock
 use Rattle.dgt_command.specs.contracts.command.CommandPartialEq.TheImpl as derived_command
@@ -50,8 +50,8 @@ module _ (equal : EqualIsSameReadOf ActHasArrays act_content (derived.eq-value).
   pub equal_faulty_acts : EqualIsSameReadOf FaultyActHasArrays faulty_content
       (derived_faulty.eq-value).it
   equal_faulty_acts (faulty.Plain a) (faulty.Plain b) h k = search rules
-  equal_faulty_acts (faulty.GarbleUp a) (faulty.GarbleUp b) h k = search (rules, equal_bytes)
-  equal_faulty_acts (faulty.GarbleDown a) (faulty.GarbleDown b) h k = search (rules, equal_bytes)
+  equal_faulty_acts (faulty.GarbleUp a) (faulty.GarbleUp b) h k = search rules
+  equal_faulty_acts (faulty.GarbleDown a) (faulty.GarbleDown b) h k = search rules
   equal_faulty_acts faulty.BoardLost faulty.BoardLost h k = (λ _. refl, λ _. refl)
   equal_faulty_acts faulty.Restart faulty.Restart h k = (λ _. refl, λ _. refl)
   equal_faulty_acts faulty.GiveUp faulty.GiveUp h k = (λ _. refl, λ _. refl)

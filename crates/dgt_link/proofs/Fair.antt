@@ -1,12 +1,11 @@
 -- Whatever the schedule, a world comes to rest if each side moves again and again.
 use Rattle.std.proofs.Common.{arith, ◌≡◌, refl, sym, ap, subst, ◌∙◌, ◌⊎◌, inl, inr, ℕ, ◌+◌, ◌<◌, ◌≤◌, zero, suc, List, [], ◌∷◌, ◌++◌, Some, None, Bool, true, cond, length, if◌then◌else◌, rules}
-use Rattle.std.{proofs.lemmas.{Bool.{eqb-true, ltb-true}, List.{length-append, length-map}, Option.{same_Some}}, specs.{List.{AllByRecursion}, Prelude.{Contains, slice_get, map}}}
-use Rattle.{dgt_message.specs.{Clock.{ClockState}, Content.{Content, clock_message}, Encoding.{encoding}}, dgt_command.specs.{Content.{EventContent}, Laws.{NoWordBeginsAPart, WordsAreShort}}}
-use Rattle.dgt_board.specs.{Sending.{clock_news, field_of, next_message, reply_message, unreported_squares}, State.{BoardState, IsShortClock, IsShortIdentity, effect, effects}}
-use Rattle.{dgt_board.specs.declared.replies.Reply.{Reply}, dgt_link.specs.{Act.{ActContent}, Healing.{IsRestedWorld}, Settling.{HasRounds, IsRound, IsSettling, steps_left}, Stands.{IsWorld}}}
-use Rattle.dgt_link.{specs.{Step.{Runs, Step, done_count, moves_nothing, outcome, Becomes}, View.{LineContents, WorldView}, declared.acts.Outcome.{Outcome}}, proofs.Backlogs.{BacklogFalls}}
-use Rattle.dgt_link.proofs.{Backlogs.{BacklogRises}, Lists.{Contains-cons, all_append, nothing_contained}, Settling.{by_settling, count_first, no_bytes, run_steps}, Taking.{HasSameGame}}
-use Rattle.dgt_link.proofs.Taking.{effects_same_game}
+use Rattle.{std.{proofs.lemmas.List.{length-append, length-map}, specs.{List.{AllByRecursion}, Prelude.{Contains, slice_get, map}}}, dgt_message.specs.{Clock.{ClockState}, Content.{Content}}}
+use Rattle.{dgt_message.specs.{Content.{clock_message}, Encoding.{encoding}}, dgt_command.specs.{Content.{EventContent}, Laws.{NoWordBeginsAPart, WordsAreShort}}, dgt_board.specs.Sending.{clock_news}}
+use Rattle.dgt_board.specs.{Sending.{field_of, next_message, reply_message, unreported_squares}, State.{BoardState, IsShortClock, IsShortIdentity, effect, effects}, declared.replies.Reply.{Reply}}
+use Rattle.dgt_link.specs.{Act.{ActContent}, Healing.{IsRestedWorld}, Settling.{HasRounds, IsRound, IsSettling, steps_left}, Stands.{IsWorld}, Step.{Runs, Step, done_count, moves_nothing, outcome}}
+use Rattle.dgt_link.{specs.{Step.{Becomes}, View.{LineContents, WorldView}, declared.acts.Outcome.{Outcome}}, proofs.{Backlogs.{BacklogFalls, BacklogRises}, Lists.{Contains-cons, all_append}}}
+use Rattle.dgt_link.proofs.{Lists.{nothing_contained}, Settling.{count_first, no_bytes, run_steps}, Taking.{HasSameGame, effects_same_game}}
 
 -- each message that the board sends fits into the empty up line, whatever it owes and has reported
 abbrev SendsFit : WorldView → Type 0
@@ -16,9 +15,6 @@ SendsFit world =
     → next_message board ≡ Some message → length (encoding message) ≤ world.up.capacity
 
 -- ---- no message is longer than a dump
-
-field_is_short : (board : BoardState) (square : ℕ) → length (encoding (field_of board square)) ≤ 67
-field_is_short board square = omega arith
 
 clock_is_short : (clock : ClockState) → IsShortClock clock
     → length (encoding (clock_message clock)) ≤ 67
@@ -30,13 +26,13 @@ module _ (board : BoardState) (squares : length board.squares ≡ 64)
   news_is_short : (owed : Bool) (message : Content)
       → slice_get (if owed then clock_message board.clock ∷ [] else []) 0 ≡ Some message
       → length (encoding message) ≤ 67
-  news_is_short owed message e = search (rules, same_Some, clock_is_short)
+  news_is_short owed message e = search (rules, clock_is_short)
 
   fields_are_short : (fields : List ℕ) (message : Content)
       → slice_get (map (field_of board) fields ++ clock_news board) 0 ≡ Some message
       → length (encoding message) ≤ 67
   fields_are_short [] message e = news_is_short board.times_owed message e
-  fields_are_short (square ∷ fields) message e = search (rules, same_Some, field_is_short)
+  fields_are_short (square ∷ fields) message e = search rules
 
   all_are_short : (owed : List Reply) (message : Content)
       → slice_get
@@ -44,7 +40,7 @@ module _ (board : BoardState) (squares : length board.squares ≡ 64)
       ++ (map (field_of board) (unreported_squares board) ++ clock_news board)) 0 ≡ Some message
       → length (encoding message) ≤ 67
   all_are_short [] message e = fields_are_short (unreported_squares board) message e
-  all_are_short (reply ∷ owed) message e = search (rules, same_Some, length-map, clock_is_short)
+  all_are_short (reply ∷ owed) message e = search (rules, length-map, clock_is_short)
 
 -- ---- runs in two parts
 
@@ -76,7 +72,7 @@ run_split (act ∷ first) later world after [] none = absurd none
 count_both : (ones others : List Outcome)
     → done_count (ones ++ others) ≡ done_count ones + done_count others
 count_both [] others = omega arith
-count_both (one ∷ ones) others = search (rules, count_first, count_both ones others)
+count_both (one ∷ ones) others = search (rules, count_both ones others)
 
 -- ---- acts of which none is done
 
@@ -115,9 +111,7 @@ none_can act (first ∷ acts) world after (answer ∷ answers) found (between, s
         → (first ≡ act) ⊎ Contains acts act → done_count (outcome act world ∷ []) ≡ 0
     go rest (inl e) = ap (λ (other : ActContent). done_count (outcome other world ∷ [])) (sym e)
         ∙ ap (λ (one : Outcome). done_count (one ∷ [])) (sym step.answers) ∙ here
-    go rest (inr later) =
-        subst (λ (w : WorldView). done_count (outcome act w ∷ []) ≡ 0) same
-        (rest later (omega (arith, none, both)))
+    go rest (inr later) = search rules
 none_can act _ world after _ found never none = absurd never
 
 -- ---- a world in which no side can move
@@ -128,12 +122,12 @@ nothing_if nothing h = search rules
 
 line_empty : (count : ℕ) (line : LineContents) → 0 < count → moves_nothing count line ≡ true
     → line.bytes ≡ []
-line_empty count line some none = search (rules, eqb-true, no_bytes)
+line_empty count line some none = search (rules, no_bytes)
 
 none_sent : (world : WorldView) → SendsFit world → world.up.bytes ≡ []
     → done_count (outcome ActContent.BoardSend world ∷ []) ≡ 0
     → next_message world.board.state ≡ None
-none_sent world fits empty h = search (rules, ltb-true)
+none_sent world fits empty h = search rules
 
 none_taken : (count : ℕ) (world : WorldView) → 0 < count → world.board.state.owed ≡ []
     → done_count (outcome (ActContent.ToBoard count) world ∷ []) ≡ 0 → world.down.bytes ≡ []
@@ -156,8 +150,7 @@ rests_on : (acts : List ActContent) (world after : WorldView) (answers : List Ou
     → after ≡ world
 rests_on [] world after [] all rested same = same
 rests_on (act ∷ acts) world after (answer ∷ answers) all rested (between, step, runs) =
-    let same : between ≡ world
-    = search (rules, same_if_none, by_settling) in
+    let same : between ≡ world = search rules in
     rests_on acts between after answers all.1 (rw same rested) runs ∙ same
 rests_on _ world after _ all rested never = absurd never
 
@@ -177,34 +170,18 @@ effects_identity board (event ∷ events) = effects_identity board events
 
 becomes_fit : (act : ActContent) (world after : WorldView) → IsSettling act
     → Becomes act world after → KeepsFit world after
-becomes_fit ActContent.BoardSend world after is (message, is_next, encodes, same) =
-    rw same (record { squares = refl; clock = refl }, refl, refl)
-becomes_fit (ActContent.ToBoard count) world after is delivers =
-    rw (delivers.leaves, delivers.taken.state) (
-      effects_same_game world.board.state delivers.taken.events,
-      effects_identity world.board.state delivers.taken.events,
-      refl,
-    )
-becomes_fit (ActContent.ToHost count) world after is same =
-    rw same (record { squares = refl; clock = refl }, refl, refl)
-becomes_fit _ world after none same = absurd none
+becomes_fit act world after is becomes = search (rules, effects_same_game, effects_identity)
 
 step_fit : (act : ActContent) (world after : WorldView) (answer : Outcome) → IsSettling act
     → Step act world answer after → KeepsFit world after
-step_fit act world after Outcome.Done is step = becomes_fit act world after is step.leaves
-step_fit act world after _ is step =
-    rw step.leaves (record { squares = refl; clock = refl }, refl, refl)
+step_fit act world after answer is step = search (rules, becomes_fit)
 
 run_fit : (acts : List ActContent) (world after : WorldView) (answers : List Outcome)
     → AllByRecursion IsSettling acts → Runs acts world answers after → KeepsFit world after
 run_fit [] world after [] all same = rw same (record { squares = refl; clock = refl }, refl, refl)
 run_fit (act ∷ acts) world after (answer ∷ answers) all (between, step, runs) =
     let first = step_fit act world between answer all.0 step in
-    let rest = run_fit acts between after answers all.1 runs in (
-      record { squares = rest.0.squares ∙ first.0.squares; clock = rest.0.clock ∙ first.0.clock },
-      rest.1 ∙ first.1,
-      rest.2 ∙ first.2,
-    )
+    let rest = run_fit acts between after answers all.1 runs in search rules
 run_fit _ world after _ all never = absurd never
 
 still_fits : (world after : WorldView) → KeepsFit world after → SendsFit world → SendsFit after
@@ -240,15 +217,12 @@ module _ (none_owed : (board : BoardState) → next_message board ≡ None → b
           (run_fit round world parts.between parts.ones is.settling parts.runs) fits
 
       go : (rounds ≤ done_count parts.others) ⊎ IsRestedWorld after → (done : ℕ)
-          → done_count parts.ones ≡ done
-          → (suc rounds ≤ done_count answers) ⊎ IsRestedWorld after
+          → done_count parts.ones ≡ done → (suc rounds ≤ done_count answers) ⊎ IsRestedWorld after
       go rest zero e =
           let rested = stuck none_owed round world parts.between parts.ones fits is parts.runs e in
           let same : parts.between ≡ world =
           none_done round world parts.between parts.ones parts.runs e in
-          let last : after ≡ parts.between
-          = rests_on later parts.between after parts.others (rounds_settle rounds later more)
-          (rw same rested) parts.more in
+          let last : after ≡ parts.between = search (rules, rests_on, rounds_settle) in
           inr (rw (last, same) rested)
       go (inl enough) (suc done) e = inl (omega (arith, enough, counted, e))
       go (inr rested) (suc done) e = inr rested

@@ -1,10 +1,10 @@
 -- Acts that were all done: their effect on the board, and their requests.
-use Rattle.std.proofs.{Common.{◌≡◌, ◌≢◌, subst, ◌⊎◌, inl, inr, refl, sym, ap, ◌∙◌, ◌≤◌, List, [], ◌∷◌, ◌++◌, length, map, true, arith, false, rules}, lemmas.Bool.{false≢true}}
-use Rattle.std.{proofs.lemmas.List.Elements.{Contains-push_cases, filter_map-append, Contains-append_left, Contains-push}, specs.Prelude.{◌↔◌, Contains, IsTrue, filter_map}}
-use Rattle.dgt_link.{proofs.{Lists.{nothing_contained}, Promises.{last_mode-append}, Taking.{effects_same_game}}, specs.{Act.{act_content}, Faults.{AreCalm, FaultyContent, sends, stops}}}
-use Rattle.dgt_link.specs.{Headline.{AskForPicture, Asking, asking_after, asking_with, nothing_asked, squares_after}, Promise.{IsAskedBy, commands_after, last_mode, run_requests}, Step.{Becomes}}
-use Rattle.{dgt_link.specs.{Step.{Runs, done_count}, View.{WorldView}, declared.acts.{Act.{Act}, Outcome.{Outcome}}}, dgt_values.specs.declared.pieces.Piece.{Piece}}
-use Rattle.{dgt_command.specs.{Content.{CommandContent, command_content}, declared.command.Command.{Command}}, dgt_board.specs.{State.{command_mode, updates}, declared.modes.Mode.{Mode}}}
+use Rattle.std.proofs.{lemmas.{Grind.{common_steps}, Bool.{false≢true}}, Common.{◌≡◌, ◌≢◌, ◌⊎◌, refl, sym, ◌∙◌, ◌≤◌, List, [], ◌∷◌, ◌++◌, length, map, true, arith, false, rules}}
+use Rattle.{std.{proofs.lemmas.List.Elements.{filter_map-append, Contains-append_left, Contains-push}, specs.Prelude.{◌↔◌, Contains, IsTrue, filter_map}}, dgt_link.proofs.Lists.{nothing_contained}}
+use Rattle.dgt_link.{proofs.{Promises.{last_mode-append}, Taking.{effects_same_game}}, specs.{Act.{act_content}, Faults.{AreCalm, FaultyContent, sends, stops}, Headline.{AskForPicture, Asking}}}
+use Rattle.dgt_link.specs.{Headline.{asking_after, asking_with, nothing_asked, squares_after}, Promise.{IsAskedBy, commands_after, last_mode, run_requests}, Step.{Becomes, Runs, done_count}}
+use Rattle.{dgt_link.specs.{View.{WorldView}, declared.acts.{Act.{Act}, Outcome.{Outcome}}}, dgt_values.specs.declared.pieces.Piece.{Piece}, dgt_command.specs.Content.{CommandContent}}
+use Rattle.{dgt_command.specs.{Content.{command_content}, declared.command.Command.{Command}}, dgt_board.specs.{State.{command_mode, updates}, declared.modes.Mode.{Mode}}}
 use Rattle.dgt_command.specs.declared.command.Command.TheVariants as command
 use Rattle.dgt_link.specs.declared.acts.Act.TheVariants as act
 
@@ -44,12 +44,7 @@ pub ran_all : (acts : List Act) (world after : WorldView) (answers : List Outcom
 ran_all [] world after [] same count = rw same (record { all = refl; squares = refl })
 ran_all (one ∷ acts) world after (Outcome.Done ∷ answers) (between, step, runs) count =
     let rest = ran_all acts between after answers runs (omega (arith, count)) in
-    let first = one_act one world between step.leaves in
-    record {
-      all = ap (λ (others : List Outcome). Outcome.Done ∷ others) rest.all;
-      squares = rest.squares ∙ ap (λ (squares : List Piece). squares_after squares acts) first
-          ∙ one_more world.board.state.squares one acts;
-    }
+    search (rules, one_act)
 ran_all (one ∷ acts) world after (_ ∷ answers) (between, step, runs) count =
     absurd (omega (arith, few_done acts between after answers runs, count))
 ran_all _ world after _ none count = absurd none
@@ -122,13 +117,7 @@ asked_if_done acts ask =
 
 earlier_dump : (commands : List CommandContent) (said : CommandContent) → said ≢ CommandContent.Dump
     → Contains (commands ++ said ∷ []) CommandContent.Dump → Contains commands CommandContent.Dump
-earlier_dump commands said other has =
-    go (Contains-push_cases commands said CommandContent.Dump has)
-  where
-    go : Contains commands CommandContent.Dump ⊎ (said ≡ CommandContent.Dump)
-        → Contains commands CommandContent.Dump
-    go (inl before) = before
-    go (inr same) = absurd (other same)
+earlier_dump commands said other has = grind (arith, common_steps)
 
 dump_back : (commands : List CommandContent) (asking : Asking) (one : Command)
     → (Contains commands CommandContent.Dump → IsTrue asking.dump)
@@ -183,17 +172,9 @@ asked_back acts asked = (
   sym (acts_more [] nothing_asked acts none_asked_for).mode ∙ asked.mode,
 )
 
-all_done-map : (acts : List Act) → all_done acts ≡ map (λ one. Outcome.Done) acts
-all_done-map [] = refl
-all_done-map (one ∷ acts) =
-    ap (λ (others : List Outcome). Outcome.Done ∷ others) (all_done-map acts)
-
 pub asking_is_asked : (acts : List Act)
     → AskForPicture acts ↔ IsAskedBy (map act_content acts) (map (λ one. Outcome.Done) acts)
-asking_is_asked acts =
-    subst
-    (λ (answers : List Outcome). AskForPicture acts ↔ IsAskedBy (map act_content acts) answers)
-    (all_done-map acts) (asked_if_done acts, asked_back acts)
+asking_is_asked acts = search (rules, asked_if_done, asked_back)
 
 -- ---- acts that request the picture, and calm ones after them
 
@@ -205,7 +186,7 @@ AsksForBoth asking = IsTrue asking.dump × IsTrue asking.updates
 
 both_with : (asking : Asking) (one : Command) → stops (sends (command_content one)) ≡ false
     → AsksForBoth asking → AsksForBoth (asking_with asking one)
-both_with asking one calm both = search (rules, false≢true)
+both_with asking one calm both = search rules
 
 still_both : (asking : Asking) (acts : List Act) → AreCalm (map plain_of acts) → AsksForBoth asking
     → AsksForBoth (asking_after asking acts)

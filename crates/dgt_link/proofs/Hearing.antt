@@ -1,5 +1,5 @@
 -- What a host hears of consecutive messages, in whatever parts.
-use Rattle.{std.{proofs.Common.{◌≡◌, refl, sym, ap, ◌∙◌, ◌⊎◌, inl, inr, ℕ, ◌+◌, List, [], ◌∷◌, ◌++◌, length, rules}, specs.{List.{flat_map}, Prelude.{map}}}, dgt_message.specs.Content.{Content}}
+use Rattle.{std.{proofs.Common.{◌≡◌, refl, sym, ap, ◌⊎◌, inl, inr, ℕ, ◌+◌, List, [], ◌∷◌, ◌++◌, length, rules}, specs.{List.{flat_map}, Prelude.{map}}}, dgt_message.specs.Content.{Content}}
 use Rattle.{dgt_message.specs.{Content.{IsMessage}, Encoding.{encoding}}, dgt_decode.specs.Grammar.{Event, Message, Placed, at_place, events, shifted, unfinished_message}}
 use Rattle.{dgt_decode.proofs.Division.{nil_raised}, dgt_host.specs.Host.{HostView, host_after_events, host_after_message}, dgt_link.specs.{Readers.{Reads}, Stands.{AreEncoded}}}
 use Rattle.dgt_link.proofs.Lists.{IsShorter, Reaches, prefixes, left_empty, not_empty, right_empty}
@@ -18,9 +18,6 @@ abbrev pub host_after_messages : HostView → List Content → HostView
 host_after_messages host [] = host
 host_after_messages host (message ∷ messages) =
     host_after_messages (host_after_message host message) messages
-
-tail_same : {X : Type 0} (x y : X) (xs ys : List X) → x ∷ xs ≡ y ∷ ys → xs ≡ ys
-tail_same x y xs ys h = cc
 
 -- the events, at whatever places
 abbrev pub known : List Placed → List Event
@@ -52,7 +49,7 @@ module _ (reads : Reads) where
   -- after bytes with an event, the rest of a message completes none
   nothing_more : (prefix rest : List ℕ) (x y : Placed) (xs : List Placed) → events prefix ≡ x ∷ xs
       → events (prefix ++ rest) ≡ y ∷ [] → events (unfinished_message prefix ++ rest) ≡ []
-  nothing_more prefix rest x y xs e whole = search (rules, nil_raised, right_empty, tail_same)
+  nothing_more prefix rest x y xs e whole = search (rules, nil_raised, right_empty)
 
   -- a part of a message completes no event, and all of it is held
   prefix_waits : (word prefix more : List ℕ) (next : ℕ) (y : Placed) → events word ≡ y ∷ []
@@ -63,13 +60,7 @@ module _ (reads : Reads) where
       go : (es : List Placed) → events prefix ≡ es
           → (events prefix ≡ []) × (unfinished_message prefix ≡ prefix)
       go [] f = (f, reads.quiet_held prefix f)
-      go (x ∷ xs) f =
-          let rest : List ℕ = next ∷ more in
-          let none = nothing_more prefix rest x y xs f (rw e at read) in
-          let all : unfinished_message prefix ++ next ∷ more ≡ []
-          = sym (reads.quiet_held (unfinished_message prefix ++ rest) none)
-          ∙ sym (reads.unfinished_append prefix rest) ∙ rw e at held in
-          absurd (not_empty (unfinished_message prefix) next more all)
+      go (x ∷ xs) f = search (rules, nothing_more, not_empty)
 
   -- the messages in a prefix of messages in a row, and the rest of them
   pub record IsPrefix (prefix more : List ℕ) (messages : List Content) : Type 0 where
@@ -88,8 +79,7 @@ module _ (reads : Reads) where
 
   pub heard_prefix : (prefix more : List ℕ) (messages : List Content)
       → AreEncoded messages (prefix ++ more) → IsPrefix prefix more messages
-  heard_prefix prefix more [] encoded =
-      search (rules, left_empty, no_events, right_empty, nothing_unfinished)
+  heard_prefix prefix more [] encoded = search (rules, left_empty, no_events, right_empty)
   heard_prefix prefix more (message ∷ messages) encoded =
       go (λ others f. heard_prefix others more messages
       (record { are_messages = encoded.are_messages.1; in_a_row = sym f }))

@@ -1,10 +1,10 @@
 -- The pieces that a host shows on a square were there, and it never returns to an earlier one.
-use Rattle.std.proofs.Common.{◌≡◌, refl, sym, ap, subst, ◌∙◌, ◌⊎◌, inl, inr, ℕ, zero, suc, List, [], ◌∷◌, ◌++◌, Bool, Option, Some, None, append_assoc, replicate, if◌then◌else◌, rules}
-use Rattle.{std.{proofs.lemmas.List.{append-nil}, specs.Prelude.{slice_set}}, dgt_values.specs.declared.pieces.Piece.{Piece}, dgt_message.specs.{Clock.{ClockState}, Content.{Content, clock_message}}}
+use Rattle.std.proofs.Common.{◌≡◌, refl, sym, subst, ◌∙◌, ◌⊎◌, inl, inr, ℕ, zero, suc, List, [], ◌∷◌, ◌++◌, Bool, Option, Some, None, append_assoc, replicate, if◌then◌else◌, rules}
+use Rattle.{std.{proofs.lemmas.List.{append-nil}, specs.Prelude.{slice_set}}, dgt_values.specs.declared.pieces.Piece.{Piece}, dgt_message.specs.{Content.{Content}}}
 use Rattle.{dgt_message.specs.Picture.{picture_after, picture_after_all}, dgt_command.specs.Content.{EventContent}, dgt_board.specs.{Sending.{field_of, piece_on}, State.{BoardState}}}
 use Rattle.{dgt_board.specs.declared.replies.Reply.{Reply}, dgt_link.specs.{Act.{ActContent}, History.{IsInOrderOf, RunsThrough, shown, shown_in, shown_on, stood_in, stood_on}}}
 use Rattle.dgt_link.specs.{Machine.{MachineState, Move, after_hear, after_move, after_moves, after_reply, after_reported, after_take}, Stands.{AreMovesOfAct, AreMovesOfStep, IsWorld, StandsAfterStep}}
-use Rattle.dgt_link.{specs.{Stands.{StandsFor}, Step.{Step}, View.{WorldView}, declared.acts.Outcome.{Outcome}}, proofs.{Counting.{nothing_said}, Taking.{effect_leaves}}}
+use Rattle.dgt_link.{specs.{Stands.{StandsFor}, Step.{Step}, View.{WorldView}, declared.acts.Outcome.{Outcome}}, proofs.{Counting.{nothing_said}}}
 
 -- ---- lists in order
 
@@ -100,7 +100,7 @@ module _ (square : ℕ) where
       let rest = ends (picture_after picture message) up in
       record {
         before = shown square picture ++ rest.before;
-        is = search (rules, append_assoc);
+        is = search rules;
       }
 
   along_more : (picture : Option (List Piece)) (up : List Content) (message : Content)
@@ -130,17 +130,12 @@ module _ (square : ℕ) where
       → (piece_on (slice_set pieces other piece) at ≡ piece_on pieces at)
       ⊎ ((other ≡ at) × (piece_on (slice_set pieces other piece) at ≡ piece))
   set_at [] other at piece = inl refl
-  set_at (first ∷ pieces) zero zero piece = inr (refl, refl)
-  set_at (first ∷ pieces) zero (suc at) piece = inl refl
+  set_at (first ∷ pieces) zero at piece = search rules
   set_at (first ∷ pieces) (suc other) zero piece = inl refl
   set_at (first ∷ pieces) (suc other) (suc at) piece = search (rules, set_at pieces other)
 
   field_shows : (board : BoardState) (other : ℕ) → ShowsNow board (field_of board other)
-  field_shows board other None = inl refl
-  field_shows board other (Some pieces) = search (rules, set_at)
-
-  clock_shows : (board : BoardState) (clock : ClockState) → ShowsNow board (clock_message clock)
-  clock_shows board clock = search rules
+  field_shows board other picture = search (rules, set_at)
 
   -- ---- moves
 
@@ -165,7 +160,7 @@ module _ (square : ℕ) where
       → Goes seen before x → GoesOn seen before x y
   lost seen before x y picture up goes =
       let b = begins x.picture x.up in
-      search (rules, append_assoc, append-nil, more_stood, fewer_shown)
+      search (rules, append_assoc, more_stood, fewer_shown)
 
   -- one more message is under way
   one_more : (seen before : List Piece) (x : MachineState) (message : Content)
@@ -188,17 +183,14 @@ module _ (square : ℕ) where
       same (Some pieces) e =
           let end = ends x.picture x.up in
           let v : Piece = piece_on pieces square in
-          let is : along x.picture x.up ≡ end.before ++ v ∷ []
-          = end.is ∙ ap (λ (picture : Option (List Piece)). end.before ++ shown square picture)
-          (sym e) in
+          let is : along x.picture x.up ≡ end.before ++ v ∷ [] = search rules in
           rw (
             is,
             append_assoc seen (end.before ++ v ∷ []) (v ∷ []),
             append_assoc end.before (v ∷ []) (v ∷ []),
             ← append_assoc seen end.before (v ∷ v ∷ []),
           )
-          (shown_again (seen ++ end.before) [] (before ++ now x ∷ []) v
-          (rw (append_assoc seen end.before (v ∷ [])) (rw is at goes)))
+          (search (rules, shown_again, append_assoc))
 
       go : (shown square (picture_after last message) ≡ shown square last)
           ⊎ (shown square (picture_after last message) ≡ now x ∷ [])
@@ -220,7 +212,7 @@ module _ (square : ℕ) where
 
   replies : (seen before : List Piece) (x : MachineState) (owed : List Reply) → Goes seen before x
       → GoesOn seen before x (after_reply x owed)
-  replies seen before x owed goes = search (rules, still, sends, clock_shows)
+  replies seen before x owed goes = search (rules, still, sends)
 
   takes : (seen before : List Piece) (x : MachineState) (down : List EventContent)
       → Goes seen before x → GoesOn seen before x (after_take x down)
@@ -241,9 +233,7 @@ module _ (square : ℕ) where
   goes_on seen before x Move.Take goes = takes seen before x x.down goes
   goes_on seen before x Move.Reply goes = replies seen before x x.board.owed goes
   goes_on seen before x (Move.Report other) goes = search (rules, sends_if, field_shows)
-  goes_on seen before x Move.ReportClock goes =
-      sends_if seen before x x.board.times_owed (clock_message x.board.clock)
-      (clock_shows x.board x.board.clock) goes
+  goes_on seen before x Move.ReportClock goes = search (rules, sends_if)
   goes_on seen before x Move.Hear goes = hears seen before x x.up refl goes
   goes_on seen before x Move.Break goes =
       lost seen before x (after_move x Move.Break) refl refl goes
@@ -255,8 +245,7 @@ module _ (square : ℕ) where
       → IsInOrderOf (seen ++ shown_on square x moves) (before ++ stood_on square x moves)
   goes_all seen before x [] goes =
       let b = begins x.picture x.up in
-      fewer_shown (seen ++ shown square x.picture) b.rest (before ++ now x ∷ [])
-      (rw (append_assoc seen (shown square x.picture) b.rest) (rw b.is at goes))
+      search (rules, fewer_shown, append_assoc)
   goes_all seen before x (move ∷ moves) goes = rw (
     ← append_assoc seen (shown square x.picture) (shown_on square (after_move x move) moves),
     ← append_assoc before (now x ∷ []) (stood_on square (after_move x move) moves),
@@ -312,7 +301,7 @@ module _ (square : ℕ) where
   act_goes seen before x ActContent.BoardSend moves (move, is, are) goes =
       rw are (goes_on seen before x move goes)
   act_goes seen before x (ActContent.ToBoard _) moves (count, are) goes =
-      search (rules, again_and_again, still, effect_leaves)
+      search (rules, again_and_again, still)
   act_goes seen before x (ActContent.ToHost _) moves (count, are) goes =
       search (rules, again_and_again, still)
   act_goes seen before x ActContent.Break moves are goes =
@@ -340,14 +329,7 @@ module _ (square : ℕ) where
         let rest = run_goes (seen ++ shown square x.picture) (before ++ now x ∷ []) acts between
         (after_moves x reached.0) answers later reached.2
         (step_goes seen before x act answer reached.0 reached.1 goes) runs in
-        rw (
-          all,
-          stands.picture,
-          stands.board,
-          ← append_assoc seen (shown square x.picture) (shown_in square later),
-          ← append_assoc before (now x ∷ []) (stood_in square later),
-        )
-        rest
+        search (rules, append_assoc)
     run_goes seen before _ world x _ worlds stands goes never = absurd never
 
     pub worlds_in_order : (acts : List ActContent) (world : WorldView) (answers : List Outcome)

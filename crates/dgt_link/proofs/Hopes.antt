@@ -3,7 +3,7 @@ use Rattle.std.{proofs.{Common.{◌≡◌, refl, sym, ◌∙◌, ℕ, List, [], 
 use Rattle.{dgt_command.specs.Content.{CommandContent}, dgt_board.specs.{State.{command_mode}, declared.modes.Mode.{Mode}}, dgt_link.specs.{Act.{ActContent}, Faults.{FaultyBecomes, FaultyContent}}}
 use Rattle.dgt_link.specs.{Faults.{FaultyStep, begins_anew, is_break, sends}, Healing.{IsInStep, StandsWith}, Machine.{MachineState, Move, after_moves}, Promise.{IsPromisedBy, act_requests}}
 use Rattle.dgt_link.specs.{Promise.{coming_mode, mode_after}, Settling.{IsSettling, SettlesIn}, Stands.{AreMovesOfStep}, Step.{Step}, View.{WorldView}, declared.acts.Outcome.{Outcome}}
-use Rattle.dgt_link.proofs.{ActRuns.{run_keeps}, Asking.{mode-step}, Behind.{ActsBehind}, Counting.{forgotten, garbled_stands, given_up_stands, plain_step}, Settling.{by_settling}}
+use Rattle.dgt_link.proofs.{ActRuns.{run_keeps}, Asking.{mode-step}, Behind.{ActsBehind}, Counting.{forgotten, garbled_stands, plain_step}, Settling.{by_settling}}
 
 -- the mode to come asks for changes
 abbrev pub Follows : (Mode → Bool) → MachineState → Type 0
@@ -49,7 +49,7 @@ garbled Q keeps bytes world after is same = record {
 -- the host gives up what it awaits
 pub given_up : (Q : MachineState → Type 0) (world after : WorldView) (answer : Outcome)
     → StandsWith Q world → FaultyStep FaultyContent.GiveUp world answer after → StandsWith Q after
-given_up Q world after answer is step = search (rules, given_up_stands)
+given_up Q world after answer is step = search rules
 
 module _ (asks : Mode → Bool) (ends : FaultyContent → Bool) (Comes : MachineState → Type 0)
     (hope : Hope asks ends Comes) where
@@ -158,7 +158,7 @@ module _ (behind : ActsBehind) (asks : Mode → Bool) (ends : FaultyContent → 
         absurd (false≢true (sym going ∙ hope.breaks))
     plain_kept ActContent.HostBreak world after Outcome.Done going given is step =
         anew (FaultyContent.Plain ActContent.HostBreak) world after refl going given step
-    plain_kept ActContent.HostBreak world after _ going given is step = let a = step.answers in cc
+    plain_kept ActContent.HostBreak world after _ going given is step = cc
     plain_kept act world after answer going given is step =
         others act world answer after refl going is (plain_step act world answer after step)
 
@@ -167,9 +167,7 @@ module _ (behind : ActsBehind) (asks : Mode → Bool) (ends : FaultyContent → 
         → FaultyStep act world answer after → StandsWith Q after
     kept (FaultyContent.Plain act) world after answer none going given is step =
         plain_kept act world after answer going given is step
-    kept (FaultyContent.GarbleUp bytes) world after Outcome.Done none going given is step =
-        up bytes world after none is step.leaves
-    kept (FaultyContent.GarbleUp bytes) world after _ none going given is step = rw step.leaves is
+    kept (FaultyContent.GarbleUp bytes) world after answer none going given is step = search rules
     kept (FaultyContent.GarbleDown bytes) world after answer none going given is step =
         absurd (false≢true (sym none ∙ down bytes))
     kept FaultyContent.BoardLost world after answer none going given is step =
@@ -186,7 +184,5 @@ module _ (behind : ActsBehind) (asks : Mode → Bool) (ends : FaultyContent → 
       → StandsWith (IsPromisedBy Comes asks) old → StandsWith (IsPromisedBy Comes asks) new
   settled_promised count old new settled is =
       run_keeps Step IsSettling (StandsWith (IsPromisedBy Comes asks))
-      (λ act world after answer settling is step.
-      other_promised act world answer after (settling_is_plain act settling)
-      (hope.settling act settling) is step)
+      (search (rules, other_promised, settling_is_plain))
       settled.acts old new (replicate count Outcome.Done) settled.settling is settled.run

@@ -1,12 +1,11 @@
 -- A known picture is what the board had reported when it sent the last message that was heard.
-use Rattle.std.proofs.Common.{◌≡◌, ◌≢◌, refl, sym, ap, subst, ◌∙◌, ◌⊎◌, inl, inr, rules, ℕ, List, [], ◌∷◌, ◌++◌, Bool, false, Option, Some, append_assoc, if◌then◌else◌}
-use Rattle.{std.{proofs.lemmas.{Bool.{false≢true}, List.{append-nil}}, specs.{List.{AllByRecursion}, Prelude.{IsSome}}}, dgt_values.specs.declared.pieces.Piece.{Piece}}
-use Rattle.{dgt_message.specs.{Content.{Content}, Picture.{picture_after, picture_after_all}}, dgt_board.specs.declared.replies.Reply.{Reply}, dgt_link.specs.{Act.{ActContent}, Faults.{is_break}}}
-use Rattle.dgt_link.specs.{Healing.{IsInStep, StandsBehind}, Machine.{IsHostBreak, IsSending, MachineState, Move, after_hear, after_move, after_moves, after_reply, after_reported}}
-use Rattle.dgt_link.specs.{Reported.{IsReportedBy, ReportedBefore, WasReported, first_reply, sent_by, sent_by_all}, Sound.{IsSound, IsUnknownOr, coming_picture}, Stands.{AreMovesOfRun}}
-use Rattle.dgt_link.{specs.{Stands.{AreMovesOfStep}, Step.{Runs}, View.{WorldView}, declared.acts.Outcome.{Outcome}}, proofs.{AfterMoves.{moves_sound}, Asking.{step_is_other}, Behind.{ActsBehind}}}
-use Rattle.dgt_link.proofs.{Clocks.{no_break, step_is_no_break}, Counting.{forgotten, forgotten_stands}, History.{in_order}, Lists.{all_append, left_empty, right_empty}}
-use Rattle.dgt_link.proofs.{Promises.{picture_after_known, picture_stays_known}, Standing.{moves-append}}
+use Rattle.std.proofs.{Common.{◌≡◌, ◌≢◌, refl, sym, ap, subst, ◌∙◌, ◌⊎◌, inl, inr, rules, ℕ, List, [], ◌∷◌, ◌++◌, false, Option, Some, append_assoc}, lemmas.List.{append-nil}}
+use Rattle.{std.specs.{List.{AllByRecursion}, Prelude.{IsSome}}, dgt_values.specs.declared.pieces.Piece.{Piece}, dgt_message.specs.{Content.{Content}, Picture.{picture_after, picture_after_all}}}
+use Rattle.{dgt_board.specs.declared.replies.Reply.{Reply}, dgt_link.specs.{Act.{ActContent}, Faults.{is_break}, Healing.{IsInStep, StandsBehind}, Machine.{IsHostBreak, IsSending, MachineState}}}
+use Rattle.dgt_link.specs.{Machine.{Move, after_hear, after_move, after_moves, after_reply}, Reported.{IsReportedBy, ReportedBefore, WasReported, first_reply, sent_by, sent_by_all}, Sound.{IsSound}}
+use Rattle.dgt_link.specs.{Sound.{IsUnknownOr, coming_picture}, Stands.{AreMovesOfRun, AreMovesOfStep}, Step.{Runs}, View.{WorldView}, declared.acts.Outcome.{Outcome}}
+use Rattle.dgt_link.proofs.{AfterMoves.{moves_sound}, Asking.{step_is_other}, Behind.{ActsBehind}, Clocks.{step_is_no_break}, Counting.{forgotten, forgotten_stands}, History.{in_order}}
+use Rattle.dgt_link.proofs.{Lists.{all_append, right_empty}, Promises.{picture_after_known, picture_stays_known}, Standing.{moves-append}}
 
 -- ---- lists
 
@@ -16,7 +15,6 @@ last_of : {X : Type 0} (prefix back xs : List X) (x : X) → xs ++ x ∷ [] ≡ 
 last_of [] back xs x e = inr (xs, sym e, refl)
 last_of (first ∷ prefix) back [] x e = search (rules, right_empty)
 last_of (first ∷ prefix) back (y ∷ xs) x e =
-    let same : y ≡ first = cc in
     let more : xs ++ x ∷ [] ≡ prefix ++ back = cc in
     search (rules, last_of prefix back xs x more)
 
@@ -30,16 +28,10 @@ record Sends (x : MachineState) (move : Move) : Type 0 where
   pub up : (after_move x move).up ≡ x.up ++ sent_by x move
   pub picture : (after_move x move).picture ≡ x.picture
 
-reported_if : (x : MachineState) (asked : Bool) (message : Content)
-    → ((if asked then after_reported x message else x).up
-    ≡ x.up ++ (if asked then message ∷ [] else []))
-    × ((if asked then after_reported x message else x).picture ≡ x.picture)
-reported_if x asked message = search (rules, append-nil)
-
 reply_sends : (x : MachineState) (owed : List Reply)
     → ((after_reply x owed).up ≡ x.up ++ first_reply x.board owed)
     × ((after_reply x owed).picture ≡ x.picture)
-reply_sends x owed = search (rules, append-nil)
+reply_sends x owed = search rules
 
 take_sends : (x : MachineState)
     → ((after_move x Move.Take).up ≡ x.up) × ((after_move x Move.Take).picture ≡ x.picture)
@@ -55,15 +47,15 @@ move_sends x Move.Take plain other =
     record { up = (take_sends x).0 ∙ sym (append-nil x.up); picture = (take_sends x).1 }
 move_sends x Move.Reply plain other =
     record { up = (reply_sends x x.board.owed).0; picture = (reply_sends x x.board.owed).1 }
-move_sends x (Move.Report square) plain other = search (rules, reported_if)
-move_sends x Move.ReportClock plain other = search (rules, reported_if)
+move_sends x (Move.Report square) plain other = search rules
+move_sends x Move.ReportClock plain other = search rules
 move_sends x Move.Hear plain other = absurd (other refl)
 move_sends x Move.Break plain other = absurd (plain.0 refl)
 move_sends x (Move.HostBreak noise is_noise) plain other = absurd (plain.1 tt)
 
 one_sends : (x : MachineState) (move : Move) → IsSending move
     → (after_move x move).up ≡ x.up ++ sent_by x move
-one_sends x move sends = search (rules, move_sends)
+one_sends x move sends = search rules
 
 pub sending_sends : (x : MachineState) (moves : List Move) → AllByRecursion IsSending moves
     → (after_moves x moves).up ≡ x.up ++ sent_by_all x moves
@@ -90,8 +82,7 @@ reported_at_once x report = go report.earlier report.later report.split report.s
 
 seen_stays : (x : MachineState) (move : Move) → IsPlain move → IsSome x.picture
     → IsSome (after_move x move).picture
-seen_stays x move plain some =
-    search (rules, take_sends, reply_sends, reported_if, picture_after_known)
+seen_stays x move plain some = search rules
 
 pub seen_by_all : (x : MachineState) (moves : List Move) → AllByRecursion IsPlain moves
     → IsSome x.picture → IsSome (after_moves x moves).picture
@@ -181,9 +172,7 @@ module _ (x : MachineState) (sound : IsSound x) (moves : List Move) (each : Sinc
           none (ap (λ (picture : Option (List Piece)). picture_after_all picture prefix) same))
       go (inr (message, is)) = elim (last_of prefix back (after_moves x moves).up message
           (ap (λ (sent : List Content). (after_moves x moves).up ++ sent) (sym is) ∙ under_way)) [
-            | inl none ↦ rw none
-                (since_now x (moves ++ move ∷ []) prefix sound
-                (up ∙ ap (λ (rest : List Content). prefix ++ rest) none ∙ append-nil prefix))
+            | inl none ↦ search (rules, since_now)
             | inr (rest, ends, before) ↦ rw ends
                 (since_later x moves move prefix rest prefix (message ∷ [])
                 (each prefix rest before) is
@@ -204,9 +193,7 @@ module _ (x : MachineState) (sound : IsSound x) (moves : List Move) (each : Sinc
           let still : after_moves x (moves ++ Move.Hear ∷ []) ≡ after_moves x moves
           = led ∙ ap (λ (said : List Content). after_hear (after_moves x moves) said) none in
           subst (λ (rest : List Content). Since x (moves ++ Move.Hear ∷ []) prefix rest)
-          (append-nil back) (since_later x moves Move.Hear prefix back prefix []
-          (each prefix back (ap (λ (z : MachineState). z.up) (sym still) ∙ up)) refl
-          (ap (λ (z : MachineState). picture_after_all z.picture prefix) still))
+          (append-nil back) (search (rules, since_later))
       go (message ∷ rest) is =
           let heard : after_moves x (moves ++ Move.Hear ∷ [])
           ≡ after_hear (after_moves x moves) (message ∷ rest)
@@ -239,7 +226,7 @@ moves_since x past (move ∷ more) sound all each =
 
 -- nothing is under way at first
 nothing_since : (x : MachineState) → IsSound x → x.up ≡ [] → SinceEach x []
-nothing_since x sound none prefix back up = search (rules, left_empty, right_empty, since_now)
+nothing_since x sound none prefix back up = search (rules, right_empty)
 
 pub was_reported : (x : MachineState) (moves : List Move) → IsSound x → x.up ≡ []
     → AllByRecursion IsPlain moves → WasReported x moves
@@ -255,8 +242,7 @@ both_all P Q (x ∷ xs) p q = ((p.0, q.0), both_all P Q xs p.1 q.1)
 
 pub step_is_plain : (act : ActContent) (answer : Outcome) (moves : List Move) → is_break act ≡ false
     → AreMovesOfStep act answer moves → AllByRecursion IsPlain moves
-step_is_plain act answer moves other are =
-    search (rules, both_all, step_is_no_break, no_break, step_is_other)
+step_is_plain act answer moves other are = search (rules, both_all, step_is_no_break, step_is_other)
 
 -- acts in a row, after garbage
 record Reached (acts : List ActContent) (answers : List Outcome) (x : MachineState)
@@ -272,15 +258,13 @@ module _ (behind : ActsBehind) where
       (answers : List Outcome) (x : MachineState)
       → AllByRecursion (λ act. is_break act ≡ false) acts → StandsBehind garbage world x
       → Runs acts world answers after → Reached acts answers x after
-  run_behind [] garbage world after [] x all stands same =
-      record {
-        garbage = garbage;
-        moves = [];
-        are_moves = refl;
-        plain = tt;
-        stands =
-            rw same stands;
-      }
+  run_behind [] garbage world after [] x all stands same = record {
+    garbage = garbage;
+    moves = [];
+    are_moves = refl;
+    plain = tt;
+    stands = rw same stands;
+  }
   run_behind (act ∷ acts) garbage world after (answer ∷ answers) x all stands
       (between, step, runs) =
       let first = behind act garbage world answer between x all.0 stands step in
@@ -290,8 +274,7 @@ module _ (behind : ActsBehind) where
         garbage = rest.garbage;
         moves = first.1 ++ rest.moves;
         are_moves = (first.1, rest.moves, first.2, rest.are_moves, refl);
-        plain = all_append IsPlain first.1 rest.moves
-            (step_is_plain act answer first.1 all.0 first.2) rest.plain;
+        plain = search (rules, all_append, step_is_plain);
         stands = rw (moves-append x first.1 rest.moves) rest.stands;
       }
   run_behind _ garbage world after _ x all stands none = absurd none
@@ -303,13 +286,13 @@ module _ (behind : ActsBehind) where
       let stands = forgotten_stands is.garbage world world.up is.state is.stands in
       let reached = run_behind acts (world.host.unread ++ world.up.bytes) world after answers
       (forgotten is.state) all stands runs in
-      search (rules, forgotten, was_reported, in_order)
+      search (rules, was_reported, in_order)
 
 -- ---- facts of the state
 
 both_known : (known seen : Option (List Piece)) → IsSome known → IsUnknownOr known seen
     → seen ≡ known
-both_known known seen some h3 = search (rules, false≢true)
+both_known known seen some either = search rules
 
 still_known : (picture : Option (List Piece)) (up : List Content) → IsSome picture
     → IsSome (picture_after_all picture up)

@@ -1,7 +1,7 @@
 -- The bytes moved out of a line, some at a time.
 use Rattle.std.proofs.Common.{◌≡◌, refl, sym, subst, ap, ◌∙◌, ◌⊎◌, inl, inr, ℕ, ◌+◌, ◌-◌, ◌<◌, ◌≤◌, List, [], ◌∷◌, ◌++◌, Option, Some, None, length, take, drop, get_or, suc, false, IsTrue, IfSome}
-use Rattle.std.proofs.{Common.{IfNone, arith, drop-cons, append_assoc, rules}, Math.Seq.{take-add, take-append_seam}, lemmas.{Bool.{le-ltb, lt-leb}, List.{drop-drop, length-drop, length-take}}}
-use Rattle.{std.{proofs.lemmas.{List.{length-take-le, take-take, take-append-drop, take_all}, Bool.Decides.{leb_tells}}, specs.Prelude.{nat_le}}, dgt_message.specs.Content.{Content}}
+use Rattle.std.proofs.{Common.{IfNone, arith, drop-cons, append_assoc, rules}, Math.Seq.{take-add, take-append_seam}, lemmas.{List.{drop-drop, length-drop, length-take}}}
+use Rattle.{std.{proofs.lemmas.{List.{length-take-le, take-take, take-append-drop, take_all}, Bool.Decides.{leb_tells}}}, dgt_message.specs.Content.{Content}}
 use Rattle.{dgt_message.specs.Encoding.{Encodes, encoding}, dgt_command.specs.{Content.{EventContent}, Words.{IsPartial, IsWord}}, dgt_board.specs.{Sending.{after_sending}, View.{Polls, BoardView}}}
 use Rattle.{dgt_board.specs.{View.{HasTaken, after_bytes}, declared.sending.Polled.{Polled}}, dgt_host.specs.Host.{HostView, host_after, HeardInChunks}, dgt_link.specs.Step.{Delivers}}
 use Rattle.dgt_link.specs.{Step.{StaysUnfinished, is_full, sending_outcome}, View.{LineContents, WorldView, with_bytes, without_first}, declared.acts.Outcome.{Outcome}}
@@ -27,7 +27,7 @@ pub polled_is_sent : (count room : ℕ) (next : Option Content) (before after : 
     × (after ≡ record before { state = after_sending before.state message })
     × (left ≡ with_bytes line (encoding message)))
 polled_is_sent count room next before after line left old new more none short rest e =
-    search (rules, le-ltb, append_assoc, take-append_seam)
+    search (rules, append_assoc, take-append_seam)
 
 -- ---- the board takes
 
@@ -36,9 +36,6 @@ abbrev TakingsAppend : Type 0
 TakingsAppend =
     (before between after : BoardView) (bytes more : List ℕ) → HasTaken before bytes between
     → HasTaken between more after → HasTaken before (bytes ++ more) after
-
-not_full : (n : ℕ) → n < 8 → nat_le 8 n ≡ false
-not_full n h = lt-leb 8 n h
 
 -- bytes after others, cut before one of them
 cut_bytes : (before bytes : List ℕ) (n : ℕ) → n < length bytes
@@ -76,8 +73,7 @@ stays : (board : BoardView) (bytes : List ℕ) → length board.state.owed < 8
 stays board bytes room part = (
   after_bytes board bytes None,
   record { events = []; divided = (refl, part); state = refl },
-  not_full
-      (length board.state.owed) room,
+  search rules,
 )
 
 -- bytes of which only the last may complete a frame
@@ -119,18 +115,12 @@ pub record IsTaking (before : BoardView) (line : LineContents) (moved : ℕ) (no
   pub left_is : left ≡ without_first line moved
   pub earlier : StaysUnfinished before line.bytes moved
 
-some_taken : (before now : BoardView) (bytes : List ℕ) (moved : ℕ) → 0 < moved
-    → HasTakenAny before bytes moved now → HasTaken before (take moved bytes) now
-some_taken before now bytes moved some h5 = search rules
-
 taken_more : TakingsAppend → (before now new : BoardView) (bytes : List ℕ) (moved n : ℕ)
     → HasTakenAny before bytes moved now → HasTaken now (take n (drop moved bytes)) new
     → HasTaken before (take (moved + n) bytes) new
 taken_more append before now new bytes moved n (inl (none, same)) next =
     rw (take-add moved n bytes, none) (rw (none, same) at next)
-taken_more append before now new bytes moved n (inr taken) next =
-    rw (take-add moved n bytes)
-    (append before now new (take moved bytes) (take n (drop moved bytes)) taken.1 next)
+taken_more append before now new bytes moved n (inr taken) next = search (rules, take-add)
 
 -- fewer than this many before, this many, or more
 data Fewer (fewer moved n : ℕ) : Type 0 where
@@ -157,17 +147,11 @@ pub taking_more : TakingsAppend
 taking_more append board now new line left after moved n taking more within room next calm e =
     let rest : left.bytes ≡ drop moved line.bytes =
     ap (λ (l : LineContents). l.bytes) taking.left_is in
-    let next' : HasTaken now (take n (drop moved line.bytes)) new
-    = subst (λ (l : List ℕ). HasTaken now (take n l) new) rest next in
     let calm' : StaysUnfinished now (drop moved line.bytes) n =
     subst (λ (l : List ℕ). StaysUnfinished now l n) rest calm in
     record {
       within = within;
-      taken =
-          inr (
-            omega (arith, more),
-            taken_more append board now new line.bytes moved n taking.taken next',
-          );
+      taken = search (rules, taken_more);
       left_is = left_on line left after moved n taking.left_is e;
       earlier = λ fewer some less. earlier_than fewer some (fewer_than fewer moved n less) calm';
     }
@@ -177,18 +161,9 @@ taking_more append board now new line left after moved n taking more within room
         → (between : BoardView) × HasTaken board (take fewer line.bytes) between
         × (is_full between.state ≡ false)
     earlier_than fewer some (sooner less) calm = taking.earlier fewer some less
-    earlier_than fewer some (just same) calm = (
-      now,
-      rw same (some_taken board now line.bytes moved (rw same at some) taking.taken),
-      not_full
-          (length now.state.owed) room,
-    )
-    earlier_than fewer some (later k positive less is) calm = let found = calm k positive less in (
-      found.0,
-      subst (λ (m : ℕ). HasTaken board (take m line.bytes) found.0) (sym is)
-          (taken_more append board now found.0 line.bytes moved k taking.taken found.1),
-      found.2,
-    )
+    earlier_than fewer some (just same) calm = search rules
+    earlier_than fewer some (later k positive less is) calm =
+        let found = calm k positive less in search (rules, taken_more)
 
 -- the rest of the line
 pub left_length : (before now : BoardView) (line left : LineContents) (moved : ℕ)
@@ -207,8 +182,7 @@ pub taking_ends : (world : WorldView) (count moved : ℕ) (before now : BoardVie
     → ((moved ≡ count) ⊎ ((moved ≡ length line.bytes) ⊎ IsTrue (is_full now.state)))
     → Delivers count (record world { board = before; down = line })
     (record world { board = now; down = left })
-taking_ends world count moved before now line left taking some most ended =
-    search (rules, some_taken)
+taking_ends world count moved before now line left taking some most ended = search rules
 
 -- ---- the host hears
 

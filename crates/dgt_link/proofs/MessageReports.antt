@@ -1,9 +1,8 @@
 -- What a message from the board reports of its squares and of its clock.
-use Rattle.std.proofs.{Common.{◌≡◌, refl, ◌⊎◌, ℕ, List, [], ◌∷◌, ◌++◌, Option, Some, None, length, rules}, lemmas.{Bool.{and_parts, eqb-true, false≢true}, List.{length-set}}}
-use Rattle.{std.{proofs.lemmas.Slice.Eq.{bytes_eq-Decides}, specs.Prelude.{IsTrue, not}}, dgt_values.specs.declared.pieces.Piece.{Piece}, dgt_message.specs.Clock.{ClockState}}
-use Rattle.{dgt_message.specs.{Content.{Content, clock_message, answered_kind}, Picture.{clock_after, clock_after_all, picture_after, picture_after_all}}, dgt_board.specs.Sending.{field_of}}
+use Rattle.{std.{proofs.Common.{◌≡◌, refl, ◌⊎◌, ℕ, List, [], ◌∷◌, ◌++◌, Option, Some, None, length, rules}, specs.Prelude.{IsTrue}}, dgt_values.specs.declared.pieces.Piece.{Piece}}
+use Rattle.{dgt_message.specs.{Clock.{ClockState}, Content.{Content, clock_message}, Picture.{clock_after, clock_after_all, picture_after, picture_after_all}}, dgt_board.specs.Sending.{field_of}}
 use Rattle.dgt_board.specs.{Sending.{reply_message, reported_squares_after, reported_clock_after, times_owed_after}, State.{BoardState, is_reported, owed_when_handed, follows_clock}}
-use Rattle.{dgt_board.specs.declared.{modes.Mode.{Mode}, replies.Reply.{Reply}}, dgt_link.specs.Sound.{IsUnknownOr, kind_of_reply}}
+use Rattle.{dgt_board.specs.declared.{modes.Mode.{Mode}, replies.Reply.{Reply}}, dgt_link.specs.Sound.{IsUnknownOr}}
 
 pub picture_after_all-append : (picture : Option (List Piece)) (up : List Content)
     (message : Content)
@@ -24,15 +23,10 @@ absent : (raw raw' : List ℕ) (status status' : ℕ) → raw ≡ raw' → statu
     (record { raw = raw'; status = status' })
 absent raw raw' status status' e f = rw (e, f)
 
-pub owed_or_reported : (reported : Option ClockState) (clock : ClockState)
-    → IsTrue (not (is_reported reported clock)) ⊎ (reported ≡ Some clock)
-owed_or_reported reported clock =
-    search (rules, and_parts, eqb-true, absent, bytes_eq-Decides, false≢true)
-
 pub handed_or_reported : (mode : Mode) (reported : Option ClockState) (clock : ClockState)
     → IsTrue (follows_clock mode)
     → IsTrue (owed_when_handed mode (is_reported reported clock)) ⊎ (reported ≡ Some clock)
-handed_or_reported mode reported clock h = search (rules, false≢true, owed_or_reported)
+handed_or_reported mode reported clock h = search rules
 
 -- what the board counts as reported after a message is what the host then knows
 pub record ReportedIsHeard (board : BoardState) (message : Content) : Type 0 where
@@ -50,7 +44,7 @@ pub record ReportedIsHeard (board : BoardState) (message : Content) : Type 0 whe
 
 pub field_reports : (board : BoardState) (square : ℕ)
     → ReportedIsHeard board (field_of board square)
-field_reports board square = search (rules, length-set)
+field_reports board square = search rules
 
 pub clock_reports : (board : BoardState) → ReportedIsHeard board (clock_message board.clock)
 clock_reports board = search rules
@@ -65,15 +59,7 @@ pub record IsPlain (board : BoardState) (message : Content) : Type 0 where
 
 pub reply_reports : (board : BoardState) (reply : Reply)
     → ReportedIsHeard board (reply_message board reply)
-reply_reports board reply = search (rules, clock_reports)
-
--- the message of an owed reply is of its kind, and therefore the clock's message has none
-pub clock_message-kind : (clock : ClockState) → answered_kind (clock_message clock) ≡ None
-clock_message-kind clock = search rules
-
-pub reply_message-kind : (board : BoardState) (reply : Reply)
-    → answered_kind (reply_message board reply) ≡ kind_of_reply reply
-reply_message-kind board reply = search (rules, clock_message-kind)
+reply_reports board reply = search rules
 
 pub picture_reported : (board : BoardState) (message : Content) → ReportedIsHeard board message
     → (picture : Option (List Piece)) (up : List Content)
@@ -87,10 +73,3 @@ pub clock_reported_of : (board : BoardState) (message : Content) → ReportedIsH
     → IsUnknownOr (clock_after_all clock up) board.reported_clock
     → IsUnknownOr (clock_after_all clock (up ++ message ∷ [])) (reported_clock_after board message)
 clock_reported_of board message reports clock up h = search (rules, clock_after_all-append)
-
--- the clock that is followed is reported, or owed
-pub followed_after : (board : BoardState) (message : Content) → ReportedIsHeard board message
-    → IsTrue board.times_owed ⊎ (board.reported_clock ≡ Some board.clock)
-    → IsTrue (times_owed_after board message)
-    ⊎ (reported_clock_after board message ≡ Some board.clock)
-followed_after board message reports before = search rules

@@ -1,11 +1,11 @@
 -- An act has one outcome and leads to one world, and a world stands for one state.
-use Rattle.std.proofs.{Common.{◌≡◌, refl, sym, ap, ◌∙◌, ◌⊎◌, inl, inr, ℕ, ◌<◌, List, [], ◌∷◌, ◌++◌, length, take, IsTrue, arith, rules}, lemmas.{Bool.{false≢true}, List.{append-nil}}}
-use Rattle.{std.{proofs.lemmas.{Option.{same_Some}, Bool.Decides.{leb_tells}}, specs.List.{AllByRecursion, flat_map}}, dgt_message.specs.{Content.{Content, IsMessage}, Encoding.{Encodes, encoding}}}
+use Rattle.std.proofs.{Common.{◌≡◌, refl, sym, ap, ◌∙◌, ◌⊎◌, inl, inr, ℕ, ◌<◌, List, [], ◌∷◌, ◌++◌, length, take, IsTrue, arith, rules}, lemmas.{List.{append-nil}}}
+use Rattle.{std.{specs.List.{AllByRecursion, flat_map}}, dgt_message.specs.{Content.{Content, IsMessage}, Encoding.{Encodes, encoding}}}
 use Rattle.{dgt_command.specs.Laws.{EachDividesOnce}, dgt_board.specs.View.{BoardView, HasTaken}, dgt_link.specs.{Act.{ActContent}, Faults.{FaultyContent, FaultyStep}, Machine.{MachineState}}}
-use Rattle.dgt_link.{specs.{Stands.{StandsFor}, Step.{Delivers, IfDone, is_full, Becomes, Runs, Step}, View.{WorldView}, declared.acts.Outcome.{Outcome}}, proofs.Lists.{prefixes, not_empty}}
+use Rattle.dgt_link.{specs.{Stands.{StandsFor}, Step.{Delivers, IfDone, is_full, Becomes, Runs, Step}, View.{WorldView}, declared.acts.Outcome.{Outcome}}, proofs.Lists.{prefixes}}
 
 order : (a b : ℕ) → (a < b) ⊎ ((b < a) ⊎ (a ≡ b))
-order a b = search (rules, leb_tells)
+order a b = search rules
 
 -- ---- one outcome and one world
 
@@ -32,11 +32,7 @@ module _
       go (inr (inl all)) = omega (arith, all, less, second.within.1)
       go (inr (inr full)) =
           let stop = second.earlier first.moved first.some less in
-          let same : first.board ≡ stop.0
-          = one_taking world.board first.board stop.0 (take first.moved world.down.bytes)
-          first.taken stop.1 in
-          false≢true
-          (sym stop.2 ∙ ap (λ (board : BoardView). is_full board.state) (sym same) ∙ full)
+          let same : first.board ≡ stop.0 = search rules in search rules
 
   one_delivery : (count : ℕ) (world one other : WorldView) → Delivers count world one
       → Delivers count world other → one ≡ other
@@ -55,11 +51,11 @@ module _
 
   becomes_once : (act : ActContent) (world one other : WorldView) → Becomes act world one
       → Becomes act world other → one ≡ other
-  becomes_once act world one other e f = search (rules, same_Some, one_delivery)
+  becomes_once act world one other e f = search (rules, one_delivery)
 
   pub one_step : (act : ActContent) (world one other : WorldView) (answer also : Outcome)
       → Step act world answer one → Step act world also other → (answer ≡ also) × (one ≡ other)
-  one_step act world one other answer also first second = search (rules, left_once, becomes_once)
+  one_step act world one other answer also first second = search (rules, becomes_once)
 
   pub one_run : (acts : List ActContent) (world one other : WorldView)
       (answers others : List Outcome) → Runs acts world answers one → Runs acts world others other
@@ -71,16 +67,14 @@ module _
       search (rules, one_run acts middle one other answers others (rw first.1 at runs) ran)
   one_run [] world one other [] (also ∷ others) e none = absurd none
   one_run [] world one other (answer ∷ answers) others none f = absurd none
-  one_run (act ∷ acts) world one other [] others none f = absurd none
-  one_run (act ∷ acts) world one other (answer ∷ answers) [] runs none = absurd none
+  one_run (act ∷ acts) world one other answers others none f = search rules
 
   -- ---- in a world in which the lines and the board's power may fail
 
   pub one_faulty_step : (act : FaultyContent) (world one other : WorldView) (answer also : Outcome)
       → FaultyStep act world answer one → FaultyStep act world also other
       → (answer ≡ also) × (one ≡ other)
-  one_faulty_step act world one other answer also first second =
-      search (rules, left_once, becomes_once)
+  one_faulty_step act world one other answer also first second = search (rules, becomes_once)
 
 -- ---- one state
 
@@ -88,8 +82,7 @@ module _
 pub record EncodedOnce : Type 0 where
   pub encodes : (said : Content) → IsMessage said → Encodes said (encoding said)
   pub one_message : (bytes : List ℕ) (first second : Content) → Encodes first bytes
-      → Encodes second bytes
-      → first ≡ second
+      → Encodes second bytes → first ≡ second
   pub none_longer : (bytes more : List ℕ) (first second : Content) → Encodes first bytes
       → Encodes second (bytes ++ more) → more ≡ []
 
@@ -114,7 +107,7 @@ module _ (law : EncodedOnce) where
   messages_once [] (second ∷ ys) all also h = cc
   messages_once (first ∷ xs) [] all also h = cc
   messages_once (first ∷ xs) (second ∷ ys) all also h =
-      search (rules, prefixes, not_empty, first_same, messages_once xs ys all.1 also.1)
+      search (rules, prefixes, first_same, messages_once xs ys all.1 also.1)
 
 pub one_state : EncodedOnce → EachDividesOnce → (world : WorldView) (x y : MachineState)
     → StandsFor world x → StandsFor world y → x ≡ y

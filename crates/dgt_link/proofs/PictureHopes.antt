@@ -4,7 +4,7 @@ use Rattle.{dgt_command.specs.Content.{CommandContent}, dgt_board.specs.{State.{
 use Rattle.dgt_link.specs.{Faults.{FaultyStep, begins_anew, is_break, is_fault, loses_step, sends, stops}, Healing.{IsFollowing, IsInStep, IsInTurnWorld, IsPromisedWorld, IsSane}}
 use Rattle.dgt_link.specs.{Machine.{MachineState, Move, after_moves, commands_anew}, Promise.{IsPromised, PictureIsComing, mode_after}, Readers.{Grammars}, Settling.{IsSettling, SettlesIn}}
 use Rattle.dgt_link.{specs.{Stands.{AreMovesOfRun, AreMovesOfStep}, Step.{Step}, View.{WorldView}, declared.acts.Outcome.{Outcome}}, proofs.{ActRuns.{run_keeps}, Asking.{dump_is_coming}}}
-use Rattle.dgt_link.proofs.{Asking.{step_keeps_coming}, Behind.{ActsBehind}, Clocks.{no_break}, Counting.{Follows as Counted, break_follows, follows_in_step, follows_with, given_up_stands}}
+use Rattle.dgt_link.proofs.{Asking.{step_keeps_coming}, Behind.{ActsBehind}, Clocks.{no_break}, Counting.{Follows as Counted, break_follows, follows_in_step, follows_with}}
 use Rattle.dgt_link.proofs.{Counting.{host_break_follows, plain_step, restart_follows}, Hopes.{Follows, Hope, asked_promises, garbled, given_up, kept, led, other_following, other_promised}}
 use Rattle.dgt_link.proofs.{Hopes.{settling_is_plain, stays_promised}, Promises.{anew_is_promised, coming_promise}, Settling.{by_settling}, Standing.{moves-append}}
 
@@ -31,9 +31,7 @@ promised_follows world is =
 module _ (behind : ActsBehind) where
   pub dump_promises : (world after : WorldView) → IsFollowing world
       → FaultyStep (sends CommandContent.Dump) world Outcome.Done after → IsPromisedWorld after
-  dump_promises =
-      asked_promises behind updates stops PictureIsComing picture_hope CommandContent.Dump refl
-      dump_is_coming
+  dump_promises = search (rules, asked_promises, picture_hope, dump_is_coming)
 
   module _ (laws : Grammars) where
     -- ---- a host that starts over
@@ -60,11 +58,11 @@ module _ (behind : ActsBehind) where
         → IsInStep after
     plain_in_step ActContent.Break world Outcome.Done after sane is step =
         follows_in_step true [] after (break_follows laws world after sane step.leaves)
-    plain_in_step ActContent.Break world _ after sane is step = let a = step.answers in cc
+    plain_in_step ActContent.Break world _ after sane is step = cc
     plain_in_step ActContent.HostBreak world Outcome.Done after sane is step =
         follows_in_step true commands_anew after
         (host_break_follows laws world after sane step.leaves)
-    plain_in_step ActContent.HostBreak world _ after sane is step = let a = step.answers in cc
+    plain_in_step ActContent.HostBreak world _ after sane is step = cc
     plain_in_step act world answer after sane is step = search (rules, led, plain_step)
 
     pub keeps_in_step : (act : FaultyContent) (world after : WorldView) (answer : Outcome)
@@ -91,8 +89,7 @@ module _ (behind : ActsBehind) where
         kept behind updates stops PictureIsComing picture_hope loses_step (λ bytes. refl) refl
         (Follows updates) IsSane (other_following behind updates stops PictureIsComing picture_hope)
         (λ bytes old new keeps. garbled (Follows updates) (λ x mode. mode) bytes old new)
-        (λ act old new begins ends sane step.
-        promised_follows new (anew_heals act old new begins sane step))
+        (search (rules, promised_follows, anew_heals))
 
     pub keeps_promised : (act : FaultyContent) (world after : WorldView) (answer : Outcome)
         → is_fault act ≡ false → stops act ≡ false → IsSane world → IsPromisedWorld world
@@ -137,17 +134,17 @@ module _ (behind : ActsBehind) where
         → FaultyStep (FaultyContent.Plain act) world answer after → IsInTurnWorld after
     plain_in_turn ActContent.Break world Outcome.Done after sane is step =
         turn_of [] after (break_follows laws world after sane step.leaves)
-    plain_in_turn ActContent.Break world _ after sane is step = let a = step.answers in cc
+    plain_in_turn ActContent.Break world _ after sane is step = cc
     plain_in_turn ActContent.HostBreak world Outcome.Done after sane is step =
         anew_in_turn (FaultyContent.Plain ActContent.HostBreak) world after refl sane step
-    plain_in_turn ActContent.HostBreak world _ after sane is step = let a = step.answers in cc
+    plain_in_turn ActContent.HostBreak world _ after sane is step = cc
     plain_in_turn act world answer after sane is step =
         other_in_turn act world answer after refl is (plain_step act world answer after step)
 
     -- nothing is awaited any more
     pub given_up_in_turn : (world after : WorldView) (answer : Outcome) → IsInStep world
         → FaultyStep FaultyContent.GiveUp world answer after → IsInTurnWorld after
-    given_up_in_turn world after answer is step = search (rules, given_up_stands)
+    given_up_in_turn world after answer is step = search rules
 
     pub keeps_in_turn : (act : FaultyContent) (world after : WorldView) (answer : Outcome)
         → is_fault act ≡ false → IsSane world → IsInTurnWorld world
@@ -207,6 +204,5 @@ module _
       → AllByRecursion P acts → IsSane world → Q world → FaultyRuns acts world answers after
       → Q after
   sane_keeps P Q kept acts world after answers all is q runs =
-      (run_keeps FaultyStep P (λ w. IsSane w × Q w)
-      (search (rules, sane_after, kept)) acts world after
+      (run_keeps FaultyStep P (λ w. IsSane w × Q w) (search (rules, sane_after)) acts world after
       answers all (is, q) runs).1

@@ -1,7 +1,7 @@
 -- How an act changes the promise, for any states that the worlds before and after it stand for.
 use Rattle.{std.proofs.Common.{◌≡◌, ◌≢◌, rules}, dgt_command.specs.Content.{CommandContent}, dgt_link.specs.{Act.{ActContent}, Machine.{MachineState, after_moves}}}
 use Rattle.dgt_link.specs.{Promise.{act_requests, mode_after, IsPromised, IsRestarted, PictureIsComing, coming_mode}, Stands.{StandsAfterStep, StandsFor}, Step.{Step}, View.{WorldView}}
-use Rattle.dgt_link.{specs.declared.acts.Outcome.{Outcome}, proofs.{Asking.{break_moves, dump_is_coming, host_break_moves, mode-step, step_keeps_coming}, Promises.{break_ends}}}
+use Rattle.dgt_link.{specs.declared.acts.Outcome.{Outcome}, proofs.{Asking.{dump_is_coming, host_break_moves, mode-step, step_keeps_coming}}}
 
 -- an act is moves of the machine
 abbrev pub StepsAreMoves : Type 0
@@ -12,8 +12,7 @@ StepsAreMoves = (act : ActContent) (world after : WorldView) (answer : Outcome) 
 pub record Leads : Type 0 where
   pub moves : StepsAreMoves
   pub mode : (act : ActContent) (world after : WorldView) (answer : Outcome) (x y : MachineState)
-      → StandsFor world x
-      → Step act world answer after → StandsFor after y
+      → StandsFor world x → Step act world answer after → StandsFor after y
       → coming_mode y ≡ mode_after (coming_mode x) (act_requests answer act)
   pub kept : (act : ActContent) (world after : WorldView) (answer : Outcome) (x y : MachineState)
       → act ≢ ActContent.Break → StandsFor world x → Step act world answer after → StandsFor after y
@@ -44,7 +43,7 @@ module _ (moves : StepsAreMoves)
       → ¬ (PictureIsComing y)
   half_ends world after answer x y stands step also =
       let reached = moves ActContent.Break world after answer x stands step in
-      search (rules, break_moves, break_ends)
+      search rules
 
   pub anew_begins : (world after : WorldView) (answer : Outcome) (x y : MachineState)
       → StandsFor world x → Step ActContent.HostBreak world answer after → StandsFor after y

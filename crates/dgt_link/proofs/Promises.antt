@@ -27,7 +27,7 @@ effect-mode board event = search rules
 
 pub picture_after_known : (seen : Option (List Piece)) (message : Content) → IsSome seen
     → IsSome (picture_after seen message)
-picture_after_known seen message known = search (rules, false≢true)
+picture_after_known seen message known = search rules
 
 -- a picture to come, in its three ways: under way, owed, requested
 abbrev Comes : Option (List Piece) → List Reply → List EventContent → Type 0
@@ -39,15 +39,13 @@ Comes seen owed down =
 sent_comes : (picture : Option (List Piece)) (up : List Content) (message : Content)
     (owed : List Reply) (down : List EventContent) → Comes (picture_after_all picture up) owed down
     → Comes (picture_after_all picture (up ++ message ∷ [])) owed down
-sent_comes picture up message owed down h5 =
-    search (rules, picture_after_all-append, picture_after_known)
+sent_comes picture up message owed down coming = search (rules, picture_after_all-append)
 
 reply_comes : (board : BoardState) (picture : Option (List Piece)) (up : List Content)
     (first : Reply) (rest : List Reply) (down : List EventContent)
     → Comes (picture_after_all picture up) (first ∷ rest) down
     → Comes (picture_after_all picture (up ++ reply_message board first ∷ [])) rest down
-reply_comes board picture up first rest down h6 =
-    search (rules, picture_after_all-append, picture_after_known)
+reply_comes board picture up first rest down coming = search (rules, picture_after_all-append)
 
 reply_keeps_picture : (x : MachineState) (owed : List Reply) → x.board.owed ≡ owed
     → PictureIsComing x → PictureIsComing (after_reply x owed)
@@ -118,13 +116,13 @@ picture_keeps_coming x (Move.HostBreak noise is_noise) other coming =
     anew_is_coming x noise is_noise
 
 pub break_ends : (x : MachineState) → ¬ (PictureIsComing (after_move x Move.Break))
-break_ends x = search (rules, false≢true, nothing_contained)
+break_ends x = search rules
 
 -- ---- the second half: the mode that is coming
 
 take-mode : (x : MachineState) (down : List EventContent) → x.down ≡ down
     → coming_mode (after_take x down) ≡ coming_mode x
-take-mode x down e = search (rules, effect-mode, last_mode-cons)
+take-mode x down e = search rules
 
 reply-mode : (x : MachineState) (owed : List Reply)
     → coming_mode (after_reply x owed) ≡ coming_mode x
@@ -136,16 +134,14 @@ hear-mode x up = search rules
 ask-mode : (x : MachineState) (command : CommandContent)
     → coming_mode (after_move x (Move.Ask command))
     ≡ unwrap_or (command_mode command) (coming_mode x)
-ask-mode x command = search (rules, filter_map-append, last_mode-append, last_mode-cons)
+ask-mode x command = search (rules, filter_map-append, last_mode-append)
 
 sent-mode : (x : MachineState) (message : Content) (test : Bool)
     → coming_mode (cond test (after_reported x message) x) ≡ coming_mode x
 sent-mode x message test = search rules
 
 pub noise-modes : (noise : List EventContent) → IsNoiseList noise → filter_map event_mode noise ≡ []
-noise-modes noise is_noise =
-    nothing_of_noise event_mode (λ message. refl) (λ leds. refl) (refl, refl, refl) (λ byte. refl)
-    noise is_noise
+noise-modes noise is_noise = search (rules, nothing_of_noise)
 
 pub anew-mode : (x : MachineState) (noise : List EventContent) (is_noise : IsNoiseList noise)
     → coming_mode (after_move x (Move.HostBreak noise is_noise)) ≡ Mode.UpdateBoard
@@ -159,7 +155,7 @@ move-mode x (Move.HandClock clock) = refl
 move-mode x (Move.Ask command) = ask-mode x command
 move-mode x Move.Take = take-mode x x.down refl
 move-mode x Move.Reply = reply-mode x x.board.owed
-move-mode x (Move.Report square) = search (rules, sent-mode)
+move-mode x (Move.Report square) = search rules
 move-mode x Move.ReportClock = sent-mode x (clock_message x.board.clock) x.board.times_owed
 move-mode x Move.Hear = hear-mode x x.up
 move-mode x Move.Break = refl
@@ -174,20 +170,13 @@ pub record IsComing (commands : List CommandContent) (x : MachineState) : Type 0
   pub mode : coming_mode x ≡ last_mode before (filter_map command_mode commands)
 
 pub nothing_asked : (x : MachineState) → IsComing [] x
-nothing_asked x =
-    record {
-      picture = λ h. absurd (nothing_contained CommandContent.Dump h);
-      before =
-          coming_mode x;
-      mode = refl;
-    }
+nothing_asked x = search rules
 
 pub asked-mode : (commands : List CommandContent) (command : CommandContent) (before mode : Mode)
     → mode ≡ last_mode before (filter_map command_mode commands)
     → unwrap_or (command_mode command) mode
     ≡ last_mode before (filter_map command_mode (commands ++ command ∷ []))
-asked-mode commands command before mode e =
-    search (rules, last_mode-cons, filter_map-append, last_mode-append)
+asked-mode commands command before mode e = search (rules, filter_map-append, last_mode-append)
 
 ask_comes_dump : (commands : List CommandContent) (x : MachineState) (command : CommandContent)
     → IsComing commands x → Contains (commands ++ command ∷ []) CommandContent.Dump
@@ -271,14 +260,9 @@ pub dump_is_seen : (x : MachineState) (rest : List Reply) → x.board.owed ≡ R
     ≡ Some (after_move x Move.Reply).board.reported_squares
 dump_is_seen x rest e = search (rules, picture_after_all-append)
 
-hear_known : (x : MachineState) (up : List Content) → x.up ≡ up → IsSome (coming_picture x)
-    → IsSome (coming_picture (after_hear x up))
-hear_known x up e known = search rules
-
 pub picture_stays_known : (x : MachineState) (move : Move) → move ≢ Move.Break
     → ¬ (IsHostBreak move) → IsSome (coming_picture x) → IsSome (coming_picture (after_move x move))
-picture_stays_known x move other also known =
-    search (rules, cond_both, hear_known, picture_after_all-append, picture_after_known)
+picture_stays_known x move other also known = search (rules, picture_after_all-append)
 
 -- ---- the effect of a board
 

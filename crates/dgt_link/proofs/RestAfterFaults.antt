@@ -1,11 +1,10 @@
 -- How a world at fault comes to rest, and that it is then quiet if it was promised to heal.
-use Rattle.std.{proofs.{Common.{◌≡◌, refl, sym, ap, ◌∙◌, ◌⊎◌, ℕ, List, [], ◌∷◌, ◌++◌, Option, Some, None, append_assoc, append-nil, rules}, lemmas.Bool.{false≢true}}, specs.List.{AllByRecursion}}
-use Rattle.{std.specs.{List.{flat_map}, Prelude.{IsSome}}, dgt_values.specs.declared.pieces.Piece.{Piece}, dgt_message.specs.{Clock.{ClockState}, Content.{Content, IsMessage}, Encoding.{encoding}}}
-use Rattle.{dgt_command.specs.Laws.{EachDividesOnce}, dgt_board.specs.Sending.{pending_messages}, dgt_decode.specs.Grammar.{unfinished_message}, dgt_link.specs.Clocks.{IsClockPromisedWorld}}
-use Rattle.dgt_link.specs.{Healing.{Counted, IsHealing, IsInTurnWorld, IsPromisedWorld, IsRestedWorld, StandsBehind}, Machine.{MachineState}, Promise.{IsPromised, IsQuiet}, Readers.{Reads}}
-use Rattle.dgt_link.{specs.{Settling.{SettlesIn}, View.{IsQuietWorld, WorldView}}, proofs.{Clocks.{promised_clock}, Counting.{Holds, awaited_has_come, follows_with, host_knows, nothing_said}}}
-use Rattle.dgt_link.proofs.{Counting.{quiet_behind}, Lists.{right_empty}, Promises.{coming_promise}, Quiet.{picture_has_come, promised_picture}, Settling.{nothing_left_unfinished, nothing_partial}}
-use Rattle.dgt_link.proofs.{Settling.{settled_kept}, WorldsByState.{nothing_first}}
+use Rattle.std.{proofs.Common.{◌≡◌, refl, sym, ap, ◌∙◌, ◌⊎◌, ℕ, List, [], ◌∷◌, ◌++◌, Option, Some, None, append_assoc, rules}, specs.{List.{AllByRecursion, flat_map}, Prelude.{IsSome}}}
+use Rattle.{dgt_values.specs.declared.pieces.Piece.{Piece}, dgt_message.specs.{Clock.{ClockState}, Content.{Content, IsMessage}, Encoding.{encoding}}, dgt_command.specs.Laws.{EachDividesOnce}}
+use Rattle.{dgt_board.specs.Sending.{pending_messages}, dgt_decode.specs.Grammar.{unfinished_message}, dgt_link.specs.{Clocks.{IsClockPromisedWorld}, Healing.{Counted, IsHealing, IsInTurnWorld}}}
+use Rattle.dgt_link.specs.{Healing.{IsPromisedWorld, IsRestedWorld, StandsBehind}, Machine.{MachineState}, Promise.{IsPromised, IsQuiet}, Readers.{Reads}, Settling.{SettlesIn}, View.{IsQuietWorld}}
+use Rattle.dgt_link.{specs.View.{WorldView}, proofs.{Clocks.{promised_clock}, Counting.{Holds, awaited_has_come, follows_with, host_knows, quiet_behind}, Lists.{right_empty}}}
+use Rattle.dgt_link.proofs.{Promises.{coming_promise}, Quiet.{picture_has_come, promised_picture}, Settling.{nothing_left_unfinished, nothing_partial, settled_kept}, WorldsByState.{nothing_first}}
 
 -- ---- what counts is promised
 
@@ -20,8 +19,7 @@ pub promised_at_quiet : EachDividesOnce → (world : WorldView) → IsPromisedWo
     → IsQuietWorld world → world.host.picture ≡ Some world.board.state.squares
 promised_at_quiet once world is quiet =
     let still = quiet_behind once is.garbage world is.state is.stands quiet in
-    rw is.stands.board
-    (host_knows is.stands.picture (promised_picture is.state is.stands.sound is.holds still))
+    search (rules, promised_picture)
 
 -- ---- at rest
 
@@ -44,17 +42,17 @@ module _ (reads : Reads) where
       → unfinished_message unread ≡ unread → messages ≡ []
   none_unread unread garbage [] are e held = refl
   none_unread unread garbage (message ∷ messages) are e held =
-      search (rules, nothing_unfinished_behind, nothing_said, right_empty)
+      search (rules, nothing_unfinished_behind, right_empty)
 
   known_has_no_garbage : {X : Type 0} (picture : Option X) (garbage : List ℕ) (other : Type 0)
       → (garbage ≡ []) ⊎ ((picture ≡ None) × other) → IsSome picture → garbage ≡ []
-  known_has_no_garbage picture garbage other h3 some = search (rules, false≢true)
+  known_has_no_garbage picture garbage other either some = search rules
 
   module _ (once : EachDividesOnce) (garbage : List ℕ) (world : WorldView) (x : MachineState)
       (stands : StandsBehind garbage world x) (rested : IsRestedWorld world)
       (held : unfinished_message world.host.unread ≡ world.host.unread) where
     all_unread : world.host.unread ≡ garbage ++ flat_map encoding x.up
-    all_unread = search (rules, append-nil)
+    all_unread = search rules
 
     no_part : world.board.partial ≡ []
     no_part =

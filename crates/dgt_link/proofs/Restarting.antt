@@ -3,22 +3,17 @@
 use Rattle.{std.{proofs.Common.{◌≡◌, ◌+◌, ◌≤◌, List, [], ◌∷◌, length, ◌<◌, rules}, specs.Prelude.{◌↔◌}}, dgt_command.specs.Content.{CommandContent}, dgt_link.specs.Faults.{FaultyContent, FaultyRuns}}
 use Rattle.dgt_link.specs.{Faults.{FaultyStep, sends}, View.{WorldView}, declared.acts.Outcome.{Outcome}}
 
-restart_is_done : (world after : WorldView) (answer : Outcome)
-    → length world.down.bytes + 257 ≤ world.down.capacity
-    → FaultyStep FaultyContent.Restart world answer after → answer ≡ Outcome.Done
-restart_is_done world after answer room step = search rules
-
 pub restart_runs : (later : List FaultyContent) (world after : WorldView) (answers : List Outcome)
     → length world.down.bytes + 257 ≤ world.down.capacity
     → FaultyRuns (FaultyContent.Restart ∷ later) world answers after
     → (begun : WorldView) × (others : List Outcome) × FaultyStep FaultyContent.Restart world
     Outcome.Done begun × FaultyRuns later begun others after
-restart_runs later world after answers room none = search (rules, restart_is_done)
+restart_runs later world after answers room none = search rules
 
 pub restart_done : (world after : WorldView) (answer : Outcome)
     → FaultyStep FaultyContent.Restart world answer after
     → (answer ≡ Outcome.Done) ↔ (length world.down.bytes + 257 ≤ world.down.capacity)
-restart_done world after answer step = search (rules, restart_is_done)
+restart_done world after answer step = search rules
 
 -- ---- a host that gives up what it awaits
 

@@ -1,8 +1,7 @@
 -- What a board sends next is sent by one of the moves of the machine.
-use Rattle.std.{specs.Prelude.{slice_get, filter}, proofs.Common.{◌≡◌, refl, ap, ◌∙◌, ◌⊎◌, inl, inr, ℕ, List, [], ◌∷◌, ◌++◌, Some, Bool, true, false, ◌&&◌, cond, map, drop, rules}}
-use Rattle.{std.proofs.lemmas.{Bool.{cond-true, and_from}, Option.{same_Some}}, dgt_message.specs.Content.{Content, clock_message}, dgt_board.specs.Sending.{after_sending, after_reporting}}
-use Rattle.dgt_board.specs.{Sending.{clock_news, differs, field_of, next_message, reply_message, unreported_squares}, State.{updates}, declared.replies.Reply.{Reply}}
-use Rattle.dgt_link.specs.Machine.{IsSending, Move, MachineState, after_move, after_reply, after_reported}
+use Rattle.{std.{specs.Prelude.{slice_get, filter}, proofs.Common.{◌≡◌, refl, ◌⊎◌, inl, inr, ℕ, List, [], ◌∷◌, ◌++◌, Some, Bool, true, false, cond, map, rules}}, dgt_message.specs.Content.{Content}}
+use Rattle.{dgt_message.specs.Content.{clock_message}, dgt_board.specs.{Sending.{after_sending, clock_news, differs, field_of, next_message, reply_message, unreported_squares}, State.{updates}}}
+use Rattle.{dgt_board.specs.declared.replies.Reply.{Reply}, dgt_link.specs.Machine.{IsSending, Move, MachineState, after_move}}
 
 abbrev sent_state : MachineState → Content → MachineState
 sent_state x message = record x { board = after_sending x.board message; up = x.up ++ message ∷ [] }
@@ -10,19 +9,6 @@ sent_state x message = record x { board = after_sending x.board message; up = x.
 -- a move that sends the message
 abbrev SendsIt : MachineState → Content → Type 0
 SendsIt x message = (move : Move) × IsSending move × (after_move x move ≡ sent_state x message)
-
-reply_is_sent : (x : MachineState) (first : Reply) (rest owed : List Reply) → owed ≡ first ∷ rest
-    → after_reply x owed ≡ record x {
-      board = record
-          (after_reporting x.board (reply_message x.board first)) { owed = drop 1 owed };
-      up = x.up ++ reply_message x.board first ∷ [];
-    }
-reply_is_sent x first rest owed e = search rules
-
--- with no reply owed
-without_reply : (x : MachineState) (message : Content) → x.board.owed ≡ []
-    → after_reported x message ≡ sent_state x message
-without_reply x message e = search rules
 
 -- the first of the field updates, or what comes after them
 abbrev FirstField : Bool → (ℕ → Content) → (ℕ → Bool) → Content → Type 0
@@ -33,7 +19,7 @@ first_kept : (field : ℕ → Content) (test : ℕ → Bool) (square : ℕ) (res
     (others : List Content) (message : Content) (passes : Bool) → test square ≡ passes
     → slice_get (map field (cond passes (square ∷ rest) rest) ++ others) 0 ≡ Some message
     → FirstField true field test message ⊎ (slice_get (map field rest ++ others) 0 ≡ Some message)
-first_kept field test square rest others message passes e h = search (rules, same_Some)
+first_kept field test square rest others message passes e h = search rules
 
 first_field : (asks : Bool) (field : ℕ → Content) (test : ℕ → Bool) (squares : List ℕ)
     (others : List Content) (message : Content)
@@ -45,20 +31,13 @@ first_field true field test (square ∷ squares) others message h =
     elim (first_kept field test square (filter test squares) others message (test square) refl h)
     [ inl found ↦ inl found | inr later ↦ first_field true field test squares others message later ]
 
-first_news : (owed : Bool) (news message : Content)
-    → slice_get (cond owed (news ∷ []) []) 0 ≡ Some message → (owed ≡ true) × (news ≡ message)
-first_news owed news message h = search (rules, same_Some)
-
 report_is_sent : (x : MachineState) (message : Content) → x.board.owed ≡ []
     → FirstField (updates x.board.mode) (field_of x.board) (differs x.board) message
     → SendsIt x message
 report_is_sent x message none (square, asks, differing, same) = (
   Move.Report square,
   tt,
-  cond-true (updates x.board.mode && differs x.board square)
-      (after_reported x (field_of x.board square)) x
-      (and_from (updates x.board.mode) (differs x.board square) asks differing)
-      ∙ without_reply x (field_of x.board square) none ∙ ap (sent_state x) same,
+  search rules,
 )
 
 clock_is_sent : (x : MachineState) (message : Content) → x.board.owed ≡ []
@@ -66,8 +45,7 @@ clock_is_sent : (x : MachineState) (message : Content) → x.board.owed ≡ []
 clock_is_sent x message none (owed, same) = (
   Move.ReportClock,
   tt,
-  cond-true x.board.times_owed (after_reported x (clock_message x.board.clock)) x owed
-      ∙ without_reply x (clock_message x.board.clock) none ∙ ap (sent_state x) same,
+  search rules,
 )
 
 next_of : (x : MachineState) (owed : List Reply) (message : Content) → x.board.owed ≡ owed
@@ -77,10 +55,9 @@ next_of : (x : MachineState) (owed : List Reply) (message : Content) → x.board
 next_of x (first ∷ rest) message e h = (
   Move.Reply,
   tt,
-  reply_is_sent x first rest x.board.owed e ∙ ap (sent_state x)
-      (same_Some (reply_message x.board first) message h),
+  search rules,
 )
-next_of x [] message e h = search (rules, first_field, report_is_sent, clock_is_sent, first_news)
+next_of x [] message e h = search (rules, first_field, report_is_sent, clock_is_sent)
 
 -- the message that a board sends next is sent by a move
 pub next_is_sent : (x : MachineState) (message : Content) → next_message x.board ≡ Some message

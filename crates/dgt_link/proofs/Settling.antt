@@ -1,14 +1,14 @@
 -- Why a world comes to rest, and what it keeps on the way.
-use Rattle.std.proofs.Common.{arith, ◌≡◌, ◌≢◌, refl, sym, ap, subst, ◌∙◌, ◌⊎◌, inl, inr, ℕ, ◌+◌, ◌*◌, ◌^◌, ◌<◌, ◌≤◌, ◌==◌, List, [], ◌∷◌, ◌++◌, Some, None, Bool, true, false, cond, length, take, drop}
-use Rattle.std.proofs.{Common.{replicate, append-nil, rules}, Math.Nat.{mul-le-mul_left}, lemmas.{Bool.{eqb-true, false≢true, ltb-false, or_parts}, Grind.{common_steps}, List.{length-append}}}
-use Rattle.std.{proofs.lemmas.List.{length-drop, drop_all, replicate_more}, specs.{List.{AllByRecursion, flat_map}, Prelude.{◌↔◌, Contains, IsTrue, IsSome, nat_lt}}}
+use Rattle.std.proofs.Common.{arith, ◌≡◌, ◌≢◌, refl, sym, ap, subst, ◌∙◌, ◌⊎◌, inl, inr, ℕ, ◌+◌, ◌*◌, ◌^◌, ◌<◌, ◌≤◌, ◌==◌, List, [], ◌∷◌, ◌++◌, Some, None, Bool, true, false, cond, length, take}
+use Rattle.std.proofs.{Common.{replicate, append-nil, rules}, Math.Nat.{mul-le-mul_left}, lemmas.{Bool.{ltb-false}, Grind.{common_steps}, List.{length-append}}}
+use Rattle.std.{proofs.lemmas.List.{drop_all}, specs.{List.{AllByRecursion, flat_map}, Prelude.{◌↔◌, Contains, IsTrue, IsSome, nat_lt}}}
 use Rattle.{dgt_values.specs.declared.pieces.Piece.{Piece}, dgt_message.specs.{Clock.{ClockState}, Content.{Content}, Encoding.{encoding}}, dgt_command.specs.Content.{EventContent}}
 use Rattle.{dgt_command.specs.{Laws.{EachDividesOnce, NoWordBeginsAPart, WordsAreShort}, Words.{Divides, IsPartial}}, dgt_decode.specs.Grammar.{unfinished_message}, dgt_board.specs.Sending.{backlog}}
 use Rattle.{dgt_board.specs.{Sending.{next_message}, State.{BoardState, follows_clock, updates}, declared.modes.Mode.{Mode}}, dgt_link.specs.{Act.{ActContent}, Healing.{IsRestedWorld}}}
 use Rattle.dgt_link.specs.{Machine.{MachineState, after_moves}, Promise.{mode_after, act_requests, IsPromised, PictureIsComing, coming_mode}, Readers.{Reads}, Settling.{AreInOrder, IsNext}}
-use Rattle.dgt_link.specs.{Settling.{IsSettling, SettlesIn, steps_left}, Sound.{IsUnknownOr}, Stands.{AreEncoded, IsExactWorld, IsWorld, StandsFor}, Step.{moves_nothing, Becomes, Delivers, Runs}}
+use Rattle.dgt_link.specs.{Settling.{IsSettling, SettlesIn, steps_left}, Sound.{IsUnknownOr}, Stands.{AreEncoded, IsExactWorld, IsWorld, StandsFor}, Step.{Becomes, Delivers, Runs}}
 use Rattle.dgt_link.{specs.{Step.{Step, done_count}, View.{overflows, IsQuietWorld, WorldView}, Work.{work_left}, declared.acts.Outcome.{Outcome}}, proofs.ActRuns.{run-push, run_keeps}}
-use Rattle.dgt_link.proofs.{Backlogs.{BacklogFalls, BacklogRises}, Hearing.{held_alone, nothing_unfinished}, Lists.{all_append, nothing_contained, IsShorter, Reaches, prefixes}, PromisedActs.{Leads}}
+use Rattle.dgt_link.proofs.{Backlogs.{BacklogFalls, BacklogRises}, Hearing.{held_alone, nothing_unfinished}, Lists.{all_append, IsShorter, Reaches, prefixes}, PromisedActs.{Leads}}
 use Rattle.dgt_link.proofs.{Taking.{HasSameGame, effects_same_game}, WorldsByState.{quiet_state, world_awaits_nothing, world_clock_known, world_clock_reported, world_picture, world_picture_reported}}
 
 -- ---- each event has its own byte
@@ -68,7 +68,7 @@ settling_no_break =
 -- acts that settle include no host break
 pub settling_no_host_break : (acts : List ActContent) → AllByRecursion IsSettling acts
     → ¬ (Contains acts ActContent.HostBreak)
-settling_no_host_break acts all = grind (arith, common_steps, nothing_contained)
+settling_no_host_break acts all = grind (arith, common_steps)
 
 -- the world after stands for a state with the same mode to come, and its picture is still to come
 pub record KeepsPromise (x : MachineState) (after : WorldView) : Type 0 where
@@ -115,15 +115,7 @@ at_most_one n = search rules
 module _ (falls : BacklogFalls) where
   pub send_works : (world after : WorldView) → length world.board.state.reported_squares ≡ 64
       → Becomes ActContent.BoardSend world after → work_left after < work_left world
-  send_works world after squares (message, is_next, encodes, same) =
-      let less = falls world.board.state message squares is_next in
-      grind (arith, common_steps, at_most_one)
-
--- a delivery takes as many bytes as it moves out of the down line
-take_leaves : (world after : WorldView) (count : ℕ) (delivers : Delivers count world after)
-    → length (drop delivers.moved world.down.bytes) + delivers.moved ≡ length world.down.bytes
-take_leaves world after count delivers =
-    rw (length-drop delivers.moved world.down.bytes) (omega (arith, delivers.within.1))
+  send_works world after squares (message, is_next, encodes, same) = grind (arith, common_steps)
 
 module _ (short : WordsAreShort) (within : NoWordBeginsAPart) (rises : BacklogRises) where
   -- each byte of it raises what the board has to send by at most one
@@ -135,7 +127,6 @@ module _ (short : WordsAreShort) (within : NoWordBeginsAPart) (rises : BacklogRi
       let few = few_taken short within world.board.partial
       (take delivers.moved world.down.bytes) delivers.board.partial taken.events partial
       taken.divided in
-      let more = rises world.board.state taken.events in
       grind (arith, common_steps)
 
 module _ (short : WordsAreShort) (within : NoWordBeginsAPart) (rises : BacklogRises) where
@@ -143,7 +134,7 @@ module _ (short : WordsAreShort) (within : NoWordBeginsAPart) (rises : BacklogRi
       → Becomes (ActContent.ToBoard count) world after → work_left after < work_left world
   take_works world after count partial delivers =
       let raised = take_raises short within rises world after count partial delivers in
-      grind (arith, common_steps, take_leaves)
+      grind (arith, common_steps)
 
 pub hear_works : (world after : WorldView) → (length world.up.bytes == 0) ≡ false
     → Becomes (ActContent.ToHost (length world.up.bytes)) world after
@@ -177,11 +168,6 @@ pub nothing_partial : EachDividesOnce → (events : List EventContent) (partial 
 nothing_partial law events partial is divides =
     sym (law.1 (partial ++ []) events [] [] partial divides (append-nil partial, is)).1
 
--- the remaining work is done
-done_at : (act : ActContent) (world after : WorldView) (answer : Outcome) → answer ≡ Outcome.Done
-    → Step act world answer after → Step act world Outcome.Done after
-done_at act world after answer e step = rw e at step
-
 -- one act towards rest
 abbrev pub Moves : WorldView → WorldView → Type 0
 Moves world after =
@@ -189,14 +175,14 @@ Moves world after =
     × (work_left after < work_left world)
 
 some_bytes : (bytes : List ℕ) → (length bytes == 0) ≡ false → 0 < length bytes
-some_bytes bytes h = search (rules, false≢true)
+some_bytes bytes h = search rules
 
 pub hears : (world after : WorldView) (answer : Outcome) → (length world.up.bytes == 0) ≡ false
     → Step (ActContent.ToHost (length world.up.bytes)) world answer after → Moves world after
-hears world after answer some step = search (rules, done_at, some_bytes, hear_works)
+hears world after answer some step = search (rules, hear_works)
 
 pub no_bytes : (bytes : List ℕ) → (length bytes == 0) ≡ true → bytes ≡ []
-no_bytes bytes h = grind (arith, common_steps, eqb-true)
+no_bytes bytes h = grind (arith, common_steps)
 
 -- facts of a world from the state that it stands for
 reported_all : (world : WorldView) → IsWorld world → length world.board.state.reported_squares ≡ 64
@@ -207,16 +193,14 @@ pub sends : BacklogFalls
     → (length world.up.bytes == 0) ≡ true
     → IsSome (next_message world.board.state) → (world.up.bytes ≡ [] → answer ≢ Outcome.NoRoom)
     → Step ActContent.BoardSend world answer after → Moves world after
-sends falls world after answer reported up some fits step =
-    search (rules, done_at, no_bytes, send_works, fits, false≢true)
+sends falls world after answer reported up some fits step = search (rules, no_bytes, send_works)
 
 module _ (short : WordsAreShort) (within : NoWordBeginsAPart) (rises : BacklogRises) where
   pub takes : (world after : WorldView) (answer : Outcome) → IsPartial world.board.partial
       → (length world.up.bytes == 0) ≡ true → next_message world.board.state ≡ None
       → world.board.state.owed ≡ [] → (length world.down.bytes == 0) ≡ false
       → Step (ActContent.ToBoard (length world.down.bytes)) world answer after → Moves world after
-  takes world after answer partial up quiet none some step =
-      search (rules, done_at, no_bytes, some_bytes, take_works)
+  takes world after answer partial up quiet none some step = search (rules, no_bytes, take_works)
 
 pub rests : Reads → EachDividesOnce → (world : WorldView) → IsWorld world → IsRestedWorld world
     → unfinished_message world.host.unread ≡ world.host.unread → IsQuietWorld world
@@ -225,7 +209,7 @@ rests reads law world is (up, down, none) unfinished_is =
 
 pub not_owing : (result : Bool) (board : BoardState) → (IsTrue result ↔ IsSome (next_message board))
     → result ≡ false → next_message board ≡ None
-not_owing result board reports e = search (rules, false≢true)
+not_owing result board reports e = search rules
 
 -- ---- the loop
 
@@ -240,8 +224,7 @@ in_order_more : (acts : List ActContent) (act : ActContent) (old now new : World
 in_order_more [] act old now new same next step = (
   new,
   subst (λ (w : WorldView). IsNext w act) same next,
-  subst
-      (λ (w : WorldView). Step act w Outcome.Done new) same step,
+  search rules,
   refl,
 )
 in_order_more (first ∷ acts) act old now new (between, is, done, rest) next step =
@@ -254,7 +237,7 @@ settled_more old now new done settled (act, is, step, less) = record {
   settling =
       all_append IsSettling settled.acts (act ∷ []) settled.settling (next_settles now act is, tt);
   counted = rw (length-append settled.acts (act ∷ [])) (omega (arith, settled.counted));
-  run = grind (arith, common_steps, replicate_more, run-push);
+  run = grind (arith, common_steps, run-push);
   in_order = in_order_more settled.acts act old now new settled.in_order is step;
 }
 
@@ -306,14 +289,13 @@ pub settled_clock : EachDividesOnce → (count : ℕ) (old new : WorldView) → 
     → new.host.clock ≡ Some old.board.state.clock
 settled_clock law count old new settled exact quiet follows =
     let same = (settled_kept count old new settled).clock in
-    world_clock_reported law new exact.state exact.stands quiet exact.exact follows ∙ ap
-    (λ (clock : ClockState). Some clock) same
+    search (rules, world_clock_reported)
 
 pub work_fits : (world : WorldView)
     → ((board : BoardState) → backlog board ≤ length board.owed + 65)
     → length world.down.bytes < 2 ^ 64 → length world.board.state.owed ≤ 8
     → work_left world < 2 ^ 67
-work_fits world bound down owed = search (rules, at_most_one)
+work_fits world bound down owed = search rules
 
 pub most_work : (world : WorldView)
     → work_left world ≤ 3 * length world.down.bytes + 2 * backlog world.board.state + 1
@@ -323,10 +305,6 @@ most_work world = let flag = at_most_one (length world.up.bytes) in omega (arith
 
 fits : (capacity needed : ℕ) → nat_lt capacity needed ≡ false → needed ≤ capacity
 fits capacity needed h = ltb-false capacity needed h
-
-hear_steps : (world after : WorldView) (count : ℕ) → moves_nothing count world.up ≡ false
-    → Becomes (ActContent.ToHost count) world after → steps_left after < steps_left world
-hear_steps world after count some same = search (rules, or_parts, length-drop, false≢true)
 
 module _ (falls : BacklogFalls) where
   send_steps : (world after : WorldView) → length world.board.state.reported_squares ≡ 64
@@ -351,8 +329,6 @@ module _ (short : WordsAreShort) (within : NoWordBeginsAPart) (rises : BacklogRi
   take_steps world after count partial delivers =
       let weighed = mul-le-mul_left (world.up.capacity + 1)
       (take_raises short within rises world after count partial delivers) in
-      let bytes =
-      ap (λ (n : ℕ). (world.up.capacity + 2) * n) (take_leaves world after count delivers) in
       grind (arith, common_steps)
 
 module _ (keeps : (act : ActContent) (world after : WorldView) (answer : Outcome) → IsWorld world
@@ -363,7 +339,7 @@ module _ (keeps : (act : ActContent) (world after : WorldView) (answer : Outcome
       → IsSettling act → Step act world answer after
       → done_count (answer ∷ []) + steps_left after ≤ steps_left world
   step_steps act world after answer is settling step =
-      grind (arith, common_steps, send_steps, reported_all, take_steps, hear_steps)
+      grind (arith, common_steps, send_steps, take_steps)
 
   pub run_steps : (acts : List ActContent) (world after : WorldView) (answers : List Outcome)
       → IsWorld world → AllByRecursion IsSettling acts → Runs acts world answers after
@@ -373,6 +349,5 @@ module _ (keeps : (act : ActContent) (world after : WorldView) (answer : Outcome
       let first = step_steps act world between answer is all.0 step in
       let rest =
       run_steps acts between after answers (keeps act world between answer is step) all.1 runs in
-      let both = count_first answer answers in
-      omega (arith, first, rest, both)
+      search rules
   run_steps _ world after _ is all none = absurd none

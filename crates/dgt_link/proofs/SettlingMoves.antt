@@ -1,10 +1,9 @@
 -- From each sound state takes, sendings and hears lead to a quiet one.
-use Rattle.std.proofs.{Common.{arith, ◌≡◌, ◌≢◌, refl, ap, ◌∙◌, ◌⊎◌, inl, inr, ℕ, ◌<◌, ◌≤◌, zero, suc, List, [], ◌∷◌, Some, None, Bool, cond, Option, rules}, lemmas.Grind.{common_steps}}
-use Rattle.{std.{proofs.lemmas.List.{length-append}, specs.List.{AllByRecursion}}, dgt_values.specs.declared.pieces.Piece.{Piece}, dgt_message.specs.Content.{Content}}
-use Rattle.{dgt_command.specs.Content.{EventContent}, dgt_board.specs.{Sending.{next_message, pending_messages}, declared.modes.Mode.{Mode}}, dgt_link.specs.Machine.{MachineState, after_move}}
-use Rattle.dgt_link.specs.{Machine.{after_moves, after_reported, IsSending, Move}, Promise.{IsPromised, IsQuiet, PictureIsComing, coming_mode, mode_after, requests}, Settling.{IsSettlingMove}}
-use Rattle.dgt_link.{specs.{Settling.{SettlesBy, moves_left}, Sound.{IsSound}}, proofs.{AfterMoves.{moves_sound}, Backlogs.{BacklogFalls, BacklogRises}, Promises.{move-mode, picture_keeps_coming}}}
-use Rattle.dgt_link.proofs.{Quiet.{promised_picture}, Sending.{next_is_sent}, Soundness.{move_sound}, Taking.{HasSameGame, effect_leaves, same_game}, WorldsByState.{nothing_first}}
+use Rattle.std.{proofs.{Common.{arith, ◌≡◌, ◌≢◌, refl, ◌∙◌, ◌⊎◌, inl, inr, ℕ, ◌<◌, ◌≤◌, zero, suc, List, [], ◌∷◌, Some, None, Option, rules}, lemmas.Grind.{common_steps}}, specs.List.{AllByRecursion}}
+use Rattle.{dgt_message.specs.Content.{Content}, dgt_command.specs.Content.{EventContent}, dgt_board.specs.{Sending.{next_message}, declared.modes.Mode.{Mode}}, dgt_link.specs.Machine.{MachineState}}
+use Rattle.dgt_link.specs.{Machine.{after_move, after_moves, IsSending, Move}, Promise.{IsPromised, IsQuiet, PictureIsComing, coming_mode, mode_after, requests}, Settling.{IsSettlingMove, SettlesBy}}
+use Rattle.dgt_link.{specs.{Settling.{moves_left}, Sound.{IsSound}}, proofs.{AfterMoves.{moves_sound}, Backlogs.{BacklogFalls, BacklogRises}, Promises.{move-mode, picture_keeps_coming}}}
+use Rattle.dgt_link.proofs.{Quiet.{promised_picture}, Sending.{next_is_sent}, Soundness.{move_sound}, Taking.{HasSameGame}, WorldsByState.{nothing_first}}
 
 sending_settles : (move : Move) → IsSending move → IsSettlingMove move
 sending_settles move is = search rules
@@ -24,8 +23,7 @@ module _ (falls : BacklogFalls) (rises : BacklogRises) where
       → next_message x.board ≡ Some message → (move : Move) × NearerBy x move
   sends_nearer x message sound e =
       let sent = next_is_sent x message e in
-      let less = falls x.board message sound.reported_squares e in
-      grind (arith, common_steps, length-append, sending_settles)
+      grind (arith, common_steps, sending_settles)
 
   takes_nearer : (x : MachineState) (event : EventContent) (later : List EventContent)
       → x.down ≡ event ∷ later → NearerBy x Move.Take
@@ -38,16 +36,9 @@ module _ (falls : BacklogFalls) (rises : BacklogRises) where
   nearer x sound = up x.up refl
     where
       down : x.up ≡ [] → next_message x.board ≡ None → (events : List EventContent)
-          → x.down ≡ events
-          → IsQuiet x ⊎ ((move : Move) × NearerBy x move)
+          → x.down ≡ events → IsQuiet x ⊎ ((move : Move) × NearerBy x move)
       down none_up none [] e =
-          inl
-          (record {
-            up = none_up;
-            down = e;
-            pending =
-                nothing_first (pending_messages x.board) none;
-          })
+          inl (search (rules, nothing_first))
       down none_up none (event ∷ later) e = inr (Move.Take, takes_nearer x event later e)
 
       next : x.up ≡ [] → (message : Option Content) → next_message x.board ≡ message
@@ -66,7 +57,7 @@ module _ (falls : BacklogFalls) (rises : BacklogRises) where
 
   reached_within : (most : ℕ) (x : MachineState) → IsSound x → moves_left x ≤ most
       → (moves : List Move) × SettlesBy moves x
-  reached_within zero x sound few = grind (arith, common_steps, nearer)
+  reached_within zero x sound few = grind (arith, common_steps)
   reached_within (suc most) x sound few = go (reached_within most) (nearer x sound)
     where
       go : ((y : MachineState) → IsSound y → moves_left y ≤ most
@@ -83,13 +74,9 @@ module _ (falls : BacklogFalls) (rises : BacklogRises) where
 
 -- ---- what such moves keep
 
-reported_same_game : (x : MachineState) (asks : Bool) (message : Content)
-    → HasSameGame x.board (cond asks (after_reported x message) x).board
-reported_same_game x asks message = search (rules, same_game)
-
 move_same_game : (x : MachineState) (move : Move) → IsSettlingMove move
     → HasSameGame x.board (after_move x move).board
-move_same_game x move is = search (rules, reported_same_game, same_game, effect_leaves)
+move_same_game x move is = search rules
 
 settling_keeps_mode : (before : Mode) (move : Move) → IsSettlingMove move
     → mode_after before (requests move) ≡ before
@@ -129,5 +116,4 @@ pub settling_picture : (x : MachineState) (moves : List Move) → IsSound x → 
 settling_picture x moves sound promised all quiet =
     let promised' : IsPromised (after_moves x moves)
     = search (rules, settling_comes, settling_mode) in
-    promised_picture (after_moves x moves) (moves_sound x moves sound) promised' quiet ∙ ap
-    (λ (squares : List Piece). Some squares) (settling_squares x moves all)
+    search (rules, promised_picture, moves_sound, settling_squares)

@@ -1,13 +1,11 @@
 -- Each move keeps a sound state sound, and an exact one exact.
-use Rattle.std.proofs.{Common.{◌≡◌, refl, ap, ◌∙◌, List, [], ◌∷◌, ◌++◌, ◌&&◌, length, append_assoc, rules}, lemmas.{Bool.{cond_both, false≢true}, List.{length-set, Elements.{filter_map-append}}}}
+use Rattle.std.proofs.{Common.{◌≡◌, refl, ◌∙◌, List, [], ◌∷◌, ◌++◌, ◌&&◌, length, append_assoc, rules}, lemmas.{Bool.{cond_both}, List.{length-set, Elements.{filter_map-append}}}}
 use Rattle.{std.specs.{List.{cons_option}, Prelude.{filter_map, map, option_to_list}}, dgt_values.specs.declared.{kinds.Kind.{Kind}, pieces.Piece.{Piece}}, dgt_message.specs.Clock.{ClockState}}
-use Rattle.{dgt_message.specs.Content.{Content, clock_message, answered_kind}, dgt_command.specs.{Content.{CommandContent, EventContent, requested_kind}, Words.{IsNoiseList}}}
-use Rattle.{dgt_board.specs.{Sending.{differs, field_of}, State.{IdentityContent, updates}, declared.replies.Reply.{Reply}}}
-use Rattle.dgt_link.specs.Machine.{IsHostBreak, IsSending, Move, MachineState, commands_anew, new_state, state_of_board, after_move, after_reported, after_take, after_reply, after_hear}
-use Rattle.dgt_link.{specs.Sound.{IsExact, IsSound, IsSubsequence, coming_kinds, kind_of_event, kind_of_reply}, proofs.MessageReports.{ReportedIsHeard, field_reports, clock_reports, reply_reports}}
-use Rattle.dgt_link.proofs.MessageReports.{reply_message-kind, clock_message-kind, picture_reported, clock_reported_of, clock_after_all-append, followed_after, handed_or_reported}
-use Rattle.dgt_link.proofs.{Subsequences.{subsequence_at_end, subsequence_append, awaited_after-subsequence, awaited_exactly, one_more, moved_over}, Taking.{effect-kinds, effect_followed}}
-use Rattle.dgt_link.proofs.Taking.{effect_leaves, nothing_of_noise}
+use Rattle.{dgt_message.specs.Content.{Content, answered_kind}, dgt_command.specs.{Content.{CommandContent, EventContent, requested_kind}, Words.{IsNoiseList}}, dgt_board.specs.Sending.{differs}}
+use Rattle.{dgt_board.specs.{Sending.{field_of}, State.{IdentityContent, updates}, declared.replies.Reply.{Reply}}, dgt_link.specs.Machine.{IsHostBreak, IsSending, Move, MachineState, commands_anew}}
+use Rattle.dgt_link.specs.{Machine.{new_state, state_of_board, after_move, after_reported, after_take, after_reply, after_hear}, Sound.{IsExact, IsSound, IsSubsequence, coming_kinds, kind_of_event}}
+use Rattle.dgt_link.{specs.Sound.{kind_of_reply}, proofs.MessageReports.{ReportedIsHeard, field_reports, picture_reported, clock_reported_of, clock_after_all-append, handed_or_reported}}
+use Rattle.dgt_link.proofs.{Subsequences.{subsequence_at_end, subsequence_append, awaited_after-subsequence, moved_over}, Taking.{effect-kinds, nothing_of_noise}}
 
 -- the state with other replies owed
 abbrev owing : MachineState → List Reply → MachineState
@@ -23,7 +21,7 @@ module _ (x : MachineState) (owed : List Reply) (message : Content)
   send-kinds = search (rules, filter_map-append, moved_over)
 
   send_sound : IsSound x → IsSound (after_reported (owing x owed) message)
-  send_sound sound = search (rules, picture_reported, followed_after, clock_reported_of, send-kinds)
+  send_sound sound = search (rules, picture_reported, clock_reported_of, send-kinds)
 
   send_exact : IsExact x → IsExact (after_reported (owing x owed) message)
   send_exact exact = search (rules, send_sound, clock_after_all-append, send-kinds)
@@ -32,55 +30,41 @@ module _ (x : MachineState) (owed : List Reply) (message : Content)
 
 reply_sound : (x : MachineState) (owed : List Reply) → x.board.owed ≡ owed → IsSound x
     → IsSound (after_reply x owed)
-reply_sound x owed e sound = search (rules, send_sound, reply_reports, reply_message-kind)
+reply_sound x owed e sound = search (rules, send_sound)
 
 reply_exact : (x : MachineState) (owed : List Reply) → x.board.owed ≡ owed → IsExact x
     → IsExact (after_reply x owed)
-reply_exact x owed e exact = search (rules, send_exact, reply_reports, reply_message-kind)
-
-report_clock_first : (x : MachineState)
-    → filter_map kind_of_reply x.board.owed ≡ cons_option
-    (answered_kind (clock_message x.board.clock)) (filter_map kind_of_reply x.board.owed)
-report_clock_first x = rw (clock_message-kind x.board.clock)
+reply_exact x owed e exact = search (rules, send_exact)
 
 -- requesting or taking a reply keeps the kinds to come
 pub ask-kinds : (x : MachineState) (command : CommandContent)
     → coming_kinds (after_move x (Move.Ask command))
     ≡ coming_kinds x ++ option_to_list (requested_kind command)
-ask-kinds x command = search (rules, filter_map-append, one_more, append_assoc)
+ask-kinds x command = search (rules, filter_map-append, append_assoc)
 
 take-kinds : (x : MachineState) (event : EventContent) (rest : List EventContent)
     → x.down ≡ event ∷ rest → coming_kinds (after_take x (event ∷ rest)) ≡ coming_kinds x
-take-kinds x event rest e =
-    rw e
-    (ap (λ (kinds : List Kind). filter_map answered_kind x.up ++ kinds)
-    (effect-kinds x.board event rest))
+take-kinds x event rest e = search (rules, effect-kinds)
 
 take_sound : (x : MachineState) (down : List EventContent) → x.down ≡ down → IsSound x
     → IsSound (after_take x down)
-take_sound x down e sound = search (rules, effect_followed, take-kinds, effect_leaves)
+take_sound x down e sound = search (rules, take-kinds)
 
 take_exact : (x : MachineState) (down : List EventContent) → x.down ≡ down → IsExact x
     → IsExact (after_take x down)
-take_exact x down e exact = search (rules, take_sound, effect_leaves, take-kinds)
-
--- the kinds to come, if a message is the first under way
-hear-kinds : (x : MachineState) (message : Content) (rest : List Content) → x.up ≡ message ∷ rest
-    → coming_kinds x
-    ≡ cons_option (answered_kind message) (coming_kinds (after_hear x (message ∷ rest)))
-hear-kinds x message rest e = search rules
+take_exact x down e exact = search (rules, take-kinds)
 
 hear_sound : (x : MachineState) (up : List Content) → x.up ≡ up → IsSound x
     → IsSound (after_hear x up)
-hear_sound x up e sound = search (rules, awaited_after-subsequence, hear-kinds)
+hear_sound x up e sound = search (rules, awaited_after-subsequence)
 
 hear_exact : (x : MachineState) (up : List Content) → x.up ≡ up → IsExact x
     → IsExact (after_hear x up)
-hear_exact x up e exact = search (rules, hear_sound, hear-kinds, awaited_exactly)
+hear_exact x up e exact = search (rules, hear_sound)
 
 pub new_sound : (position : List Piece) (clock : ClockState) (identity : IdentityContent)
     → length position ≡ 64 → IsSound (new_state position clock identity)
-new_sound position clock identity h = search (rules, false≢true)
+new_sound position clock identity h = search rules
 
 pub new_exact : (position : List Piece) (clock : ClockState) (identity : IdentityContent)
     → length position ≡ 64 → IsExact (new_state position clock identity)
@@ -89,9 +73,7 @@ new_exact position clock identity h =
 
 pub noise-kinds : (noise : List EventContent) → IsNoiseList noise
     → filter_map kind_of_event noise ≡ []
-noise-kinds noise is_noise =
-    nothing_of_noise kind_of_event (λ message. refl) (λ leds. refl) (refl, refl, refl)
-    (λ byte. refl) noise is_noise
+noise-kinds noise is_noise = search (rules, nothing_of_noise)
 
 -- of the requests of a host that starts over, only a dump has a kind
 host_break-kinds : (x : MachineState) (noise : List EventContent) (is_noise : IsNoiseList noise)
@@ -112,16 +94,11 @@ pub board_sound : (x : MachineState) → IsSound x → IsSound (state_of_board x
 board_sound x sound = search rules
 
 pub taking-kinds : (x : MachineState) → coming_kinds (after_move x Move.Take) ≡ coming_kinds x
-taking-kinds x = go x.down refl
-  where
-    go : (down : List EventContent) → x.down ≡ down
-        → coming_kinds (after_take x down) ≡ coming_kinds x
-    go [] e = refl
-    go (event ∷ rest) e = take-kinds x event rest e
+taking-kinds x = search (rules, take-kinds)
 
 replying-kinds : (x : MachineState) (owed : List Reply) → x.board.owed ≡ owed
     → coming_kinds (after_reply x owed) ≡ coming_kinds x
-replying-kinds x owed e = search (rules, send-kinds, reply_reports, reply_message-kind)
+replying-kinds x owed e = search (rules, send-kinds)
 
 pub sending-kinds : (x : MachineState) (move : Move) → IsSending move
     → coming_kinds (after_move x move) ≡ coming_kinds x
@@ -132,8 +109,7 @@ sending-kinds x (Move.Report square) is =
     (λ (y : MachineState). coming_kinds y ≡ coming_kinds x)
     (λ h. send-kinds x x.board.owed (field_of x.board square) (field_reports x.board square) refl)
     (λ h. refl)
-sending-kinds x Move.ReportClock is =
-    search (rules, cond_both, send-kinds, clock_reports, report_clock_first)
+sending-kinds x Move.ReportClock is = search (rules, send-kinds)
 sending-kinds x _ none = absurd none
 
 pub move_sound : (x : MachineState) (move : Move) → IsSound x → IsSound (after_move x move)
@@ -141,7 +117,7 @@ move_sound x (Move.Change square piece) sound =
     assumption (length-set x.board.squares square piece ∙ sound.squares)
 move_sound x (Move.HandClock clock) sound =
     assumption (handed_or_reported x.board.mode x.board.reported_clock clock)
-move_sound x (Move.Ask command) sound = search (rules, asked_sound, ask-kinds, subsequence_append)
+move_sound x (Move.Ask command) sound = search (rules, ask-kinds, subsequence_append)
 move_sound x Move.Take sound = take_sound x x.down refl sound
 move_sound x Move.Reply sound = reply_sound x x.board.owed refl sound
 move_sound x (Move.Report square) sound =
@@ -149,8 +125,7 @@ move_sound x (Move.Report square) sound =
     (after_reported x (field_of x.board square)) x IsSound
     (λ h. send_sound x x.board.owed (field_of x.board square) (field_reports x.board square) refl
     sound) (λ h. sound)
-move_sound x Move.ReportClock sound =
-    search (rules, cond_both, send_sound, clock_reports, report_clock_first)
+move_sound x Move.ReportClock sound = search (rules, send_sound)
 move_sound x Move.Hear sound = hear_sound x x.up refl sound
 move_sound x Move.Break sound =
     new_sound x.board.squares x.board.clock x.board.identity sound.squares
@@ -165,20 +140,8 @@ break_exact x sound = new_exact x.board.squares x.board.clock x.board.identity s
 
 pub move_exact : (x : MachineState) (move : Move) → ¬ (IsHostBreak move) → IsExact x
     → IsExact (after_move x move)
-move_exact x (Move.Change square piece) other exact =
-    record {
-      sound = move_sound x (Move.Change square piece) exact.sound;
-      clock =
-          exact.clock;
-      awaited = exact.awaited;
-    }
-move_exact x (Move.HandClock clock) other exact =
-    record {
-      sound = move_sound x (Move.HandClock clock) exact.sound;
-      clock = exact.clock;
-      awaited =
-          exact.awaited;
-    }
+move_exact x (Move.Change square piece) other exact = search rules
+move_exact x (Move.HandClock clock) other exact = search rules
 move_exact x (Move.Ask command) other exact = record {
   sound = move_sound x (Move.Ask command) exact.sound;
   clock = exact.clock;
@@ -191,8 +154,7 @@ move_exact x (Move.Report square) other exact =
     (after_reported x (field_of x.board square)) x IsExact
     (λ h. send_exact x x.board.owed (field_of x.board square) (field_reports x.board square) refl
     exact) (λ h. exact)
-move_exact x Move.ReportClock other exact =
-    search (rules, cond_both, send_exact, clock_reports, report_clock_first)
+move_exact x Move.ReportClock other exact = search (rules, send_exact)
 move_exact x Move.Hear other exact = hear_exact x x.up refl exact
 move_exact x Move.Break other exact = break_exact x exact.sound
 move_exact x (Move.HostBreak noise is_noise) other exact = absurd (other tt)

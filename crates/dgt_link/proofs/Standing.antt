@@ -1,13 +1,13 @@
 -- An act leads a world that stands for a state to one for a state that the machine reaches by it.
-use Rattle.std.proofs.{Common.{◌≡◌, ◌≢◌, refl, sym, ap, ◌∙◌, ℕ, ◌≤◌, List, [], ◌∷◌, ◌++◌, length, take, drop, replicate, append_assoc, rules}, lemmas.{Grind.{flat_map-append}, List.{append-nil}}}
+use Rattle.std.proofs.{Common.{◌≡◌, ◌≢◌, refl, sym, ap, ◌∙◌, ℕ, ◌≤◌, List, [], ◌∷◌, ◌++◌, length, take, drop, replicate, append_assoc, rules}, lemmas.{Grind.{flat_map-append}}}
 use Rattle.{std.{proofs.lemmas.List.{take-append-drop}, specs.{Prelude.{Contains, map}}}, dgt_values.specs.declared.pieces.Piece.{Piece}, dgt_message.specs.Clock.{ClockState}}
 use Rattle.{dgt_message.specs.{Content.{Content}, Encoding.{Encodes, encoding}}, dgt_command.specs.{Content.{CommandContent, EventContent}, Words.{Divides, IsPartial}}}
 use Rattle.{dgt_board.specs.{Sending.{after_sending, next_message}, State.{IdentityContent, BoardState, effect, effects}, View.{BoardView, HasTaken}}, dgt_host.specs.Host.{HostView}}
 use Rattle.{dgt_host.specs.Host.{host_after_message, follow_bytes}, dgt_link.specs.{Act.{ActContent}, Machine.{Move, MachineState, commands_anew, after_move, after_moves, new_state, after_hear}}}
 use Rattle.dgt_link.specs.{Machine.{after_take}, Readers.{Grammars}, Stands.{AreEncoded, IsExactWorld, IsWorld, StandsFor, StandsAfterRun, StandsAfterStep}, Step.{Becomes, Runs, Step}}
 use Rattle.dgt_link.{specs.{View.{WorldView, new_world}, declared.{acts.Outcome.{Outcome}, world.TheConstants.{MIN_DOWN, MIN_UP}}}, proofs.AfterMoves.{moves_exact, moves_sound}}
-use Rattle.dgt_link.proofs.{Asking.{break_moves, run_is_other, step_is_other}, Dividing.{anew_divides, divides_command}, Hearing.{heard_of, heard_prefix, host_after_messages}, Lists.{all_append}}
-use Rattle.{dgt_link.proofs.{PromisedActs.{StepsAreMoves}, Sending.{next_is_sent}, Soundness.{break_exact, move_sound, new_exact, new_sound}}, dgt_decode.specs.Grammar.{events}}
+use Rattle.dgt_link.proofs.{Asking.{run_is_other, step_is_other}, Dividing.{anew_divides, divides_command}, Hearing.{heard_of, heard_prefix, host_after_messages}, Lists.{all_append}}
+use Rattle.{dgt_link.proofs.{PromisedActs.{StepsAreMoves}, Sending.{next_is_sent}, Soundness.{move_sound, new_exact}}, dgt_decode.specs.Grammar.{events}}
 
 pub moves-append : (x : MachineState) (moves more : List Move)
     → after_moves x (moves ++ more) ≡ after_moves (after_moves x moves) more
@@ -49,11 +49,7 @@ hears (message ∷ messages) left x host e of =
     let first : after_move x Move.Hear ≡ with_host x after (messages ++ left)
     = ap (after_hear x) e ∙ rw (of.picture, of.clock, of.awaited) refl in
     ap (λ (y : MachineState). after_moves y (replicate (length messages) Move.Hear)) first
-    ∙ hears messages left (with_host x after (messages ++ left)) after refl (record {
-      picture = refl;
-      clock = refl;
-      awaited = refl;
-    })
+    ∙ hears messages left (with_host x after (messages ++ left)) after refl (search rules)
 
 -- a prefix of a line, and the rest of it
 pub prefix_of : (held bytes : List ℕ) (count : ℕ)
@@ -77,7 +73,7 @@ pub new_stands : IsPartial []
     → (position : List Piece) (clock : ClockState) (identity : IdentityContent) (up down : ℕ)
     → length position ≡ 64
     → StandsFor (new_world position clock identity up down) (new_state position clock identity)
-new_stands nothing position clock identity up down squares = search (rules, new_sound)
+new_stands nothing position clock identity up down squares = search rules
 
 pub new_is_world : IsPartial []
     → (position : List Piece) (clock : ClockState) (identity : IdentityContent) (up down : ℕ)
@@ -104,18 +100,17 @@ new_is_exact nothing position clock identity up down squares = record {
 encoded_more : (bytes : List ℕ) (messages : List Content) (message : Content)
     → Encodes message (encoding message) → AreEncoded messages bytes
     → AreEncoded (messages ++ message ∷ []) (bytes ++ encoding message)
-encoded_more bytes messages message encodes encoded =
-    search (rules, all_append, flat_map-append, append-nil)
+encoded_more bytes messages message encodes encoded = search (rules, all_append, flat_map-append)
 
 change_reaches : (world : WorldView) (square : ℕ) (piece : Piece) (after : WorldView)
     (x : MachineState) → StandsFor world x → Becomes (ActContent.Change square piece) world after
     → StandsAfterStep (ActContent.Change square piece) Outcome.Done x after
-change_reaches world square piece after x stands same = search (rules, move_sound)
+change_reaches world square piece after x stands same = search rules
 
 clock_reaches : (world : WorldView) (clock : ClockState) (after : WorldView) (x : MachineState)
     → StandsFor world x → Becomes (ActContent.ClockRead clock) world after
     → StandsAfterStep (ActContent.ClockRead clock) Outcome.Done x after
-clock_reaches world clock after x stands same = search (rules, move_sound)
+clock_reaches world clock after x stands same = search rules
 
 module _ (laws : Grammars) where
   ask_reaches : (world : WorldView) (command : CommandContent) (after : WorldView)
@@ -151,9 +146,7 @@ module _ (laws : Grammars) where
         led = takes taken.events prefix.0 x prefix.1;
         board = taken.state ∙ ap (λ (state : BoardState). effects state taken.events) same;
         down = prefix.2;
-        partial =
-            laws.left (world.board.partial ++ take moved world.down.bytes) board.partial
-            taken.events taken.divided;
+        partial = search rules;
       }
 
   take_reaches : (world : WorldView) (count : ℕ) (after : WorldView) (x : MachineState)
@@ -180,7 +173,7 @@ module _ (laws : Grammars) where
 
   break_reaches : (world after : WorldView) (x : MachineState) → StandsFor world x
       → Becomes ActContent.Break world after → StandsAfterStep ActContent.Break Outcome.Done x after
-  break_reaches world after x stands same = search (rules, move_sound)
+  break_reaches world after x stands same = search rules
 
   host_break_reaches : (world after : WorldView) (x : MachineState) → StandsFor world x
       → Becomes ActContent.HostBreak world after
@@ -244,35 +237,13 @@ module _ (laws : Grammars) where
       )
   run_stands _ world _ after x stands none = absurd none
 
--- ---- the lines keep their capacities
-
-pub record HasRooms (world after : WorldView) : Type 0 where
-  pub up : after.up.capacity ≡ world.up.capacity
-  pub down : after.down.capacity ≡ world.down.capacity
-
-pub same_rooms : (world after : WorldView) → after ≡ world → HasRooms world after
-same_rooms world after same =
-    record {
-      up = ap (λ (w : WorldView). w.up.capacity) same;
-      down =
-          ap (λ (w : WorldView). w.down.capacity) same;
-    }
-
-pub becomes_rooms : (act : ActContent) (world after : WorldView) → Becomes act world after
-    → HasRooms world after
-becomes_rooms act world after delivers = search rules
-
-step_rooms : (act : ActContent) (world : WorldView) (answer : Outcome) (after : WorldView)
-    → Step act world answer after → HasRooms world after
-step_rooms act world answer after step = search (rules, becomes_rooms, same_rooms)
-
 -- ---- what is kept
 
 module _ (moves : StepsAreMoves) where
   -- an act leads to a world
   pub step_is_world : (act : ActContent) (world after : WorldView) (answer : Outcome)
       → IsWorld world → Step act world answer after → IsWorld after
-  step_is_world act world after answer is step = search (rules, step_rooms)
+  step_is_world act world after answer is step = search rules
 
   pub step_keeps_exact : (act : ActContent) (world after : WorldView) (answer : Outcome)
       → act ≢ ActContent.HostBreak → IsExactWorld world → Step act world answer after
@@ -284,7 +255,7 @@ module _ (moves : StepsAreMoves) where
       → Step ActContent.Break world answer after → IsExactWorld after
   break_is_exact world after answer is step =
       let reached = moves ActContent.Break world after answer is.state is.stands step in
-      search (rules, break_moves, break_exact)
+      search rules
 
 pub run_keeps_exact : ((acts : List ActContent) (world after : WorldView) (answers : List Outcome)
     (x : MachineState) → StandsFor world x → Runs acts world answers after

@@ -1,7 +1,6 @@
 -- Subsequences, and the kinds of a list with an added element.
-use Rattle.std.proofs.{Common.{◌≡◌, refl, inl, inr, List, [], ◌∷◌, ◌++◌, Option, true, append_assoc, rules}, lemmas.{Bool.{cond_both, cond-true, false≢true}, List.{append-nil}}}
-use Rattle.{std.specs.{List.{cons_option}, Option.{option_to_list}, Prelude.{◌↔◌}}, dgt_values.specs.declared.kinds.Kind.{Kind}, dgt_host.specs.Host.{awaited_after, is_same_kind}}
-use Rattle.dgt_link.specs.Sound.{IsSubsequence}
+use Rattle.std.{proofs.Common.{◌≡◌, refl, inl, inr, List, [], ◌∷◌, ◌++◌, Option, true, append_assoc, rules}, specs.{List.{cons_option}, Option.{option_to_list}, Prelude.{◌↔◌}}}
+use Rattle.{dgt_values.specs.declared.kinds.Kind.{Kind}, dgt_host.specs.Host.{awaited_after, is_same_kind}, dgt_link.specs.Sound.{IsSubsequence}}
 
 -- the second list may have more in front
 pub subsequence_later : {X : Type 0} (xs : List X) (y : X) (ys : List X) → IsSubsequence xs ys
@@ -63,12 +62,7 @@ same_kind_itself kind = search rules
 pub awaited_after-subsequence : (awaited : List Kind) (kind : Option Kind) (rest : List Kind)
     → IsSubsequence awaited (cons_option kind rest)
     → IsSubsequence (awaited_after awaited kind) rest
-awaited_after-subsequence awaited kind rest h =
-    search (rules, cond_both, subsequence_tail, false≢true, same_kind_itself)
-
-pub awaited_exactly : (kind : Option Kind) (rest : List Kind)
-    → awaited_after (cons_option kind rest) kind ≡ rest
-awaited_exactly kind rest = search (rules, cond-true, same_kind_itself)
+awaited_after-subsequence awaited kind rest h = search (rules, subsequence_tail)
 
 -- ---- the kinds of lists under way
 
@@ -77,4 +71,4 @@ one_more x = search rules
 
 pub moved_over : {X : Type 0} (a : List X) (x : Option X) (b c : List X)
     → (a ++ cons_option x []) ++ (b ++ c) ≡ a ++ (cons_option x b ++ c)
-moved_over a x b c = search (rules, append-nil, append_assoc)
+moved_over a x b c = search (rules, append_assoc)

@@ -1,21 +1,13 @@
 -- How a command that the board takes changes the kinds owed and whether the clock is followed.
-use Rattle.std.proofs.{Common.{◌≡◌, refl, ap, ◌∙◌, ◌⊎◌, ℕ, List, [], ◌∷◌, ◌++◌, Option, Some, None, append_assoc, rules}, lemmas.{Bool.{false≢true}, List.{append-nil, Elements.{filter_map-append}}}}
-use Rattle.{std.specs.{List.{cons_option}, Prelude.{IsTrue, filter_map}}, dgt_command.specs.{Content.{ClockContent, CommandContent, EventContent}, Words.{IsNoise, IsNoiseList}}}
-use Rattle.{dgt_board.specs.State.{BoardState, follows_clock, effect, effects}, dgt_link.{specs.Sound.{kind_of_event, kind_of_reply}, proofs.MessageReports.{owed_or_reported}}}
+use Rattle.std.proofs.{Common.{◌≡◌, refl, ap, ◌∙◌, ℕ, List, [], ◌∷◌, ◌++◌, Option, None, append_assoc, rules}, lemmas.{List.{Elements.{filter_map-append}}}}
+use Rattle.{std.specs.{List.{cons_option}, Prelude.{filter_map}}, dgt_command.specs.{Content.{ClockContent, CommandContent, EventContent}, Words.{IsNoise, IsNoiseList}}}
+use Rattle.{dgt_board.specs.State.{BoardState, effect, effects}, dgt_link.{specs.Sound.{kind_of_event, kind_of_reply}}}
 
 -- the kinds owed and then asked for stay the same when a command is taken
 pub effect-kinds : (board : BoardState) (event : EventContent) (down : List EventContent)
     → filter_map kind_of_reply (effect board event).owed ++ filter_map kind_of_event down
     ≡ filter_map kind_of_reply board.owed ++ filter_map kind_of_event (event ∷ down)
-effect-kinds board event down = search (rules, filter_map-append, append-nil, append_assoc)
-
-abbrev IsFollowed : BoardState → Type 0
-IsFollowed board = IsTrue (follows_clock board.mode) → IsTrue board.times_owed
-    ⊎ (board.reported_clock ≡ Some board.clock)
-
-pub effect_followed : (board : BoardState) (event : EventContent) → IsFollowed board
-    → IsFollowed (effect board event)
-effect_followed board event before = search (rules, false≢true, owed_or_reported)
+effect-kinds board event down = search (rules, filter_map-append, append_assoc)
 
 -- a command doesn't change squares and clock, or what was reported of them
 pub record Leaves (before after : BoardState) : Type 0 where
@@ -44,8 +36,7 @@ effects_same_game board (event ∷ events) =
 -- ---- noise
 
 -- anything that doesn't read clock messages, LED frames and faults doesn't read noise
-pub nothing_of_noise : {X : Type 0} (read : EventContent → Option X)
-    → ((message : ClockContent)
+pub nothing_of_noise : {X : Type 0} (read : EventContent → Option X) → ((message : ClockContent)
     → read (EventContent.Read (CommandContent.ClockMessage message)) ≡ None)
     → ((leds : List ℕ) → read (EventContent.Read (CommandContent.Leds leds)) ≡ None)
     → (read EventContent.BadSize ≡ None) × (read EventContent.BadStart ≡ None)

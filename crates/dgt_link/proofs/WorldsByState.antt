@@ -28,7 +28,7 @@ world_never_unasked world x later message stands exact e =
 
 nothing_encoded : (messages : List Content) → AreEncoded messages [] → messages ≡ []
 nothing_encoded [] h = refl
-nothing_encoded (message ∷ messages) h = let same = h.in_a_row in cc
+nothing_encoded (message ∷ messages) h = cc
 
 pub nothing_first : (messages : List Content) → slice_get messages 0 ≡ None → messages ≡ []
 nothing_first [] h = refl

@@ -1,5 +1,4 @@
-use Rattle.std.proofs.{Common.{rules}, lemmas.Bool.{false≢true}}
-use Rattle.dgt_link.proofs.Quiet.{quiet_awaited, quiet_clock, quiet_clock_reported, quiet_picture, promised_picture}
+use Rattle.{std.proofs.{Common.{rules}, lemmas.Bool.{false≢true}}, dgt_link.proofs.Quiet.{quiet_awaited, quiet_clock, quiet_clock_reported, quiet_picture, promised_picture}}
 use Rattle.dgt_link.proofs.laws.at_quiet.Goals as goal
 
 pub returns : goal.returns

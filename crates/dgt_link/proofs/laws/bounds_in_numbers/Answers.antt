@@ -1,13 +1,8 @@
-use Rattle.{std.{proofs.Common.{arith, refl, ℕ, zero, suc, [], ◌∷◌, replicate}, specs.List.{flat_map}}, dgt_link.specs.{Act.{ActContent}, Settling.{HasRounds, IsRound}}}
+use Rattle.{std.{proofs.Common.{rules, refl, ℕ, zero, suc, [], ◌∷◌, replicate}, specs.List.{flat_map}}, dgt_link.specs.{Act.{ActContent}, Settling.{HasRounds, IsRound}}}
 use Rattle.dgt_link.proofs.laws.bounds_in_numbers.Goals as goal
 
 one_round : IsRound (ActContent.BoardSend ∷ ActContent.ToBoard 1 ∷ ActContent.ToHost 1 ∷ [])
-one_round = record {
-  settling = (tt, (tt, (tt, tt)));
-  sends = (0, omega arith, refl);
-  takes = (1, omega arith, (1, omega arith, refl));
-  hears = (1, omega arith, (2, omega arith, refl));
-}
+one_round = search rules
 
 all_rounds : (rounds : ℕ) → HasRounds rounds (flat_map (λ round. round) (replicate rounds
     (ActContent.BoardSend ∷ ActContent.ToBoard 1 ∷ ActContent.ToHost 1 ∷ [])))

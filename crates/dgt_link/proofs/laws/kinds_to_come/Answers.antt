@@ -1,5 +1,4 @@
-use Rattle.std.proofs.Common.{rules}
-use Rattle.dgt_link.proofs.{Soundness.{ask-kinds, sending-kinds, taking-kinds}, Subsequences.{first_of_subsequence}}
+use Rattle.{std.proofs.Common.{rules}, dgt_link.proofs.{Soundness.{ask-kinds, sending-kinds, taking-kinds}, Subsequences.{first_of_subsequence}}}
 use Rattle.dgt_link.proofs.laws.kinds_to_come.Goals as goal
 
 pub returns-clause-asked : goal.returns-clause-asked
