@@ -1,10 +1,10 @@
 -- A struct of C describes one state or one move of chess.
-use Rattle.std.proofs.{Common.{◌≡◌, ◌↔◌, ◌⊎◌, ◌∙◌, ℕ, ◌<◌, List, ap, arith, inl, inr, length, map, refl, rules, subst, sym}, Math.Logic.{∥∥₁_elim, ∥∥₁_prop}, Props.{props}}
-use Rattle.{std.specs.Prelude.{All, Bool, true, false, IsTrue, Option, Some, None, option_map}, dgt_values.specs.declared.{pieces.Piece.{Piece}, positions.Position.{Position}}}
-use Rattle.{dgt_values.specs.{declared.squares.Square.{Square}, Board.{piece_code, pieces_of, square_number}}, dgt_chess.specs.declared.pieces.{Colour.{Colour}, Man.{Man}}}
-use Rattle.dgt_chess.specs.{declared.{possible.{Impossible.{Impossible}, Rights.{Rights}}, state.{Move.{Move}, State.{State}}}, Possible.{IsPossible, RefusedAreImpossible}}
+use Rattle.std.proofs.{Common.{◌≡◌, ◌↔◌, ◌⊎◌, ◌∙◌, ℕ, ◌<◌, List, ap, arith, inl, inr, map, refl, rules, subst, sym}, Math.Logic.{∥∥₁_elim}}
+use Rattle.{std.specs.Prelude.{All, Bool, true, false, IsTrue, Option, Some, None, option_map}, dgt_values.specs.declared.{pieces.Piece.{Piece}}}
+use Rattle.{dgt_values.specs.{declared.squares.Square.{Square}, Board.{piece_code, square_number}}, dgt_chess.specs.declared.pieces.{Colour.{Colour}, Man.{Man}}}
+use Rattle.dgt_chess.specs.{declared.{possible.{Impossible.{Impossible}, Rights.{Rights}}, state.{Move.{Move}, State.{State}}}, Possible.{RefusedAreImpossible}}
 use Rattle.dgt_chess.proofs.Same.{same_move, same_position, same_square, same_state}
-use Rattle.{dgt_chess.specs.Rules.{Legal, Reaches, StatesArePossible, board, passed}, dgt_c.specs.Chess.{IsOnlyMove, IsOnlyState, IsState, IsStateThat, LeadsTo, RefusesState, SaysLegal, SaysMove}}
+use Rattle.{dgt_chess.specs.Rules.{Legal, Reaches, StatesArePossible, board}, dgt_c.specs.Chess.{IsOnlyMove, IsOnlyState, IsState, IsStateThat, LeadsTo, RefusesState, SaysLegal, SaysMove}}
 use Rattle.dgt_c.specs.{Chess.{SaysParts, SaysState, colour_number, passed_number, promotion_code, rights_flags}, ChessOnce.{MembersAreListed, OneMove, OneState}, Hearing.{flag}}
 use Rattle.dgt_c.{specs.declared.header.{DgtChessMove.{DgtChessMove}, DgtChessState.{DgtChessState}}, proofs.{EncodingLemmas.{are_pieces}, OnceLemmas.{pieces_once}}}
 

@@ -1,9 +1,9 @@
 -- Structs and texts of chess have one meaning, and calls leave one result.
-use Rattle.std.{proofs.{Common.{◌≡◌, ◌∙◌, ℕ, ◌<◌, List, ap, arith, inl, inr, refl, rules, subst, sym}, Math.Logic.{∥∥₁_elim}}, specs.Prelude.{Option, Some, None, Result, Ok, Err, IsTrue, option_map}}
+use Rattle.std.{proofs.{Common.{◌≡◌, ◌∙◌, ℕ, ◌<◌, List, ap, arith, inl, inr, refl, rules, subst, sym}, Math.Logic.{∥∥₁_elim}}, specs.Prelude.{Option, Result, Ok, Err, IsTrue, option_map}}
 use Rattle.{dgt_values.specs.{declared.{pieces.Piece.{Piece}, squares.Square.{Square}}, Board.{square_number}}, dgt_chess.specs.declared.{fen.BadFen.{BadFen}, pieces.{Colour.{Colour}, Man.{Man}}}}
 use Rattle.dgt_chess.specs.declared.{possible.{Impossible.{Impossible}, Rights.{Rights}}, san_reader.BadSan.{BadSan}, state.{Move.{Move}, State.{State}}}
 use Rattle.dgt_chess.specs.{Fen.{IsAnyFen, IsFirstWrong, IsShown, ParsesFen, WritesFen, fen_text}, Possible.{RefusedAreImpossible, Refuses}}
-use Rattle.dgt_chess.specs.{Rules.{IsAfter, LegalBy, OneAfter, OneMoveAPicture, StatesArePossible, board, passed}, San.{IsSan, OneMoveAText, OneTextAMove, ParsesSan}}
+use Rattle.dgt_chess.specs.{Rules.{IsAfter, LegalBy, OneAfter, OneMoveAPicture, StatesArePossible, board}, San.{IsSan, OneMoveAText, OneTextAMove, ParsesSan}}
 use Rattle.{dgt_chess.proofs.{FenLaws.{OnePlacement, one_fen}, Same.{alike, same_move}, Unique.{same_man}}, dgt_c.specs.Chess.{HasParts, HasStatus, IsState, RefusesState, SaysState, reason_status}}
 use Rattle.dgt_c.specs.ChessOnce.{OneFenPut, OneFenRead, OneKind, OneLead, OneMoveStruct, OnePlay, OneSanPut, OneStateStruct, OneStatus, RefusedAreNone, StatusesAre}
 use Rattle.dgt_c.specs.{ChessTexts.{LeavesMove, LeavesState, ReadsSan, fen_reported, san_status}, Slices.{with_text}, declared.header.{DgtChessMove.{DgtChessMove}, DgtChessState.{DgtChessState}}}

@@ -1,6 +1,6 @@
 -- What a struct of C describes, and what it doesn't.
-use Rattle.std.proofs.{Common.{◌≡◌, ◌≢◌, ◌⊎◌, ◌+◌, refl, ℕ, ◌<◌, ◌≤◌, List, length, map, Option, Some, None, ap, arith, subst, rules}, lemmas.{Grind.{common_steps}, List.Elements.{All-map}}}
-use Rattle.{std.specs.{List.{AllByRecursion}, Prelude.{IfSome, IsTrue, is_some, slice_index, slice_index_or}}, dgt_values.specs.{Board.{piece_code}, declared.pieces.Piece.{Piece}}}
+use Rattle.std.proofs.{Common.{◌≡◌, ◌≢◌, ◌⊎◌, ◌+◌, refl, ℕ, ◌<◌, ◌≤◌, List, length, map, Option, Some, None, arith, subst, rules}, lemmas.{Grind.{common_steps}, List.Elements.{All-map}}}
+use Rattle.{std.specs.{List.{AllByRecursion}, Prelude.{IfSome, IsTrue, is_some, slice_index_or}}, dgt_values.specs.{Board.{piece_code}, declared.pieces.Piece.{Piece}}}
 use Rattle.dgt_message.{specs.{Clock.{ClockState}, Code.{known_total, known_with}, Content.{Content, IsCarried}, declared.known.KnownCode.{KnownCode}}, proofs.Codes.{piece_code-below}}
 use Rattle.dgt_c.specs.{Clocks.{SaysClock}, Encoding.{IsMessageKind, SaysMessage, carried_said, kinds_of_messages}, Reported.{body_apart, carried_reported, message_reported}, Starting.{ArePieces}}
 use Rattle.dgt_c.specs.declared.header.{DgtEvent.{DgtEvent}, TheConstants.{EVENT_DUMP, EVENT_NO_CLOCK, EVENT_OTHER, EVENT_TIMES}}

@@ -5,7 +5,7 @@ use Rattle.{dgt_values.specs.declared.pieces.Piece.{Piece}, dgt_decode.specs.{Fe
 use Rattle.{dgt_command.specs.{Laws.{NoWordBeginsAnother}, Words.{IsPartial, IsWord}}, dgt_host.specs.Host.{HostView, host_after_event}, dgt_c.specs.{Chunks.{Reports}, Commands.{CommandReporting}}}
 use Rattle.dgt_c.specs.{Commands.{ReportsCommand}, Hearing.{Reporting, ReportsEvent, flag}, Once.{AreSameCommands, AreSameReports, BusyBoardsStay, ClocksAreInRange, IdentitiesAreInRange}}
 use Rattle.dgt_c.specs.Once.{MessagesAreEncoded, MessagesAreRead, NothingIsEncoded, OneClock, OneEncoding, OneFeed, OneHearing, OneReportEach, OneStart, OneTaking, OneUse, OneWord}
-use Rattle.dgt_c.specs.{Once.{RefusedCommandsStay, RoomIsLeft, TextsAreShown}, Reading.{ReadsWord}, Reported.{reported_at}, Slices.{overwritten}, declared.header.DgtEvent.{DgtEvent}}
+use Rattle.dgt_c.specs.{Once.{RefusedCommandsStay, RoomIsLeft, TextsAreShown}, Reading.{ReadsWord}, Reported.{reported_at}, declared.header.DgtEvent.{DgtEvent}}
 use Rattle.dgt_c.proofs.ChunkLemmas.{overwritten_nothing, prefix_and_rest}
 
 -- ---- events

@@ -1,4 +1,4 @@
-use Rattle.{std.proofs.{Common.{refl, sym, ◌∙◌, ap, append-nil, rules}, lemmas.List.{take_rest}}, dgt_c.proofs.ChunkLemmas.{decoder, fed_in_chunks, heard_nothing, none_heard, one_heard, uses}}
+use Rattle.{std.proofs.{Common.{refl, sym, ◌∙◌, append-nil, rules}, lemmas.List.{take_rest}}, dgt_c.proofs.ChunkLemmas.{decoder, fed_in_chunks, heard_nothing, none_heard, one_heard, uses}}
 use Rattle.dgt_c.proofs.ChunkLemmas.{uses_some}
 use Rattle.dgt_c.proofs.chunks.feed_each.Goals as goal
 
