@@ -1,9 +1,13 @@
 -- How many men leave their squares in a half-move, and in a line.
-use Rattle.std.{proofs.{Common.{rules, ◌≡◌, ◌∙◌, ℕ, ◌<◌, ◌≤◌, List, [], ◌∷◌, ap, arith, length, refl, subst, sym}, Math.Logic.{∥∥₁_elim}}, specs.Prelude.{◌≢◌, ◌+◌, Bool, true, false, not, ◌&&◌, nat_eq, if◌then◌else◌, slice_set, Option, Some, None}}
-use Rattle.{std.specs.Int.{abs_diff}, dgt_values.specs.{declared.pieces.Piece.{Piece, TheVariants.{Empty}}, Board.{square_number}}, dgt_chess.specs.declared.{state.{Move.{Move}, State.{State}}, pieces.Colour.{Colour}}}
-use Rattle.dgt_chess.specs.{declared.pieces.Man.{Man, TheVariants.{Pawn, Knight, Bishop, Rook, Queen, King}}, Possible.{HasNoStray}, Attacks.{file, piece_at, piece_of, row}, Rules.{LegalBy, Moves, PawnMoves, Promotes, TakesPassing, beside, board, first_row, is_free, moved, passed, pieces_after}}
+use Rattle.std.{proofs.{Common.{rules, ◌≡◌, ◌∙◌, ℕ, ◌<◌, ◌≤◌, List, [], ◌∷◌, ap, arith, length, refl, subst, sym}, Math.Logic.{∥∥₁_elim}}, specs.Prelude.{◌≢◌, ◌+◌, Bool, true, false, not, ◌&&◌}}
+use Rattle.std.specs.Prelude.{nat_eq, if◌then◌else◌, slice_set, Option, Some, None}
+use Rattle.{std.specs.Int.{abs_diff}, dgt_values.specs.{declared.pieces.Piece.{Piece, TheVariants.{Empty}}, Board.{square_number}}, dgt_chess.specs.declared.state.{Move.{Move}, State.{State}}}
+use Rattle.dgt_chess.specs.declared.pieces.Colour.{Colour}
+use Rattle.dgt_chess.specs.{declared.pieces.Man.{Man, TheVariants.{Pawn, Knight, Bishop, Rook, Queen, King}}, Possible.{HasNoStray}, Attacks.{file, piece_at, piece_of, row}, Rules.{LegalBy, Moves}}
+use Rattle.dgt_chess.specs.Rules.{PawnMoves, Promotes, TakesPassing, beside, board, first_row, is_free, moved, passed, pieces_after}
 use Rattle.dgt_chess.proofs.{OneMove.{castles, far, pawn_passes, put, rook_from, rook_to, Castled}, Unique.{same_man}}
-use Rattle.dgt_game.{specs.{declared.reach.Kind.{Kind}, Reach.{departures, has_left, is_of, IsBack}, Lines.{IsLine, IsMove, LeadsTo, NoLine}}, proofs.{Counting.{none, one_if, set_one, triangle}, Leaving.{effect}}}
+use Rattle.dgt_game.{specs.{declared.reach.Kind.{Kind}, Reach.{departures, has_left, is_of, IsBack}, Lines.{IsLine, IsMove, LeadsTo, NoLine}}, proofs.Counting.{none, one_if, set_one, triangle}}
+use Rattle.dgt_game.proofs.Leaving.{effect}
 
 -- ---- on two boards
 

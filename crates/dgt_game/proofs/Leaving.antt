@@ -1,8 +1,9 @@
 -- A half-move leaves its first square, and the opponent's answer puts none of its men there.
 use Rattle.std.{proofs.{Common.{rules, ◌≡◌, ◌∙◌, ℕ, ◌≤◌, List, [], ◌∷◌, ap, arith, inl, inr, subst, sym}, lemmas.Bool.{cases_eq}}, specs.Prelude.{◌≢◌, suc, Option, Some}}
 use Rattle.{dgt_values.specs.{declared.pieces.Piece.{Piece, TheVariants.{Empty}}, Board.{square_number}}, dgt_chess.specs.declared.{state.{Move.{Move}, State.{State}}, pieces.Colour.{Colour}}}
-use Rattle.dgt_chess.{specs.{declared.pieces.Man.{Man, TheVariants.{Pawn, Rook}}, Attacks.{other, piece_at, piece_of, IsFree}, Rules.{CanGo, Legal, board}}, proofs.{OneMove.{effect_of, put}, Unique.{Effect}}}
-use Rattle.{dgt_chess.proofs.Unique.{not_free, not_theirs, same_kind}, dgt_game.proofs.HalfMoves.{made_by}, dgt_game.specs.{declared.ways.Ways.TheVariants.{Nothing}, Lines.{IsMove}, Ways.{AreWaysBy, IsWay}}}
+use Rattle.dgt_chess.{specs.{declared.pieces.Man.{Man, TheVariants.{Pawn, Rook}}, Attacks.{other, piece_at, piece_of, IsFree}, Rules.{CanGo, Legal, board}}, proofs.OneMove.{effect_of, put}}
+use Rattle.dgt_chess.proofs.Unique.{Effect}
+use Rattle.{dgt_chess.proofs.Unique.{not_free, not_theirs, same_kind}, dgt_game.{proofs.HalfMoves.{made_by}, specs.{declared.ways.Ways.TheVariants.{Nothing}, Lines.{IsMove}, Ways.{AreWaysBy, IsWay}}}}
 
 was_pawn : (man : Man) (promotion : Option Man) → promotion ≢ Some Pawn → put man promotion ≡ Pawn
     → man ≡ Pawn

@@ -1,7 +1,6 @@
 -- One state follows a move.
 use Rattle.std.proofs.Common.{rules, ◌≡◌, ◌∙◌, ℕ, sym}
 use Rattle.std.specs.Prelude.{Option}
-use Rattle.dgt_values.specs.Board.{square_number}
 use Rattle.dgt_chess.specs.{declared.{pieces.Man.{Man}, state.{Move.{Move}, State.{State}}}, Rules.{IsAfter}}
 use Rattle.{dgt_chess.proofs.{Same.{alike}, Unique.{same_man}}, dgt_game.specs.Lines.{IsMove}}
 

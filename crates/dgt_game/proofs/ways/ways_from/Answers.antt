@@ -1,4 +1,5 @@
-use Rattle.{std.{proofs.Common.{◌≡◌, ◌<◌, arith, refl, rules, subst, sym}, specs.Prelude.{◌+◌, suc}}, dgt_values.specs.Board.{pieces_of, square_number}, dgt_game.specs.declared.ways.Ways.{Ways, TheVariants.{Nothing}}, dgt_game.specs.Ways.{AreWaysBy}, dgt_game.proofs.{Leaving.{kept, no_goal, no_man}, Sets.{all_goals, further, several_from}}}
+use Rattle.{std.{proofs.Common.{◌≡◌, ◌<◌, arith, refl, rules, subst, sym}, specs.Prelude.{◌+◌, suc}}, dgt_values.specs.Board.{pieces_of, square_number}, dgt_game.specs.declared.ways.Ways.{Ways}}
+use Rattle.dgt_game.{specs.{declared.ways.Ways.TheVariants.{Nothing}, Ways.{AreWaysBy}}, proofs.{Leaving.{kept, no_goal, no_man}, Sets.{all_goals, further, several_from}}}
 use Rattle.dgt_game.proofs.ways.ways_from.Goals.{then-has+else-is_several, else-has}
 use Rattle.dgt_game.proofs.ways.ways_from.Goals as goal
 
