@@ -1,6 +1,7 @@
 /* What a decoder, a host and a follower make of bytes. A file that includes this defines IT and
- * MODEL, the calls that report events, HEAR and HEAR_MANY (which a follower hasn't), MODEL_HEAR,
- * that of the model, and how many bytes are unread: the call UNREAD, and MODEL_UNREAD. */
+ * MODEL, the calls that report events, HEAR and HEAR_MANY (which a follower hasn't), and
+ * MODEL_HEAR, that of the model. UNREAD is the call that counts unread bytes, and MODEL_UNREAD
+ * their number in the model. */
 
 static dgt_event right;
 static uint8_t right_body[DGT_MAX_BODY];

@@ -1535,8 +1535,7 @@ static inline bool dgt_is_inside_(const void *at, const void *handle, size_t siz
 }
 #undef DGT_ADDRESS_
 
-/* A function that returns a handle of this type, and asserts that it is where it was made. */
-#define DGT_CHECKED_(type, text)                                              \
+#define DGT_CHECKED_(type, text) /* returns a handle, and asserts that it is in its place */ \
     static inline type *type##_(type *handle) {                               \
         assert(dgt_is_inside_(handle->at_, handle, sizeof *handle) && text);  \
         return handle;                                                        \
