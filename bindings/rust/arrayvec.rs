@@ -99,26 +99,22 @@ impl<const ROOM: usize> ArrayString<ROOM> {
     }
 
     pub fn push(&mut self, character: char) {
-        character.encode_utf8(&mut [0; 4]).bytes().for_each(|byte| self.0.push(byte));
+        self.push_str(character.encode_utf8(&mut [0; 4]));
     }
 
     pub fn push_str(&mut self, text: &str) {
         text.bytes().for_each(|byte| self.0.push(byte));
     }
 
-    pub fn len(&self) -> usize {
-        self.0.len()
-    }
-
-    pub fn is_empty(&self) -> bool {
-        self.0.is_empty()
-    }
-
-    pub fn as_bytes(&self) -> &[u8] {
-        &self.0
-    }
-
     pub fn as_str(&self) -> &str {
+        self
+    }
+}
+
+impl<const ROOM: usize> Deref for ArrayString<ROOM> {
+    type Target = str;
+
+    fn deref(&self) -> &str {
         core::str::from_utf8(&self.0).unwrap()
     }
 }

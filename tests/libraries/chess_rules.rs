@@ -1,7 +1,7 @@
 //! Answers tests/libraries/chess_rules by the crate for plain Rust.
 
 use dgt::Square;
-use dgt::chess::{BadFen, BadSan, Man, Move, State};
+use dgt::chess::{BadFen, BadSan, Colour, Man, Move, State};
 use std::fmt::Write;
 use std::io::{BufWriter, Write as _, stdin, stdout};
 
@@ -27,15 +27,8 @@ fn moves(state: &State) -> Vec<Move> {
 }
 
 fn text(one: Move) -> String {
-    let man = one.promotion.map(|man| match man {
-        Man::Pawn => "p",
-        Man::Knight => "n",
-        Man::Bishop => "b",
-        Man::Rook => "r",
-        Man::Queen => "q",
-        Man::King => "k",
-    });
-    format!("{}{}{}", one.from, one.to, man.unwrap_or(""))
+    let letter = one.promotion.map(|man| Colour::Black.piece(man).to_string());
+    format!("{}{}{}", one.from, one.to, letter.unwrap_or_default())
 }
 
 fn shown(state: &State, moves: &[Move]) -> String {

@@ -207,13 +207,18 @@ int run(const std::string &what, std::size_t size) {
 
 // ---- Each call.
 
-template <class Error, class Call> bool throws(Call &&call) {
+/// The exception of a call, if it throws one of this kind.
+template <class Error, class Call> std::optional<Error> thrown(Call &&call) {
     try {
         call();
-    } catch (const Error &) {
-        return true;
+    } catch (const Error &error) {
+        return error;
     }
-    return false;
+    return std::nullopt;
+}
+
+template <class Error, class Call> bool throws(Call &&call) {
+    return thrown<Error>(call).has_value();
 }
 
 template <class Call> bool refuses(Call &&call) {
@@ -242,13 +247,9 @@ void values() {
     CHECK(start.differ(none) == UINT64_C(0xffff00000000ffff) && none.differ(none) == 0);
     CHECK(refuses([] { dgt::Position("8/8"); }) && refuses([] { dgt::Position(""); }));
     for (const auto &[wrong, at] : {std::pair("8/8", 3u), std::pair("8/8/q9/8", 5u)}) {
-        try {
-            dgt::Position position{std::string_view(wrong)};
-            CHECK(false);
-        } catch (const dgt::BadPlacement &error) {
-            CHECK(error.at() == at && error.what() == "not a placement: '" + std::string(wrong) +
-                                                          "'");
-        }
+        const std::string text = wrong;
+        const auto error = thrown<dgt::BadPlacement>([&] { dgt::Position{text}; });
+        CHECK(error && error->at() == at && error->what() == "not a placement: '" + text + "'");
     }
     std::array<std::uint8_t, 64> codes{};
     codes[63] = 16;
@@ -307,16 +308,6 @@ void names() {
           !dgt::text_of(Bytes{'D', 127}));
     dgt::Time time{0, 0, 0, 5};
     CHECK(time.blocked() && !time.per_move() && time.fallen());
-}
-
-/// The exception of a call, if it throws one of this kind.
-template <class Error, class Call> std::optional<Error> thrown(Call &&call) {
-    try {
-        call();
-    } catch (const Error &error) {
-        return error;
-    }
-    return std::nullopt;
 }
 
 // tests/libraries/chess_rules contains rows of moves and texts.
@@ -632,12 +623,8 @@ void views() {
 }
 
 std::string why_not(const std::string &port) {
-    try {
-        dgt::Port opened(port);
-    } catch (const dgt::PortError &error) {
-        return std::to_string(error.error()) + " " + error.what();
-    }
-    return "";
+    const auto error = thrown<dgt::PortError>([&] { dgt::Port opened(port); });
+    return error ? std::to_string(error->error()) + " " + error->what() : "";
 }
 
 /* The list of a folder instead of /dev: the stable names first, and each port once. */

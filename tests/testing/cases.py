@@ -85,15 +85,17 @@ def note(text: str) -> None:
     NOTES.append(text)
 
 
-def command(*words: object, seconds: float | None = 600, text: bool = True, **how: Any) -> Any:
-    """What a command prints that must not fail: a text, or else bytes."""
+def command(*words: object, seconds: float | None = 600, text: bool = True, status: int = 0,
+            **how: Any) -> Any:
+    """What a command prints that must not fail, or has to end with a status: a text, or else bytes.
+    It includes the errors if there is a status."""
     how = how if "input" in how else {"stdin": subprocess.DEVNULL} | how
     ran = subprocess.run([str(word) for word in words], capture_output=True, check=False,
                          timeout=seconds, text=text, **how)
-    if ran.returncode:
+    if ran.returncode != status:
         raise wrong.Wrong(f"{shlex.join(map(str, words))} ended with {ran.returncode}: "
                           f"{ran.stderr[-4000:]}{ran.stdout[-4000:]}")
-    return ran.stdout
+    return ran.stdout + ran.stderr if status else ran.stdout
 
 
 def absent(*names: str) -> list[str]:

@@ -6,6 +6,7 @@ import pathlib
 
 import cases
 import dgt
+from values import refusal
 from wrong import wanted
 
 LINES = pathlib.Path(__file__).resolve().parent / "rows.txt"
@@ -100,9 +101,10 @@ class ClockCalls(cases.Case):
         for call, arguments, said in REFUSED:
             arguments, line = with_times(arguments), Line()
             for caller in (dgt.Host(), dgt.Follower(), dgt.follow(line)):
-                text = refusal(caller, call, arguments)
-                wanted(f"{call} of {arguments}", text[:len(said)], said)
-            wanted(f"{call} of {arguments}, sent", line.written, [])
+                what, send = f"{call} of {arguments}", getattr(caller, f"send_{call}")
+                text = refusal(what, dgt.BadValue, lambda: send(*arguments))
+                wanted(what, text[:len(said)], said)
+            wanted(f"{what}, sent", line.written, [])
         for wrong in ("text", 5, None, [1]):
             self.assertRaises(TypeError, dgt.Host().send_icons, wrong)
 
@@ -112,11 +114,3 @@ class ClockCalls(cases.Case):
             for call, arguments, _ in ROWS:
                 with self.assertRaises(dgt.Closed):
                     getattr(caller, f"send_{call}")(*with_times(arguments))
-
-
-def refusal(caller, call, arguments):
-    try:
-        sent = getattr(caller, f"send_{call}")(*arguments)
-    except dgt.BadValue as fault:
-        return str(fault)
-    return f"taken: {sent!r}"

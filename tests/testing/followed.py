@@ -16,6 +16,9 @@ from wrong import Wrong, wanted
 
 ANSWERED = PUT.replace("pppppppp/8/8", "ppp1pppp/8/3p4")
 FIELD = bytes([0x8E, 0, 5, 36, 1])  # a pawn on e4
+# A dump, and a field: the pawn is taken from e2.
+MESSAGES = bytes.fromhex("860043 08090a0c0b0a0908" + "07" * 8 + "00" * 32 + "01" * 8
+                         + "0203040605040302 8e00053400")
 ASKED_FIRST = bytes(255) + b"\x44\x42\x4b\x41"
 CLOCK = "clock 1:00:00 0:59:30"
 ROOT = pathlib.Path(__file__).resolve().parents[2]
@@ -148,11 +151,23 @@ def a_trainer_waits(dgt, line, words):
 # ---- The programs of the pages
 
 
+def blocks_of(page, language):
+    """The blocks of a page in a language. The page may be the front page of a crate."""
+    text = re.sub(r"^//! ?", "", (ROOT / page).read_text(), flags=re.M)
+    return re.findall(rf"^```{language}\n(.*?)^```", text, re.M | re.S)
+
+
+def block_of(language):
+    """The block of docs/USING.md in a language that names neither a port nor the rules of chess."""
+    [block] = [block for block in blocks_of("docs/USING.md", language)
+               if PORT not in block and "chess" not in block]
+    return block
+
+
 def first_program(language, port, with_clock=False):
     """The first program of README.md and docs/USING.md in a language that names a port, for this
     port: of those without a clock, or with one."""
-    text = "\n".join((ROOT / page).read_text() for page in ("README.md", "docs/USING.md"))
-    blocks = re.findall(rf"^```{language}\n(.*?)^```", text, re.M | re.S)
+    blocks = [*blocks_of("README.md", language), *blocks_of("docs/USING.md", language)]
     found = (each for each in blocks if PORT in each and ("clock" in each) == with_clock)
     program = next(found, "")
     wanted(f"ports in the program in {language}", program.count(PORT), 1)

@@ -77,14 +77,12 @@ def any_act(world, chance, weights):
 
 def any_fault(world, chance):
     """The line of a fault or of a restart, and the call that does it."""
-    word, call = chance.choice((("garbleup", world.garble_up), ("garbledown", world.garble_down),
-                                ("boardlost", None), ("restart", None), ("giveup", None)))
-    if word == "boardlost":
-        return word, world.board_loses_power
-    if word == "restart":
-        return word, world.host_restarts
-    if word == "giveup":
-        return word, world.host_gives_up
+    word, call = chance.choice((
+        ("garbleup", world.garble_up), ("garbledown", world.garble_down),
+        ("boardlost", world.board_loses_power), ("restart", world.host_restarts),
+        ("giveup", world.host_gives_up)))
+    if not word.startswith("garble"):
+        return word, call
     data = bytes.fromhex(chance.choice(("", *GARBAGE, 67 * "8e", 68 * "05", 120 * "8e")))
     return f"{word} {data.hex() or '-'}", lambda: call(data)
 

@@ -23,13 +23,6 @@ static size_t take(const uint8_t *bytes, size_t n) {
     return taken.used;
 }
 
-static void take_chunk(void) {
-    chunk given = input_chunk();
-    for (size_t at = 0, used = 1; used > 0; at += used)
-        used = take(given.bytes + at, given.n - at);
-    check_same_chunk(given);
-}
-
 /* Whether a message was written. */
 static bool poll(size_t room) {
     uint8_t *out = guarded(OUT, room), message[DGT_MAX_SENT];
@@ -157,7 +150,7 @@ int LLVMFuzzerTestOneInput(const uint8_t *data, size_t n) {
     look();
     while (input_is_left()) {
         uint8_t act = input_byte() % 16;
-        if (act < 5) take_chunk();
+        if (act < 5) use_chunk(take);
         else if (act < 7) poll(DGT_MAX_SENT);
         else if (act < 9) poll_all();
         else if (act == 9) poll(input_room(DGT_MAX_SENT + 3));

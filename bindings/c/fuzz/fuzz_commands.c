@@ -15,16 +15,8 @@ static size_t feed(const uint8_t *bytes, size_t n) {
     CHECK(dgt_command_decoder_feed(reader, bytes, n, command, word, room) == used);
     CHECK_SAME(command, &right);
     check_written(word, room, right_word, right.word_len);
+    CHECK(dgt_command_decoder_unread(reader) == model.n);
     return used;
-}
-
-static void feed_chunk(void) {
-    chunk given = input_chunk();
-    for (size_t at = 0, used = 1; used > 0; at += used) {
-        used = feed(given.bytes + at, given.n - at);
-        CHECK(dgt_command_decoder_unread(reader) == model.n);
-    }
-    check_same_chunk(given);
 }
 
 int LLVMFuzzerTestOneInput(const uint8_t *data, size_t n) {
@@ -35,7 +27,7 @@ int LLVMFuzzerTestOneInput(const uint8_t *data, size_t n) {
     while (input_is_left()) {
         uint8_t act = input_byte() % 8;
         if (act < 6) {
-            feed_chunk();
+            use_chunk(feed);
             continue;
         }
         if (act == 6) CHECK(dgt_command_decoder_finish(reader) == model.n);

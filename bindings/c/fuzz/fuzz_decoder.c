@@ -9,16 +9,9 @@ static model_decoder model;
 #define HEAR dgt_decoder_feed
 #define HEAR_MANY dgt_decoder_feed_many
 #define MODEL_HEAR model_feed
+#define UNREAD dgt_decoder_unread
+#define MODEL_UNREAD model.n
 #include "hears.h"
-
-static void feed_chunk(bool by_events) {
-    chunk given = input_chunk();
-    for (size_t at = 0, used = 1; used > 0; at += used) {
-        used = (by_events ? hear : hear_many)(given.bytes + at, given.n - at);
-        CHECK(dgt_decoder_unread(decoder) == model.n);
-    }
-    check_same_chunk(given);
-}
 
 int LLVMFuzzerTestOneInput(const uint8_t *data, size_t n) {
     input_begin(data, n);
@@ -28,7 +21,7 @@ int LLVMFuzzerTestOneInput(const uint8_t *data, size_t n) {
     while (input_is_left()) {
         uint8_t act = input_byte() % 8;
         if (act < 6) {
-            feed_chunk(act % 2 == 0);
+            use_chunk(act % 2 == 0 ? hear : hear_many);
             continue;
         }
         if (act == 6) CHECK(dgt_decoder_finish(decoder) == model.n);

@@ -14,40 +14,27 @@ static uint64_t now;
 #define SENT(sending) model_follower_sending(&model, sending)
 #include "sends.h"
 
-static void check_hear(const uint8_t *bytes, size_t n, size_t used, const dgt_event *right,
-                       const uint8_t *right_body) {
-    size_t room = input_room(DGT_MAX_BODY);
-    uint8_t *body = guarded(BODY, room);
-    dgt_event *event = guarded(EVENTS, sizeof *event);
-    CHECK(dgt_follower_hear(follower, now, bytes, n, event, body, room) == used);
-    CHECK_SAME(event, right);
-    check_written(body, room, right_body, right->body_len);
-}
+#undef MODEL
+#define MODEL &model
+#define IT follower
+#define HEAR(it, ...) dgt_follower_hear(it, now, __VA_ARGS__)
+#define MODEL_HEAR(it, ...) model_follower_hear(it, now, __VA_ARGS__)
+#define UNREAD dgt_follower_unread
+#define MODEL_UNREAD model.host.decoder.n
+#include "hears.h"
 
-static void hear(chunk given, bool by_events) {
-    static uint8_t right_body[DGT_MAX_BODY];
-    dgt_event right;
-    for (size_t at = 0, used = 1; used > 0; at += used) {
-        const uint8_t *bytes = given.bytes + at;
-        size_t n = given.n - at;
-        used = model_follower_hear(&model, now, bytes, n, &right, right_body);
-        if (by_events) check_hear(bytes, n, used, &right, right_body);
-    }
-    if (!by_events) dgt_follower_hear_all(follower, now, given.bytes, given.n);
-}
-
-static void hear_chunk(bool by_events) {
-    chunk given = input_chunk();
-    hear(given, by_events);
-    check_same_chunk(given);
+static size_t hear_all(const uint8_t *bytes, size_t n) {
+    dgt_follower_hear_all(follower, now, bytes, n);
+    for (size_t at = 0; at < n;) at += MODEL_HEAR(MODEL, bytes + at, n - at, &right, right_body);
+    return n;
 }
 
 /* A board's reply to a request: a dump with the same piece on each square. */
-static void hear_dump(bool by_events) {
+static void hear_dump(using_bytes *use) {
     uint8_t *dump = guarded(IN, 67);
     memset(dump, input_byte() % 16, 67);
     memcpy(dump, "\x86\x00\x43", 3);
-    hear((chunk){dump, 67}, by_events);
+    use_all((chunk){dump, 67}, use);
 }
 
 static void ask(size_t room) {
@@ -144,8 +131,9 @@ int LLVMFuzzerTestOneInput(const uint8_t *data, size_t n) {
     look();
     while (input_is_left()) {
         uint8_t act = input_byte() % 20;
-        if (act < 4) hear_chunk(act % 2 == 0);
-        else if (act < 6) hear_dump(act % 2 == 0);
+        using_bytes *use = act % 2 == 0 ? hear : hear_all;
+        if (act < 4) use_chunk(use);
+        else if (act < 6) hear_dump(use);
         else if (act < 9) ask(DGT_MAX_ASKING);
         else if (act == 9) ask(input_room(DGT_MAX_ASKING + 3));
         else if (act == 10) send_code(0, input_chunk);

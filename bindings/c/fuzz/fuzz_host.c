@@ -18,14 +18,9 @@ static model_host model;
 #define HEAR dgt_host_hear
 #define HEAR_MANY dgt_host_hear_many
 #define MODEL_HEAR model_hear
+#define UNREAD dgt_host_unread
+#define MODEL_UNREAD model.decoder.n
 #include "hears.h"
-
-static void hear_chunk(bool by_events) {
-    chunk given = input_chunk();
-    for (size_t at = 0, used = 1; used > 0; at += used)
-        used = (by_events ? hear : hear_many)(given.bytes + at, given.n - at);
-    check_same_chunk(given);
-}
 
 /* ---- What it sends. */
 
@@ -64,7 +59,7 @@ int LLVMFuzzerTestOneInput(const uint8_t *data, size_t n) {
     while (input_is_left()) {
         uint8_t act = input_byte() % 16;
         if (act < 8) {
-            hear_chunk(act % 2 == 0);
+            use_chunk(act % 2 == 0 ? hear : hear_many);
         } else if (act < 11) {
             send_code(act - 8, any_payload);
         } else if (act < 13) {

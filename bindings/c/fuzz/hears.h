@@ -1,5 +1,7 @@
-/* What both a decoder and a host make of bytes. A file that includes this defines IT and MODEL, the
- * calls that report events, HEAR and HEAR_MANY, and MODEL_HEAR, that of the model. */
+/* What a decoder, a host and a follower make of bytes. A file that includes this defines IT and
+ * MODEL, the calls that report events, HEAR and HEAR_MANY (which a follower hasn't), and
+ * MODEL_HEAR, that of the model. UNREAD is the call that counts unread bytes, and MODEL_UNREAD
+ * their number in the model. */
 
 static dgt_event right;
 static uint8_t right_body[DGT_MAX_BODY];
@@ -12,9 +14,11 @@ static size_t hear(const uint8_t *bytes, size_t n) {
     CHECK(HEAR(IT, bytes, n, event, body, room) == used);
     CHECK_SAME(event, &right);
     check_written(body, room, right_body, right.body_len);
+    CHECK(UNREAD(IT) == MODEL_UNREAD);
     return used;
 }
 
+#ifdef HEAR_MANY
 static size_t hear_many(const uint8_t *bytes, size_t n) {
     size_t room = input_room(DGT_MAX_BODY), capacity = input_room(20), count = 0, used = 0;
     uint8_t *body = guarded(BODY, room);
@@ -29,5 +33,7 @@ static size_t hear_many(const uint8_t *bytes, size_t n) {
     CHECK(told.used == used && told.count == count);
     check_kept(events, count * sizeof *events, capacity * sizeof *events);
     check_written(body, room, right_body, right.body_len);
+    CHECK(UNREAD(IT) == MODEL_UNREAD);
     return used;
 }
+#endif

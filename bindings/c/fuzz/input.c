@@ -130,6 +130,17 @@ chunk input_chunk(void) {
 
 void check_same_chunk(chunk given) { CHECK(memcmp(given.bytes, made, given.n) == 0); }
 
+void use_all(chunk given, using_bytes *use) {
+    for (size_t at = 0, used = 1; used > 0; at += used)
+        used = use(given.bytes + at, given.n - at);
+}
+
+void use_chunk(using_bytes *use) {
+    chunk given = input_chunk();
+    use_all(given, use);
+    check_same_chunk(given);
+}
+
 /* ---- Memory. */
 
 static uint8_t *places[PLACES];

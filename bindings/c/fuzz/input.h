@@ -41,6 +41,13 @@ chunk input_chunk(void);
 /* Aborts unless a chunk is unchanged. */
 void check_same_chunk(chunk made);
 
+/* Uses some of these bytes, and returns how many. */
+typedef size_t using_bytes(const uint8_t *bytes, size_t n);
+
+/* Calls it again with the rest of a chunk until it uses none; and the same for an input_chunk. */
+void use_all(chunk given, using_bytes *use);
+void use_chunk(using_bytes *use);
+
 /* ---- Memory. Each place has an unmapped page on either side. */
 
 enum place { HANDLE, IN, OUT, BODY, EVENTS, LOOK, PLACES };

@@ -1535,11 +1535,19 @@ static inline bool dgt_is_inside_(const void *at, const void *handle, size_t siz
 }
 #undef DGT_ADDRESS_
 
-static inline dgt_host *dgt_host_(dgt_host *handle) {
-    assert(dgt_is_inside_(handle->at_, handle, sizeof *handle) &&
-           "this dgt_host was not made, or was copied or moved");
-    return handle;
-}
+#define DGT_CHECKED_(type, text) /* returns a handle, and asserts that it is in its place */ \
+    static inline type *type##_(type *handle) {                               \
+        assert(dgt_is_inside_(handle->at_, handle, sizeof *handle) && text);  \
+        return handle;                                                        \
+    }
+DGT_CHECKED_(dgt_host, "this dgt_host was not made, or was copied or moved")
+DGT_CHECKED_(dgt_follower, "this dgt_follower was not made, or was copied or moved")
+DGT_CHECKED_(dgt_decoder, "this dgt_decoder was not made, or was copied or moved")
+DGT_CHECKED_(dgt_command_decoder, "this dgt_command_decoder was not made, or was copied or moved")
+DGT_CHECKED_(dgt_board, "this dgt_board was not made, or was copied or moved")
+DGT_CHECKED_(dgt_recogniser, "this dgt_recogniser was not made, or was copied or moved")
+#undef DGT_CHECKED_
+
 #define dgt_host_hear(it, ...) dgt_host_hear(dgt_host_(it), __VA_ARGS__)
 #define dgt_host_hear_many(it, ...) dgt_host_hear_many(dgt_host_(it), __VA_ARGS__)
 #define dgt_host_follow(it, ...) dgt_host_follow(dgt_host_(it), __VA_ARGS__)
@@ -1565,11 +1573,6 @@ static inline dgt_host *dgt_host_(dgt_host *handle) {
 #define dgt_host_unread(it) dgt_host_unread(dgt_host_(it))
 #define dgt_host_line_lost(it) dgt_host_line_lost(dgt_host_(it))
 
-static inline dgt_follower *dgt_follower_(dgt_follower *handle) {
-    assert(dgt_is_inside_(handle->at_, handle, sizeof *handle) &&
-           "this dgt_follower was not made, or was copied or moved");
-    return handle;
-}
 #define dgt_follower_start(it, ...) dgt_follower_start(dgt_follower_(it), __VA_ARGS__)
 #define dgt_follower_hear(it, ...) dgt_follower_hear(dgt_follower_(it), __VA_ARGS__)
 #define dgt_follower_hear_all(it, ...) dgt_follower_hear_all(dgt_follower_(it), __VA_ARGS__)
@@ -1607,33 +1610,18 @@ static inline dgt_follower *dgt_follower_(dgt_follower *handle) {
 #define dgt_follower_line_disturbed(it) dgt_follower_line_disturbed(dgt_follower_(it))
 #define dgt_follower_line_lost(it) dgt_follower_line_lost(dgt_follower_(it))
 
-static inline dgt_decoder *dgt_decoder_(dgt_decoder *handle) {
-    assert(dgt_is_inside_(handle->at_, handle, sizeof *handle) &&
-           "this dgt_decoder was not made, or was copied or moved");
-    return handle;
-}
 #define dgt_decoder_feed(it, ...) dgt_decoder_feed(dgt_decoder_(it), __VA_ARGS__)
 #define dgt_decoder_feed_many(it, ...) dgt_decoder_feed_many(dgt_decoder_(it), __VA_ARGS__)
 #define dgt_decoder_unread(it) dgt_decoder_unread(dgt_decoder_(it))
 #define dgt_decoder_finish(it) dgt_decoder_finish(dgt_decoder_(it))
 #define dgt_decoder_reset(it) dgt_decoder_reset(dgt_decoder_(it))
 
-static inline dgt_command_decoder *dgt_command_decoder_(dgt_command_decoder *handle) {
-    assert(dgt_is_inside_(handle->at_, handle, sizeof *handle) &&
-           "this dgt_command_decoder was not made, or was copied or moved");
-    return handle;
-}
 #define dgt_command_decoder_feed(it, ...) \
     dgt_command_decoder_feed(dgt_command_decoder_(it), __VA_ARGS__)
 #define dgt_command_decoder_unread(it) dgt_command_decoder_unread(dgt_command_decoder_(it))
 #define dgt_command_decoder_finish(it) dgt_command_decoder_finish(dgt_command_decoder_(it))
 #define dgt_command_decoder_reset(it) dgt_command_decoder_reset(dgt_command_decoder_(it))
 
-static inline dgt_board *dgt_board_(dgt_board *handle) {
-    assert(dgt_is_inside_(handle->at_, handle, sizeof *handle) &&
-           "this dgt_board was not made, or was copied or moved");
-    return handle;
-}
 #define dgt_board_start(it, ...) dgt_board_start(dgt_board_(it), __VA_ARGS__)
 #define dgt_board_change(it, ...) dgt_board_change(dgt_board_(it), __VA_ARGS__)
 #define dgt_board_hand_clock(it, ...) dgt_board_hand_clock(dgt_board_(it), __VA_ARGS__)
@@ -1648,11 +1636,6 @@ static inline dgt_board *dgt_board_(dgt_board *handle) {
 #define dgt_board_position(it, ...) dgt_board_position(dgt_board_(it), __VA_ARGS__)
 #define dgt_board_clock(it, ...) dgt_board_clock(dgt_board_(it), __VA_ARGS__)
 
-static inline dgt_recogniser *dgt_recogniser_(dgt_recogniser *handle) {
-    assert(dgt_is_inside_(handle->at_, handle, sizeof *handle) &&
-           "this dgt_recogniser was not made, or was copied or moved");
-    return handle;
-}
 #define dgt_recogniser_see(it, ...) dgt_recogniser_see(dgt_recogniser_(it), __VA_ARGS__)
 #define dgt_recogniser_due_at(it, ...) dgt_recogniser_due_at(dgt_recogniser_(it), __VA_ARGS__)
 #define dgt_recogniser_due(it, ...) dgt_recogniser_due(dgt_recogniser_(it), __VA_ARGS__)

@@ -301,8 +301,7 @@ class Board:
         shown, state, moves = self.shown(game), game.state, game.moves
         match = (state is not None and moves is not None
                  and str(Position.of_letters(state.letters)) == shown)
-        event = {"flipped": game.turned, "board": shown, "clock": self.clock,
-                 "match": match}
+        event = {"flipped": game.turned, "board": shown, "clock": self.clock, "match": match}
         return {**event, **({} if moves is None else {"san": moves})}
 
 

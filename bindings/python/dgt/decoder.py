@@ -9,8 +9,7 @@ from ._c import EVENT_FIELD, MAX_BODY, MAX_WORD, CommandStruct, EventStruct
 from ._handle import Bytes, Handle, readable, writable
 from ._library import dgt
 from .commands import Word, read_word
-from .events import (FIELDS, KIND, PIECE, SQUARE, Event, read_event, read_events,
-                     read_offsets)
+from .events import FIELDS, KIND, PIECE, SQUARE, Event, read_event, read_events, read_offsets
 
 
 class EventReader(Handle):

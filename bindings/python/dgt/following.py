@@ -236,7 +236,40 @@ class _Given:
         """Does nothing: the caller closes the line."""
 
 
-class Following(Uncopied, ClockCommands[None]):
+class _Followed(Uncopied, ClockCommands[None]):
+    """The common part of `Following` and `AsyncFollowing`."""
+
+    _steps: _Steps
+    _is_closed = False
+
+    @property
+    def view(self) -> BoardView:
+        """The present view."""
+        return self._steps.view
+
+    @property
+    def follower(self) -> Follower:
+        """Makes commands for `write`: `following.write(following.follower.send(Ask.CLOCK))`."""
+        return self._steps.follower
+
+    def write(self, chunk: Bytes) -> None:
+        raise NotImplementedError
+
+    def light(self, *squares: str) -> None:
+        """Lights two squares of a board with lights, or none, with the frame of `Leds.lighting`.
+        For other frames, `write` the bytes of `Follower.send_leds`. `BadValue` as in `lighting`,
+        and `Closed` after `close` or `aclose`."""
+        self.write(self.follower.send_leds(Leds.lighting(*squares).leds))
+
+    def _clock_message(self, id: ClockId, payload: bytes) -> None:
+        self.write(self.follower.send_clock(id, payload))
+
+    def _check_open(self) -> None:
+        if self._is_closed:
+            raise Closed(f"this {type(self).__name__} is closed")
+
+
+class Following(_Followed):
     """Follows a board on a serial port: the result of `follow`. It is an iterator of `BoardView`s;
     `wait` returns one or gives up after a timeout. The calls of `ClockCommands` send a command to
     the board's clock. Use it in one thread; any other may `close` it. It is also closed when
@@ -256,8 +289,7 @@ class Following(Uncopied, ClockCommands[None]):
         """Like `follow`."""
         self._steps = _Steps(period, patience, _mode(mode, clock), confirm, identify)
         self._waits, self._was_there, self._look_at = wait_for_port, False, 0.0
-        self._is_given = False
-        self._is_closed, self._line, self._name = False, None, ""
+        self._is_given, self._line, self._name = False, None, ""
         self._lock = threading.RLock()  # held during `wait`, which uses the port
         # Has something to read once `close` is called.
         self._closing = raised(_linux.eventfd(0, _linux.EFD_CLOEXEC))
@@ -273,16 +305,6 @@ class Following(Uncopied, ClockCommands[None]):
         if self._closing >= 0:
             Following.close(self)
             os.close(self._closing)
-
-    @property
-    def view(self) -> BoardView:
-        """The present view."""
-        return self._steps.view
-
-    @property
-    def follower(self) -> Follower:
-        """Makes commands for `write`: `following.write(following.follower.send(Ask.CLOCK))`."""
-        return self._steps.follower
 
     @property
     def descriptor(self) -> int | None:
@@ -308,15 +330,6 @@ class Following(Uncopied, ClockCommands[None]):
         self._check_open()
         if self._line is not None:
             self._line.write(readable(chunk)[0])
-
-    def light(self, *squares: str) -> None:
-        """Lights two squares of a board with lights, or none, with the frame of `Leds.lighting`.
-        For other frames, `write` the bytes of `Follower.send_leds`. `BadValue` as in `lighting`,
-        and `Closed` after `close`."""
-        self.write(self.follower.send_leds(Leds.lighting(*squares).leds))
-
-    def _clock_message(self, id: ClockId, payload: bytes) -> None:
-        self.write(self.follower.send_clock(id, payload))
 
     def wait(self, timeout: float | None = None, *, until: float | None = None,
              wakes: int | None = None) -> BoardView | None:
@@ -387,10 +400,6 @@ class Following(Uncopied, ClockCommands[None]):
             self._was_there = True
             self._steps.regain()
 
-    def _check_open(self) -> None:
-        if self._is_closed:
-            raise Closed("this Following is closed")
-
     def close(self) -> None:
         """Ends it, and closes the port if it has opened it. Each later `wait` raises `Closed`. So
         does a `wait` of another thread: at once, or when a `read` of a line that you have opened
@@ -428,16 +437,8 @@ class Following(Uncopied, ClockCommands[None]):
 def follow(port: str | os.PathLike[str] | SerialLine, period: float = 10.0, *, patience: int = 6,
            mode: Mode | None = None, confirm: bool = False, wait_for_port: bool = False,
            identify: bool = False, clock: bool = False) -> Following:
-    """Follows a board on a serial port, and yields a `BoardView` after each change.
-
-    >>> with dgt.follow("/dev/ttyUSB0") as board:
-    ...     for view in board:
-    ...         print(view.picture, view.in_doubt)
-    ...         if view.picture and view.picture["e4"] == "P":
-    ...             break
-    rnbqkbnr/pppppppp/8/8/8/8/PPPPPPPP/RNBQKBNR False
-    rnbqkbnr/pppppppp/8/8/8/8/PPPP1PPP/RNBQKBNR False
-    rnbqkbnr/pppppppp/8/8/4P3/8/PPPP1PPP/RNBQKBNR False
+    """Follows a board on a serial port, and yields a `BoardView` after each change: `help(dgt)`
+    begins with an example.
 
     `port` is the port's name, or an object like a port of pyserial. A port that is named is opened
     at once, set to 9600 baud, and locked: only one program may read a board. `OSError` if that

@@ -9,13 +9,10 @@ from collections import deque
 from collections.abc import Iterator
 from typing import Self
 
-from ._handle import Bytes, Uncopied, readable
+from ._handle import Bytes, readable
 from .board import Mode
-from .clock_commands import ClockCommands
-from .commands import ClockId, Leds
 from .errors import Closed
-from .follower import Follower
-from .following import _CLOSED, BoardView, Following, _end, _mode, _Steps
+from .following import _CLOSED, BoardView, Following, _end, _Followed, _mode, _Steps
 
 _CHUNK = 4096
 _STALE = 1.0
@@ -53,14 +50,6 @@ class _NamedPort:
     def __init__(self, following: Following) -> None:
         self._following, self.close = following, following.close
         self._ready = asyncio.Event()
-
-    @property
-    def view(self) -> BoardView:
-        return self._following.view
-
-    @property
-    def follower(self) -> Follower:
-        return self._following.follower
 
     def write(self, chunk: Bytes) -> None:
         self._following.write(chunk)
@@ -101,14 +90,6 @@ class _Streams:
     def __init__(self, steps: _Steps, reader: StreamReader, writer: StreamWriter) -> None:
         self._steps, self._reader, self._writer = steps, reader, writer
 
-    @property
-    def view(self) -> BoardView:
-        return self._steps.view
-
-    @property
-    def follower(self) -> Follower:
-        return self._steps.follower
-
     def write(self, chunk: Bytes) -> None:
         if not self._writer.is_closing():
             self._writer.write(readable(chunk)[0])
@@ -147,7 +128,7 @@ class _Streams:
             views.add(changes.popleft())
 
 
-class AsyncFollowing(Uncopied, ClockCommands[None]):
+class AsyncFollowing(_Followed):
     """Follows a board with asyncio: the result of `follow_async`. It is an asynchronous iterator of
     `BoardView`s; `wait` returns one or gives up after a timeout. The calls of `ClockCommands` send
     a command to the board's clock at once, as `write` does: none of them waits.
@@ -169,15 +150,15 @@ class AsyncFollowing(Uncopied, ClockCommands[None]):
                  confirm: bool = False, wait_for_port: bool = False, identify: bool = False,
                  clock: bool = False) -> None:
         """Like `follow_async`."""
-        self._views, self._is_closed = _Views(), False
+        self._views = _Views()
         self._line: _NamedPort | _Streams
         if isinstance(port, tuple) and len(port) == 2:
-            steps = _Steps(period, patience, _mode(mode, clock), confirm, identify)
-            self._line = _Streams(steps, *port)
+            self._steps = _Steps(period, patience, _mode(mode, clock), confirm, identify)
+            self._line = _Streams(self._steps, *port)
         elif isinstance(port, (str, os.PathLike)):
-            self._line = _NamedPort(Following(
-                port, period, patience=patience, mode=mode, confirm=confirm,
-                wait_for_port=wait_for_port, identify=identify, clock=clock))
+            following = Following(port, period, patience=patience, mode=mode, confirm=confirm,
+                                  wait_for_port=wait_for_port, identify=identify, clock=clock)
+            self._steps, self._line = following._steps, _NamedPort(following)
         else:
             raise TypeError(f"port must be a port's name, or a pair of streams: {port!r}")
 
@@ -186,32 +167,11 @@ class AsyncFollowing(Uncopied, ClockCommands[None]):
             with contextlib.suppress(RuntimeError):  # the loop is closed
                 self._serving.get_loop().call_soon_threadsafe(self._serving.cancel)
 
-    @property
-    def view(self) -> BoardView:
-        """The present view."""
-        return self._line.view
-
-    @property
-    def follower(self) -> Follower:
-        """Makes commands for `write`, as that of a `Following`."""
-        return self._line.follower
-
     def write(self, chunk: Bytes) -> None:
         """Sends a chunk of bytes to the board. It is lost if the port is away. `Closed` after
         `aclose`."""
         self._check_open()
         self._line.write(chunk)
-
-    def light(self, *squares: str) -> None:
-        """Like `Following.light`."""
-        self.write(self.follower.send_leds(Leds.lighting(*squares).leds))
-
-    def _clock_message(self, id: ClockId, payload: bytes) -> None:
-        self.write(self.follower.send_clock(id, payload))
-
-    def _check_open(self) -> None:
-        if self._is_closed:
-            raise Closed("this AsyncFollowing is closed")
 
     def _serve(self) -> Task[None]:
         self._check_open()

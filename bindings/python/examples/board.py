@@ -50,10 +50,7 @@ from collections.abc import Iterable, Iterator
 
 # First, so that --help needs no library.
 parser = argparse.ArgumentParser(
-    description=__doc__,
-    formatter_class=argparse.RawDescriptionHelpFormatter,
-    allow_abbrev=False,
-)
+    description=__doc__, formatter_class=argparse.RawDescriptionHelpFormatter, allow_abbrev=False)
 parser.add_argument("link", metavar="LINK", nargs="?", help="a name by which a host opens the port")
 words = parser.parse_args()
 

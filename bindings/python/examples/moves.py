@@ -44,10 +44,7 @@ from collections.abc import Iterator
 
 # First, so that --help needs no library.
 parser = argparse.ArgumentParser(
-    description=__doc__,
-    formatter_class=argparse.RawDescriptionHelpFormatter,
-    allow_abbrev=False,
-)
+    description=__doc__, formatter_class=argparse.RawDescriptionHelpFormatter, allow_abbrev=False)
 parser.add_argument("port", help="the board's serial port, such as /dev/ttyUSB0")
 parser.add_argument("--fen", help="the position with which a game goes on")
 words = parser.parse_args()

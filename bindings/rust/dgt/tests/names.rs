@@ -1,16 +1,7 @@
 //! Names for bytes that a message carries unread, as other programs read them.
 
 use dgt::names::{BatteryState, Button, Flags, Signal, is_text};
-use dgt::{Event, Followed, Follower, KnownId, Listener, Message};
-
-/// The message in these bytes, which are one.
-fn with_message<T>(bytes: &[u8], read: impl FnOnce(&Message<'_>) -> T) -> T {
-    let mut decoder = dgt::Decoder::new();
-    match decoder.feed(bytes).event {
-        Some(Event::Message(message)) => read(&message),
-        _ => panic!("no message"),
-    }
-}
+use dgt::{Decoder, Event, Followed, Follower, KnownId, Listener, Message};
 
 #[test]
 fn acknowledgements_are_signals() {
@@ -30,18 +21,18 @@ fn acknowledgements_are_signals() {
 #[test]
 fn fields_of_messages_have_names() {
     let times = [0x8d, 0x00, 0x0a, 0x01, 0x30, 0x00, 0x70, 0x00, 0x00, 0x00];
-    let times = with_message(&times, |message| match message {
-        Message::Times(times) => *times,
-        _ => panic!("no times"),
-    });
+    let mut decoder = Decoder::new();
+    let Some(Event::Message(Message::Times(times))) = decoder.feed(&times).event else {
+        panic!("no times");
+    };
     let flags = [times.first(), times.second()].map(|time| Flags::of(time.flags()));
     let all = Flags { blocked: true, per_move: true, fallen: true };
     assert_eq!(flags, [Flags { blocked: false, per_move: false, fallen: false }, all]);
     let battery = [0xa0, 0x00, 0x0c, 73, 4, 0x7f, 1, 5, 2, 3, 10, 2];
-    let state = with_message(&battery, |message| match message {
-        Message::Battery(body) => BatteryState::of(body.bytes()).unwrap(),
-        _ => panic!("no battery"),
-    });
+    let Some(Event::Message(Message::Battery(body))) = decoder.feed(&battery).event else {
+        panic!("no battery");
+    };
+    let state = BatteryState::of(body.bytes()).unwrap();
     assert_eq!((state.percent, state.hours_left, state.minutes_left), (Some(73), Some(4), None));
     assert_eq!((state.days_resting, state.charging, state.discharging), (2, false, true));
     assert!(BatteryState::of(&battery[3..11]).is_none());
