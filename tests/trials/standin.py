@@ -176,10 +176,6 @@ class StandIn:
         self.known = {one["board"]: one for one in known}
         self.tell(self.first())
 
-    def remove(self, name: str) -> None:
-        del self.known[name]
-        self.tell({"removed": name})
-
     def set_broker(self, is_there: bool) -> None:
         self.broker = is_there
         self.tell(self.first())
