@@ -17,7 +17,7 @@ import urllib.request
 sys.path.append(str(pathlib.Path(__file__).resolve().parents[1] / "testing"))
 import chromium
 import simulated_board
-from wrong import Wrong
+from wrong import Wrong, wanted
 
 EXAMPLES = pathlib.Path(__file__).resolve().parents[2] / "apps/broadcast"
 PYTHON = "/usr/bin/python3"  # Debian's, which has Debian's modules
@@ -95,6 +95,12 @@ def wait(what, held, seconds=60):
     """Waits until this holds, in time."""
     if not holds(held, seconds):
         raise Wrong(f"not in time: {what}")
+
+
+def becomes(what, get, right, seconds=60):
+    """Waits until a value is the right one, in time."""
+    holds(lambda: get() == right, seconds)
+    wanted(what, get(), right)
 
 
 class Room:
