@@ -256,7 +256,7 @@ def set_up(classes: Iterable[type[unittest.TestCase]]) -> Iterator[Result]:
             result.addSkip(result.case, str(skipped))
             yield result
         except Exception:
-            result.addError(result.case, sys.exc_info())  # type: ignore[arg-type]
+            result.addError(result.case, sys.exc_info())
             yield result
 
 
@@ -302,7 +302,7 @@ def main(threads: int = 1) -> None:
 
 def try_all(title: str, left: list[unittest.TestCase], words: argparse.Namespace) -> int:
     """Runs these cases, and prints what fails and the last line. Returns the exit status."""
-    classes = list(dict.fromkeys(map(type, left)))
+    classes = list(dict.fromkeys(type(case) for case in left))
     failed = count = 0
     try:
         unready = list(set_up(classes))
