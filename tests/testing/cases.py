@@ -102,14 +102,20 @@ def absent(*names: str) -> list[str]:
             if not shutil.which(each) and not importlib.util.find_spec(each)]
 
 
-def wait(what: str, holds: Callable[[], Any], seconds: float = SECONDS) -> Any:
-    """Waits until something holds, and returns it."""
+def holds(what: Callable[[], Any], seconds: float = SECONDS) -> bool:
+    """Waits until this holds, and says whether it did in time."""
     end = time.monotonic() + seconds
-    while not (held := holds()):
+    while not what():
         if time.monotonic() > end:
-            raise wrong.Wrong(f"{what}: not within {seconds} s")
+            return False
         time.sleep(0.02)
-    return held
+    return True
+
+
+def wait(what: str, held: Callable[[], Any], seconds: float = SECONDS) -> None:
+    """Waits until this holds, in time."""
+    if not holds(held, seconds):
+        raise wrong.Wrong(f"{what}: not within {seconds} s")
 
 
 def take(descriptor: int, count: int) -> bytes:

@@ -17,6 +17,7 @@ import urllib.request
 sys.path.append(str(pathlib.Path(__file__).resolve().parents[1] / "testing"))
 import chromium
 import simulated_board
+from cases import SECONDS, holds, wait
 from wrong import Wrong, wanted
 
 EXAMPLES = pathlib.Path(__file__).resolve().parents[2] / "apps/broadcast"
@@ -81,23 +82,7 @@ def alive(pids):
     return [pid for pid in pids if os.path.exists(f"/proc/{pid}/exe")]
 
 
-def holds(what, seconds=60):
-    """Waits until this holds, and says whether it did in time."""
-    end = time.monotonic() + seconds
-    while not what():
-        if time.monotonic() > end:
-            return False
-        time.sleep(0.05)
-    return True
-
-
-def wait(what, held, seconds=60):
-    """Waits until this holds, in time."""
-    if not holds(held, seconds):
-        raise Wrong(f"not in time: {what}")
-
-
-def becomes(what, get, right, seconds=60):
+def becomes(what, get, right, seconds=SECONDS):
     """Waits until a value is the right one, in time."""
     holds(lambda: get() == right, seconds)
     wanted(what, get(), right)
