@@ -104,14 +104,20 @@ def absent(*names: str) -> list[str]:
             if not shutil.which(each) and not importlib.util.find_spec(each)]
 
 
-def wait(what: str, holds: Callable[[], Any], seconds: float = SECONDS) -> Any:
-    """Waits until something holds, and returns it."""
+def holds(what: Callable[[], Any], seconds: float = SECONDS) -> bool:
+    """Waits until this holds, and says whether it did in time."""
     end = time.monotonic() + seconds
-    while not (held := holds()):
+    while not what():
         if time.monotonic() > end:
-            raise wrong.Wrong(f"{what}: not within {seconds} s")
+            return False
         time.sleep(0.02)
-    return held
+    return True
+
+
+def wait(what: str, held: Callable[[], Any], seconds: float = SECONDS) -> None:
+    """Waits until this holds, in time."""
+    if not holds(held, seconds):
+        raise wrong.Wrong(f"{what}: not within {seconds} s")
 
 
 def take(descriptor: int, count: int) -> bytes:
@@ -258,7 +264,7 @@ def set_up(classes: Iterable[type[unittest.TestCase]]) -> Iterator[Result]:
             result.addSkip(result.case, str(skipped))
             yield result
         except Exception:
-            result.addError(result.case, sys.exc_info())  # type: ignore[arg-type]
+            result.addError(result.case, sys.exc_info())
             yield result
 
 
@@ -304,7 +310,7 @@ def main(threads: int = 1) -> None:
 
 def try_all(title: str, left: list[unittest.TestCase], words: argparse.Namespace) -> int:
     """Runs these cases, and prints what fails and the last line. Returns the exit status."""
-    classes = list(dict.fromkeys(map(type, left)))
+    classes = list(dict.fromkeys(type(case) for case in left))
     failed = count = 0
     try:
         unready = list(set_up(classes))

@@ -14,6 +14,8 @@ import tempfile
 import time
 from typing import Any
 
+import cases
+
 NAMES = ["firefox-esr", "firefox"]
 ISOLATED = pathlib.Path(__file__).parents[2] / "tests/trials/isolated"
 GREETING = ("GET /session HTTP/1.1\r\nHost: 127.0.0.1:{}\r\nUpgrade: websocket\r\n"
@@ -113,12 +115,7 @@ class Firefox:
         return plain(answer["result"])
 
     def wait(self, expression: str, seconds: float = 20) -> bool:
-        end = time.monotonic() + seconds
-        while not self.ask(expression):
-            if time.monotonic() > end:
-                return False
-            time.sleep(.05)
-        return True
+        return cases.holds(lambda: self.ask(expression), seconds)
 
     def resize(self, width: int, height: int) -> None:
         self.do("browsingContext.setViewport", context=self.context,

@@ -24,7 +24,6 @@ import pgn_games
 import tables
 from cases import ROOT, SECONDS
 from dgt._logged import LoggedGames
-from dgt._simulated import RunningClock
 from engines import ENVIRONMENT, PROGRAM
 from engines import run as ran
 from simulated_board import Boards
@@ -377,14 +376,7 @@ class LoggedGame(tables.Played):
     """A game at such a table. A move that is taken back and made again has two times in the log, so
     that moves are taken back only in every second game."""
 
-    def sit_down(self, turned):
-        self.side = "left" if self.chance.random() < 0.7 else "right"
-        timer = RunningClock(5400, 5400, self.side == "left")
-        table = LoggedTable(self.state.letters, self.fen, turned, self.file, timer,
-                            self.side, {"Round": "1"})
-        table.game = self
-        timer.run(0, table.time)
-        return table
+    table = LoggedTable
 
     def take_back(self):
         if self.takes_back:

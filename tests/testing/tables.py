@@ -173,9 +173,35 @@ class Table(games.Hand):
         self.rest(6)
 
 
-class Played(games.Game):
-    """A random game at a table. `clocks` contains the time of each move's player after it."""
+class AtGame(Table):
+    """The table of a `Played` game."""
 
+    game = None
+
+    def put(self, square, letter):
+        if self.game and letter != ".":  # nobody puts a piece before the other player has pressed
+            self.game.press()
+        self.squares[square] = letter
+        if self.game and self.game.shows_next():
+            self.game.complete()
+        self.show()
+        self.rest(self.pace)
+
+    def due(self):
+        pending = self.game.pending[0] if self.game and self.game.pending else float("inf")
+        return min(super().due(), pending)
+
+    def serve(self):
+        super().serve()
+        if self.game and self.game.pending and self.game.pending[0] <= self.time:
+            self.game.press()
+
+
+class Played(games.Game):
+    """A random game at a table. `clocks` contains the time of each move's player after it, and
+    `side` is the one of the clock that has White's time."""
+
+    table = AtGame
     long = 3.2
     most_fast = 2  # how often in a row moves are made before the last ones have rested
 
@@ -185,10 +211,10 @@ class Played(games.Game):
         super().__init__(dgt, seed, fen)
 
     def sit_down(self, turned):
-        is_white_left = self.chance.random() < 0.7
-        timer = RunningClock(5400, 5400, is_white_left)
-        table = AtGame(self.state.letters, self.fen, turned, self.file, timer,
-                       "left" if is_white_left else "right", {"Round": "1"})
+        self.side = "left" if self.chance.random() < 0.7 else "right"
+        timer = RunningClock(5400, 5400, self.side == "left")
+        table = self.table(self.state.letters, self.fen, turned, self.file, timer, self.side,
+                           {"Round": "1"})
         table.game = self
         timer.run(0 if self.state.white else 1, table.time)
         return table
@@ -274,30 +300,6 @@ class Played(games.Game):
         self.put_all(zip(squares, kings))
         self.hand.rest(1.5)
         return result
-
-
-class AtGame(Table):
-    """The table of a `Played` game."""
-
-    game = None
-
-    def put(self, square, letter):
-        if self.game and letter != ".":  # nobody puts a piece before the other player has pressed
-            self.game.press()
-        self.squares[square] = letter
-        if self.game and self.game.shows_next():
-            self.game.complete()
-        self.show()
-        self.rest(self.pace)
-
-    def due(self):
-        pending = self.game.pending[0] if self.game and self.game.pending else float("inf")
-        return min(super().due(), pending)
-
-    def serve(self):
-        super().serve()
-        if self.game and self.game.pending and self.game.pending[0] <= self.time:
-            self.game.press()
 
 
 def room():

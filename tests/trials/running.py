@@ -1,19 +1,24 @@
 """Runs a broker, published boards and the page for the trials."""
 
+import contextlib
 import os
 import pathlib
 import shutil
 import signal
 import socket
+import struct
 import subprocess
 import sys
 import tempfile
+import threading
 import time
+import urllib.request
 
 sys.path.append(str(pathlib.Path(__file__).resolve().parents[1] / "testing"))
 import chromium
 import simulated_board
-from wrong import Wrong
+from cases import SECONDS, holds, wait
+from wrong import Wrong, wanted
 
 EXAMPLES = pathlib.Path(__file__).resolve().parents[2] / "apps/broadcast"
 PYTHON = "/usr/bin/python3"  # Debian's, which has Debian's modules
@@ -32,12 +37,10 @@ def has_module(name, python=PYTHON):
     return bool(shutil.which(python)) and not subprocess.run(words, capture_output=True).returncode
 
 
-def missing(is_shown=True):
-    """The packages of Debian that aren't here, and that the page needs, or else its server."""
+def missing():
+    """The packages of Debian that aren't here, and that the page's server needs."""
     found = absent({"mosquitto": "mosquitto"})
-    found += absent({"mosquitto-clients": "mosquitto_pub"}) if is_shown else []
-    found += [] if has_module("paho.mqtt.client") else ["python3-paho-mqtt"]
-    return found + ([] if chromium.find() or not is_shown else ["chromium"])
+    return found + ([] if has_module("paho.mqtt.client") else ["python3-paho-mqtt"])
 
 
 def missing_for_sites():
@@ -62,11 +65,9 @@ def family(pid):
     """A process and all below it."""
     found = [pid]
     for parent in found:
-        try:
+        with contextlib.suppress(OSError):  # it has ended meanwhile
             tasks = pathlib.Path(f"/proc/{parent}/task").iterdir()
             found += [int(n) for task in tasks for n in (task / "children").read_text().split()]
-        except OSError:
-            pass  # it has ended meanwhile
     return found
 
 
@@ -81,20 +82,10 @@ def alive(pids):
     return [pid for pid in pids if os.path.exists(f"/proc/{pid}/exe")]
 
 
-def holds(what, seconds=60):
-    """Waits until this holds, and says whether it did in time."""
-    end = time.monotonic() + seconds
-    while not what():
-        if time.monotonic() > end:
-            return False
-        time.sleep(0.05)
-    return True
-
-
-def wait(what, held, seconds=60):
-    """Waits until this holds, in time."""
-    if not holds(held, seconds):
-        raise Wrong(f"not in time: {what}")
+def becomes(what, get, right, seconds=SECONDS):
+    """Waits until a value is the right one, in time."""
+    holds(lambda: get() == right, seconds)
+    wanted(what, get(), right)
 
 
 class Room:
@@ -135,10 +126,8 @@ class Room:
             return []
         below = family(ran.pid)
         ran.terminate()
-        try:
+        with contextlib.suppress(subprocess.TimeoutExpired):
             ran.wait(20)
-        except subprocess.TimeoutExpired:
-            pass
         left = alive(below)
         for pid in left:
             os.kill(pid, signal.SIGKILL)
@@ -151,21 +140,18 @@ class Room:
         self.broker = self.start("mosquitto", "-c", "broker.conf")
         wait("the broker", lambda: is_open(self.broker_port))
 
-    def make_boards(self, count, folder="."):
-        self.boards = simulated_board.Boards(self.path / folder, count)
+    def make_boards(self, count):
+        (self.path / "ports").mkdir()
+        self.boards = simulated_board.Boards(self.path / "ports", count)
 
     @property
     def at_broker(self):
         return ["--broker", "127.0.0.1", "--broker-port", self.broker_port]
 
-    def broadcast(self, name, period=10):
-        """Has a board published to the broker, under its number."""
-        words = [self.boards[name - 1].path, name, "--period", period]
-        return self.start(EXAMPLES / "broadcast", *words, *self.at_broker)
-
-    def broadcast_all(self, folder, names, period=10):
-        """Has all boards of a folder published, under the names of a file."""
-        words = ["--all", folder, "--names", names, "--period", period]
+    def broadcast(self, names, period=10):
+        """Has all boards published, under these names."""
+        (self.path / "boards").write_text("\n".join(names))
+        words = ["--all", "ports", "--names", "boards", "--period", period]
         return self.start(EXAMPLES / "broadcast", *words, *self.at_broker)
 
     def serve(self, *words):
@@ -175,3 +161,58 @@ class Room:
     def open_page(self, first=""):
         self.browser = chromium.Chromium()
         self.browser.open(self.url, first)
+
+    def get(self, path):
+        """A text of the page's server."""
+        with urllib.request.urlopen(self.url + path, timeout=20) as got:
+            return got.read().decode()
+
+    def picture(self, name, width, height):
+        """The page in a window of this size, if there is a browser and TRIAL_SHOTS a folder."""
+        if self.browser and (folder := os.environ.get("TRIAL_SHOTS")):
+            pathlib.Path(folder).mkdir(parents=True, exist_ok=True)
+            self.browser.screenshot(pathlib.Path(folder, f"{name}.png"), width, height)
+
+    def count_clocks(self, goes_on):
+        """All clocks count, each second, while this holds."""
+        def count():
+            due = time.monotonic()
+            while goes_on():
+                due += 1
+                time.sleep(max(0.0, due - time.monotonic()))
+                for board in self.boards:
+                    board.count_clock()
+
+        threading.Thread(target=count, daemon=True).start()
+
+
+def length(number):
+    """A length as MQTT has it: seven bits a byte, the last ones first."""
+    low, high = number % 128, number // 128
+    return bytes([low]) if not high else bytes([low | 128]) + length(high)
+
+
+class Publisher:
+    """Publishes retained messages to the broker."""
+
+    def __init__(self, port):
+        self.broker = socket.create_connection(("127.0.0.1", port), 20)
+        self.broker.sendall(b"\x10\x0c\0\4MQTT\4\2\0\0\0\0")
+        if self.broker.recv(4) != b"\x20\2\0\0":
+            raise RuntimeError("the broker refuses")
+
+    def say(self, topic, payload):
+        said = struct.pack(">H", len(topic)) + topic.encode() + payload
+        self.broker.sendall(b"\x31" + length(len(said)) + said)
+
+
+def main(name, lacking, play):
+    """Plays in a room, if nothing is lacking. A fault is printed with the end of the log."""
+    if lacking:
+        sys.exit(f"{name}: not here: {' '.join(lacking)}")
+    with Room() as room:
+        try:
+            play(room)
+        except (Wrong, RuntimeError, OSError) as wrong:
+            print((room.path / "log").read_text(errors="replace")[-5000:], file=sys.stderr)
+            sys.exit(f"{name}: {wrong}")

@@ -1,6 +1,7 @@
 """A stand-in for the server of apps/broadcast/page: it serves the page, and sends given events. So
 the page is tried without a broker and without boards."""
 
+import contextlib
 import http.server
 import json
 import pathlib
@@ -138,12 +139,10 @@ class StandIn:
         with self.lock:
             page.put(self.first())
             self.pages.add(page)
-        try:
+        with contextlib.suppress(OSError):  # the page was closed
             asked.wfile.write(b"retry: 500\n\n")
             while event := self.next(page):
                 asked.wfile.write(event)
-        except OSError:
-            pass  # the page was closed
         with self.lock:
             self.pages.discard(page)
 
@@ -175,10 +174,6 @@ class StandIn:
         """Sends all boards again, as after a return of the broker."""
         self.known = {one["board"]: one for one in known}
         self.tell(self.first())
-
-    def remove(self, name: str) -> None:
-        del self.known[name]
-        self.tell({"removed": name})
 
     def set_broker(self, is_there: bool) -> None:
         self.broker = is_there

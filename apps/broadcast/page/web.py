@@ -322,10 +322,8 @@ class Server:
         """Notes that there are events. Call it in any thread."""
         if not self.is_woken:
             self.is_woken = True
-            try:
+            with contextlib.suppress(RuntimeError):  # the loop has ended
                 self.loop.call_soon_threadsafe(self.ask_write)
-            except RuntimeError:
-                pass  # the loop has ended
 
     def ask_write(self) -> None:
         self.loop.call_at(self.written + PAUSE, self.write)
