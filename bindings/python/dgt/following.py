@@ -437,8 +437,16 @@ class Following(_Followed):
 def follow(port: str | os.PathLike[str] | SerialLine, period: float = 10.0, *, patience: int = 6,
            mode: Mode | None = None, confirm: bool = False, wait_for_port: bool = False,
            identify: bool = False, clock: bool = False) -> Following:
-    """Follows a board on a serial port, and yields a `BoardView` after each change: `help(dgt)`
-    begins with an example.
+    """Follows a board on a serial port, and yields a `BoardView` after each change.
+
+    >>> with dgt.follow("/dev/ttyUSB0") as board:
+    ...     for view in board:
+    ...         print(view.picture, view.in_doubt)
+    ...         if view.picture and view.picture["e4"] == "P":
+    ...             break
+    rnbqkbnr/pppppppp/8/8/8/8/PPPPPPPP/RNBQKBNR False
+    rnbqkbnr/pppppppp/8/8/8/8/PPPP1PPP/RNBQKBNR False
+    rnbqkbnr/pppppppp/8/8/4P3/8/PPPP1PPP/RNBQKBNR False
 
     `port` is the port's name, or an object like a port of pyserial. A port that is named is opened
     at once, set to 9600 baud, and locked: only one program may read a board. `OSError` if that
