@@ -187,6 +187,10 @@ StartIsKnown =
     (self : Recogniser) (view : View) (state : State) (is_turned : Bool) → IsStart state
     → as_shown is_turned (board state) ≡ pieces_of view.shown → IsKnown self view
 
+-- a line that is live has begun
+abbrev pub LiveHasBegun : Type 0
+LiveHasBegun = (self : Recogniser) → IsLive self → self.memory.line.items ≢ []
+
 -- Without a line, or once the kings gave its result, only the start of a game is known.
 abbrev pub ElseStartIsKnown : Type 0
 ElseStartIsKnown =

@@ -7,7 +7,7 @@ ghost use Rattle.dgt_game.specs.declared.recogniser.Recogniser.{Recogniser};
 ghost use Rattle.dgt_game.specs.Finding.{IsFound, SearchIsDue, WhatFollowsIsFound};
 ghost use Rattle.dgt_game.specs.Laws.{BackIsCounted, JoinedIsOne, LegalIsJoined, NoneAndOne, OneIsShown, OneLine, OthersAreHeld, SeveralAreShown, ShownIsHeld, StartIsShown, UnseenIsOnly};
 ghost use Rattle.dgt_game.specs.Planning.{IsLostOr, IsPlanned, LostIsReported, NothingFits, OneFits, PossibleIsHopeful, WhyHopeless};
-ghost use Rattle.dgt_game.specs.Reading.{EarlierAreKnown, ElseStartIsKnown, MovesAreKnown, StartIsKnown, TwoAreKnown, IsExplained};
+ghost use Rattle.dgt_game.specs.Reading.{EarlierAreKnown, ElseStartIsKnown, LiveHasBegun, MovesAreKnown, StartIsKnown, TwoAreKnown, IsExplained};
 ghost use Rattle.dgt_game.specs.Recogniser.{new_recogniser};
 ghost use Rattle.dgt_game.specs.Results.{LostInTurn, NotFound, NotLost, OneByKings, OneByRules, OneOther, OneResult, Stay};
 ghost use Rattle.dgt_game.specs.Runs.{CallsAreRuns, IsLegalAndShown, LastWasShown, NothingWasSure, ShownMayEnd, SureIsCounted, SureIsSeen, SureWasShown};
@@ -143,4 +143,5 @@ pub fn what_is_known()
     ensures earlier { EarlierAreKnown }
     ensures start { StartIsKnown }
     ensures others { ElseStartIsKnown }
+    ensures live { LiveHasBegun }
 {}
