@@ -5,6 +5,7 @@ import contextlib
 import functools
 import hashlib
 import json
+import math
 import os
 import queue
 import re
@@ -52,6 +53,7 @@ CREATE TABLE IF NOT EXISTS games (board TEXT, game INTEGER, final TEXT, text BLO
                                   row INTEGER DEFAULT 0, PRIMARY KEY (board, game)) WITHOUT ROWID;
 CREATE TABLE IF NOT EXISTS done (board TEXT PRIMARY KEY, games INTEGER, since INTEGER,
                                  first INTEGER);
+CREATE TABLE IF NOT EXISTS reached (board TEXT PRIMARY KEY, row INTEGER, number INTEGER);
 """
 Tell = Callable[[str, Summary | None, bool], None]
 
@@ -177,6 +179,14 @@ class State:
                           [board, games, since, first])
         self.kept.execute("DELETE FROM heard WHERE board = ? AND id < ? AND journal != ?",
                           [board, since, DESK])
+
+    def reach(self, board: str, row: int, number: int) -> None:
+        """Notes the time, as a number, up to which a board has shown the entry of a row."""
+        self.kept.execute("INSERT OR REPLACE INTO reached VALUES (?, ?, ?)", [board, row, number])
+
+    def reached(self) -> list[tuple[str, int, int]]:
+        """The last of these times of each board: a board, a row, and a number."""
+        return self.kept.execute("SELECT board, row, number FROM reached").fetchall()
 
     def row_of_last(self, board: str, count: int) -> int:
         """The first of this number of a board's last rows."""
@@ -436,6 +446,10 @@ class Table:
         """The board's time."""
         return self.base[0] + min(here - self.base[1], TRUST) - LATE if self.base else self.at
 
+    def number(self, here: float) -> int:
+        """The time in its journal, as the number of an entry."""
+        return math.ceil(1000 * (max(self.at, self.now(here)) - self.shift))
+
     def set_due(self) -> None:
         due, self.due = self.games.due, NEVER
         if due is not None and self.base and due <= self.base[0] + TRUST - LATE:
@@ -474,7 +488,7 @@ class Collector:
         self.shelf, self.tags, self.white_clock, self.tell = shelf, {**tags}, white_clock, tell
         self.is_last, self.finished, self.row = is_last, state.finished(), 0
         self.state, self.counts, self.is_between = state, state.counts(), False
-        self.firsts = state.firsts()
+        self.firsts, self.reached = state.firsts(), state.reached()
         self.waiting: queue.SimpleQueue[Heard | None] = queue.SimpleQueue()
         self.tables: dict[str, Table] = {}
         self.shown: dict[str, topics.Board] = {}  # what the games have of each board
@@ -509,6 +523,8 @@ class Collector:
         return self.waiting.get(timeout=seconds)
 
     def run(self) -> None:
+        self.take_news()
+        self.go_on()
         while True:
             self.take_news()
             self.shelf.open()
@@ -528,6 +544,13 @@ class Collector:
                     run()
                 case Now():
                     self.set_time(heard)
+
+    def go_on(self) -> None:
+        """Continues each board at the time that it had reached before the start, unless it has a
+        newer entry: a move that had rested stays made."""
+        for name, row, number in self.reached:
+            if (table := self.tables.get(name)) and table.place.row == row:
+                self.do(name, functools.partial(self.reach, number / 1000))
 
     def set_time(self, now: Now) -> None:
         """Sets the time on a board, from which its next event is due."""
@@ -612,9 +635,18 @@ class Collector:
         table.games.see(dgt.BoardView(in_doubt=True, away="ended"), table.at)
 
     def wait(self, now: float, table: Table) -> None:
-        """Notes that everything up to this time was heard."""
+        """Notes that everything up to this time was heard. The state stores the time."""
         table.at = max(table.at, table.now(now))
+        with contextlib.suppress(sqlite3.Error):
+            self.state.reach(table.place.board, table.place.row, table.number(now))
         table.games.tick(table.at)
+        table.note_beginning()
+
+    def reach(self, at: float, table: Table) -> None:
+        """Does everything due up to a time of the board."""
+        table.at = max(table.at, at + table.shift)
+        while (due := table.games.due) is not None and due <= table.at:
+            table.games.tick(due)
         table.note_beginning()
 
     def observe(self, journal: str, seen: Observation, table: Table) -> None:

@@ -1,7 +1,6 @@
 """Makes games from the boards' reports and the arbiter's corrections, both rows of the state."""
 
 import functools
-import math
 import queue
 import sqlite3
 import time
@@ -66,7 +65,7 @@ class CorrectedGames(collector.Collector):
         """Stores a correction with the times of its boards, so that it has the same effect when the
         state is read again. It is tried on a copy before."""
         here, board = time.monotonic(), wanted.board
-        at = {name: math.ceil(1000 * (max(table.at, table.now(here)) - table.shift))
+        at = {name: table.number(here)
               for name, table in self.tables.items() if board in ("", name)}
         try:
             self.check(board, wanted.entry)
@@ -134,13 +133,6 @@ class CorrectedGames(collector.Collector):
         except (Refused, dgt.DgtError) as fault:
             report(f"not corrected: {name} {entry}: {fault}")
         return None
-
-    def reach(self, at: float, table: Table) -> None:
-        """Does everything due up to a time of the board."""
-        table.at = max(table.at, at + table.shift)
-        while (due := table.games.due) is not None and due <= table.at:
-            table.games.tick(due)
-        table.note_beginning()
 
     def correct(self, row: int, name: str, entry: Entry) -> None:
         """Corrects the present game on a board, or an earlier one. The text of a finished game may

@@ -45,6 +45,9 @@ class LateState(collector.State):
             self.last = self.gates.popleft()[1]
         return super().news()
 
+    def reach(self, board: str, row: int, number: int) -> None:
+        """Does nothing: the state has later times."""
+
 
 class Late(corrected_games.CorrectedGames):
     """Makes the games of a delayed state. `boards` shows them."""
@@ -57,6 +60,10 @@ class Late(corrected_games.CorrectedGames):
 
     def hear(self, heard: collector.Heard) -> None:
         self.held.append((time.monotonic() + self.seconds, heard))
+
+    def go_on(self) -> None:
+        """Continues the boards once all rows from before the start are read."""
+        self.hear(collector.Call(super().go_on))
 
     def close(self) -> None:
         self.is_closed.set()

@@ -131,7 +131,7 @@ class Boards:
 
     def hear_log(self, name: str, payload: bytes, is_live: bool) -> str | None:
         """Handles a message of a journal about a board. Returns a request for missing entries, if
-        there are any."""
+        there are any, or after a retained message for the time."""
         try:
             log = topics.read_log(payload)
             with self.lock:
@@ -163,7 +163,7 @@ class Boards:
             self.games.hear(collector.Now(name, log.journal,
                                           log.now / 1000 if is_all and is_live else None))
         asked, at = self.asked.get(key, (-1, 0.0))
-        if is_all or asked == mark and now < at + 1:
+        if is_all and is_live or asked == mark and now < at + 1:
             return None
         self.asked[key] = mark, now
         return f"{log.journal} {mark}"
