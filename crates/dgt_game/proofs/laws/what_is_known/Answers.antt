@@ -15,3 +15,6 @@ returns-clause-start c = start_known
 
 pub returns-clause-others : goal.returns-clause-others
 returns-clause-others c = else_start
+
+pub returns-clause-live : goal.returns-clause-live
+returns-clause-live c = λ self live. live.0
