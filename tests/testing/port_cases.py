@@ -254,11 +254,12 @@ class Ports(OnALine):
                 expect("a second one that waits", board, (None, True, in_use.strerror))
 
     def test_closing(self):
-        """It ends, and others may have the port."""
+        """It ends, and others may have the port, even if a child has a copy of its descriptor."""
         board = dgt.follow(self.line.path)
         expect("at first", board, (START, False, None))
         self.line.put(("e2", "."), ("e4", "P"))
         next(board)
+        self.addCleanup(os.close, os.dup(board.descriptor))
         board.close()
         board.close()
         wanted("what comes after it", list(board), [])

@@ -283,9 +283,10 @@ static inline bool dgt_port_turn(int port, dgt_follower *follower, dgt_port_inpu
     return true;
 }
 
-/* Closes a port, so that others can open it. */
+/* Closes a port, so that others can open it, even if a child of the process has a copy of it. */
 static inline void dgt_port_close(int port) {
     ioctl(port, TIOCNXCL);
+    flock(port, LOCK_UN);
     close(port);
 }
 

@@ -67,7 +67,12 @@ static void opening(void) {
     CHECK(port >= 0 && ioctl(port, TIOCGEXCL, &is_refused) == 0 && is_refused == 0);
     close(port);
     port = dgt_port_open(name);
+    int copy = dup(port); /* as a child of the process has one */
+    dgt_port_close(port);
+    CHECK(port >= 0 && copy >= 0);
+    port = dgt_port_open(name);
     CHECK(port >= 0);
+    close(copy);
 }
 
 static void ignore(int number) {

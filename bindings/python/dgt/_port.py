@@ -150,8 +150,10 @@ class Port:
         return chunk or b""
 
     def close(self) -> None:
-        """Closes the port, so that others may open it."""
+        """Closes the port, so that others may open it, even if a child of this process has a copy
+        of it."""
         with contextlib.suppress(OSError, ValueError):  # it disappeared, or is closed already
+            fcntl.flock(self._file, fcntl.LOCK_UN)
             fcntl.ioctl(self._file, termios.TIOCNXCL)
         with contextlib.suppress(OSError):
             self._file.close()
