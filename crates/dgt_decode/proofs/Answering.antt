@@ -1,8 +1,7 @@
 -- The calls of a reader for any chunks: they exist, and there are no others.
-use Rattle.std.proofs.Common.{◌≡◌, ℕ, zero, suc, ◌+◌, ◌<◌, List, [], ◌∷◌, ◌++◌, length, map, take, Option, Some, None, refl, sym, ap, ◌∙◌, append_assoc, arith}
-use Rattle.std.proofs.lemmas.List.{append-nil, length-append}
-use Rattle.dgt_decode.specs.{Feeding.{FirstEvent, at_place_if_any}, Grammar.{Event, at_place, events, shifted, unfinished_message}, Laws.{Call, AreCalls}}
-use Rattle.dgt_decode.proofs.{ChunkEvents.{behind_byte, unfinished_is_quiet}, Division.{quiet_held}, Feeds.{FirstEvent-some, one_first_event}}
+use Rattle.std.proofs.{Common.{rules, ◌≡◌, ℕ, zero, suc, ◌<◌, List, [], ◌∷◌, ◌++◌, length, map, take, Option, Some, None, refl, ap, append_assoc, arith}, lemmas.List.{append-nil, length-append}}
+use Rattle.dgt_decode.{specs.{Feeding.{FirstEvent, at_place_if_any}, Grammar.{Event, events, shifted, unfinished_message}, Laws.{Call, AreCalls}}, proofs.ChunkEvents.{behind_byte}}
+use Rattle.dgt_decode.proofs.{ChunkEvents.{unfinished_is_quiet}, Division.{quiet_held}, Feeds.{FirstEvent-some, one_first_event}}
 
 -- what a reader does with a chunk
 record HasAnswer (held chunk : List ℕ) : Type 0 where
@@ -14,22 +13,16 @@ record HasAnswer (held chunk : List ℕ) : Type 0 where
 after_byte : (held : List ℕ) (b : ℕ) (chunk : List ℕ) (used : ℕ) (event : Option Event)
     → events held ≡ [] → FirstEvent (held ++ b ∷ []) chunk used event
     → FirstEvent held (b ∷ chunk) (suc used) event
-after_byte held b chunk used None quiet first =
-    (ap suc first.0, ap events (sym (append_assoc held (b ∷ []) chunk)) ∙ first.1)
+after_byte held b chunk used None quiet first = search (rules, append_assoc)
 after_byte held b chunk used (Some event) quiet first = (
   omega (arith, first.0),
-  ap events (sym (append_assoc held (b ∷ []) (take used chunk)))
-      ∙ first.1
-      ∙ ap (λ (n : ℕ). at_place n event ∷ [])
-      (omega (arith, length-append held (b ∷ []))),
+  search (rules, append_assoc, length-append),
   early,
 )
   where
     early : (k : ℕ) → k < suc used → events (held ++ take k (b ∷ chunk)) ≡ []
-    early zero less = rw (append-nil held) quiet
-    early (suc k) less =
-        ap events (sym (append_assoc held (b ∷ []) (take k chunk)))
-        ∙ first.2 k (omega (arith, less))
+    early zero less = search rules
+    early (suc k) less = search (rules, append_assoc)
 
 -- each chunk has an answer
 answered : (s chunk : List ℕ) → HasAnswer (unfinished_message s) chunk
@@ -77,23 +70,11 @@ some_calls s (chunk ∷ chunks) =
     let call : Call = record { chunk = chunk; used = one.used; event = one.event } in
     (call ∷ more.0, ap (λ (xs : List (List ℕ)). chunk ∷ xs) more.1, (one.first, more.2))
 
-abbrev call_of : List ℕ → ℕ → Option Event → Call
-call_of chunk used event = record { chunk = chunk; used = used; event = event }
-
--- calls with the same parts are the same
-same_call : (x y : Call) → x.chunk ≡ y.chunk → x.used ≡ y.used → x.event ≡ y.event → x ≡ y
-same_call x y c u e =
-    ap (λ (chunk : List ℕ). call_of chunk x.used x.event) c
-    ∙ ap (λ (n : ℕ). call_of y.chunk n x.event) u
-    ∙ ap (λ (event : Option Event). call_of y.chunk y.used event) e
-
 -- and no others
 pub same_calls : (held : List ℕ) (first second : List Call) → AreCalls held first
     → AreCalls held second → map (λ call. call.chunk) first ≡ map (λ call. call.chunk) second
     → first ≡ second
 same_calls held [] [] a b e = refl
-same_calls held [] (y ∷ ys) a b e = absurd cc
-same_calls held (x ∷ xs) [] a b e = absurd cc
 same_calls held (x ∷ xs) (y ∷ ys) a b e =
     let chunk : x.chunk ≡ y.chunk = cc in
     let chunks : map (λ call. call.chunk) xs ≡ map (λ call. call.chunk) ys = cc in
@@ -101,5 +82,5 @@ same_calls held (x ∷ xs) (y ∷ ys) a b e =
     one_first_event held x.chunk x.used y.used x.event y.event a.0 (rw (← chunk) at b.0) in
     let after = unfinished_message (held ++ take x.used x.chunk) in
     let later : AreCalls after ys = rw (← chunk, ← answer.0) at b.1 in
-    ap (λ (z : Call). z ∷ xs) (same_call x y chunk answer.0 answer.1)
-    ∙ ap (λ (zs : List Call). y ∷ zs) (same_calls after xs ys a.1 later chunks)
+    search (rules, same_calls after xs ys a.1 later chunks)
+same_calls held _ _ a b e = absurd cc

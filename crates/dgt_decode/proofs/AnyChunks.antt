@@ -1,38 +1,29 @@
 -- Bytes in any chunks.
-use Rattle.std.proofs.{Common.{◌≡◌, ℕ, ◌+◌, ◌-◌, ◌≤◌, List, [], ◌∷◌, ◌++◌, length, take, Option, sym, ap, subst, ◌∙◌, append_assoc, arith, rules}, Math.Seq.{take-length}, lemmas.List.{append-nil}}
+use Rattle.std.proofs.{Common.{◌≡◌, ℕ, ◌+◌, ◌≤◌, List, [], ◌∷◌, ◌++◌, length, take, sym, ap, ◌∙◌, append_assoc, arith, rules}, Math.Seq.{take-length}, lemmas.List.{append-nil}}
 use Rattle.{std.proofs.lemmas.List.{append_cancel_left, length-append, length-take}, dgt_message.specs.{Content.{Content, IsMessage}, Encoding.{encoding}}, dgt_decode.specs.Feeding.{FirstEvent}}
-use Rattle.dgt_decode.specs.{Feeding.{at_place_if_any}, Grammar.{Event, Message, at_place, shifted, cut_of, events, unfinished_message}, Laws.{Call, AreCalls, used_bytes, events_in_chunks}}
-use Rattle.dgt_decode.proofs.{Appending.{events-append}, Encoded.{AreRead, AreEncoded, encoding_is_read}, Loops.{shifted-at_place_if_any}, UnfinishedLemmas.{unfinished-append, length-unfinished}}
-
--- no more bytes are used than the chunk has
-first_within : (held chunk : List ℕ) (used : ℕ) (x : Option Event) → FirstEvent held chunk used x
-    → used ≤ length chunk
-first_within held chunk used x h = search rules
+use Rattle.dgt_decode.specs.{Feeding.{at_place_if_any}, Grammar.{Message, at_place, shifted, cut_of, events, unfinished_message}, Laws.{Call, AreCalls, used_bytes, events_in_chunks}}
+use Rattle.dgt_decode.proofs.{Appending.{events-append}, Encoded.{AreRead, AreEncoded, encoding_is_read}, UnfinishedLemmas.{unfinished-append, length-unfinished}}
 
 -- the meaning of the used bytes of a chunk, after all bytes before it
 pub call_reported : (s : List ℕ) (call : Call)
     → FirstEvent (unfinished_message s) call.chunk call.used call.event
     → events (s ++ take call.used call.chunk)
     ≡ events s ++ at_place_if_any (length s + call.used) call.event
-call_reported s call first =
-    search (rules, length-unfinished, events-append, shifted-at_place_if_any, take-length)
+call_reported s call first = search (rules, length-unfinished, events-append, take-length)
 
 -- by induction: each call continues where the one before it stopped
 pub in_any_chunks : (s : List ℕ) (calls : List Call) → AreCalls (unfinished_message s) calls
     → events (s ++ used_bytes calls) ≡ events s ++ events_in_chunks (length s) calls
 in_any_chunks s [] are = rw (append-nil s) (sym (append-nil (events s)))
 in_any_chunks s (call ∷ calls) are =
-    let within = first_within (unfinished_message s) call.chunk call.used call.event are.0 in
-    let count : length (s ++ take call.used call.chunk) ≡ length s + call.used =
-    omega (arith, length-append s (take call.used call.chunk), length-take call.used call.chunk) in
-    let held = unfinished-append s (take call.used call.chunk) in
-    let later : AreCalls (unfinished_message (s ++ take call.used call.chunk)) calls =
-    subst (λ (x : List ℕ). AreCalls x calls) (sym held) are.1 in
-    ap (λ (x : List ℕ). events x)
-    (sym (append_assoc s (take call.used call.chunk) (used_bytes calls)))
-    ∙ in_any_chunks (s ++ take call.used call.chunk) calls later
-    ∙ rw (count, call_reported s call are.0)
-    (search (rules, append_assoc))
+    let run = take call.used call.chunk in
+    let within : call.used ≤ length call.chunk = search rules in
+    let count : length (s ++ run) ≡ length s + call.used =
+    omega (arith, length-append s run, length-take call.used call.chunk) in
+    let later : AreCalls (unfinished_message (s ++ run)) calls =
+    rw (unfinished-append s run) are.1 in
+    ap events (sym (append_assoc s run (used_bytes calls))) ∙ in_any_chunks (s ++ run) calls later
+    ∙ rw (count, call_reported s call are.0) (search (rules, append_assoc))
 
 -- the events reported in chunks are those of the whole list
 pub encoding_in_chunks : AreRead → AreEncoded → (s : List ℕ) (said : Content) (calls : List Call)

@@ -1,9 +1,8 @@
 -- The events of a list with more bytes at its end.
-use Rattle.std.proofs.{Common.{◌≡◌, ℕ, ◌+◌, ◌-◌, ◌≤◌, Bool, true, false, cond, List, [], ◌∷◌, ◌++◌, length, drop, Option, Some, None, refl, ap, ◌∙◌, append_assoc, arith, rules}, lemmas.Bool.{le-leb}}
-use Rattle.{std.proofs.lemmas.{Bool.{lt-leb, leb-true, leb-false}, List.{append-nil, length-append, drop-append-le, length-drop}}, dgt_decode.specs.Grammar.{Placed, shifted, strays, has_top_bit}}
-use Rattle.dgt_decode.{specs.Grammar.{lead, segments, verdict, unfinished_part, cut_of, cut_before, segments_events, unfinished_segment, events, unfinished_message}, proofs.Cuts.{lead_with}}
-use Rattle.dgt_decode.proofs.{Cuts.{segments_with, lead-append, segments-append}, Places.{shifted-append, shifted-shifted, shifted-zero, strays-append}, SevenBit.{SevenByRecursion}}
-use Rattle.dgt_decode.proofs.Verdicts.{verdict-append}
+use Rattle.std.proofs.{Common.{◌≡◌, ℕ, ◌+◌, ◌-◌, ◌≤◌, List, [], ◌∷◌, ◌++◌, length, Option, Some, None, refl, append_assoc, arith, rules}, lemmas.{Bool.{lt-leb, leb-true}, List.{length-append}}}
+use Rattle.{std.proofs.lemmas.List.{drop-append-le, length-drop}, dgt_decode.specs.Grammar.{Placed, shifted, strays, lead, segments, verdict, unfinished_part, segments_events, unfinished_segment}}
+use Rattle.dgt_decode.{specs.Grammar.{events, unfinished_message}, proofs.{Cuts.{lead_with, segments_with, lead-append, segments-append}, Places.{shifted-append, shifted-shifted, shifted-zero}}}
+use Rattle.dgt_decode.proofs.{Places.{strays-append}, SevenBit.{SevenByRecursion}, Verdicts.{verdict-append}}
 
 -- a list that is one segment
 pub record IsAlone (g : List ℕ) : Type 0 where
@@ -28,21 +27,17 @@ segments-seven (b ∷ bytes) h = rw (lt-leb 128 b h.0) (segments-seven bytes h.1
 -- the lead is seven-bit
 pub lead-is_seven : (bytes : List ℕ) → SevenByRecursion (lead bytes)
 lead-is_seven [] = tt
-lead-is_seven (b ∷ bytes) = search (rules, leb-false, lead-is_seven bytes)
+lead-is_seven (b ∷ bytes) = search (rules, lead-is_seven bytes)
 
 -- a byte with a set top bit and seven-bit bytes are one segment
 pub IsAlone-from : (b : ℕ) (bytes : List ℕ) → 128 ≤ b → SevenByRecursion bytes → IsAlone (b ∷ bytes)
-IsAlone-from b bytes top seven = search (rules, le-leb, lead-seven, segments-seven)
+IsAlone-from b bytes top seven = search (rules, lead-seven, segments-seven)
 
 -- the segments of a list are one segment each
 pub AreAlone-segments : (bytes : List ℕ) → AreAlone (segments bytes)
 AreAlone-segments [] = tt
-AreAlone-segments (b ∷ bytes) = go (has_top_bit b) refl (AreAlone-segments bytes)
-  where
-    go : (t : Bool) → has_top_bit b ≡ t → AreAlone (segments bytes)
-        → AreAlone (cond t ((b ∷ lead bytes) ∷ segments bytes) (segments bytes))
-    go true e h = (IsAlone-from b (lead bytes) (leb-true 128 b e) (lead-is_seven bytes), h)
-    go false e h = h
+AreAlone-segments (b ∷ bytes) =
+    search (rules, IsAlone-from, leb-true, lead-is_seven, AreAlone-segments bytes)
 
 -- ---- how many bytes of segments precede the unfinished ones
 
@@ -62,16 +57,11 @@ abbrev pub lengths : List (List ℕ) → ℕ
 lengths [] = 0
 lengths (g ∷ gs) = length g + lengths gs
 
--- a last segment is settled, or it is unfinished
-settled_by-unfinished : (v : Option Placed) (g : List ℕ)
-    → settled_by v g + length (unfinished_part v g) ≡ length g
-settled_by-unfinished v g = search rules
-
 -- segments are what is settled and what is unfinished
 pub settled-unfinished : (gs : List (List ℕ))
     → settled_of gs + length (unfinished_segment gs) ≡ lengths gs
 settled-unfinished [] = refl
-settled-unfinished (g ∷ []) = settled_by-unfinished (verdict g) g ∙ (omega arith)
+settled-unfinished (g ∷ []) = search rules
 settled-unfinished (g ∷ h ∷ gs) = omega (arith, settled-unfinished (h ∷ gs))
 
 -- a list is its lead and its segments
@@ -80,15 +70,6 @@ length-cut [] = refl
 length-cut (b ∷ s) = search (rules, length-cut s)
 
 -- ---- the last segment
-
--- if nothing is unfinished, there is no Cut
-pub cut_before-nothing : (gs : List (List ℕ)) → cut_before gs [] ≡ []
-cut_before-nothing gs = search rules
-
--- a segment with more bytes after still follows
-cut_before-with : (p : List ℕ) (g : List ℕ) (gs : List (List ℕ)) (u : List ℕ)
-    → cut_before (segments_with p (g ∷ gs)) u ≡ cut_of u
-cut_before-with p g gs u = search rules
 
 -- places after a message, and after its segment
 regroup : (place d n l : ℕ) (a b e : List Placed) → place + d ≡ n
@@ -105,11 +86,9 @@ last-finished g p x e = search (
   rules,
   verdict-append,
   length-drop,
-  cut_before-nothing,
   drop-append-le,
   strays-append,
   length-append,
-  append-nil,
   regroup,
 )
 
@@ -133,8 +112,8 @@ segments_events-with p g [] alone = go (verdict g) refl
     go None e = last-unfinished g p alone.0 e
     go (Some x) e = last-finished g p x e
 segments_events-with p g (h ∷ gs) alone =
-    rw (cut_before-with p h gs (unfinished_part (verdict g) g), segments_events-with p h gs alone.1)
-    (simp (shifted-append, shifted-shifted, append_assoc))
+    let more = segments_events-with p h gs alone.1 in
+    search (rules, shifted-append, shifted-shifted, append_assoc)
 
 -- the events of a list by its cut
 abbrev events_by_cut : List ℕ → List (List ℕ) → List Placed
@@ -145,15 +124,8 @@ events_by_cut-with : (p prefix : List ℕ) (gs : List (List ℕ)) → AreAlone g
     → events_by_cut (lead_with p prefix gs) (segments_with p gs) ≡ events_by_cut prefix gs
     ++ shifted (length prefix + settled_of gs) (events (unfinished_segment gs ++ p))
 unfolding events
-events_by_cut-with p prefix [] alone = search (
-  rules,
-  strays-append,
-  length-append,
-  shifted-append,
-  shifted-shifted,
-  append-nil,
-  append_assoc,
-)
+events_by_cut-with p prefix [] alone =
+    search (rules, strays-append, length-append, shifted-append, shifted-shifted, append_assoc)
 events_by_cut-with p prefix (g ∷ gs) alone =
     search (rules, segments_events-with, shifted-append, shifted-shifted, append_assoc)
 

@@ -1,8 +1,8 @@
 -- A run that begins a message.
-use Rattle.std.proofs.{Common.{option_map, ◌≡◌, ℕ, zero, suc, ◌+◌, ◌-◌, ◌<◌, ◌≤◌, List, [], ◌∷◌, length, take, drop, min, not, Some, ap, arith, rules}, lemmas.List.{length-take, take-take}}
-use Rattle.{std.{proofs.lemmas.List.Sums.{prefix_len-le-length}, specs.List.{position_or_len}}, dgt_decode.specs.{Feeding.{IsWholeMessage}, Grammar.{has_top_bit, events, unfinished_message}}}
-use Rattle.dgt_decode.{specs.{Grammar.{announced_total}, Taking.{Begins, FramesPrefix, IsKept}}, proofs.{BodyRuns.{seven-before, seven-take}, Feeds.{first_of_run}, Framing.{after, reports-after}}}
-use Rattle.dgt_decode.proofs.{SevenBit.{SevenByRecursion, are_seven, by_recursion}, Steps.{Gives, first-begins, next-short, next-waits}}
+use Rattle.dgt_decode.{proofs.BodyRuns.{seven_among, seven-take}, specs.{Feeding.{IsWholeMessage}, Grammar.{has_top_bit, events, unfinished_message, announced_total}, Taking.{Begins, FramesPrefix}}}
+use Rattle.dgt_decode.{specs.Taking.{IsKept}, proofs.{Feeds.{first_of_run}, Framing.{after, reports-after}, SevenBit.{SevenByRecursion, by_recursion}, Steps.{Gives, first-begins, next-short}}}
+use Rattle.{dgt_decode.proofs.Steps.{next-waits}, std.proofs.{Common.{◌≡◌, ℕ, zero, suc, ◌+◌, ◌-◌, ◌<◌, ◌≤◌, List, [], ◌∷◌, length, take, drop, min, Some, arith, rules}, lemmas.List.{length-take}}}
+use Rattle.std.{proofs.lemmas.List.{take-take}, specs.List.{position_or_len}}
 use Rattle.dgt_decode.specs.declared.event.Found.TheVariants as found
 
 -- the first bytes, this many, are a header and a run of its body
@@ -18,20 +18,11 @@ pub beginning : (total all end run : ℕ) (rest : List ℕ) → Begins total res
     → all ≡ min (length rest) total → end ≡ min all 128
     → run ≡ position_or_len has_top_bit (take (end - 3) (drop 3 rest))
     → IsBeginning total rest (3 + run)
-beginning total all end run [] begins least first is = absurd (omega (arith, begins.enough))
-beginning total all end run (b ∷ []) begins least first is = absurd (omega (arith, begins.enough))
-beginning total all end run (b ∷ h ∷ []) begins least first is =
-    absurd (omega (arith, begins.enough))
 beginning total all end run (b ∷ h ∷ l ∷ more) begins least first is =
     let header = by_recursion (h ∷ l ∷ []) begins.header in
-    let missing = end - 3 in
-    let wanted = take missing more in
-    let up_to : run ≤ length wanted =
-    omega (arith, is, prefix_len-le-length (λ x. not (has_top_bit x)) wanted) in
-    let long = length-take missing more in
-    let prefix : take run wanted ≡ take run more =
-    take-take run missing more (omega (arith, up_to, long)) in
-    search (rules, seven-before)
+    let before = seven_among (end - 3) run more is in
+    search rules
+beginning total all end run _ begins least first is = absurd (omega (arith, begins.enough))
 
 -- there is no event before the last of them
 early : (b h l n total : ℕ) (more : List ℕ) → Gives (b ∷ h ∷ []) [] (b ∷ h ∷ []) → l < 128
@@ -56,16 +47,6 @@ pub frames-beginning : (kept rest : List ℕ) (total used : ℕ) → unfinished_
     → Begins total rest → IsBeginning total rest used
     → FramesPrefix kept rest used (take used rest) (after (total - used)).1
     × IsKept (after (total - used)).0 (take used rest)
-frames-beginning kept [] total used none begins run = absurd (omega (arith, begins.enough))
-frames-beginning kept (b ∷ []) total used none begins run = absurd (omega (arith, begins.enough))
-frames-beginning kept (b ∷ h ∷ []) total used none begins run =
-    absurd (omega (arith, begins.enough))
-frames-beginning kept (b ∷ h ∷ l ∷ more) total zero none begins run =
-    absurd (omega (arith, run.header))
-frames-beginning kept (b ∷ h ∷ l ∷ more) total (suc zero) none begins run =
-    absurd (omega (arith, run.header))
-frames-beginning kept (b ∷ h ∷ l ∷ more) total (suc (suc zero)) none begins run =
-    absurd (omega (arith, run.header))
 frames-beginning kept (b ∷ h ∷ l ∷ more) total (suc (suc (suc n))) none begins run =
     let used = suc (suc (suc n)) in
     let body = take n more in
@@ -83,29 +64,23 @@ frames-beginning kept (b ∷ h ∷ l ∷ more) total (suc (suc (suc n))) none be
     (header.1.0, seven) all in
     let long : 2 + length (l ∷ body) ≡ 0 + length (b ∷ h ∷ l ∷ body) = omega arith in
     let less : length (b ∷ h ∷ l ∷ body) - 1 ≡ suc (suc n) = omega (arith, count) in
-    search (rules, take-take, early, first_of_run, option_map, after)
+    search (rules, take-take, early, first_of_run)
+frames-beginning kept _ total _ none begins run = absurd (omega (arith, begins.enough, run.header))
 
 -- A message that is complete is reported at once.
 pub frames-whole : (kept rest : List ℕ) (total : ℕ) → unfinished_message kept ≡ []
     → total ≤ length rest → IsWholeMessage (take total rest)
     → FramesPrefix kept rest total (take total rest) (Some found.Message)
-frames-whole kept rest zero none within whole = absurd (omega (arith, whole.long))
-frames-whole kept rest (suc zero) none within whole =
-    absurd (omega (arith, whole.long, length-take 1 rest))
-frames-whole kept rest (suc (suc zero)) none within whole =
-    absurd (omega (arith, whole.long, length-take 2 rest))
-frames-whole kept [] (suc (suc (suc n))) none within whole = absurd (omega (arith, within))
-frames-whole kept (b ∷ []) (suc (suc (suc n))) none within whole = absurd (omega (arith, within))
-frames-whole kept (b ∷ h ∷ []) (suc (suc (suc n))) none within whole =
-    absurd (omega (arith, within))
 frames-whole kept (b ∷ h ∷ l ∷ more) (suc (suc (suc n))) none within whole =
     let total = suc (suc (suc n)) in
     let rest = b ∷ h ∷ l ∷ more in
     let is : total ≡ announced_total rest =
     omega (arith, whole.whole, length-take total rest, within) in
     let later = by_recursion (h ∷ l ∷ take n more) whole.later in
-    let begins : Begins total rest = search (rules, are_seven) in
+    let begins : Begins total rest = search rules in
     let behind : total - 3 ≡ n = omega arith in
     let all : IsBeginning total rest total = search rules in
     let none_left : total - total ≡ 0 = omega arith in
     rw none_left at (frames-beginning kept rest total total none begins all).0
+frames-whole kept rest total none within whole =
+    absurd (omega (arith, within, whole.long, length-take total rest))

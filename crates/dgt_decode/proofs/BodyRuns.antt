@@ -1,7 +1,7 @@
 -- A run of a message's body.
 use Rattle.std.proofs.Common.{◌≡◌, ℕ, zero, suc, ◌+◌, ◌-◌, ◌<◌, ◌≤◌, Bool, true, false, cond, not, List, [], ◌∷◌, ◌++◌, length, take, drop, get_or, refl, subst, arith, rules}
-use Rattle.std.{proofs.lemmas.{Bool.{leb-false, lt-leb}, Grind.{common_steps}, List.{length-append, length-take, take-take, Sums.{prefix_len-le-length}}}, specs.List.{position_or_len}}
-use Rattle.dgt_decode.{specs.{Grammar.{has_top_bit, announced_total}, Taking.{FramesPrefix, IsKept}, declared.framer.FramerState.{FramerState, TheVariants.{Body}}}, proofs.Feeds.{first_of_run}}
+use Rattle.std.{proofs.lemmas.{Bool.{lt-leb}, Grind.{common_steps}, List.{length-append, length-take, take-take, Sums.{prefix_len-le-length}}}, specs.List.{position_or_len}}
+use Rattle.dgt_decode.{specs.{Grammar.{has_top_bit, announced_total}, Taking.{FramesPrefix, IsKept}, declared.framer.FramerState.{FramerState, TheVariants.{Body}}}}
 use Rattle.dgt_decode.proofs.{Framing.{after, reports-after}, SevenBit.{SevenByRecursion}, Steps.{next-waits}, Verdicts.{announced_total-append}}
 
 -- ---- In a body
@@ -17,13 +17,12 @@ seven-before (b ∷ bytes) = go (has_top_bit b) refl (seven-before bytes)
         → SevenByRecursion
         (take (cond (not t) (1 + position_or_len has_top_bit bytes) 0) (b ∷ bytes))
     go true e more = tt
-    go false e more = let one_more : 1 + position_or_len has_top_bit bytes ≡ suc
-        (position_or_len has_top_bit bytes) = omega arith in rw one_more (leb-false 128 b e, more)
+    go false e more = search rules
 
 -- there are some if the first byte is
 some-before : (bytes : List ℕ) → 0 < length bytes → get_or bytes 0 0 < 128
     → 0 < position_or_len has_top_bit bytes
-some-before bytes some seven = grind (arith, common_steps, lt-leb)
+some-before bytes some seven = grind (arith, common_steps)
 
 -- The search for a set top bit may begin after seven-bit bytes.
 pub search-after : (n : ℕ) (bytes : List ℕ) → n ≤ length bytes → SevenByRecursion (take n bytes)
@@ -32,6 +31,19 @@ search-after zero bytes within seven = omega arith
 search-after (suc n) [] within seven = absurd (omega (arith, within))
 search-after (suc n) (b ∷ bytes) within seven =
     rw (lt-leb 128 b seven.0) (omega (arith, search-after n bytes (omega (arith, within)) seven.1))
+
+-- those before the first with a set top bit among the first n
+pub seven_among : (n used : ℕ) (bytes : List ℕ) → used ≡ position_or_len has_top_bit (take n bytes)
+    → (used ≤ n) × (used ≤ length bytes) × SevenByRecursion (take used bytes)
+seven_among n used bytes is =
+    let wanted = take n bytes in
+    let up_to : used ≤ length wanted =
+    omega (arith, is, prefix_len-le-length (λ x. not (has_top_bit x)) wanted) in
+    let long = length-take n bytes in
+    let prefix : take used wanted ≡ take used bytes =
+    take-take used n bytes (omega (arith, up_to, long)) in
+    let before = seven-before wanted in
+    search rules
 
 -- this many of the first remaining bytes are seven-bit, and no more than are missing
 pub record IsBodyRun (missing : ℕ) (rest : List ℕ) (used : ℕ) : Type 0 where
@@ -44,21 +56,11 @@ pub record IsBodyRun (missing : ℕ) (rest : List ℕ) (used : ℕ) : Type 0 whe
 pub body_run : (missing used : ℕ) (rest : List ℕ) → 0 < missing → 0 < length rest
     → get_or rest 0 0 < 128 → used ≡ position_or_len has_top_bit (take missing rest)
     → IsBodyRun missing rest used
-body_run missing used [] room some seven is = absurd (omega arith)
-body_run zero used (b ∷ rest) room some seven is = absurd (omega arith)
 body_run (suc more) used (b ∷ rest) room some seven is =
-    let wanted = take (suc more) (b ∷ rest) in
-    let up_to : used ≤ length wanted =
-    omega (arith, is, prefix_len-le-length (λ x. not (has_top_bit x)) wanted) in
-    let long = length-take (suc more) (b ∷ rest) in
-    let prefix : take used wanted ≡ take used (b ∷ rest) =
-    take-take used (suc more) (b ∷ rest) (omega (arith, up_to, long)) in
-    record {
-      some = omega (arith, is, some-before wanted (omega arith) seven);
-      within = omega (arith, up_to, long);
-      fits = omega (arith, up_to, long);
-      seven = rw (← prefix, is) (seven-before wanted);
-    }
+    let run = seven_among (suc more) used (b ∷ rest) is in
+    let first = some-before (take (suc more) (b ∷ rest)) (omega arith) seven in
+    search rules
+body_run _ used _ room some seven is = absurd (omega arith)
 
 -- the beginning of seven-bit bytes is seven-bit
 pub seven-take : (n : ℕ) (bytes : List ℕ) → SevenByRecursion bytes → SevenByRecursion (take n bytes)
@@ -78,13 +80,4 @@ frames-body_run state kept rest left used was body run =
     omega (arith, announced_total-append kept bytes is.1, is.2, is.3, run.fits) in
     let t = reports-after kept bytes (left - used) is.0 (omega (arith, is.1))
     (omega (arith, run.some)) run.seven all in
-    search (
-      rules,
-      take-take,
-      seven-take,
-      length-append,
-      announced_total-append,
-      length-take,
-      first_of_run,
-      next-waits,
-    )
+    search (rules, take-take, seven-take, length-append, announced_total-append, next-waits)

@@ -1,9 +1,9 @@
 -- The events of whole chunks, and their listeners.
-use Rattle.std.proofs.Common.{◌≡◌, ℕ, ◌+◌, ◌-◌, ◌<◌, ◌≤◌, List, [], ◌∷◌, ◌++◌, length, map, take, drop, Option, Some, None, refl, sym, ap, subst, ◌∙◌, append_assoc, arith, inl, inr, rules}
-use Rattle.std.{proofs.{Math.Seq.{drop-length, take-add}, lemmas.{Bool.{cases_lt}, Grind.{common_steps}, List.{append-nil, length-append, length-drop, length-take-le}}}, specs.List.{FoldsTo, concat}}
-use Rattle.dgt_decode.specs.{Feeding.{FirstEvent, at_place_if_any, chunk_events}, Grammar.{Event, Stray, Placed, at_place, events, shifted, unfinished_message, segment_events, verdict}, Laws.{Call}}
-use Rattle.dgt_decode.{specs.Laws.{UnfinishedIsQuiet, ChunksAdd, events_of_chunks}, proofs.{AnyChunks.{call_reported}, Appending.{events-append}, Places.{shifted-append, shifted-shifted}}}
-use Rattle.dgt_decode.proofs.{Steps.{IsHeld, IsHeld-unfinished, first-begins, first-stray, next-begins, next-seven, verdict-new}, UnfinishedLemmas.{IsUnfinished, nothing, waiting}}
+use Rattle.std.proofs.{Math.Seq.{take-length, drop-length, take-add}, Common.{◌≡◌, ℕ, ◌+◌, ◌-◌, ◌<◌, ◌≤◌, List, [], ◌∷◌, ◌++◌, length, map, take, drop, Option, Some, None, refl, sym, ap, ◌∙◌}}
+use Rattle.std.{proofs.{Common.{append_assoc, arith, inl, inr, rules}, lemmas.{Bool.{cases_lt}, Grind.{common_steps}, List.{append-nil, length-append, length-drop}}}, specs.List.{FoldsTo, concat}}
+use Rattle.dgt_decode.{proofs.Steps.{IsUnfinished-held, IsHeld, IsHeld-unfinished, first-begins, first-stray, next-begins, next-seven, verdict-new}, specs.Feeding.{FirstEvent, at_place_if_any}}
+use Rattle.dgt_decode.specs.{Feeding.{chunk_events}, Grammar.{Event, Placed, at_place, events, shifted, unfinished_message, segment_events, verdict}, Laws.{UnfinishedIsQuiet, ChunksAdd}}
+use Rattle.dgt_decode.{specs.Laws.{events_of_chunks}, proofs.{Appending.{events-append}, Places.{shifted-append, shifted-shifted}, UnfinishedLemmas.{IsUnfinished, nothing, waiting}}}
 use Rattle.dgt_decode.proofs.UnfinishedLemmas.{IsUnfinished-unfinished, events-of_unfinished, length-unfinished, unfinished-append}
 
 -- The byte after n others completes these: one event at most.
@@ -13,8 +13,7 @@ pub record IsBehind (n : ℕ) (reported : List Placed) : Type 0 where
 
 -- an event at the next byte
 behind_one : (n m : ℕ) (event : Event) → m ≡ n + 1 → IsBehind n (at_place m event ∷ [])
-behind_one n m event e =
-    record { event = Some event; is = ap (λ (k : ℕ). at_place k event ∷ []) e }
+behind_one n m event e = record { event = Some event; is = ap (λ (k : ℕ). at_place k event ∷ []) e }
 
 behind_none : (n : ℕ) → IsBehind n []
 behind_none n = record { event = None; is = refl }
@@ -30,10 +29,7 @@ behind_verdict h b e (Some x) f =
 
 behind_byte_held : (held : List ℕ) (b : ℕ) → IsHeld held → IsUnfinished held
     → IsBehind (length held) (events (held ++ b ∷ []))
-behind_byte_held held b h nothing = elim (cases_lt b 128) [
-  | inl seven ↦ rw (first-stray b seven).reported (behind_one 0 1 (Stray b) refl)
-  | inr top ↦ rw (first-begins b top).reported (behind_none 0)
-]
+behind_byte_held held b h nothing = search (rules, first-stray, first-begins, behind_one)
 behind_byte_held held b h (waiting [] alone e) = absurd (let no = alone.one in cc)
 behind_byte_held held b h (waiting (x ∷ g) alone e) =
     let some : 0 < length (x ∷ g) = omega arith in
@@ -50,6 +46,14 @@ pub behind_byte : (s : List ℕ) (b : ℕ)
 behind_byte s b =
     behind_byte_held (unfinished_message s) b (IsHeld-unfinished s) (IsUnfinished-unfinished s)
 
+-- No byte completes two events.
+pub one_event : (s : List ℕ) (b : ℕ) → length (events (unfinished_message s ++ b ∷ [])) ≤ 1
+one_event s b = rw (behind_byte s b).is (go (behind_byte s b).event)
+  where
+    go : (event : Option Event)
+        → length (shifted (length (unfinished_message s)) (at_place_if_any 1 event)) ≤ 1
+    go event = search rules
+
 -- the events of more bytes after any
 record AreBehind (s p : List ℕ) : Type 0 where
   early : List Placed
@@ -61,12 +65,12 @@ one_behind s b =
     let byte = behind_byte s b in
     record {
       early = at_place_if_any 1 byte.event;
-      is = search (rules, length-unfinished, events-append, shifted-shifted);
+      is = search (rules, length-unfinished, events-append);
     }
 
 -- any bytes, one after another
 all_behind : (s p : List ℕ) → AreBehind s p
-all_behind s [] = record { early = []; is = rw (append-nil s) (sym (append-nil (events s))) }
+all_behind s [] = record { early = []; is = search rules }
 all_behind s (b ∷ p) =
     let one = one_behind s b in
     let later = all_behind (s ++ b ∷ []) p in
@@ -126,31 +130,18 @@ pub in_a_row : (s : List ℕ) (chunks : List (List ℕ))
     ≡ events s ++ events_of_chunks (length s) (unfinished_message s) chunks
 in_a_row s [] = rw (append-nil s) (sym (append-nil (events s)))
 in_a_row s (chunk ∷ more) =
-    ap events (sym (append_assoc s chunk (concat more)))
-    ∙ in_a_row (s ++ chunk) more
-    ∙ rw (length-append s chunk, behind s chunk, unfinished-append s chunk)
-    (append_assoc (events s) (shifted (length s) (chunk_events (unfinished_message s) chunk))
-    (events_of_chunks (length s + length chunk) (unfinished_message (unfinished_message s ++ chunk))
-    more))
+    let later = in_a_row (s ++ chunk) more in
+    search (rules, append_assoc, length-append, behind, unfinished-append)
 
 -- ---- nothing
 
 -- no bytes after the held bytes
 pub held_none : (o : List ℕ) → IsHeld o → chunk_events o [] ≡ []
-held_none o h =
-    ap (nearer (length o))
-    (ap events (append-nil o) ∙ events-of_unfinished o (subst (λ (x : List ℕ). IsUnfinished x) h
-    (IsUnfinished-unfinished o)))
+held_none o h = search (rules, events-of_unfinished, IsUnfinished-held)
 
 pub unfinished_is_quiet : UnfinishedIsQuiet
-unfinished_is_quiet = record {
-  no_event = λ s. events-of_unfinished (unfinished_message s) (IsUnfinished-unfinished s);
-  stays = IsHeld-unfinished;
-  no_bytes = λ s. (
-    held_none (unfinished_message s) (IsHeld-unfinished s),
-    ap unfinished_message (append-nil (unfinished_message s)) ∙ IsHeld-unfinished s,
-  );
-}
+unfinished_is_quiet =
+    search (rules, events-of_unfinished, IsUnfinished-unfinished, IsHeld-unfinished)
 
 -- ---- a listener of calls
 
@@ -164,15 +155,21 @@ pub record HasHeard {L : Type 0} (hears : L → Placed → L → Type 0) (held c
 
 FoldsTo-one : {L : Type 0} (hears : L → Placed → L → Type 0) (a b c : L) (reported : List Placed)
     (x : Placed) → FoldsTo hears a reported b → hears b x c → FoldsTo hears a (reported ++ x ∷ []) c
-FoldsTo-one hears a b c [] x p q = (c, subst (λ (v : _). hears v x c) (sym p) q, refl)
+FoldsTo-one hears a b c [] x p q = search rules
 FoldsTo-one hears a b c (y ∷ reported) x p q =
-    (p.0, p.1, FoldsTo-one hears p.0 b c reported x p.2 q)
+    search (rules, FoldsTo-one hears p.0 b c reported x p.2 q)
+
+-- the events of the bytes that a call uses
+first_reported : (held chunk : List ℕ) (used : ℕ) (event : Option Event)
+    → FirstEvent held chunk used event
+    → chunk_events held (take used chunk) ≡ at_place_if_any used event
+first_reported held chunk used event first = search (rules, take-length)
 
 module _ {L : Type 0} (hears : L → Placed → L → Type 0) where
   -- nothing yet
   pub heard_none : (held chunk : List ℕ) (old : L) → IsHeld held
       → HasHeard hears held chunk 0 old old held
-  heard_none held chunk old h = search (rules, append-nil, held_none)
+  heard_none held chunk old h = search (rules, held_none)
 
   -- the bytes that a call uses complete one more event
   next_reported : (held chunk : List ℕ) (i used : ℕ) (now : List ℕ) (event : Option Event)
@@ -181,23 +178,7 @@ module _ {L : Type 0} (hears : L → Placed → L → Type 0) where
       → chunk_events held (take (i + used) chunk)
       ≡ chunk_events held (take i chunk) ++ at_place_if_any (i + used) event
   next_reported held chunk i used now event h e first =
-      let s = held ++ take i chunk in
-      let call : Call = record { chunk = drop i chunk; used = used; event = event } in
-      let place : length s + used ≡ length held + (i + used) =
-      omega (arith, length-append held (take i chunk), length-take-le i chunk h) in
-      ap (λ (xs : List ℕ). nearer (length held) (events xs))
-      (ap (λ (xs : List ℕ). held ++ xs) (take-add i used chunk)
-      ∙ sym (append_assoc held (take i chunk) _))
-      ∙ ap (nearer (length held)) (call_reported s call (rw e at first))
-      ∙ nearer-append (length held) (events s) (at_place_if_any (length s + used) event)
-      ∙ ap (λ (xs : List Placed). chunk_events held (take i chunk) ++ xs)
-      (ap (λ (n : ℕ). nearer (length held) (at_place_if_any n event)) place ∙ near event)
-    where
-      near : (x : Option Event)
-          → nearer (length held) (at_place_if_any (length held + (i + used)) x) ≡ at_place_if_any
-          (i + used) x
-      near None = refl
-      near (Some x) = ap (λ (n : ℕ). at_place n x ∷ []) (omega arith)
+      search (rules, take-add, held_in_two, first_reported)
 
   next_holds : (held chunk : List ℕ) (i used : ℕ) (now new : List ℕ)
       → now ≡ unfinished_message (held ++ take i chunk)
@@ -212,13 +193,10 @@ module _ {L : Type 0} (hears : L → Placed → L → Type 0) where
       → FirstEvent before (drop i chunk) used None
       → new ≡ unfinished_message (before ++ take used (drop i chunk))
       → HasHeard hears held chunk (i + used) old now new
-  heard_quiet held chunk i used old now before new heard fits first e = record {
-    within = omega (arith, fits, length-drop i chunk, heard.within);
-    holds = next_holds held chunk i used before new heard.holds e;
-    reported =
-        rw (next_reported held chunk i used before None heard.within heard.holds first, append-nil)
-        heard.reported;
-  }
+  heard_quiet held chunk i used old now before new heard fits first e =
+      let next = next_reported held chunk i used before None heard.within heard.holds first in
+      let holds = next_holds held chunk i used before new heard.holds e in
+      search (rules, length-drop)
 
   -- a call with an event, which is heard
   pub heard_one : (held chunk : List ℕ) (i used : ℕ) (old now later : L) (before new : List ℕ)
@@ -227,10 +205,8 @@ module _ {L : Type 0} (hears : L → Placed → L → Type 0) where
       → new ≡ unfinished_message (before ++ take used (drop i chunk))
       → hears now (at_place (i + used) event) later
       → HasHeard hears held chunk (i + used) old later new
-  heard_one held chunk i used old now later before new event heard fits first e one = record {
-    within = omega (arith, fits, length-drop i chunk, heard.within);
-    holds = next_holds held chunk i used before new heard.holds e;
-    reported =
-        rw (next_reported held chunk i used before (Some event) heard.within heard.holds first)
-        (FoldsTo-one hears old now later _ _ heard.reported one);
-  }
+  heard_one held chunk i used old now later before new event heard fits first e one =
+      let next =
+      next_reported held chunk i used before (Some event) heard.within heard.holds first in
+      let holds = next_holds held chunk i used before new heard.holds e in
+      search (rules, length-drop, FoldsTo-one)

@@ -1,6 +1,6 @@
 -- The first element that passes a test, found this many at a time.
-use Rattle.std.proofs.{Common.{◌≡◌, ℕ, ◌+◌, ◌%◌, ◌^◌, ◌<◌, ◌≤◌, Bool, not, cond, eqb, zero, suc, List, [], ◌∷◌, map, length, drop, replicate, sym, ap, ◌∙◌, arith, w8, rules}, lemmas.Bool.{eq-eqb}}
-use Rattle.std.proofs.lemmas.{Bool.{ne_eqb}, List.{length-drop, length-map, take_all}, Simd.{chunk-drop, length-chunk, tops_compared, zip2_splat_left, mask_l-mod}, List.Folds.{prefix_len-append}}
+use Rattle.std.proofs.{Common.{◌≡◌, ℕ, ◌+◌, ◌%◌, ◌^◌, ◌<◌, ◌≤◌, Bool, not, cond, eqb, zero, suc, List, ◌∷◌, map, length, drop, replicate, ap, ◌∙◌, arith, w8, rules}}
+use Rattle.std.proofs.lemmas.{List.{length-drop, length-map, take_all}, Simd.{chunk-drop, length-chunk, tops_compared, zip2_splat_left, mask_l-mod}, List.Folds.{prefix_len-append}}
 use Rattle.std.specs.{List.{position_or_len}, Simd.Lanes.{chunk, mask_l, top, zip2}}
 
 -- the mask of a comparison with a splat on its left side
@@ -24,26 +24,23 @@ module _ (test : ℕ → Bool) (xs : List ℕ) (at n : ℕ) (room : at + n ≤ l
   -- the first is among the next n
   pub first_within : position_or_len test (chunk at n xs) < n
       → position_or_len test (drop at xs) ≡ position_or_len test (chunk at n xs)
-  first_within short = search (rules, joined, ne_eqb, length-chunk)
+  first_within short = search (rules, joined, length-chunk)
 
   -- the first is past the next n
   pub first_past : position_or_len test (chunk at n xs) ≡ n
       → position_or_len test (drop at xs) ≡ n + position_or_len test (drop (at + n) xs)
-  first_past whole = search (rules, joined, eq-eqb, length-chunk)
+  first_past whole = search (rules, joined, length-chunk)
 
 -- The search may start again at a place before the one that it has reached.
 pub passed_before : (test : ℕ → Bool) (xs : List ℕ) (at from : ℕ) → from ≤ at → at ≤ length xs
     → at + position_or_len test (drop at xs) ≡ position_or_len test xs
     → from + position_or_len test (drop from xs) ≡ position_or_len test xs
 passed_before test xs at zero before within passed = omega arith
-passed_before test [] at (suc from) before within passed = absurd (omega (arith, before, within))
-passed_before test (x ∷ xs) zero (suc from) before within passed = absurd (omega (arith, before))
 passed_before test (x ∷ xs) (suc at) (suc from) before within passed =
     search (rules, passed_before test xs)
+passed_before test _ _ _ before within passed = absurd (omega (arith, before, within))
 
 -- the search among the last n is the search from there on
 pub first_in_last : (test : ℕ → Bool) (xs : List ℕ) (at n : ℕ) → at + n ≡ length xs
     → position_or_len test (drop at xs) ≡ position_or_len test (chunk at n xs)
-first_in_last test xs at n last =
-    sym
-    (ap (position_or_len test) (take_all n (drop at xs) (omega (arith, last, length-drop at xs))))
+first_in_last test xs at n last = search (rules, take_all, length-drop)

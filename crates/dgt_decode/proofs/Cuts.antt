@@ -1,5 +1,5 @@
 -- How more bytes at the end change the cut.
-use Rattle.{std.proofs.Common.{◌≡◌, ℕ, List, [], ◌∷◌, ◌++◌, refl, ap, rules}, dgt_decode.specs.Grammar.{lead, segments}}
+use Rattle.{std.proofs.Common.{◌≡◌, ℕ, List, [], ◌∷◌, ◌++◌, refl, rules}, dgt_decode.specs.Grammar.{lead, segments}}
 
 -- the lead with p after bytes of this lead and these segments
 abbrev pub lead_with : List ℕ → List ℕ → List (List ℕ) → List ℕ

@@ -1,11 +1,10 @@
 -- A program that cuts a whole list, segment by segment.
-use Rattle.std.proofs.Common.{map, ◌≡◌, ℕ, suc, ◌+◌, ◌-◌, ◌<◌, ◌≤◌, Bool, true, List, [], ◌∷◌, ◌++◌, length, take, drop, get_or, Some, None, nat_eq, add-one, refl, sym, ap, subst, ◌∙◌, append_assoc}
-use Rattle.std.proofs.{Common.{arith, rules}, Math.Seq.{drop-cons, drop-length}, lemmas.{Bool.{le-leb, leb-true, eq-eqb, ne_eqb, cases_lt}, Grind.{common_steps}, List.{append-nil}}}
-use Rattle.{std.{proofs.lemmas.List.{append_cancel_left, drop-drop, length-take, map-append, take_more, take-append-drop}, specs.Prelude.{if◌then◌else◌}}, dgt_decode.specs.Feeding.{event_content}}
-use Rattle.dgt_decode.specs.Grammar.{Event, BadLength, Stray, Placed, at_place, message_event, announced_total, shifted, strays, lead, segments, verdict, segment_events, unfinished_part, cut_of}
+use Rattle.std.proofs.Common.{map, ◌≡◌, ℕ, suc, ◌+◌, ◌-◌, ◌<◌, ◌≤◌, Bool, List, [], ◌∷◌, ◌++◌, length, take, drop, get_or, Some, nat_eq, add-one, refl, sym, ap, subst, ◌∙◌, append_assoc, arith, rules}
+use Rattle.std.proofs.{Math.Seq.{drop-cons, drop-length}, lemmas.{Bool.{le-leb}, Grind.{common_steps}, List.{append-nil, append_cancel_left, drop-drop, map-append, take-append-drop}}}
+use Rattle.{std.specs.Prelude.{if◌then◌else◌}, dgt_decode.specs.{Feeding.{event_content}, Grammar.{Stray, Placed, at_place, shifted, strays, lead, segments, verdict, segment_events, unfinished_part}}}
+use Rattle.dgt_decode.{specs.Grammar.{cut_of}, proofs.{Appending.{lead-seven, segments-seven}, Cuts.{lead-append, segments-append}, Places.{shifted-append, shifted-shifted, shifted-zero}}}
+use Rattle.dgt_decode.proofs.{Places.{strays-append}, SevenBit.{SevenByRecursion, are_seven}}
 use Rattle.dgt_decode.{specs.{Grammar.{cut_before, segments_events, events}, Laws.{IsSegment}, Taking.{placed_content}, declared.event.Event.{Event as CodeEvent}}, proofs.Appending.{lead-is_seven}}
-use Rattle.dgt_decode.proofs.{Appending.{lead-seven, segments-seven}, Cuts.{lead-append, segments-append}, Places.{shifted-append, shifted-shifted, shifted-zero, strays-append}}
-use Rattle.dgt_decode.proofs.{SevenBit.{SevenByRecursion, are_seven}, Verdicts.{verdict-bad, verdict-waits, verdict-whole}}
 use Rattle.dgt_decode.specs.declared.event.Event.TheVariants as code_events
 
 -- ---- The lead
@@ -13,22 +12,19 @@ use Rattle.dgt_decode.specs.declared.event.Event.TheVariants as code_events
 -- the lead is a seven-bit prefix, and the lead of the rest
 lead_split : (bytes : List ℕ) (i : ℕ) → SevenByRecursion (take i bytes)
     → lead bytes ≡ take i bytes ++ lead (drop i bytes)
-lead_split bytes i seven = ap (λ (x : List ℕ). lead x) (sym (take-append-drop i bytes))
-    ∙ lead-append (take i bytes) (drop i bytes)
-    ∙ rw (lead-seven (take i bytes) seven, segments-seven (take i bytes) seven) refl
+lead_split bytes i seven =
+    let whole = take-append-drop i bytes in
+    search (rules, lead-append, lead-seven, segments-seven)
 
 -- the lead ends at the first byte with a set top bit
 pub lead_here : (bytes : List ℕ) (i : ℕ) → i < length bytes → 128 ≤ get_or bytes i 0
     → SevenByRecursion (take i bytes) → take i bytes ≡ lead bytes
-lead_here bytes i within top seven =
-    let next : lead (drop i bytes) ≡ [] =
-    rw (drop-cons bytes i 0 within, le-leb 128 (get_or bytes i 0) top) refl in
-    sym (lead_split bytes i seven ∙ rw next (append-nil (take i bytes)))
+lead_here bytes i within top seven = search (rules, lead_split, drop-cons, le-leb)
 
 -- with no such byte it is the whole
 pub lead_all : (bytes : List ℕ) (i : ℕ) → i ≡ length bytes → SevenByRecursion (take i bytes)
     → take (length bytes) bytes ≡ lead bytes
-lead_all bytes i end seven = search (rules, lead_split, drop-length, append-nil)
+lead_all bytes i end seven = search (rules, lead_split, drop-length)
 
 -- after the lead there is a byte with a set top bit, or none
 pub lead_stops : (bytes : List ℕ) (i : ℕ) → take i bytes ≡ lead bytes → lead (drop i bytes) ≡ []
@@ -42,28 +38,8 @@ lead_stops bytes i is =
 segments_behind : (bytes : List ℕ) (i : ℕ) → take i bytes ≡ lead bytes
     → segments bytes ≡ segments (drop i bytes)
 segments_behind bytes i is =
-    let seven : SevenByRecursion (take i bytes)
-    = subst (λ (x : List ℕ). SevenByRecursion x) (sym is) (lead-is_seven bytes) in
-    ap (λ (x : List ℕ). segments x) (sym (take-append-drop i bytes))
-    ∙ segments-append (take i bytes) (drop i bytes)
-    ∙ rw (segments-seven (take i bytes) seven) refl
-
--- ---- The verdict of a segment with the total t
-
--- a total below 3 is reported at the third byte
-pub bad_here : (g : List ℕ) (t : ℕ) → t ≡ announced_total g → 3 ≤ length g → t < 3
-    → Some (at_place 3 BadLength) ≡ verdict g
-bad_here g t is long small = sym (verdict-bad g long (omega (arith, is)))
-
--- a segment shorter than its total reports nothing
-pub waits_here : (g : List ℕ) (t : ℕ) → t ≡ announced_total g → length g < t → None ≡ verdict g
-waits_here g t is less = sym (verdict-waits g (omega (arith, is)))
-
--- a whole message is reported at its total
-pub whole_here : (g : List ℕ) (t : ℕ) (event : Event) → t ≡ announced_total g → 3 ≤ t → t ≤ length g
-    → event ≡ message_event (take t g) → Some (at_place t event) ≡ verdict g
-whole_here g t event is large enough reports =
-    rw (reports, is) (sym (verdict-whole g (omega (arith, is)) (omega (arith, is))))
+    let whole = take-append-drop i bytes in
+    search (rules, segments-append, segments-seven, lead-is_seven)
 
 -- ---- Strays
 
@@ -71,8 +47,7 @@ whole_here g t event is large enough reports =
 pub strays_more : (before i : ℕ) (bytes : List ℕ) → i < length bytes
     → shifted before (strays (take i bytes)) ++ at_place (before + i + 1) (Stray (get_or bytes i 0))
     ∷ [] ≡ shifted before (strays (take (i + 1) bytes))
-strays_more before i bytes within =
-    grind (arith, common_steps, length-take, take_more, strays-append, shifted-append)
+strays_more before i bytes within = grind (arith, common_steps, strays-append, shifted-append)
 
 -- one more Stray is reported
 pub reported_stray : (old reported new : List (ℕ × CodeEvent)) (before i : ℕ) (bytes : List ℕ)
@@ -101,7 +76,7 @@ pub reported_verdict : (old mid new : List (ℕ × CodeEvent)) (before place : �
     (segment_events (verdict g) g
     ++ shifted (length g) (cut_after is_last (unfinished_part (verdict g) g)))
 reported_verdict old mid new before place event g rest is_last is pushed same reported =
-    search (rules, map-append, append-nil, shifted-shifted, append_assoc)
+    search (rules, map-append, shifted-shifted, append_assoc)
 
 -- ---- The whole list
 
@@ -118,11 +93,7 @@ pub reported_lead : (bytes : List ℕ) (start : ℕ) (reported : List Placed) �
     → reported ≡ shifted 0 (strays (take start bytes)) → HasReported bytes start reported
 unfolding events
 reported_lead bytes start reported within is so_far =
-    search (rules, length-take, lead_stops, shifted-zero, segments_behind)
-
--- bytes without a lead begin with a set top bit
-top_first : (b : ℕ) (rest : List ℕ) → lead (b ∷ rest) ≡ [] → 128 ≤ b
-top_first b rest = search (rules, leb-true)
+    search (rules, lead_stops, shifted-zero, segments_behind)
 
 -- the byte at a place, and the bytes after it
 from_here : (bytes : List ℕ) (start : ℕ) → start < length bytes
@@ -132,8 +103,7 @@ from_here bytes start more = rw (add-one, drop-cons bytes start 0 more) refl
 -- there is a Cut if another segment follows
 cut_here : (bytes : List ℕ) (end : ℕ) (u : List ℕ) → end ≤ length bytes → lead (drop end bytes) ≡ []
     → cut_before (segments (drop end bytes)) u ≡ cut_after (nat_eq end (length bytes)) u
-cut_here bytes end u within none =
-    search (rules, cases_lt, from_here, top_first, ne_eqb, le-leb, eq-eqb, drop-length)
+cut_here bytes end u within none = search (rules, from_here, drop-length)
 
 -- the next segment: the byte with a set top bit, and the lead of the bytes after it
 pub record IsNext (bytes : List ℕ) (start count : ℕ) (segment : List ℕ) : Type 0 where
@@ -149,17 +119,14 @@ pub next_segment : (bytes : List ℕ) (start count : ℕ) (reported : List Place
     → count ≤ length (drop (start + 1) bytes)
     → IsNext bytes start count (take (start + 1 + count - start) (drop start bytes))
 next_segment bytes start count reported h more is within =
-    let b = get_or bytes start 0 in
-    let rest = drop (start + 1) bytes in
     let at = from_here bytes start more in
     let gap : start + 1 + count - start ≡ suc count = omega arith in
-    search (rules, length-take, top_first)
+    search rules
 
 -- it is a segment
 pub IsSegment-next : (bytes : List ℕ) (start count : ℕ) (segment : List ℕ)
     → IsNext bytes start count segment → IsSegment segment
-IsSegment-next bytes start count segment n =
-    rw n.is (n.top, are_seven _ (lead-is_seven (drop (start + 1) bytes)))
+IsSegment-next bytes start count segment n = search (rules, are_seven, lead-is_seven)
 
 -- places of the next events are counted from the start of the whole
 regrouped : (reported a c e : List Placed) (start n end : ℕ) → start + n ≡ end
@@ -179,10 +146,6 @@ pub reported_segment : (bytes : List ℕ) (start count end : ℕ) (reported new 
     (cut_after (nat_eq end (length bytes)) (unfinished_part (verdict segment) segment)))
     → HasReported bytes end new
 reported_segment bytes start count end reported new segment h more n e within pushed =
-    let b = get_or bytes start 0 in
-    let rest = drop (start + 1) bytes in
-    let g = b ∷ lead rest in
-    let u = unfinished_part (verdict g) g in
-    let behind : drop count rest ≡ drop end bytes =
+    let behind : drop count (drop (start + 1) bytes) ≡ drop end bytes =
     drop-drop count (start + 1) bytes ∙ ap (λ (k : ℕ). drop k bytes) (sym e) in
-    search (rules, lead_stops, segments_behind, from_here, le-leb, cut_here, regrouped)
+    search (rules, lead_stops, segments_behind, from_here, cut_here, regrouped)

@@ -1,5 +1,5 @@
 -- The messages that are dumps: 67 bytes, of which the last 64 are pieces.
-use Rattle.std.proofs.{Common.{◌≡◌, ℕ, ◌-◌, ◌<◌, List, [], ◌∷◌, Ok, ap, arith, drop, get_or, length, map, slice_index, rules}, lemmas.List.{get_or-map, length-map, Elements.{All-drop}}}
+use Rattle.std.proofs.{Common.{rules, ◌≡◌, ℕ, ◌-◌, ◌<◌, List, ◌∷◌, Ok, ap, arith, drop, get_or, length, map, slice_index}, lemmas.List.{get_or-map, length-map, Elements.{All-drop}}}
 use Rattle.{dgt_values.specs.{Board.{piece_code}, Bytes.{AreSevenBit}, declared.pieces.Piece.{Piece, TheVariants.{Empty}}}, dgt_message.specs.{Content.{IsCarried}, Encoding.{Fits}, Reading.{reading}}}
 use Rattle.{dgt_message.{specs.Content.Content.{dump}, proofs.Codes.{piece_code-below}}, dgt_decode.specs.{Feeding.{IsWholeMessage}, Grammar.{Message, message_event, reading_event}}}
 use Rattle.dgt_decode.proofs.FieldLemmas.{IsRead, read_of}
@@ -17,9 +17,7 @@ pub dump_reported : IsRead → (bytes : List ℕ) (pieces : List Piece) → IsWh
 dump_reported exact (a ∷ b ∷ c ∷ body) pieces w long code are =
     let seven : AreSevenBit body = All-drop (λ byte. byte < 128) 2 (b ∷ c ∷ body) w.later in
     rw code (ap (reading_event 6) (dump_read exact body pieces seven (omega (arith, long)) are))
-dump_reported exact [] pieces w long code are = absurd (omega (arith, long))
-dump_reported exact (a ∷ []) pieces w long code are = absurd (omega (arith, long))
-dump_reported exact (a ∷ b ∷ []) pieces w long code are = absurd (omega (arith, long))
+dump_reported exact _ pieces w long code are = absurd (omega (arith, long))
 
 -- A message with the pieces of all squares has 67 bytes. The first is 134, and each of its codes is
 -- below 16.
@@ -43,6 +41,4 @@ only_dump exact (a ∷ b ∷ c ∷ body) pieces byte w e =
           )
           (piece_code-below (get_or pieces k Empty)),
     )
-only_dump exact [] pieces byte w e = absurd (omega (arith, w.long))
-only_dump exact (a ∷ []) pieces byte w e = absurd (omega (arith, w.long))
-only_dump exact (a ∷ b ∷ []) pieces byte w e = absurd (omega (arith, w.long))
+only_dump exact _ pieces byte w e = absurd (omega (arith, w.long))

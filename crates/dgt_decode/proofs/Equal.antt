@@ -12,8 +12,4 @@ module _ (equal_messages : EqualIsSameRead content (message.eq-value).it) where
   equal_events (code_events.Cut have) (code_events.Cut other) = search rules
   equal_events code_events.BadLength code_events.BadLength = search rules
   equal_events (code_events.Stray byte) (code_events.Stray other) = search rules
-  equal_events (code_events.Message a) _ = (λ t. cc, λ e. cc)
-  equal_events (code_events.Refused code fault) _ = (λ t. cc, λ e. cc)
-  equal_events (code_events.Cut have) _ = (λ t. cc, λ e. cc)
-  equal_events code_events.BadLength _ = (λ t. cc, λ e. cc)
-  equal_events (code_events.Stray byte) _ = (λ t. cc, λ e. cc)
+  equal_events _ _ = (λ t. cc, λ e. cc)

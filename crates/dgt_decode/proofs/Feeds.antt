@@ -1,7 +1,6 @@
 -- The first event of a chunk after the held bytes.
-use Rattle.std.proofs.{Common.{◌≡◌, ℕ, ◌+◌, ◌-◌, ◌<◌, ◌≤◌, List, [], ◌∷◌, ◌++◌, length, take, drop, Option, Some, None, refl, sym, ap, ◌∙◌, append_assoc, arith, rules}, Math.Seq.{take-add}}
-use Rattle.{std.proofs.{Math.Seq.{take-length}, lemmas.{Bool.{cases_order}, List.{take-append-drop}}}, dgt_decode.specs.{Feeding.{FirstEvent, at_place_if_any}, Grammar.{Event, Placed, at_place}}}
-use Rattle.dgt_decode.{specs.Grammar.{events}, proofs.Appending.{events-append}}
+use Rattle.std.proofs.{Common.{◌≡◌, ℕ, ◌+◌, ◌-◌, ◌<◌, ◌≤◌, List, [], ◌∷◌, ◌++◌, length, take, drop, Option, Some, None, refl, sym, ◌∙◌, append_assoc, arith, rules}, Math.Seq.{take-add, take-length}}
+use Rattle.{std.proofs.lemmas.List.{take-append-drop}, dgt_decode.{specs.{Feeding.{FirstEvent, at_place_if_any}, Grammar.{Event, Placed, at_place, events}}, proofs.Appending.{events-append}}}
 
 -- an empty list has no first element
 pub nil_left : (xs ys : List Placed) → xs ++ ys ≡ [] → xs ≡ []
@@ -12,21 +11,12 @@ nil_left (x ∷ xs) ys e = absurd cc
 pub quiet-prefix : (s p : List ℕ) → events (s ++ p) ≡ [] → events s ≡ []
 quiet-prefix s p e = nil_left (events s) _ (sym (events-append s p) ∙ e)
 
--- the first n: the first k, then the rest of them
-take-take-drop : (k n : ℕ) (chunk : List ℕ) → k ≤ n
-    → take n chunk ≡ take k chunk ++ take (n - k) (drop k chunk)
-take-take-drop k n chunk h =
-    let whole : k + (n - k) ≡ n = omega arith in
-    ap (λ (m : ℕ). take m chunk) (sym whole) ∙ take-add k (n - k) chunk
-
 -- if a prefix of a chunk completes no event, no shorter one does
 pub quiet-shorter : (held chunk : List ℕ) (k n : ℕ) → k ≤ n → events (held ++ take n chunk) ≡ []
     → events (held ++ take k chunk) ≡ []
-quiet-shorter held chunk k n h e = quiet-prefix (held ++ take k chunk) (take (n - k) (drop k chunk))
-    (rw (
-      append_assoc held (take k chunk) (take (n - k) (drop k chunk)),
-      ← take-take-drop k n chunk h,
-    ) e)
+quiet-shorter held chunk k n h e =
+    let whole : k + (n - k) ≡ n = omega arith in
+    search (rules, quiet-prefix, take-add, append_assoc)
 
 -- a chunk without an event has none at its front
 pub quiet-chunk : (held chunk : List ℕ) (k : ℕ) → events (held ++ chunk) ≡ []
@@ -39,12 +29,7 @@ pub FirstEvent-some : (held chunk : List ℕ) (before used : ℕ) (event : Event
     → used ≤ length chunk → events (held ++ take before chunk) ≡ []
     → events (held ++ take used chunk) ≡ at_place (length held + used) event ∷ []
     → FirstEvent held chunk used (Some event)
-FirstEvent-some held chunk before used event next within quiet now = (
-  within,
-  now,
-  λ k h. let below : k ≤ before = omega arith in
-      quiet-shorter held chunk k before below quiet,
-)
+FirstEvent-some held chunk before used event next within quiet now = search (rules, quiet-shorter)
 
 -- A run of which only the last byte may make an event has this first event, if any.
 pub first_of_run : (held run : List ℕ) (event : Option Event) → 0 < length run
@@ -59,4 +44,4 @@ first_of_run held run (Some event) some quiet reported =
 -- a chunk has one result
 pub one_first_event : (held chunk : List ℕ) (j k : ℕ) (x y : Option Event)
     → FirstEvent held chunk j x → FirstEvent held chunk k y → (j ≡ k) × (x ≡ y)
-one_first_event held chunk j k x y a b = search (rules, quiet-chunk, cases_order)
+one_first_event held chunk j k x y a b = search (rules, quiet-chunk)

@@ -1,7 +1,7 @@
 -- The messages that are field updates: five bytes, of which the last two are a square and a piece.
-use Rattle.std.{proofs.{Common.{◌≡◌, ℕ, ◌<◌, List, [], ◌∷◌, Result, Ok, ap, arith, drop, length, slice_index, rules, refl}, lemmas.List.Elements.{All-drop, All-from_recursion}}, specs.Prelude.{◌↔◌}}
+use Rattle.std.{proofs.{Common.{◌≡◌, ℕ, ◌<◌, List, [], ◌∷◌, Result, Ok, ap, arith, drop, length, slice_index, rules}, lemmas.List.Elements.{All-drop}}, specs.Prelude.{◌↔◌}}
 use Rattle.{std.specs.Prelude.{◌-◌}, dgt_values.specs.{Board.{piece_code, square_number}, Bytes.{AreSevenBit}, declared.{pieces.Piece.{Piece}, squares.Square.{Square}}}}
-use Rattle.dgt_message.{specs.{Content.{Content, IsCarried}, Encoding.{Fits}, Reading.{reading}, Content.Content.{field}, declared.viewing.BodyFault.{BodyFault}}, proofs.Codes.{piece_code-below}}
+use Rattle.dgt_message.{specs.{Content.{Content, IsCarried}, Encoding.{Fits}, Reading.{reading}, Content.Content.{field}, declared.viewing.BodyFault.{BodyFault}}}
 use Rattle.dgt_decode.specs.{Feeding.{IsWholeMessage}, Grammar.{Message, message_event, reading_event}}
 
 -- a message that fits a code and a body is their reading
@@ -14,15 +14,8 @@ field_read : IsRead → (square : Square) (piece : Piece) (s p : ℕ) → s < 64
     → square_number square ≡ s → piece_code piece ≡ p
     → reading 14 (s ∷ p ∷ []) ≡ Ok (field (square_number square) piece)
 field_read exact square piece s p small small' e f =
-    (exact 14 (s ∷ p ∷ []) (field (square_number square) piece) (omega arith) (
-      omega arith,
-      All-from_recursion (λ byte. byte < 128) (s ∷ p ∷ [])
-          (omega (arith, small), (small', tt)),
-    )).1 record {
-      is_message = rw e small;
-      code_is = refl;
-      encoded = rw (e, f) refl;
-    }
+    (exact 14 (s ∷ p ∷ []) (field (square_number square) piece) (omega arith)
+    (omega arith, search rules)).1 (search rules)
 
 pub field_reported : IsRead → (bytes : List ℕ) (square : Square) (piece : Piece)
     → AreSevenBit (drop 1 bytes) → length bytes ≡ 5 → slice_index bytes 0 ≡ 142
@@ -32,19 +25,12 @@ pub field_reported : IsRead → (bytes : List ℕ) (square : Square) (piece : Pi
 field_reported exact (a ∷ b ∷ c ∷ s ∷ p ∷ []) square piece seven five code small e f =
     rw code
     (ap (reading_event 14) (field_read exact square piece s p small (seven 3 0 (omega arith)) e f))
-field_reported exact [] square piece seven five code small e f = absurd (omega arith)
-field_reported exact (a ∷ []) square piece seven five code small e f = absurd (omega arith)
-field_reported exact (a ∷ b ∷ []) square piece seven five code small e f = absurd (omega arith)
-field_reported exact (a ∷ b ∷ c ∷ []) square piece seven five code small e f = absurd (omega arith)
-field_reported exact (a ∷ b ∷ c ∷ s ∷ []) square piece seven five code small e f =
-    absurd (omega arith)
-field_reported exact (a ∷ b ∷ c ∷ s ∷ p ∷ d ∷ rest) square piece seven five code small e f =
-    absurd (omega arith)
+field_reported exact _ square piece seven five code small e f = absurd (omega (arith, five))
 
 -- a reading with a message as its event is this message's
 pub read_of : (code : ℕ) (read : Result Content BodyFault) (said : Content)
     → reading_event code read ≡ Message said → read ≡ Ok said
-read_of code read said e = grind (arith, e)
+read_of code read said e = grind arith
 
 -- A message with the piece of one square has five bytes, the first of which is 142. Its square is
 -- below 64, and its piece below 16.
@@ -58,7 +44,5 @@ only_field exact (a ∷ b ∷ c ∷ body) square piece byte w e =
     (omega (arith, w.whole, w.later 0 0 (omega arith), w.later 1 0 (omega arith)), seven) in
     let fits : Fits (field square piece) (a - 128) body =
     (exact (a - 128) body (field square piece) (omega arith) carried).0 (read_of _ _ _ e) in
-    (search (rules, piece_code-below))
-only_field exact [] square piece byte w e = absurd (omega (arith, w.long))
-only_field exact (a ∷ []) square piece byte w e = absurd (omega (arith, w.long))
-only_field exact (a ∷ b ∷ []) square piece byte w e = absurd (omega (arith, w.long))
+    search rules
+only_field exact _ square piece byte w e = absurd (omega (arith, w.long))

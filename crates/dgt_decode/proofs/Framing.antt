@@ -1,11 +1,10 @@
 -- The states of a framer, byte by byte.
-use Rattle.std.proofs.Common.{option_map, ◌≡◌, ◌≢◌, ℕ, zero, suc, ◌+◌, ◌*◌, ◌-◌, ◌<◌, ◌≤◌, ◌⊎◌, inl, List, [], ◌∷◌, ◌++◌, length, drop, Option, Some, None, refl, sym, ap, subst, ◌∙◌, arith, rules}
-use Rattle.std.{proofs.lemmas.{Bool.{ne_eqb}, Grind.{common_steps}, List.{length-append, nil_from_length}}, specs.Prelude.{◌==◌, if◌then◌else◌, slice_index}}
-use Rattle.dgt_decode.specs.{Feeding.{IsWholeMessage, at_place_if_any, event_found_in}, Grammar.{BadLength, Cut, Stray, at_place, announced_total, events, unfinished_message}, Taking.{Frames}}
-use Rattle.dgt_decode.{specs.{Taking.{FramesPrefix, IsKept}, declared.{event.Found.{Found}, framer.FramerState.{FramerState, TheVariants.{Hunting, Head, Body, Whole}}}}, proofs.Appending.{IsAlone}}
-use Rattle.dgt_decode.proofs.{Bytes.{IsAlone-parts, nothing_held, quiet_unfinished, held_begins_more, held_room}, Feeds.{first_of_run}, SevenBit.{SevenByRecursion, are_seven}, Steps.{IsHeld}}
-use Rattle.dgt_decode.proofs.Steps.{IsHeld-unfinished, IsAlone-more, alone_held, first-begins, first-stray, next-begins, next-short, next-bad, next-waits, next-whole}
-use Rattle.dgt_decode.proofs.{Verdicts.{announced_total-append}, Wholes.{whole_unfinished}}
+use Rattle.std.proofs.Common.{option_map, ◌≡◌, ◌≢◌, ℕ, zero, suc, ◌+◌, ◌*◌, ◌-◌, ◌<◌, ◌≤◌, ◌⊎◌, inl, List, [], ◌∷◌, ◌++◌, length, drop, Option, Some, None, subst, arith, rules}
+use Rattle.{std.{proofs.lemmas.{Grind.{common_steps}, List.{length-append, nil_from_length}}, specs.Prelude.{◌==◌, if◌then◌else◌, slice_index}}, dgt_decode.specs.Feeding.{IsWholeMessage}}
+use Rattle.dgt_decode.specs.{Feeding.{at_place_if_any, event_found_in}, Grammar.{announced_total, events, unfinished_message}, Taking.{Frames, FramesPrefix, IsKept}, declared.event.Found.{Found}}
+use Rattle.dgt_decode.{specs.declared.framer.FramerState.{FramerState, TheVariants.{Hunting, Head, Body, Whole}}, proofs.{Appending.{IsAlone}, Bytes.{IsAlone-parts, nothing_held, quiet_unfinished}}}
+use Rattle.dgt_decode.proofs.{Bytes.{held_room}, SevenBit.{SevenByRecursion, are_seven}, Steps.{IsHeld, IsHeld-unfinished, IsAlone-more, alone_held, first-begins, first-stray, next-begins}}
+use Rattle.dgt_decode.proofs.{Steps.{next-short, next-bad, next-waits, next-whole}, Verdicts.{announced_total-append}, Wholes.{whole_unfinished}}
 use Rattle.dgt_decode.specs.declared.event.Found.TheVariants as found
 
 -- ---- What is unfinished
@@ -31,26 +30,16 @@ pub frames-first : (kept : List ℕ) (b : ℕ) → length (unfinished_message ke
     → Frames kept (b ∷ []) (b ∷ []) None
 frames-first kept b none top =
     let nothing : unfinished_message kept ≡ [] = nil_from_length (unfinished_message kept) none in
-    record {
-      first = search (rules, first_of_run, quiet_unfinished, first-begins);
-      held = rw nothing refl;
-      whole = λ e. absurd cc;
-      came = λ e. absurd cc;
-      unfinished = λ e. (first-begins b top).leaves;
-    }
+    let begins = first-begins b top in
+    search (rules, quiet_unfinished)
 
 -- it reports a Cut if a message was unfinished
 pub frames-cut : (kept : List ℕ) (b : ℕ) → 0 < length (unfinished_message kept) → 128 ≤ b
     → Frames kept (b ∷ []) (b ∷ []) (Some (found.Cut (length (unfinished_message kept))))
 frames-cut kept b some top =
     let g = next-begins (unfinished_message kept) b (IsHeld-unfinished kept) some top in
-    record {
-      first = search (rules, first_of_run, quiet_unfinished);
-      held = (first-begins b top).leaves ∙ sym g.leaves;
-      whole = λ e. absurd cc;
-      came = λ e. absurd cc;
-      unfinished = λ e. (first-begins b top).leaves;
-    }
+    let begins = first-begins b top in
+    search (rules, quiet_unfinished)
 
 -- ---- A byte outside a message
 
@@ -59,7 +48,7 @@ pub frames-stray : (kept : List ℕ) (b : ℕ) → unfinished_message kept ≡ [
     → Frames kept (b ∷ []) [] (Some (found.Stray b))
 frames-stray kept b none seven =
     let g = first-stray b seven in
-    search (rules, first_of_run, quiet_unfinished, nothing_held)
+    search (rules, quiet_unfinished, nothing_held)
 
 -- a stray byte is taken on its own
 pub prefix-stray : (kept rest : List ℕ) → unfinished_message kept ≡ [] → 0 < length rest
@@ -78,14 +67,12 @@ frames-short state kept b is head one seven =
     let h = kept_unfinished state kept is (inl head) in
     let long : length (kept ++ b ∷ []) ≡ 2 = omega (arith, length-append kept (b ∷ [])) in
     let g = next-short kept (b ∷ []) h (omega arith) (seven, tt) (omega arith) in
-    (search (rules, first_of_run, quiet_unfinished))
+    (search rules)
 
 -- after the first byte there are two
 two_kept : (state : FramerState) (kept : List ℕ) → IsKept state kept → state ≡ Head
     → length kept ≢ 1 → IsHeld kept × (length kept ≡ 2)
-two_kept state kept is head more =
-    let two : IsKept Head kept = subst (λ s. IsKept s kept) head is in
-    (two.0, omega (arith, two.1, two.2))
+two_kept state kept is head more = search rules
 
 -- the third byte ends the total
 pub head_total : (kept : List ℕ) (b : ℕ) → length kept ≡ 2
@@ -101,7 +88,7 @@ frames-bad state kept b is head more seven small =
     let long : length (kept ++ b ∷ []) ≡ 3 = omega (arith, length-append kept (b ∷ [])) in
     let g = next-bad kept (b ∷ []) h (omega arith) (seven, tt) long
     (omega (arith, head_total kept b two)) in
-    search (rules, first_of_run, quiet_unfinished, nothing_held)
+    search (rules, quiet_unfinished, nothing_held)
 
 -- ---- A later byte
 
@@ -132,11 +119,11 @@ reports-after kept run zero h two more seven all =
     let same : announced_total (kept ++ run) ≡ length (kept ++ run) = omega (arith, all) in
     let g = next-whole kept run h some seven long same in
     let alone = IsAlone-more kept run (alone_held kept h some).0 seven in
-    search (rules, held_begins_more, are_seven, later_seven)
+    search (rules, are_seven, later_seven)
 reports-after kept run (suc left) h two more seven all =
     let count : length (kept ++ run) ≡ length kept + length run = length-append kept run in
     let g = next-waits kept run h (omega arith) seven (omega (arith, all)) in
-    search (rules, ne_eqb)
+    search rules
 
 -- so does one byte
 pub frames-after : (kept : List ℕ) (b left : ℕ) → IsHeld kept → 2 ≤ length kept → b < 128
@@ -144,7 +131,7 @@ pub frames-after : (kept : List ℕ) (b left : ℕ) → IsHeld kept → 2 ≤ le
     → Frames kept (b ∷ []) (kept ++ b ∷ []) (after left).1 × IsKept (after left).0 (kept ++ b ∷ [])
 frames-after kept b left h two seven all =
     let t = reports-after kept (b ∷ []) left h two (omega arith) (seven, tt) all in
-    (search (rules, first_of_run, quiet_unfinished))
+    (search (rules, quiet_unfinished))
 
 -- a byte of the body does
 pub frames-body : (state : FramerState) (kept : List ℕ) (b left : ℕ) → IsKept state kept

@@ -1,22 +1,16 @@
 -- A loop over the bytes of a chunk, which takes them one by one or run by run.
-use Rattle.std.proofs.Common.{◌≡◌, ◌≢◌, ℕ, ◌+◌, ◌-◌, ◌<◌, ◌≤◌, true, false, List, [], ◌∷◌, ◌++◌, length, take, drop, get_or, option_map, Option, Some, None, sym, ap, ◌∙◌, append_assoc, arith, rules}
-use Rattle.std.{proofs.{Math.Seq.{drop-cons, take-add, take-length}, lemmas.List.{append-nil, length-append, length-drop, length-take, length-take-le, take-take}}, specs.Prelude.{is_some}}
-use Rattle.dgt_decode.specs.{Feeding.{FirstEvent, IsWholeMessage, at_place_if_any, event_found_in}, Grammar.{Event, at_place, shifted, events, unfinished_message}, Taking.{Frames, FramesPrefix}}
-use Rattle.dgt_decode.{specs.declared.event.Found.{Found}, proofs.{Appending.{events-append}, Division.{quiet_held}, Feeds.{FirstEvent-some, first_of_run}, Steps.{IsHeld, IsUnfinished-held}}}
+use Rattle.std.proofs.Common.{◌≡◌, ◌≢◌, ℕ, ◌+◌, ◌-◌, ◌<◌, ◌≤◌, true, false, List, [], ◌∷◌, ◌++◌, length, take, drop, get_or, option_map, Option, Some, None, ap, ◌∙◌, append_assoc, arith, rules}
+use Rattle.std.{proofs.{Math.Seq.{drop-cons, take-add, take-length}, lemmas.List.{length-append, length-drop, length-take, length-take-le, take-take}}, specs.Prelude.{is_some}}
+use Rattle.dgt_decode.specs.{Feeding.{FirstEvent, IsWholeMessage, at_place_if_any, event_found_in}, Grammar.{Event, at_place, events, unfinished_message}, Taking.{Frames, FramesPrefix}}
+use Rattle.dgt_decode.{specs.declared.event.Found.{Found}, proofs.{Appending.{events-append}, Division.{quiet_held}, Feeds.{FirstEvent-some}, Steps.{IsHeld, IsUnfinished-held}}}
 use Rattle.dgt_decode.proofs.UnfinishedLemmas.{events-of_unfinished, unfinished-append, length-unfinished}
 use Rattle.dgt_decode.specs.declared.event.Found.TheVariants as found
-
--- the place of an event after bytes is the sum of the places
-pub shifted-at_place_if_any : (n m k : ℕ) (event : Option Event) → n + m ≡ k
-    → shifted n (at_place_if_any m event) ≡ at_place_if_any k event
-shifted-at_place_if_any n m k event e = search rules
 
 -- The event of p after s, which has none, is that of p after what s leaves unfinished.
 pub events-more : (s p : List ℕ) (n : ℕ) (event : Option Event) → events s ≡ []
     → events (unfinished_message s ++ p) ≡ at_place_if_any (length (unfinished_message s) + n) event
     → events (s ++ p) ≡ at_place_if_any (length s + n) event
-events-more s p n event quiet now =
-    search (rules, length-unfinished, events-append, shifted-at_place_if_any)
+events-more s p n event quiet now = search (rules, length-unfinished, events-append)
 
 -- Such a reader has taken i bytes of the chunk without an event, and holds this.
 pub record HasTaken (held chunk : List ℕ) (i : ℕ) (now : List ℕ) : Type 0 where
@@ -25,10 +19,7 @@ pub record HasTaken (held chunk : List ℕ) (i : ℕ) (now : List ℕ) : Type 0 
 
 -- at first no byte of the chunk is taken
 pub taken_none : (held chunk : List ℕ) → IsHeld held → HasTaken held chunk 0 held
-taken_none held chunk h = record {
-  holds = rw (append-nil held) (sym h);
-  quiet = rw (append-nil held) (events-of_unfinished held (IsUnfinished-held held h));
-}
+taken_none held chunk h = search (rules, events-of_unfinished, IsUnfinished-held)
 
 -- ---- a run of bytes: from i to j
 
@@ -40,9 +31,7 @@ IsRun chunk i run j = take j chunk ≡ take i chunk ++ run
 pub run_holds : (held chunk : List ℕ) (i j : ℕ) (now run : List ℕ) → IsRun chunk i run j
     → HasTaken held chunk i now
     → unfinished_message (now ++ run) ≡ unfinished_message (held ++ take j chunk)
-run_holds held chunk i j now run r t =
-    rw (t.holds, r, ← append_assoc held (take i chunk) run)
-    (sym (unfinished-append (held ++ take i chunk) run))
+run_holds held chunk i j now run r t = search (rules, append_assoc, unfinished-append)
 
 -- a run reports the same as all bytes to its end
 pub run_reported : (held chunk : List ℕ) (i j n : ℕ) (now run : List ℕ) (event : Option Event)
@@ -63,16 +52,14 @@ run_quiet held chunk i j now run r t reported = record {
 -- the held bytes and a run are the earlier held bytes and all bytes to its end
 pub run_came : (held chunk : List ℕ) (i j : ℕ) (now run : List ℕ) → IsRun chunk i run j
     → HasTaken held chunk i now → now ++ run ≡ held ++ take j chunk
-run_came held chunk i j now run r t =
-    rw (t.holds, quiet_held (held ++ take i chunk) t.quiet, r)
-    (append_assoc held (take i chunk) run)
+run_came held chunk i j now run r t = search (rules, quiet_held, append_assoc)
 
 -- ---- A step of a loop
 
 -- one byte is a step
 pub one_byte : (kept chunk : List ℕ) (i : ℕ) (new : List ℕ) (what : Option Found) → i < length chunk
     → Frames kept (get_or chunk i 0 ∷ []) new what → FramesPrefix kept (drop i chunk) 1 new what
-one_byte kept chunk i new what within byte = search (rules, drop-cons, length-drop)
+one_byte kept chunk i new what within byte = search (rules, drop-cons)
 
 -- the first bytes of a prefix are those of the whole
 pub prefix_of_prefix : (kept rest : List ℕ) (n used : ℕ) (new : List ℕ) (what : Option Found)
@@ -133,8 +120,7 @@ pub found_first : (kept chunk : List ℕ) (at used : ℕ) (now new : List ℕ) (
     → FirstEvent (unfinished_message kept) chunk (at + used) (option_map (event_found_in new) what)
 found_first kept chunk at used now new None taken step within some = absurd cc
 found_first kept chunk at used now new (Some it) taken step within some =
-    event_first kept chunk at used now new (Some it) taken step (event_found_in new it) within
-    step.frames.first
+    search (rules, event_first)
 
 -- with nothing found
 pub found_none : (kept chunk : List ℕ) (at used : ℕ) (now new : List ℕ) (what : Option Found)
@@ -164,5 +150,4 @@ pub frames_found : (kept bytes : List ℕ) (n : ℕ) (new : List ℕ) (it : Foun
     → (it ≡ found.Message → IsWholeMessage new)
     → (it ≡ found.Message → new ≡ unfinished_message kept ++ take n bytes)
     → (it ≢ found.Message → IsHeld new) → FramesPrefix kept bytes n new (Some it)
-frames_found kept bytes n new it first some held whole came unfinished =
-    search (rules, length-take-le, take-take, first_of_run)
+frames_found kept bytes n new it first some held whole came unfinished = search (rules, take-take)

@@ -1,5 +1,5 @@
 -- Laws of places: raising them, and strays in a row.
-use Rattle.{std.proofs.Common.{◌≡◌, ℕ, ◌+◌, List, [], ◌∷◌, ◌++◌, length, refl, sym, ap, zero-add, rules}, dgt_decode.specs.Grammar.{Placed, shifted, strays}}
+use Rattle.{std.proofs.Common.{◌≡◌, ℕ, ◌+◌, List, [], ◌∷◌, ◌++◌, length, refl, sym, zero-add, rules}, dgt_decode.specs.Grammar.{Placed, shifted, strays}}
 
 -- events in two parts after bytes
 pub shifted-append : (n : ℕ) (xs ys : List Placed)

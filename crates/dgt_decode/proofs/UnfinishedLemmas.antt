@@ -1,36 +1,22 @@
 -- The unfinished rest of a list, and of a single segment.
-use Rattle.{std.proofs.{Common.{◌≡◌, ℕ, ◌≤◌, List, [], ◌∷◌, ◌++◌, length, Option, Some, None, refl, ◌∙◌, arith}, lemmas.List.{append-nil}}, dgt_decode.specs.Grammar.{Placed, lead, segments, verdict}}
-use Rattle.dgt_decode.{specs.Grammar.{segment_events, unfinished_part, unfinished_segment, events, unfinished_message}, proofs.Appending.{IsAlone, AreAlone, AreAlone-segments, settled-unfinished}}
-use Rattle.dgt_decode.proofs.{Appending.{length-cut}, Cuts.{segments_with, segments-append}, Places.{shifted-zero}, Verdicts.{verdict-append}}
+use Rattle.{std.proofs.Common.{rules, ◌≡◌, ℕ, ◌≤◌, List, [], ◌∷◌, ◌++◌, length, None, refl, arith}, dgt_decode.specs.Grammar.{segments, verdict, segment_events, unfinished_part, unfinished_segment}}
+use Rattle.dgt_decode.{specs.Grammar.{events, unfinished_message}, proofs.{Appending.{IsAlone, AreAlone, AreAlone-segments, settled-unfinished, length-cut}, Cuts.{segments_with, segments-append}}}
+use Rattle.dgt_decode.proofs.{Places.{shifted-zero}, Verdicts.{verdict-append}}
 
 -- ---- One segment
 
 -- the events of one segment
 pub events-alone : (g : List ℕ) → IsAlone g → events g ≡ segment_events (verdict g) g
 unfolding events
-events-alone g alone =
-    rw (alone.no_lead, alone.one, shifted-zero) (append-nil (segment_events (verdict g) g))
+events-alone g alone = search (rules, shifted-zero)
 
 -- what one segment leaves unfinished
 pub unfinished-alone : (g : List ℕ) → IsAlone g
     → unfinished_message g ≡ unfinished_part (verdict g) g
 unfolding unfinished_message
-unfinished-alone g alone = rw alone.one refl
+unfinished-alone g alone = search rules
 
 -- ---- The unfinished message
-
--- a first segment is not unfinished if others follow
-unfinished_segment-first : (g : List ℕ) (p h : List ℕ) (gs : List (List ℕ))
-    → unfinished_segment (g ∷ segments_with p (h ∷ gs))
-    ≡ unfinished_segment (segments_with p (h ∷ gs))
-unfinished_segment-first g p h [] = refl
-unfinished_segment-first g p h (k ∷ gs) = refl
-
--- nor if it is finished
-unfinished_segment-finished : (g : List ℕ) (x : Placed) (gs : List (List ℕ)) → verdict g ≡ Some x
-    → unfinished_segment (g ∷ gs) ≡ unfinished_segment gs
-unfinished_segment-finished g x [] e = rw e refl
-unfinished_segment-finished g x (h ∷ gs) e = refl
 
 -- what is unfinished with more bytes after
 unfinished_segment-with : (p : List ℕ) (gs : List (List ℕ)) → AreAlone gs
@@ -38,16 +24,9 @@ unfinished_segment-with : (p : List ℕ) (gs : List (List ℕ)) → AreAlone gs
     (unfinished_segment gs ++ p)
 unfolding unfinished_message
 unfinished_segment-with p [] alone = refl
-unfinished_segment-with p (g ∷ []) alone = go (verdict g) refl
-  where
-    go : (v : Option Placed) → verdict g ≡ v
-        → unfinished_segment ((g ++ lead p) ∷ segments p) ≡ unfinished_message
-        (unfinished_part v g ++ p)
-    go None e = rw (segments-append g p, alone.0.one) refl
-    go (Some x) e =
-        unfinished_segment-finished (g ++ lead p) x (segments p) (verdict-append g (lead p) x e).0
-unfinished_segment-with p (g ∷ h ∷ gs) alone = unfinished_segment-first g p h gs
-    ∙ unfinished_segment-with p (h ∷ gs) alone.1
+unfinished_segment-with p (g ∷ []) alone = search (rules, segments-append, verdict-append)
+unfinished_segment-with p (g ∷ h ∷ gs) alone =
+    search (rules, unfinished_segment-with p (h ∷ gs) alone.1)
 
 -- Of the earlier bytes, only the unfinished ones affect what is unfinished later.
 pub unfinished-append : (s p : List ℕ)
@@ -65,11 +44,7 @@ pub data IsUnfinished : List ℕ → Type 0 where
 IsUnfinished-unfinished_segment : (gs : List (List ℕ)) → AreAlone gs
     → IsUnfinished (unfinished_segment gs)
 IsUnfinished-unfinished_segment [] alone = nothing
-IsUnfinished-unfinished_segment (g ∷ []) alone = go (verdict g) refl
-  where
-    go : (v : Option Placed) → verdict g ≡ v → IsUnfinished (unfinished_part v g)
-    go None e = waiting g alone.0 e
-    go (Some x) e = nothing
+IsUnfinished-unfinished_segment (g ∷ []) alone = search (rules, waiting, nothing)
 IsUnfinished-unfinished_segment (g ∷ h ∷ gs) alone =
     IsUnfinished-unfinished_segment (h ∷ gs) alone.1
 

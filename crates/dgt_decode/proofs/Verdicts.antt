@@ -1,5 +1,5 @@
 -- The verdict of a segment, by its length and its total.
-use Rattle.std.proofs.{Common.{◌≡◌, ℕ, ◌<◌, ◌≤◌, List, ◌++◌, length, take, Some, None, refl, ap, rules}, Math.Seq.{take-length}, lemmas.{Bool.{lt-ltb, le-ltb, cases_lt}, List.{length-append}}}
+use Rattle.std.proofs.{Common.{◌⊎◌, ◌≡◌, ℕ, ◌<◌, ◌≤◌, List, ◌++◌, length, take, Some, None, refl, rules}, Math.Seq.{take-length}, lemmas.{Bool.{lt-ltb, le-ltb}, List.{length-append}}}
 use Rattle.{std.proofs.lemmas.List.{get_or_append_left, take-append-le}, dgt_decode.specs.Grammar.{BadLength, Placed, at_place, announced_total, message_event, verdict}}
 
 -- the event of a message that is whole
@@ -20,13 +20,13 @@ verdict-bad g long h = rw (le-ltb (length g) 3 long, lt-ltb (announced_total g) 
 -- fewer bytes than the total, no verdict
 pub verdict-waits : (g : List ℕ) → length g < announced_total g → verdict g ≡ None
 unfolding verdict
-verdict-waits g h = search (rules, cases_lt, verdict-short, le-ltb, lt-ltb)
+verdict-waits g h = search rules
 
 -- as many bytes as the total
 pub verdict-whole : (g : List ℕ) → 3 ≤ announced_total g → announced_total g ≤ length g
     → verdict g ≡ Some (whole_event g)
 unfolding verdict
-verdict-whole g large h = search (rules, le-ltb)
+verdict-whole g large h = search rules
 
 -- exactly as many bytes
 pub verdict-full : (g : List ℕ) → 3 ≤ length g → announced_total g ≡ length g
@@ -42,7 +42,11 @@ pub data Stage (g : List ℕ) : Type 0 where
 
 -- each segment was received to such a point
 pub stage_of : (g : List ℕ) → Stage g
-stage_of g = search (rules, cases_lt)
+stage_of g = search rules
+
+-- with no verdict, the header or the message has not come whole
+pub verdict-none : (g : List ℕ) → verdict g ≡ None → (length g < 3) ⊎ (length g < announced_total g)
+verdict-none g e = search (rules, stage_of, verdict-bad, verdict-whole)
 
 -- the total is known once the header was received
 pub announced_total-append : (g p : List ℕ) → 3 ≤ length g
@@ -54,7 +58,6 @@ pub verdict-append : (g p : List ℕ) (x : Placed) → verdict g ≡ Some x → 
     × (x.place ≤ length g)
 verdict-append g p x e = search (
   rules,
-  stage_of,
   verdict-short,
   verdict-waits,
   verdict-bad,

@@ -1,5 +1,5 @@
 -- Exactly the bytes of one message.
-use Rattle.{std.{proofs.Common.{◌≡◌, ◌≤◌, ℕ, List, [], ◌∷◌, length, drop, Some, refl, ◌∙◌, arith}, specs.Prelude.{slice_index}}, dgt_decode.specs.{Feeding.{IsWholeMessage}, Grammar.{at_place}}}
+use Rattle.{std.{proofs.Common.{rules, ◌≡◌, ◌≤◌, ℕ, List, [], ◌∷◌, length, drop, Some, arith}, specs.Prelude.{slice_index}}, dgt_decode.specs.{Feeding.{IsWholeMessage}, Grammar.{at_place}}}
 use Rattle.dgt_decode.{specs.Grammar.{message_event, verdict, unfinished_message}, proofs.{Appending.{IsAlone, IsAlone-from}, SevenBit.{SevenByRecursion, by_recursion}}}
 use Rattle.dgt_decode.proofs.{UnfinishedLemmas.{unfinished-alone}, Verdicts.{verdict-full}}
 
@@ -20,4 +20,4 @@ verdict-of_whole g w = verdict-full g w.long w.whole
 
 -- a whole message leaves nothing unfinished
 pub whole_unfinished : (g : List ℕ) → IsWholeMessage g → unfinished_message g ≡ []
-whole_unfinished g w = unfinished-alone g (IsAlone-whole g w) ∙ rw (verdict-of_whole g w) refl
+whole_unfinished g w = search (rules, unfinished-alone, IsAlone-whole, verdict-of_whole)

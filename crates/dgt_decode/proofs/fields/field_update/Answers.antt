@@ -1,4 +1,4 @@
-use Rattle.{std.proofs.{Common.{arith, subst, sym}, lemmas.List.{take_all}}, dgt_decode.{specs.Feeding.{IsWholeMessage}, proofs.FieldLemmas.{field_reported, only_field}}}
+use Rattle.{std.proofs.{Common.{rules, arith, subst, sym}, lemmas.List.{take_all}}, dgt_decode.{specs.Feeding.{IsWholeMessage}, proofs.FieldLemmas.{field_reported, only_field}}}
 use Rattle.dgt_decode.proofs.fields.field_update.Goals.{then-bytes-ne-FIELD-via-then-bytes-ne-FIELD, then-bytes-ne-FIELD-via-else-bytes-ne-FIELD+then-bytes}
 use Rattle.dgt_decode.proofs.fields.field_update.Goals.{then-bytes-ne-FIELD-via-else-bytes-ne-FIELD+else-bytes+then-not-begins_with_field}
 use Rattle.dgt_decode.proofs.fields.field_update.Goals as goal
@@ -35,14 +35,7 @@ returns-then-bytes-ne-FIELD c = λ square piece whole e.
     ]
 
 pub returns-in_default : goal.returns-in_default
-returns-in_default c = λ square piece whole e.
-    let reported = only_field c.reading_is_exact.ensures.message c.args.bytes.now square piece
-    (omega (arith, c.type_inv.bytes 0)) whole e in
-    omega (arith, c.in_default.ensures, reported.3)
+returns-in_default c = search (rules, only_field)
 
 pub returns-in_default-2 : goal.returns-in_default-2
-returns-in_default-2 c = λ square piece whole e.
-    let index = rw c.in_default.is-0 at c.from_index.ensures in
-    let reported = only_field c.reading_is_exact.ensures.message c.args.bytes.now square piece
-    (omega (arith, c.type_inv.bytes 0)) whole e in
-    omega (arith, index, reported.2)
+returns-in_default-2 c = search (rules, only_field)

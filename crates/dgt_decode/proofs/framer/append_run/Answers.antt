@@ -1,28 +1,20 @@
-use Rattle.std.proofs.{Common.{◌≡◌, ◌+◌, ◌-◌, ◌++◌, ◌≤◌, drop, length, take, not, sym, ap, ◌∙◌, append_assoc, arith}, Math.{Nat.{min_comm}, Seq.{take-add}}, lemmas.List.{length-append, length-take}}
-use Rattle.{std.{proofs.lemmas.List.{length-take-le, take-take, take_min, take_rest, Sums.{prefix_len-le-length}}, specs.List.{position_or_len}}, dgt_decode.specs.Grammar.{has_top_bit}}
+use Rattle.std.proofs.{Common.{rules, ◌≡◌, ◌+◌, ◌-◌, ◌++◌, ◌≤◌, drop, length, take, not, sym, ap, ◌∙◌, append_assoc, arith}, Math.{Nat.{min_comm}, Seq.{take-add}}, lemmas.List.{length-append}}
+use Rattle.{std.{proofs.lemmas.List.{length-take, length-take-le, take-take, take_min, take_rest, Sums.{prefix_len-le-length}}, specs.List.{position_or_len}}, dgt_decode.specs.Grammar.{has_top_bit}}
 use Rattle.dgt_decode.proofs.{BodyRuns.{search-after}, SevenBit.{by_recursion}}
 use Rattle.dgt_decode.proofs.framer.append_run.Goals as goal
 
 -- the bytes that may be taken
 taken : (c : goal.After-append)
     → take c.min.result c.args.chunk.now ≡ take c.args.missing c.args.chunk.now
-taken c = ap (λ n. take n c.args.chunk.now)
-    (c.min.ensures ∙ min_comm (length c.args.chunk.now) c.args.missing)
-    ∙ take_min c.args.missing c.args.chunk.now
+taken c = search (rules, min_comm, take_min)
 
 -- those before the first with a set top bit
 count : (c : goal.After-append) → c.append_blocks-blocks.result + c.first_top-run.result
     ≡ position_or_len has_top_bit (take c.min.result c.args.chunk.now)
-count c =
-    let wanted = take c.min.result c.args.chunk.now in
-    let blocks = c.append_blocks-blocks.ensures in
-    ap (λ n. c.append_blocks-blocks.result + n)
-    (rw (take_rest wanted c.append_blocks-blocks.result) at c.first_top-run.ensures)
-    ∙ search-after c.append_blocks-blocks.result wanted blocks.within
-    (by_recursion _ blocks.seven_bit)
+count c = search (rules, take_rest, search-after, by_recursion)
 
 pub returns-clause-count : goal.returns-clause-count
-returns-clause-count c = count c ∙ ap (λ xs. position_or_len has_top_bit xs) (taken c)
+returns-clause-count c = search (rules, count, taken)
 
 pub returns-clause-appended : goal.returns-clause-appended
 returns-clause-appended c =
@@ -47,7 +39,5 @@ returns-clause-appended c =
     let joined : blocks ++ take run others ≡ take (n + run) chunk =
     ap (λ xs. blocks ++ take run xs) (take_rest wanted n) ∙ sym (take-add n run wanted)
     ∙ take-take (n + run) c.min.result chunk (omega (arith, within, least)) in
-    c.append.ensures.kept room
-    ∙ ap (λ xs. xs ++ take run others) c.append_blocks-blocks.ensures.kept
-    ∙ append_assoc c.args.kept.now blocks (take run others)
-    ∙ ap (λ xs. c.args.kept.now ++ xs) joined
+    let kept = c.append.ensures.kept room in
+    search (rules, append_assoc)

@@ -3,8 +3,5 @@ use Rattle.dgt_decode.proofs.plain.push_segment.Goals as goal
 
 pub returns-in_ok-push_strays-in-Some : goal.returns-in_ok-push_strays-in-Some
 returns-in_ok-push_strays-in-Some c =
-    reported_verdict c.args.reported.now.items c.push.new.self.items
-    c.push_strays.new.reported.items c.args.before c.in-Some.place
-    c.in-Some.event c.args.segment.now _ c.args.is_last
-    c.in-Some.ensures.value c.in_ok-push-in-Some.ensures.items
+    reported_verdict _ _ _ _ _ _ _ _ _ c.in-Some.ensures.value c.in_ok-push-in-Some.ensures.items
     (take_rest c.args.segment.now c.in-Some.place) c.in_ok-push_strays-in-Some.ensures

@@ -1,10 +1,8 @@
-use Rattle.{std.proofs.Common.{arith}, dgt_decode.proofs.{Framing.{kept-first, frames-first, frames-cut}, framer.Framer.begin_message.Goals.{then-have-eq0, else-have-eq0}}}
+use Rattle.{std.proofs.Common.{rules, arith}, dgt_decode.proofs.{Framing.{kept-first, frames-first, frames-cut}, framer.Framer.begin_message.Goals.{then-have-eq0, else-have-eq0}}}
 use Rattle.dgt_decode.proofs.framer.Framer.begin_message.Goals as goal
 
 pub invariant_of-self : goal.invariant_of-self
-invariant_of-self c =
-    rw (c.push.ensures.kept (rw c.clear.ensures (omega arith)), c.clear.ensures)
-    (kept-first c.args.byte c.requires)
+invariant_of-self c = search (rules, kept-first)
 
 pub returns : goal.returns
 returns c = rw (c.push.ensures.kept (rw c.clear.ensures (omega arith)), c.clear.ensures)

@@ -10,11 +10,9 @@ cut : (c : goal.After-self-1)
     × (128 ≤ get_or c.args.rest.now c.first_top_of_few-run.result 0)
 cut c =
     let one = c.if-len-ne1.false in
-    frames-cut_run c.self.inside.state c.self.inside.kept c.args.rest.now
-    c.first_top_of_few-run.result c.from.result
-    c.from-2.result c.self.invariant (omega (arith, c.len.ensures)) (omega arith)
-    c.first_top_of_few-run.ensures
-    c.if-run-eq-FEW.false c.from.ensures c.from-2.ensures c.if-total-run.false
+    frames-cut_run c.self.inside.state _ _ _ _ _ c.self.invariant (omega (arith, c.len.ensures))
+    (omega arith) c.first_top_of_few-run.ensures c.if-run-eq-FEW.false c.from.ensures
+    c.from-2.ensures c.if-total-run.false
 
 pub invariant_of-self : goal.invariant_of-self
 invariant_of-self c =

@@ -1,21 +1,13 @@
-use Rattle.{std.proofs.{Common.{subst, arith}, lemmas.List.{length-take}}, dgt_decode.{specs.{Taking.{IsKept}, declared.framer.FramerState.TheVariants.{Body}}, proofs.BodyRuns.{IsBodyRun, body_run}}}
-use Rattle.dgt_decode.proofs.{BodyRuns.{frames-body_run}, Bytes.{held_total}, Framing.{closed}, Loops.{prefix_of_prefix}}
+use Rattle.{std.proofs.{Common.{rules, arith}, lemmas.List.{length-take}}, dgt_decode.proofs.{BodyRuns.{body_run, frames-body_run}, Bytes.{held_total}, Framing.{closed}, Loops.{prefix_of_prefix}}}
 use Rattle.dgt_decode.proofs.framer.Framer.take_run.Goals as goal
 
 pub append_run-used-requires : goal.append_run-used-requires
-append_run-used-requires c =
-    let kept = c.self.inside.kept in
-    let is : IsKept (Body c.in-Body.left) kept =
-    subst (λ s. IsKept s kept) c.in-Body.is c.self.invariant in
-    omega (arith, is.1, is.3, held_total kept is.0 (omega (arith, is.1)))
+append_run-used-requires c = search (rules, held_total)
 
 pub overflow_sub-left : goal.overflow_sub-left
 overflow_sub-left c =
-    let run : IsBodyRun c.in-Body.left c.args.rest.now c.append_run-used.result =
-    body_run _ _ c.args.rest.now (omega arith) c.requires c.if-rest-lt-TOP_BIT.true
-    c.append_run-used.ensures.count
-    in
-    run.fits
+    (body_run c.in-Body.left _ c.args.rest.now (omega arith) c.requires c.if-rest-lt-TOP_BIT.true
+    c.append_run-used.ensures.count).fits
 
 pub invariant_of-self : goal.invariant_of-self
 invariant_of-self c =
@@ -34,12 +26,10 @@ returns-in-Body c =
     (frames-body_run _ _ c.args.rest.now c.in-Body.left _ c.self.invariant c.in-Body.is run).0
 
 pub take_beginning-requires-clause-closed : goal.take_beginning-requires-clause-closed
-take_beginning-requires-clause-closed c =
-    rw (← c.self.view_is) (closed _ _ c.self.invariant c.in-Hunting.is)
+take_beginning-requires-clause-closed c = search (rules, closed)
 
 pub take_bytes-requires : goal.take_bytes-requires
-take_bytes-requires c =
-    omega (arith, length-take c.min.result c.args.rest.now, c.min.ensures, c.requires)
+take_bytes-requires c = search (rules, length-take)
 
 pub returns : goal.returns
-returns c = prefix_of_prefix c.args.self.now c.args.rest.now _ _ _ _ c.take_bytes.ensures
+returns c = search (rules, prefix_of_prefix)
