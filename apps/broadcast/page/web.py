@@ -93,6 +93,16 @@ class Visit(http.server.BaseHTTPRequestHandler):
     def log_message(self, *_: Any) -> None:
         pass
 
+    def reply(self, status: int, heads: dict[str, str], content: bytes | None = None) -> None:
+        """Sends an answer. HEAD gets no content, but its length."""
+        self.send_response(status)
+        length = {} if content is None else {"Content-Length": str(len(content))}
+        for name, value in (heads | length).items():
+            self.send_header(name, value)
+        self.end_headers()
+        if content and self.command != "HEAD":
+            self.wfile.write(content)
+
 
 class Connection(asyncio.Protocol):
     """A browser's connection: one request after another, or the events of a page."""
