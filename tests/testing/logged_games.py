@@ -26,6 +26,7 @@ from cases import ROOT, SECONDS
 from dgt._logged import LoggedGames
 from engines import ENVIRONMENT, PROGRAM
 from engines import run as ran
+from games import steps_between
 from simulated_board import Boards
 from simulated_board import a_line as a_board
 from wrong import Wrong, wanted
@@ -61,10 +62,8 @@ LOGS = [
     (f"begin {ITALIAN} e1. g1K h1. f1R d7. d6p", ["e4 e5 Nf3 Nc6 Bc4 Bc5 O-O d6 *"], []),
     ("begin e2. e4P a7. a6p e4. e5P d7. d5p d5. e5. d6P", ["e4 a6 e5 d5 exd6 *"], []),
     ("begin e2. e4P a7. a6p e4. e5P d7. d5p e5. d6P d5. c7. d6p", ["e4 a6 e5 d5 exd6 cxd6 *"], []),
-    (f"begin {PROMOTION} a8N",
-     ["a4 b5 axb5 a6 bxa6 Bb7 axb7 h6 bxa8=N *"], []),
-    (f"begin {PROMOTION} a8P a8. a8Q",
-     ["a4 b5 axb5 a6 bxa6 Bb7 axb7 h6 bxa8=Q *"], []),
+    (f"begin {PROMOTION} a8N", ["a4 b5 axb5 a6 bxa6 Bb7 axb7 h6 bxa8=N *"], []),
+    (f"begin {PROMOTION} a8P a8. a8Q", ["a4 b5 axb5 a6 bxa6 Bb7 axb7 h6 bxa8=Q *"], []),
     # Slid over squares, put on wrong ones, taken back, and answered before they were put down.
     ("begin e2. e3P e3. e4P d7. d6p d6. d5p e4. d5. d5P d8. d7q d7. d6q d6. d5. d5q",
      ["e4 d5 exd5 Qxd5 *"], []),
@@ -111,8 +110,7 @@ LOGS = [
     ("24 e7. e5p begin d2. d4P", ["d4 *"],
      ["unknown bytes in the log were ignored: 24 at 0", 2, 1]),
     ("L1:00:00 7d 6a", [], ["unknown bytes in the log were ignored: 7d at 3"]),
-    ("05 30 begin d2. d4P", ["d4 *"],
-     ["unknown bytes in the log were ignored: 05 at 0, 30 at 1"]),
+    ("05 30 begin d2. d4P", ["d4 *"], ["unknown bytes in the log were ignored: 05 at 0, 30 at 1"]),
     (" ".join(["7d"] * 22), [], ["unknown bytes in the log were ignored: "
                                  + ", ".join(f"7d at {at}" for at in range(20)) + " and 2 more"]),
 ]
@@ -304,12 +302,9 @@ class Logs(cases.Case):
         for letters, mark in ((start.letters, "begin"), (start.letters[::-1], "turned"),
                               (start.letters.swapcase(), "rows"), ("." * 64, "empty")):
             board.clear_log()
-            for square, piece in zip(dgt.SQUARES, letters):
-                if board.position[square] != ".":
-                    board.change(square, ".")
-            for square, piece in zip(dgt.SQUARES, letters):
-                if piece != ".":
-                    board.change(square, piece)
+            lifts, puts = steps_between(board.position.letters, letters)
+            for square, piece in lifts + puts:
+                board.change(dgt.SQUARES[square], piece)
             wanted(f"the last mark, {mark}", body_of(board)[-2:], logged(f"{mark} end"))
 
     def test_clock_log(self):

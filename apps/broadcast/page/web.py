@@ -147,8 +147,7 @@ class Connection(asyncio.Protocol):
         while self.unread and not self.is_full and not self.transport.is_closing():
             found = END.search(self.unread)
             size = found.end() if found else 0
-            if self.unread.startswith(b"POST ") and (
-                    length := LENGTH.search(self.unread, 0, size)):
+            if self.unread.startswith(b"POST ") and (length := LENGTH.search(self.unread, 0, size)):
                 size += int(length[1])
             if size > MOST_HEAD + MOST_BODY or not size and len(self.unread) > MOST_HEAD:
                 self.drop()
