@@ -24,7 +24,7 @@ import pgn_games
 import tables
 from cases import ROOT, SECONDS
 from dgt._logged import LoggedGames
-from engines import ENVIRONMENT, PROGRAM
+from engines import ENVIRONMENT, PROGRAM, check_ends
 from engines import run as ran
 from games import steps_between
 from simulated_board import Boards
@@ -449,13 +449,11 @@ class LogPrograms(cases.Case):
             wanted("the mode", line.board.mode, dgt.Mode.IDLE)
             full = path.parent / "full"
             full.symlink_to("/dev/full")
-            for words, status, said in [
-                    (("--fen", dgt.START_FEN), 2, "--log takes no --fen and no --period"),
-                    (("--period", "3"), 2, "--log takes no --fen and no --period"),
-                    (("--pgn", full), 1, "not a file")]:
-                got = ran("game", line.path, "--log", *words)
-                wanted(f"{words}, {got.stderr}", (got.returncode, said in got.stderr),
-                       (status, True))
+            check_ends([(["game", line.path, "--log", *words], status, said)
+                        for words, status, said in [
+                            (("--fen", dgt.START_FEN), 2, "--log takes no --fen and no --period"),
+                            (("--period", "3"), 2, "--log takes no --fen and no --period"),
+                            (("--pgn", full), 1, "not a file")]])
         with a_line() as (line, path):
             line.board.clear_log()
             line.spoil = lambda message: message.replace(b"\x8f\x00\x04\x6b", b"\x8f\x00\x03")
