@@ -137,6 +137,25 @@ class Boards(PluggedBoards):
             self.append(board)
 
 
+class SerialPort:
+    """Like an open port of pyserial, with a board at its other end."""
+
+    def __init__(self, board, timeout=None):
+        self.board, self.is_open, self.timeout, self.sent = board, True, timeout, b""
+
+    @property
+    def in_waiting(self):
+        return len(self.sent)
+
+    def write(self, chunk):
+        self.sent += b"".join(self.board.answers(chunk))
+        return len(chunk)
+
+    def take(self, size):
+        chunk, self.sent = self.sent[:size], self.sent[size:]
+        return chunk
+
+
 @contextlib.contextmanager
 def a_line(folder=None, **how):
     """A board with a port in this folder, or in one of its own."""
