@@ -487,27 +487,22 @@ class LogPrograms(cases.Case):
 
     def test_program_no_log(self):
         """Boards that send no log, a part of one, or one that the line alters; and a signal."""
-        with a_line(dgt.Board()) as (line, path):
-            begun = time.monotonic()
-            got = ran("game", line.path, "--log", "--pgn", path)
-            passed = time.monotonic() - begun
-            wanted(f"its status, {got.stderr}", (got.returncode, got.stdout, path.exists()),
-                   (1, "", False))
-            wanted("what it says", got.stderr,
-                   f"dgt-game: {line.path}: the board sent no log within 5 seconds. Not every "
-                   "board keeps one. Switch it off and on, and try again; dgt-doctor checks "
-                   "whether it answers\n")
-            wanted(f"whether it waits, {passed}", 5 <= passed, True)
-        for spoil, said in [(lambda message: message[:-1], "a message was cut off after 7 bytes"),
-                            (lambda message: b"\x8f\x01" + message, "cut 2")]:
-            with a_line() as (line, path):
-                line.spoil = spoil
+        bad = "the line altered or lost bytes in each of 3 attempts: {}. Try another cable or " \
+              "socket, without a hub\n"
+        for board, spoil, said, least in [
+                (dgt.Board(), bytes, "the board sent no log within 5 seconds. Not every board keeps "
+                 "one. Switch it off and on, and try again; dgt-doctor checks whether it answers\n",
+                 5),
+                (None, lambda message: message[:-1],
+                 bad.format("a message was cut off after 7 bytes"), 0),
+                (None, lambda message: b"\x8f\x01" + message, bad.format("cut 2"), 0)]:
+            with a_line(board) as (line, path):
+                line.spoil, begun = spoil, time.monotonic()
                 got = ran("game", line.path, "--log", "--pgn", path)
-                wanted(f"{said}, {got.stderr}", (got.returncode, got.stdout, path.exists()),
-                       (1, "", False))
-                wanted("what it says", got.stderr.partition(": the line ")[2],
-                       f"altered or lost bytes in each of 3 attempts: {said}. Try another cable or "
-                       "socket, without a hub\n")
+                passed = time.monotonic() - begun
+                wanted("its end", (got.returncode, got.stdout, got.stderr, path.exists()),
+                       (1, "", f"dgt-game: {line.path}: {said}", False))
+                wanted(f"whether it waits, {passed}", least <= passed, True)
         with a_line() as (line, path):
             spoiled = iter([lambda message: message[:-1] + b"\x86", lambda message: b"\x05"
                             + message])
