@@ -563,9 +563,7 @@ class Failing(SerialPort):
 
 
 async def hear_streams(board):
-    ours, theirs = socket.socketpair()
-    reader, writer = await asyncio.open_connection(sock=theirs)
-    views = dgt.follow_async(await asyncio.open_connection(sock=ours), 2.0)
+    reader, writer, views, _ = await joined(2.0)
     first = asyncio.create_task(anext(views))
     for message in board.answers(await reader.read(1000)):
         for byte in message:

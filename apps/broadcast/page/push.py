@@ -28,23 +28,20 @@ ROUND = re.compile(r'(?m)^\[Round "((?:[^"\\]|\\.)*)"\]$')
 class Unreadable(Exception):
     """A file contains no secret, and why."""
 
-    def __str__(self) -> str:
-        return ": ".join(map(str, self.args))
-
 
 def read_secret(path: str) -> str:
     """The first line of a file that others can't read. Unreadable if it isn't a secret."""
     try:
         with open(path, "rb") as opened:
             if os.fstat(opened.fileno()).st_mode & stat.S_IRWXO:
-                raise Unreadable(path, "others may read it (chmod o= prevents that)")
+                raise Unreadable(f"{path}: others may read it (chmod o= prevents that)")
             secret = opened.read(4097).decode().partition("\n")[0].strip()
     except OSError as fault:
-        raise Unreadable(path, fault.strerror or str(fault)) from None
+        raise Unreadable(f"{path}: {fault.strerror or fault}") from None
     except UnicodeDecodeError:
-        raise Unreadable(path, "it isn't text") from None
+        raise Unreadable(f"{path}: it isn't text") from None
     if not 0 < len(secret) <= 4096 or not secret.isascii() or not secret.isprintable():
-        raise Unreadable(path, "its first line isn't a secret")
+        raise Unreadable(f"{path}: its first line isn't a secret")
     return secret
 
 
