@@ -114,17 +114,14 @@ LOGS = [
     (" ".join(["7d"] * 22), [], ["unknown bytes in the log were ignored: "
                                  + ", ".join(f"7d at {at}" for at in range(20)) + " and 2 more"]),
 ]
+# The clock's first side is White's, or Black's.
+FIRST = "L1:30:00 R1:30:00 begin e2. e4P L1:29:50 e7. e5p R1:29:40 g1. f3N L1:29:30"
+SECOND = "L1:30:00 R1:30:00 begin e2. e4P R1:29:50 e7. e5p L1:29:40 g1. f3N R1:29:30"
 # A log, White's side of the clock, and the time after each move.
 TIMED = [
-    ("L1:30:00 R1:30:00 begin e2. e4P L1:29:50 e7. e5p R1:29:40 g1. f3N L1:29:30", "left",
-     "1:29:50 1:29:40 1:29:30"),
-    ("L1:30:00 R1:30:00 begin e2. e4P L1:29:50 e7. e5p R1:29:40 g1. f3N L1:29:30", "learn",
-     "1:29:50 1:29:40 1:29:30"),
-    ("L1:30:00 R1:30:00 begin e2. e4P R1:29:50 e7. e5p L1:29:40 g1. f3N R1:29:30", "right",
-     "1:29:50 1:29:40 1:29:30"),
-    ("L1:30:00 R1:30:00 begin e2. e4P R1:29:50 e7. e5p L1:29:40 g1. f3N R1:29:30", "learn",
-     "1:29:50 1:29:40 1:29:30"),
-    ("L1:30:00 R1:30:00 begin e2. e4P R1:29:50 e7. e5p L1:29:40 g1. f3N R1:29:30", "left", "- - -"),
+    (FIRST, "left", "1:29:50 1:29:40 1:29:30"), (FIRST, "learn", "1:29:50 1:29:40 1:29:30"),
+    (SECOND, "right", "1:29:50 1:29:40 1:29:30"), (SECOND, "learn", "1:29:50 1:29:40 1:29:30"),
+    (SECOND, "left", "- - -"),
     # Both times after each move, of which one is new.
     ("begin L1:30:00 R1:30:00 e2. e4P L1:29:50 R1:30:00 e7. e5p L1:29:50 R1:30:20 g1. f3N "
      "L1:29:30 R1:30:20", "learn", "1:29:50 1:30:20 1:29:30"),
@@ -490,9 +487,9 @@ class LogPrograms(cases.Case):
         bad = "the line altered or lost bytes in each of 3 attempts: {}. Try another cable or " \
               "socket, without a hub\n"
         for board, spoil, said, least in [
-                (dgt.Board(), bytes, "the board sent no log within 5 seconds. Not every board keeps "
-                 "one. Switch it off and on, and try again; dgt-doctor checks whether it answers\n",
-                 5),
+                (dgt.Board(), bytes, "the board sent no log within 5 seconds. Not every board "
+                 "keeps one. Switch it off and on, and try again; dgt-doctor checks whether it "
+                 "answers\n", 5),
                 (None, lambda message: message[:-1],
                  bad.format("a message was cut off after 7 bytes"), 0),
                 (None, lambda message: b"\x8f\x01" + message, bad.format("cut 2"), 0)]:
