@@ -520,10 +520,9 @@ class LogPrograms(cases.Case):
         """The session of tests/sessions/ with a log."""
         with subprocess.Popen([*PROGRAM, "replay", "--speed", "100", SESSION], env=ENVIRONMENT,
                               cwd="/", stdout=subprocess.PIPE, text=True) as replay:
-            with tempfile.TemporaryDirectory() as folder:
-                path = pathlib.Path(folder, "games.pgn")
-                got = ran("game", replay.stdout.readline().strip(), "--log", "--pgn", path)
-                games = pgn_games.compare(path, dgt)
+            path = self.folder / "games.pgn"
+            got = ran("game", replay.stdout.readline().strip(), "--log", "--pgn", path)
+            games = pgn_games.compare(path, dgt)
             wanted(f"its status, {got.stderr}", (got.returncode, replay.wait(SECONDS)), (0, 0))
             wanted("its games", [(len(game.moves), game.clocks[-1], game.result) for game in games],
                    [(7, "0:04:32", "*"), (4, "0:04:42", "0-1")])
@@ -548,11 +547,10 @@ class LogPrograms(cases.Case):
 
     def test_trial_log(self):
         """The boards of trials keep a log until a host listens."""
-        with tempfile.TemporaryDirectory() as folder:
-            table = Boards(folder, 1)
-            for _ in range(3):
-                table[0].play()
-            got = ran("game", table[0].path, "--log")
-            table.close()
+        table = Boards(self.folder, 1)
+        for _ in range(3):
+            table[0].play()
+        got = ran("game", table[0].path, "--log")
+        table.close()
         wanted(f"its lines, {got.stderr}", got.stdout.splitlines()[1:],
                ["1. e4 e2e4", "1... e5 e7e5", "2. Nf3 g1f3"])
