@@ -61,7 +61,9 @@ def by_round(shelf: collector.Shelf) -> dict[str, bytes]:
 
 class Out:
     """A thread that does something with the games after each change. On failure it tries again,
-    with growing waits."""
+    with growing waits. Its name is that of what gets the games."""
+
+    name: str
 
     def __init__(self, shelf: collector.Shelf) -> None:
         self.shelf, self.changed = shelf, threading.Event()
@@ -94,10 +96,6 @@ class Out:
         wait, self.pause = max(self.pause, asked), min(MOST, 2 * self.pause)
         return wait
 
-    @property
-    def name(self) -> str:
-        raise NotImplementedError
-
     def do(self) -> tuple[str, float]:
         """Returns what is wrong, and for how many seconds one was asked to wait."""
         raise NotImplementedError
@@ -109,10 +107,7 @@ class Files(Out):
     def __init__(self, shelf: collector.Shelf, folder: str) -> None:
         super().__init__(shelf)
         self.folder, self.written = pathlib.Path(folder), dict[str, bytes]()
-
-    @property
-    def name(self) -> str:
-        return str(self.folder)
+        self.name = str(self.folder)
 
     def do(self) -> tuple[str, float]:
         try:
@@ -150,15 +145,13 @@ class Push(Out):
     """Sends the games of a round to an address, by POST with a token. `targets` has the round of
     each address, or `None` for all games."""
 
+    name = "the address of --push"
+
     def __init__(self, shelf: collector.Shelf, token: str,
                  targets: Callable[[], dict[str, str | None]]) -> None:
         super().__init__(shelf)
         self.token, self.targets, self.sent = token, targets, dict[str, bytes]()
         self.opener = urllib.request.build_opener(Still)
-
-    @property
-    def name(self) -> str:
-        return "the address of --push"
 
     def do(self) -> tuple[str, float]:
         rounds, faults, asked = by_round(self.shelf), [], 0.0
