@@ -7,6 +7,7 @@ and in half of them the line loses and alters bytes. Moves are made as people ma
 board's move may be made before the answer was put on the board.
 """
 
+import collections
 import random
 import time
 
@@ -30,9 +31,9 @@ class Game:
         self.line, self.hands = line, Hands(line, seed)
         options = [("Settle", round(1000 * SETTLE))]
         self.engine = engines.Engine(self.line.path, "--period", "1", options=options)
-        self.counts = dict.fromkeys(["moves", "castlings", "en passant", "promotions", "mates",
-                                     "stalemates", "cut off", "early", "faults", "quick answers",
-                                     "answers"], 0)
+        self.counts = dict.fromkeys(["moves", "castlings", "captures in passing", "promotions",
+                                     "mates", "stalemates", "cut off", "early", "faults",
+                                     "quick answers", "answers"], 0)
         self.fen = games.PERFT[1 + seed // 3 % 6][0] if seed % 3 == 2 else games.START
         self.is_white = seed % 2 == 0
         self.state, self.before, self.moves = dgt.GameState.parse(self.fen), None, []
@@ -60,20 +61,12 @@ class Game:
         if not (legal := self.state.moves()):
             return None
         if self.is_own_turn:
-            return self.by_chance(legal)
+            return games.by_chance(self.chance, self.state, legal)
         return max(legal, key=lambda each: self.value(legal[each]))
 
     @property
     def is_own_turn(self):
         return self.state.white == self.is_white
-
-    def by_chance(self, legal):
-        """A move by chance: nearly always one that castles, promotes or takes in passing, and more
-        often one that takes."""
-        weights = [40 if len(move) == 5 or self.kind(move, after) != 2 else 2
-                   if after.letters.count(".") != self.state.letters.count(".") else 1
-                   for move, after in legal.items()]
-        return self.chance.choices(list(legal), weights)[0]
 
     def value(self, state):
         """How good a position is for the side that has moved: its pieces after the best answer, and
@@ -88,15 +81,10 @@ class Game:
         return sum(WORTH[each] * (1 if each.isupper() == white else -1)
                    for each in letters if each != ".")
 
-    def kind(self, move, after):
-        """How many squares a move changes."""
-        return sum(map(str.__ne__, self.state.letters, after.letters))
-
     def note(self, move):
         after = self.state.after(move)
-        self.counts["castlings"] += self.kind(move, after) == 4
-        self.counts["en passant"] += self.kind(move, after) == 3
-        self.counts["promotions"] += len(move) == 5
+        if kind := games.kind_of(self.state, move, after):
+            self.counts[kind] += 1
         self.before, self.state = self.state, after
         self.moves.append(move)
 
@@ -180,10 +168,9 @@ def play(dgt, seed):
 
 
 def check(dgt, pool, count):
-    begun, total = time.monotonic(), {}
+    begun, total = time.monotonic(), collections.Counter()
     for counts in pool.map(lambda seed: play(dgt, seed), range(count)):
-        for name, number in counts.items():
-            total[name] = total.get(name, 0) + number
+        total.update(counts)
     quick, answers = total["quick answers"], total["answers"]
     if quick < answers / 4:  # a busy machine makes the others late
         raise Wrong(f"of {answers} answers {quick} came within 50 ms")

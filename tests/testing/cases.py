@@ -100,8 +100,7 @@ def command(*words: object, seconds: float | None = 600, text: bool = True, stat
 
 def absent(*names: str) -> list[str]:
     """Those of these programs and modules that aren't installed."""
-    return [each for each in names
-            if not shutil.which(each) and not importlib.util.find_spec(each)]
+    return [each for each in names if not shutil.which(each) and not importlib.util.find_spec(each)]
 
 
 def holds(what: Callable[[], Any], seconds: float = SECONDS) -> bool:

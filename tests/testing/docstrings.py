@@ -18,42 +18,32 @@ import unittest.mock
 
 import cases
 import dgt
+from simulated_board import SerialPort
 from wrong import Wrong, wanted
 
 PACKAGE = pathlib.Path(dgt.__file__).resolve().parents[1]
 HAPPENINGS = [("e2", "."), ("e4", "P")]
 
 
-class Port:
+class Port(SerialPort):
     """A port of pyserial. A pawn of the board goes from e2 to e4 while a read waits for bytes, and
     then the port closes."""
 
-    def __init__(self, board, timeout):
-        self.is_open = True
-        self.timeout, self._board = timeout, board
-        self._sent, self._happenings = bytearray(), list(HAPPENINGS)
-
-    @property
-    def in_waiting(self):
-        return len(self._sent)
-
-    def write(self, chunk):
-        self._sent += b"".join(self._board.answers(chunk))
-        return len(chunk)
+    def __init__(self, board, timeout=None):
+        super().__init__(board, timeout)
+        self.happenings = list(HAPPENINGS)
 
     def read(self, size=1):
         if not self.is_open:
             raise Wrong("an example reads from a closed port")
-        while len(self._sent) < size and self._happenings:
-            self._board.change(*self._happenings.pop(0))
-            self._sent += b"".join(self._board.messages())
-        if len(self._sent) < size:
+        while len(self.sent) < size and self.happenings:
+            self.board.change(*self.happenings.pop(0))
+            self.sent += b"".join(self.board.messages())
+        if len(self.sent) < size:
             if self.timeout is None:
                 raise Wrong("an example waits for ever")
             self.is_open = False
-        chunk = bytes(self._sent[:size])
-        del self._sent[:size]
-        return chunk
+        return self.take(size)
 
 
 class OwnPort(Port):
@@ -63,7 +53,7 @@ class OwnPort(Port):
     is_unsent = False
 
     def __init__(self, board):
-        super().__init__(board, None)
+        super().__init__(board)
         self._ends = socket.socketpair()
         self._ends[1].send(b"1")
         self.descriptor = self._ends[0].fileno()

@@ -46,8 +46,7 @@ class Engine:
     def __init__(self, *words, before=(), command=WORDS, options=(), **how):
         piped = dict.fromkeys(["stdin", "stdout", "stderr"], subprocess.PIPE) | how
         words = [*before, *command, *map(str, words)]
-        self.ran = subprocess.Popen(words, text=True, bufsize=1, env=ENVIRONMENT, cwd="/",
-                                    **piped)
+        self.ran = subprocess.Popen(words, text=True, bufsize=1, env=ENVIRONMENT, cwd="/", **piped)
         self.lines, self.warned, self.come = [], [], threading.Condition()
         self.seen, self.said = 0, []
         self.threads = [threading.Thread(target=each, daemon=True)

@@ -77,6 +77,30 @@ def played(state, moves):
     return state
 
 
+def steps_between(before, after):
+    """The squares from which pieces are lifted, and those on which pieces are put after that, each
+    with what is on it then."""
+    changed = [square for square in range(64) if before[square] != after[square]]
+    return ([(square, ".") for square in changed if before[square] != "."],
+            [(square, after[square]) for square in changed if after[square] != "."])
+
+
+def kind_of(state, move, after):
+    """The kind of a move that changes other squares than its own, or becomes another piece."""
+    changed = sum(map(str.__ne__, state.letters, after.letters))
+    return ("promotions" if len(move) == 5 else
+            {3: "captures in passing", 4: "castlings"}.get(changed))
+
+
+def by_chance(chance, state, legal):
+    """A move by chance: nearly always one that has a kind or lets a pawn capture in passing, and
+    more often one that takes."""
+    weights = [40 if kind_of(state, move, after) or after.chess.fen.split()[3] != "-" else
+               3 if after.letters.count(".") != state.letters.count(".") else 1
+               for move, after in legal.items()]
+    return chance.choices(list(legal), weights)[0]
+
+
 def in_any_order(chance, before, after, move, number):
     """The squares that change in a move, each with what is put there, in an order that hands may
     have: a piece that is put down was lifted before."""
@@ -219,10 +243,7 @@ class Game:
         for _ in range(min(self.chance.randint(1, 3), len(self.moves))):
             self.moves.pop()
             old = self.states.pop().letters
-            changed = [square for square in range(64) if old[square] != self.state.letters[square]]
-            lifts = [(square, ".") for square in changed if old[square] != "."]
-            puts = [(square, self.state.letters[square]) for square in changed
-                    if self.state.letters[square] != "."]
+            lifts, puts = steps_between(old, self.state.letters)
             self.chance.shuffle(puts)
             self.put_all(lifts + puts)
             self.hand.rest(self.chance.choice([0, 0.4]))

@@ -24,8 +24,9 @@ import pgn_games
 import tables
 from cases import ROOT, SECONDS
 from dgt._logged import LoggedGames
-from engines import ENVIRONMENT, PROGRAM
+from engines import ENVIRONMENT, PROGRAM, check_ends
 from engines import run as ran
+from games import steps_between
 from simulated_board import Boards
 from simulated_board import a_line as a_board
 from wrong import Wrong, wanted
@@ -61,10 +62,8 @@ LOGS = [
     (f"begin {ITALIAN} e1. g1K h1. f1R d7. d6p", ["e4 e5 Nf3 Nc6 Bc4 Bc5 O-O d6 *"], []),
     ("begin e2. e4P a7. a6p e4. e5P d7. d5p d5. e5. d6P", ["e4 a6 e5 d5 exd6 *"], []),
     ("begin e2. e4P a7. a6p e4. e5P d7. d5p e5. d6P d5. c7. d6p", ["e4 a6 e5 d5 exd6 cxd6 *"], []),
-    (f"begin {PROMOTION} a8N",
-     ["a4 b5 axb5 a6 bxa6 Bb7 axb7 h6 bxa8=N *"], []),
-    (f"begin {PROMOTION} a8P a8. a8Q",
-     ["a4 b5 axb5 a6 bxa6 Bb7 axb7 h6 bxa8=Q *"], []),
+    (f"begin {PROMOTION} a8N", ["a4 b5 axb5 a6 bxa6 Bb7 axb7 h6 bxa8=N *"], []),
+    (f"begin {PROMOTION} a8P a8. a8Q", ["a4 b5 axb5 a6 bxa6 Bb7 axb7 h6 bxa8=Q *"], []),
     # Slid over squares, put on wrong ones, taken back, and answered before they were put down.
     ("begin e2. e3P e3. e4P d7. d6p d6. d5p e4. d5. d5P d8. d7q d7. d6q d6. d5. d5q",
      ["e4 d5 exd5 Qxd5 *"], []),
@@ -111,22 +110,18 @@ LOGS = [
     ("24 e7. e5p begin d2. d4P", ["d4 *"],
      ["unknown bytes in the log were ignored: 24 at 0", 2, 1]),
     ("L1:00:00 7d 6a", [], ["unknown bytes in the log were ignored: 7d at 3"]),
-    ("05 30 begin d2. d4P", ["d4 *"],
-     ["unknown bytes in the log were ignored: 05 at 0, 30 at 1"]),
+    ("05 30 begin d2. d4P", ["d4 *"], ["unknown bytes in the log were ignored: 05 at 0, 30 at 1"]),
     (" ".join(["7d"] * 22), [], ["unknown bytes in the log were ignored: "
                                  + ", ".join(f"7d at {at}" for at in range(20)) + " and 2 more"]),
 ]
+# The clock's first side is White's, or Black's.
+FIRST = "L1:30:00 R1:30:00 begin e2. e4P L1:29:50 e7. e5p R1:29:40 g1. f3N L1:29:30"
+SECOND = "L1:30:00 R1:30:00 begin e2. e4P R1:29:50 e7. e5p L1:29:40 g1. f3N R1:29:30"
 # A log, White's side of the clock, and the time after each move.
 TIMED = [
-    ("L1:30:00 R1:30:00 begin e2. e4P L1:29:50 e7. e5p R1:29:40 g1. f3N L1:29:30", "left",
-     "1:29:50 1:29:40 1:29:30"),
-    ("L1:30:00 R1:30:00 begin e2. e4P L1:29:50 e7. e5p R1:29:40 g1. f3N L1:29:30", "learn",
-     "1:29:50 1:29:40 1:29:30"),
-    ("L1:30:00 R1:30:00 begin e2. e4P R1:29:50 e7. e5p L1:29:40 g1. f3N R1:29:30", "right",
-     "1:29:50 1:29:40 1:29:30"),
-    ("L1:30:00 R1:30:00 begin e2. e4P R1:29:50 e7. e5p L1:29:40 g1. f3N R1:29:30", "learn",
-     "1:29:50 1:29:40 1:29:30"),
-    ("L1:30:00 R1:30:00 begin e2. e4P R1:29:50 e7. e5p L1:29:40 g1. f3N R1:29:30", "left", "- - -"),
+    (FIRST, "left", "1:29:50 1:29:40 1:29:30"), (FIRST, "learn", "1:29:50 1:29:40 1:29:30"),
+    (SECOND, "right", "1:29:50 1:29:40 1:29:30"), (SECOND, "learn", "1:29:50 1:29:40 1:29:30"),
+    (SECOND, "left", "- - -"),
     # Both times after each move, of which one is new.
     ("begin L1:30:00 R1:30:00 e2. e4P L1:29:50 R1:30:00 e7. e5p L1:29:50 R1:30:20 g1. f3N "
      "L1:29:30 R1:30:20", "learn", "1:29:50 1:30:20 1:29:30"),
@@ -304,12 +299,9 @@ class Logs(cases.Case):
         for letters, mark in ((start.letters, "begin"), (start.letters[::-1], "turned"),
                               (start.letters.swapcase(), "rows"), ("." * 64, "empty")):
             board.clear_log()
-            for square, piece in zip(dgt.SQUARES, letters):
-                if board.position[square] != ".":
-                    board.change(square, ".")
-            for square, piece in zip(dgt.SQUARES, letters):
-                if piece != ".":
-                    board.change(square, piece)
+            lifts, puts = steps_between(board.position.letters, letters)
+            for square, piece in lifts + puts:
+                board.change(dgt.SQUARES[square], piece)
             wanted(f"the last mark, {mark}", body_of(board)[-2:], logged(f"{mark} end"))
 
     def test_clock_log(self):
@@ -454,13 +446,11 @@ class LogPrograms(cases.Case):
             wanted("the mode", line.board.mode, dgt.Mode.IDLE)
             full = path.parent / "full"
             full.symlink_to("/dev/full")
-            for words, status, said in [
-                    (("--fen", dgt.START_FEN), 2, "--log takes no --fen and no --period"),
-                    (("--period", "3"), 2, "--log takes no --fen and no --period"),
-                    (("--pgn", full), 1, "not a file")]:
-                got = ran("game", line.path, "--log", *words)
-                wanted(f"{words}, {got.stderr}", (got.returncode, said in got.stderr),
-                       (status, True))
+            check_ends([(["game", line.path, "--log", *words], status, said)
+                        for words, status, said in [
+                            (("--fen", dgt.START_FEN), 2, "--log takes no --fen and no --period"),
+                            (("--period", "3"), 2, "--log takes no --fen and no --period"),
+                            (("--pgn", full), 1, "not a file")]])
         with a_line() as (line, path):
             line.board.clear_log()
             line.spoil = lambda message: message.replace(b"\x8f\x00\x04\x6b", b"\x8f\x00\x03")
@@ -494,27 +484,22 @@ class LogPrograms(cases.Case):
 
     def test_program_no_log(self):
         """Boards that send no log, a part of one, or one that the line alters; and a signal."""
-        with a_line(dgt.Board()) as (line, path):
-            begun = time.monotonic()
-            got = ran("game", line.path, "--log", "--pgn", path)
-            passed = time.monotonic() - begun
-            wanted(f"its status, {got.stderr}", (got.returncode, got.stdout, path.exists()),
-                   (1, "", False))
-            wanted("what it says", got.stderr,
-                   f"dgt-game: {line.path}: the board sent no log within 5 seconds. Not every "
-                   "board keeps one. Switch it off and on, and try again; dgt-doctor checks "
-                   "whether it answers\n")
-            wanted(f"whether it waits, {passed}", 5 <= passed, True)
-        for spoil, said in [(lambda message: message[:-1], "a message was cut off after 7 bytes"),
-                            (lambda message: b"\x8f\x01" + message, "cut 2")]:
-            with a_line() as (line, path):
-                line.spoil = spoil
+        bad = "the line altered or lost bytes in each of 3 attempts: {}. Try another cable or " \
+              "socket, without a hub\n"
+        for board, spoil, said, least in [
+                (dgt.Board(), bytes, "the board sent no log within 5 seconds. Not every board "
+                 "keeps one. Switch it off and on, and try again; dgt-doctor checks whether it "
+                 "answers\n", 5),
+                (None, lambda message: message[:-1],
+                 bad.format("a message was cut off after 7 bytes"), 0),
+                (None, lambda message: b"\x8f\x01" + message, bad.format("cut 2"), 0)]:
+            with a_line(board) as (line, path):
+                line.spoil, begun = spoil, time.monotonic()
                 got = ran("game", line.path, "--log", "--pgn", path)
-                wanted(f"{said}, {got.stderr}", (got.returncode, got.stdout, path.exists()),
-                       (1, "", False))
-                wanted("what it says", got.stderr.partition(": the line ")[2],
-                       f"altered or lost bytes in each of 3 attempts: {said}. Try another cable or "
-                       "socket, without a hub\n")
+                passed = time.monotonic() - begun
+                wanted("its end", (got.returncode, got.stdout, got.stderr, path.exists()),
+                       (1, "", f"dgt-game: {line.path}: {said}", False))
+                wanted(f"whether it waits, {passed}", least <= passed, True)
         with a_line() as (line, path):
             spoiled = iter([lambda message: message[:-1] + b"\x86", lambda message: b"\x05"
                             + message])
@@ -535,10 +520,9 @@ class LogPrograms(cases.Case):
         """The session of tests/sessions/ with a log."""
         with subprocess.Popen([*PROGRAM, "replay", "--speed", "100", SESSION], env=ENVIRONMENT,
                               cwd="/", stdout=subprocess.PIPE, text=True) as replay:
-            with tempfile.TemporaryDirectory() as folder:
-                path = pathlib.Path(folder, "games.pgn")
-                got = ran("game", replay.stdout.readline().strip(), "--log", "--pgn", path)
-                games = pgn_games.compare(path, dgt)
+            path = self.folder / "games.pgn"
+            got = ran("game", replay.stdout.readline().strip(), "--log", "--pgn", path)
+            games = pgn_games.compare(path, dgt)
             wanted(f"its status, {got.stderr}", (got.returncode, replay.wait(SECONDS)), (0, 0))
             wanted("its games", [(len(game.moves), game.clocks[-1], game.result) for game in games],
                    [(7, "0:04:32", "*"), (4, "0:04:42", "0-1")])
@@ -563,11 +547,10 @@ class LogPrograms(cases.Case):
 
     def test_trial_log(self):
         """The boards of trials keep a log until a host listens."""
-        with tempfile.TemporaryDirectory() as folder:
-            table = Boards(folder, 1)
-            for _ in range(3):
-                table[0].play()
-            got = ran("game", table[0].path, "--log")
-            table.close()
+        table = Boards(self.folder, 1)
+        for _ in range(3):
+            table[0].play()
+        got = ran("game", table[0].path, "--log")
+        table.close()
         wanted(f"its lines, {got.stderr}", got.stdout.splitlines()[1:],
                ["1. e4 e2e4", "1... e5 e7e5", "2. Nf3 g1f3"])

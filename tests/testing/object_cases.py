@@ -231,14 +231,12 @@ class Misused(cases.Case):
             wanted(f"a long chunk, {feed}", [pair for pair in pairs if pair[0] != pair[1]], [])
 
     def test_handles(self):
-        """No object is copied or made twice; after an iterator that was closed or left it is used
-        on; and once it is closed, each call raises `Closed` at once."""
+        """No object is made twice; after an iterator that was closed or left it is used on; and
+        once it is closed, each call raises `Closed` at once."""
         fault = dgt.BadPlacement(3)
         for again in (copy.copy(fault), pickle.loads(pickle.dumps(fault))):
             wanted("a copy of BadPlacement", (str(again), again.at), (str(fault), 3))
         for kind in (dgt.Host, dgt.Decoder, dgt.CommandDecoder, dgt.Board):
-            for refused in (copy.copy, copy.deepcopy, pickle.dumps):
-                self.assertRaises(TypeError, lambda: refused(kind()))
             each = {dgt.Host: "hear_each", dgt.Board: "answers"}.get(kind, "feed_each")
             piece = b"\x4d\x4d\x4d" if kind in (dgt.Board, dgt.CommandDecoder) else FIELD * 3
             with kind() as made:

@@ -20,7 +20,7 @@ import cases
 import dgt
 from ports import (BOTH, DRAUGHTS, GONE, IN_USE, LATE, LIFTED, NO_PORT, PUT, SECONDS, SILENT, START,
                    expect, expect_at_last, see)
-from simulated_board import a_line
+from simulated_board import SerialPort, a_line
 from wrong import Wrong, wanted
 
 CLOSED = "the line was closed"
@@ -472,19 +472,12 @@ def how_it_waits(board):
 # ---- Other lines
 
 
-class Handed:
-    """A port like one of pyserial, with a board at its other end."""
+class Handed(SerialPort):
+    """A port that is closed after some reads, and fails later."""
 
     def __init__(self, board):
-        self.board, self.is_open, self.timeout = board, True, None
-        self.sent, self.waited = b"", []
-
-    @property
-    def in_waiting(self):
-        return len(self.sent)
-
-    def write(self, chunk):
-        self.sent += b"".join(self.board.answers(chunk))
+        super().__init__(board)
+        self.waited = []
 
     def read(self, size):
         self.sent += b"".join(self.board.messages())
@@ -493,8 +486,7 @@ class Handed:
             if len(self.waited) > 5:
                 raise OSError(errno.EIO, "this one fails")
             self.is_open = len(self.waited) < 4
-        chunk, self.sent = self.sent[:size], self.sent[size:]
-        return chunk
+        return self.take(size)
 
 
 class Lines(OnALine):
@@ -540,7 +532,7 @@ class Lines(OnALine):
         self.assertRaises(TypeError, board.wait)
 
 
-class Failing(Handed):
+class Failing(SerialPort):
     """A port that closes, or fails with an exception, after a number of calls. So does pyserial,
     which raises a TypeError if another thread has closed it."""
 
@@ -557,7 +549,7 @@ class Failing(Handed):
     @property
     def in_waiting(self):
         self.reach("in_waiting")
-        return len(self.sent)
+        return super().in_waiting
 
     def write(self, chunk):
         self.reach("write")
@@ -567,14 +559,11 @@ class Failing(Handed):
         self.reach("read")
         if len(self.sent) < size:
             time.sleep(min(self.timeout, 0.05))
-        chunk, self.sent = self.sent[:size], self.sent[size:]
-        return chunk
+        return self.take(size)
 
 
 async def hear_streams(board):
-    ours, theirs = socket.socketpair()
-    reader, writer = await asyncio.open_connection(sock=theirs)
-    views = dgt.follow_async(await asyncio.open_connection(sock=ours), 2.0)
+    reader, writer, views, _ = await joined(2.0)
     first = asyncio.create_task(anext(views))
     for message in board.answers(await reader.read(1000)):
         for byte in message:

@@ -16,7 +16,7 @@ from wrong import wanted
 # The first moves of a game, as squares: from and to, twice where White castles.
 GAME = """e2e4 e7e5 g1f3 b8c6 f1b5 a7a6 b5a4 g8f6 e1g1h1f1 f8e7 f1e1 b7b5 a4b3 d7d6""".split()
 INCREMENT = 5  # seconds that a clock adds when it is pressed
-RUNS, WHITE_TURN, BLACK_TURN = 0x01, 0x10, 0x08  # bits of a clock's status
+RUNS, WHITE_TURN = 0x01, 0x10  # bits of a clock's status
 
 
 class Board(PluggedBoard):
@@ -137,6 +137,25 @@ class Boards(PluggedBoards):
             self.append(board)
 
 
+class SerialPort:
+    """Like an open port of pyserial, with a board at its other end."""
+
+    def __init__(self, board, timeout=None):
+        self.board, self.is_open, self.timeout, self.sent = board, True, timeout, b""
+
+    @property
+    def in_waiting(self):
+        return len(self.sent)
+
+    def write(self, chunk):
+        self.sent += b"".join(self.board.answers(chunk))
+        return len(chunk)
+
+    def take(self, size):
+        chunk, self.sent = self.sent[:size], self.sent[size:]
+        return chunk
+
+
 @contextlib.contextmanager
 def a_line(folder=None, **how):
     """A board with a port in this folder, or in one of its own."""
@@ -170,10 +189,9 @@ class Hands:
         self.put_all((step[:2], step[2]) for step in text.split())
 
     def set_up(self, letters):
-        changed = [square for square in range(64) if self.letters[square] != letters[square]]
-        lifted = [(square, ".") for square in changed]
-        self.chance.shuffle(changed)
-        self.put_all(lifted + [(square, letters[square]) for square in changed])
+        lifts, puts = games.steps_between(self.letters, letters)
+        self.chance.shuffle(puts)
+        self.put_all(lifts + puts)
 
     def turn(self):
         """Turns the board, with its pieces."""

@@ -18,7 +18,6 @@ from dgt import following, game
 from dgt._simulated import RunningClock
 from wrong import Wrong
 
-START_LETTERS = "rnbqkbnrpppppppp" + "." * 32 + "PPPPPPPPRNBQKBNR"
 INCREMENT = 5
 MOST_STEPS = 1000  # this number of steps without any time between them are a busy wait
 CENTRE = {"1-0": ("e4", "d5"), "0-1": ("e5", "d4"), "1/2-1/2": ("d4", "d5")}
@@ -329,11 +328,10 @@ def play(seeds, most):
 
 
 def counts(game):
-    changed = [sum(map(str.__ne__, one.letters, two.letters))
-               for one, two in zip(game.states, game.states[1:])]
-    promoted = [move[4] for move in game.moves if len(move) == 5]
-    return (1, len(game.moves), changed.count(4), changed.count(3), len(promoted),
-            len(promoted) - promoted.count("q"), game.backs, game.looked, game.unresolved)
+    kinds = [*map(games.kind_of, game.states, game.moves, game.states[1:])]
+    return (1, len(game.moves), *map(kinds.count, COUNTED[2:5]),
+            sum(len(move) == 5 and move[4] != "q" for move in game.moves), game.backs,
+            game.looked, game.unresolved)
 
 
 def compare(seeds, path, played, results):

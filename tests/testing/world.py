@@ -13,8 +13,6 @@ LAUNCHER = pathlib.Path(__file__).resolve().parents[2] / "dgt"
 PROGRAM = LAUNCHER if LAUNCHER.exists() else "dgt"  # packaging/deb/trial tests the installed one
 
 SCRIPTS, ACTS, SEED = 150, 60, 14
-SQUARES = [f"{file}{rank}" for rank in "87654321" for file in "abcdefgh"]
-LETTERS = ".PRNBKQprnbkqXYZ"
 # How often each act comes: in most scripts, and in those of a host that asks more than is answered.
 WEIGHTS = ((14, 3, 20, 20, 14, 14, 1, 1, 4), (4, 1, 50, 1, 10, 2, 0, 0, 0))
 ASKS = (0x40, 0x41, 0x42, 0x43, 0x44, 0x45, 0x47, 0x4B, 0x4C, 0x4D, 0x55)
@@ -53,7 +51,7 @@ def any_act(world, chance, weights):
     """The line of an act, and the call that does it."""
     kind = chance.choices(range(9), weights)[0]
     if kind == 0:
-        square, letter = chance.choice(SQUARES), chance.choice(LETTERS)
+        square, letter = chance.choice(dgt.SQUARES), chance.choice(dgt.LETTERS)
         return f"change {square} {letter}", lambda: world.change(square, letter)
     if kind == 1:
         clock, data = any_clock(chance)

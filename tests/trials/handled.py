@@ -6,6 +6,8 @@ import random
 from dataclasses import dataclass, field
 from typing import Any, NamedTuple
 
+import dgt
+import pgn_games
 from dgt.chess import Colour, State
 from dgt.values import LETTERS, SQUARES
 
@@ -78,15 +80,8 @@ def recorded(moves: list[str]) -> Record:
 def real_games() -> list[tuple[Record, str]]:
     """Famous and short games, with their results."""
     found = [(recorded(moves.split()), "") for moves in SHORT]
-    for text in GAMES.read_text().split("\n\n")[1::2]:  # after the tags
-        state, moves = State.start(), list[str]()
-        *words, result = text.split()
-        for word in words:
-            if not word.endswith("."):
-                moves.append(state.parse_san(word))
-                state = state.play(moves[-1])
-        found.append((recorded(moves), result))
-    return found
+    read = pgn_games.read(dgt, GAMES.read_text())
+    return found + [(recorded(game.moves), game.result) for game in read]
 
 
 def is_special(squares: bytes, move: str) -> bool:

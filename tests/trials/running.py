@@ -88,30 +88,27 @@ def becomes(what, get, right, seconds=SECONDS):
     wanted(what, get(), right)
 
 
-class Room:
+class Room(contextlib.ExitStack):
     """A folder, and what was started in it."""
 
-    def __enter__(self):
-        self.folder = tempfile.TemporaryDirectory(ignore_cleanup_errors=True)
-        self.path = pathlib.Path(self.folder.name)
-        self.runs, self.boards = [], None
+    def __init__(self):
+        super().__init__()
+        folder = tempfile.TemporaryDirectory(ignore_cleanup_errors=True)
+        self.path = pathlib.Path(self.enter_context(folder))
+        self.log = self.enter_context(open(self.path / "log", "ab"))
+        self.runs, self.boards, self.browser = [], None, None
         self.broker_port, self.page_port = free_port(), free_port()
         self.url = f"http://127.0.0.1:{self.page_port}/"
-        self.log = open(self.path / "log", "ab")
-        self.browser = None
-        return self
+        self.callback(self.end)
 
-    def __exit__(self, *_):
+    def end(self):
         if self.browser:
             self.browser.close()
-        for ran in reversed(self.runs):
-            ran.terminate()
-        for ran in reversed(self.runs):
-            self.stop(ran)
+        for act in (subprocess.Popen.terminate, self.stop):
+            for ran in reversed(self.runs):
+                act(ran)
         if self.boards:
             self.boards.close()
-        self.log.close()
-        self.folder.cleanup()
 
     def start(self, *words):
         how = {"stdin": subprocess.DEVNULL, "stdout": self.log, "stderr": self.log}

@@ -59,27 +59,6 @@ Tell = Callable[[str, Summary | None, bool], None]
 
 
 @dataclass
-class Observation:
-    """The state of a board from a time on."""
-
-    board: str
-    at: float
-    letters: str
-    clock: topics.Clock | None
-    state: str
-    is_sure: bool
-    players: tuple[str, str] | None
-    is_confirmed: bool = True
-    row: int = 0  # of the state
-
-    def view(self) -> dgt.BoardView:
-        """The same as a view of `dgt.follow`."""
-        return dgt.BoardView(dgt.Position.of_letters(self.letters), clock_of(self.clock),
-                             not self.is_sure, self.state if self.state in AWAY else None,
-                             self.is_sure and self.is_confirmed)
-
-
-@dataclass
 class Now:
     """The time on a board up to which everything is known; or the time is unknown."""
 
@@ -113,8 +92,7 @@ class State:
 
     def add(self, journal: str, board: str, number: int, entry: Any) -> None:
         """sqlite3.Error if it can't be stored."""
-        self.kept.execute("INSERT INTO heard (journal, board, number, entry) VALUES (?, ?, ?, ?)",
-                          [journal, board, number, json.dumps(entry)])
+        self.add_all((journal, board, number, entry))
 
     def add_all(self, *rows: tuple[str, str, int, Any]) -> None:
         """Adds rows, all or none of them."""
@@ -222,9 +200,11 @@ class State:
         return [each for each in row or () if each]
 
 
-def observation_of(board: topics.Board, at: float, row: int) -> Observation:
-    return Observation(board.name, at, board.position.letters, board.clock, board.state,
-                       board.is_sure, board.players, board.is_confirmed, row)
+def view_of(board: topics.Board) -> dgt.BoardView:
+    """The same as a view of `dgt.follow`."""
+    return dgt.BoardView(board.position, clock_of(board.clock), not board.is_sure,
+                         board.state if board.state in AWAY else None,
+                         board.is_sure and board.is_confirmed)
 
 
 def clock_of(clock: topics.Clock | None) -> dgt.Clock | None:
@@ -579,8 +559,7 @@ class Collector:
         board.hear_entry(round(1000 * at), entry)
         board.journal, board.heard_at = journal, at
         if board.is_shown and not self.is_between:
-            seen = observation_of(board, at, row)
-            self.do(name, functools.partial(self.observe, journal, seen))
+            self.do(name, functools.partial(self.observe, journal, at, row, board))
 
     def take_round(self, row: int, tags: dict[str, str] | None) -> None:
         """Sets the tags of all games that begin from now on. Without tags the present games are
@@ -598,8 +577,8 @@ class Collector:
         if self.is_between:
             self.is_between = False
             for name, board in self.shown.items():
-                seen = observation_of(board, board.heard_at, row)
-                self.do(name, functools.partial(self.observe, board.journal, seen))
+                self.do(name, functools.partial(self.observe, board.journal, board.heard_at, row,
+                                                board))
 
     def remove(self, name: str) -> None:
         """Ends the game on a board, whose next one begins with a later row. The rows of the present
@@ -649,22 +628,22 @@ class Collector:
             table.games.tick(due)
         table.note_beginning()
 
-    def observe(self, journal: str, seen: Observation, table: Table) -> None:
+    def observe(self, journal: str, at: float, row: int, board: topics.Board, table: Table) -> None:
         """Handles a board's entry, after everything that was due before. The clock of another
         machine may be slow, and nobody watched before it did."""
         if journal != table.journal:
             if table.at:
                 self.lose(table, table.at - table.shift)
-            table.journal, table.shift = journal, max(0.0, table.at + 1 - seen.at)
-        table.at, table.place.row = max(table.at, seen.at + table.shift), seen.row
+            table.journal, table.shift = journal, max(0.0, table.at + 1 - at)
+        table.at, table.place.row = max(table.at, at + table.shift), row
         while (due := table.games.due) is not None and due <= table.at:
             table.games.tick(due)
-        table.games.set_tags({"Date": time.strftime("%Y.%m.%d", time.localtime(seen.at)),
+        table.games.set_tags({"Date": time.strftime("%Y.%m.%d", time.localtime(at)),
                               **self.tags}, False)
-        table.name_players(seen.players)
-        if seen.is_sure and seen.letters != table.letters:
-            table.letters, table.row = seen.letters, seen.row
-        table.games.see(seen.view(), table.at)
+        table.name_players(board.players)
+        if board.is_sure and (letters := board.position.letters) != table.letters:
+            table.letters, table.row = letters, row
+        table.games.see(view_of(board), table.at)
         table.note_beginning()
         table.rows += 1
         if table.rows > 2 * MOST_ROWS and self.is_last:

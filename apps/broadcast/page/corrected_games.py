@@ -13,7 +13,7 @@ import dgt
 import collector
 import corrections
 import topics
-from collector import Table, observation_of, report
+from collector import Table, report, view_of
 from corrections import DESK, Entry, Refused
 
 Players = dict[str, tuple[str, str]]
@@ -108,7 +108,7 @@ class CorrectedGames(collector.Collector):
             raise Refused(f"unknown other board: {other}")
         if table is None or game is None:
             raise Refused(f"board {one} has no game")
-        shown, right = observation_of(board, 0.0, 0).letters, game.state.letters
+        shown, right = board.position.letters, game.state.letters
         right = right[::-1] if table.games.turned else right
         wrong = [dgt.SQUARES[at] for at in range(64) if shown[at] != right[at]]
         if wrong:
@@ -163,7 +163,7 @@ class CorrectedGames(collector.Collector):
         corrections.correct_live(table.games, entry, table.at)
         board = self.shown.get(table.place.board)
         if board is not None and board.is_shown:
-            table.games.see(observation_of(board, 0.0, 0).view(), table.at)
+            table.games.see(view_of(board), table.at)
             table.note_beginning()
 
     def set(self, entry: Entry) -> None:

@@ -4,23 +4,11 @@ import collections
 import queue
 import threading
 import time
-from typing import Any, Protocol
+from typing import Any
 
 import collector
 import corrected_games
-
-
-class Shown(Protocol):
-    """Shows the boards."""
-
-    def show(self, journal: str, board: str, number: int, entry: list[Any]) -> None:
-        """Shows an entry of a board."""
-
-    def show_time(self, now: collector.Now) -> None:
-        """Notes the time on a board."""
-
-    def remove(self, name: str) -> None:
-        """Removes a board."""
+import shown_boards
 
 
 class LateState(collector.State):
@@ -53,7 +41,8 @@ class Late(corrected_games.CorrectedGames):
     """Makes the games of a delayed state. `boards` shows them."""
 
     def __init__(self, shelf: collector.Shelf, tags: dict[str, str], side: str,
-                 tell: collector.Tell, name: Any, state: LateState, boards: Shown) -> None:
+                 tell: collector.Tell, name: Any, state: LateState,
+                 boards: shown_boards.Boards) -> None:
         self.boards, self.seconds, self.is_closed = boards, state.seconds, threading.Event()
         self.held: collections.deque[tuple[float, collector.Heard]] = collections.deque()
         super().__init__(shelf, tags, side, tell, name, state, True)

@@ -31,6 +31,8 @@ FIELDS = {  # of each form, besides `board` and `game`
     "result": ("result", "why"), "moves": ("before", "moves"), "tags": ("White", "Black", "Round"),
     "clock": ("side",), "swap": ("other",)}
 LOCAL = ("localhost", "127.0.0.1", "[::1]")
+HEADS = {"Cache-Control": "no-store", "X-Content-Type-Options": "nosniff",
+         "X-Frame-Options": "DENY", "Referrer-Policy": "same-origin"}
 Form = dict[str, str]
 quoted = html.escape
 
@@ -127,16 +129,9 @@ class Desk(web.Visit):
                 and hmac.compare_digest(token, self.source.token.encode()))
 
     def answer(self, status: int, kind: str, text: str, **heads: str) -> None:
-        content = text.encode(errors="replace")
-        self.send_response(status)
-        for name, value in {
-                "Content-Type": f"{kind}; charset=utf-8", "Content-Length": str(len(content)),
-                "Cache-Control": "no-store", "X-Content-Type-Options": "nosniff",
-                "X-Frame-Options": "DENY", "Referrer-Policy": "same-origin", **heads}.items():
-            self.send_header(name.replace("_", "-"), value)
-        self.end_headers()
-        if self.command != "HEAD":
-            self.wfile.write(content)
+        more = {name.replace("_", "-"): value for name, value in heads.items()}
+        self.reply(status, HEADS | {"Content-Type": f"{kind}; charset=utf-8"} | more,
+                   text.encode(errors="replace"))
 
     # ---- The pages
 

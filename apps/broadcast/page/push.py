@@ -28,23 +28,20 @@ ROUND = re.compile(r'(?m)^\[Round "((?:[^"\\]|\\.)*)"\]$')
 class Unreadable(Exception):
     """A file contains no secret, and why."""
 
-    def __str__(self) -> str:
-        return ": ".join(map(str, self.args))
-
 
 def read_secret(path: str) -> str:
     """The first line of a file that others can't read. Unreadable if it isn't a secret."""
     try:
         with open(path, "rb") as opened:
             if os.fstat(opened.fileno()).st_mode & stat.S_IRWXO:
-                raise Unreadable(path, "others may read it (chmod o= prevents that)")
+                raise Unreadable(f"{path}: others may read it (chmod o= prevents that)")
             secret = opened.read(4097).decode().partition("\n")[0].strip()
     except OSError as fault:
-        raise Unreadable(path, fault.strerror or str(fault)) from None
+        raise Unreadable(f"{path}: {fault.strerror or fault}") from None
     except UnicodeDecodeError:
-        raise Unreadable(path, "it isn't text") from None
+        raise Unreadable(f"{path}: it isn't text") from None
     if not 0 < len(secret) <= 4096 or not secret.isascii() or not secret.isprintable():
-        raise Unreadable(path, "its first line isn't a secret")
+        raise Unreadable(f"{path}: its first line isn't a secret")
     return secret
 
 
@@ -64,7 +61,9 @@ def by_round(shelf: collector.Shelf) -> dict[str, bytes]:
 
 class Out:
     """A thread that does something with the games after each change. On failure it tries again,
-    with growing waits."""
+    with growing waits. Its name is that of what gets the games."""
+
+    name: str
 
     def __init__(self, shelf: collector.Shelf) -> None:
         self.shelf, self.changed = shelf, threading.Event()
@@ -97,10 +96,6 @@ class Out:
         wait, self.pause = max(self.pause, asked), min(MOST, 2 * self.pause)
         return wait
 
-    @property
-    def name(self) -> str:
-        raise NotImplementedError
-
     def do(self) -> tuple[str, float]:
         """Returns what is wrong, and for how many seconds one was asked to wait."""
         raise NotImplementedError
@@ -112,10 +107,7 @@ class Files(Out):
     def __init__(self, shelf: collector.Shelf, folder: str) -> None:
         super().__init__(shelf)
         self.folder, self.written = pathlib.Path(folder), dict[str, bytes]()
-
-    @property
-    def name(self) -> str:
-        return str(self.folder)
+        self.name = str(self.folder)
 
     def do(self) -> tuple[str, float]:
         try:
@@ -153,15 +145,13 @@ class Push(Out):
     """Sends the games of a round to an address, by POST with a token. `targets` has the round of
     each address, or `None` for all games."""
 
+    name = "the address of --push"
+
     def __init__(self, shelf: collector.Shelf, token: str,
                  targets: Callable[[], dict[str, str | None]]) -> None:
         super().__init__(shelf)
         self.token, self.targets, self.sent = token, targets, dict[str, bytes]()
         self.opener = urllib.request.build_opener(Still)
-
-    @property
-    def name(self) -> str:
-        return "the address of --push"
 
     def do(self) -> tuple[str, float]:
         rounds, faults, asked = by_round(self.shelf), [], 0.0

@@ -93,6 +93,16 @@ class Visit(http.server.BaseHTTPRequestHandler):
     def log_message(self, *_: Any) -> None:
         pass
 
+    def reply(self, status: int, heads: dict[str, str], content: bytes | None = None) -> None:
+        """Sends an answer. HEAD gets no content, but its length."""
+        self.send_response(status)
+        length = {} if content is None else {"Content-Length": str(len(content))}
+        for name, value in (heads | length).items():
+            self.send_header(name, value)
+        self.end_headers()
+        if content and self.command != "HEAD":
+            self.wfile.write(content)
+
 
 class Connection(asyncio.Protocol):
     """A browser's connection: one request after another, or the events of a page."""
@@ -137,8 +147,7 @@ class Connection(asyncio.Protocol):
         while self.unread and not self.is_full and not self.transport.is_closing():
             found = END.search(self.unread)
             size = found.end() if found else 0
-            if self.unread.startswith(b"POST ") and (
-                    length := LENGTH.search(self.unread, 0, size)):
+            if self.unread.startswith(b"POST ") and (length := LENGTH.search(self.unread, 0, size)):
                 size += int(length[1])
             if size > MOST_HEAD + MOST_BODY or not size and len(self.unread) > MOST_HEAD:
                 self.drop()

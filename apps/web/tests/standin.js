@@ -68,7 +68,6 @@
     isBusy = false; // another program uses it
     readable = null;
     writable = null;
-    opened = 0;
     constructor(board) {
       super();
       this.board = board;
@@ -82,11 +81,9 @@
       }
       if (this.readable) throw new DOMException("The port is already open.", "InvalidStateError");
       if (options.baudRate !== 9600) throw new TypeError("another baud rate");
-      serial.opens++;
       this.#stream();
       this.writable = new WritableStream({ write: bytes => {
         if (!this.isThere) throw new DOMException("The device has been lost.", "NetworkError");
-        for (const one of bytes) serial.asked.push(one);
         if (this.board.isOn) this.board.hear(serial.hurt([...bytes]));
       } });
       this.timer = setInterval(() => this.#pass(), 10);
@@ -121,16 +118,12 @@
 
   class Serial extends EventTarget {
     board = new Standin();
-    opens = 0;
-    asked = [];
     noise = 0;
     count = 0; // of bytes that were hurt
     port = null;
     other = new Port(Object.assign(new Standin(), { isOn: false }));
     allowed = false;
-    isRefused = false;
     async requestPort() {
-      if (this.isRefused) throw new DOMException("No port selected by the user.", "NotFoundError");
       this.allowed = true;
       return this.port;
     }

@@ -90,9 +90,6 @@ class Client:
             self.on_disconnect(self, None, 5)
         elif what == "break":
             raise ValueError("no MQTT")
-        elif what == "lines":
-            for line in bytes.fromhex(payload).splitlines():
-                self.message(topic, line)
         elif self.is_subscribed:
             self.message(topic, bytes.fromhex(payload))
 
