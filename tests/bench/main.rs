@@ -13,7 +13,6 @@ mod generated {
 mod plain;
 mod program;
 mod work;
-mod world;
 
 // A slice is passed as a pointer and a length.
 unsafe extern "C" {
@@ -66,11 +65,6 @@ fn least(runs: u32, work: impl Fn() -> u64) -> (f64, u64) {
         }
     }
     best
-}
-
-/// The same, the least of 100 runs.
-fn timed(work: impl Fn() -> u64) -> (f64, u64) {
-    least(100, work)
 }
 
 /// Prints a row, without the generated code if there is none for this work.
@@ -243,6 +237,5 @@ fn main() -> io::Result<()> {
     compare_messages();
     compare_boards();
     compare_lines();
-    world::compare();
     Ok(())
 }
