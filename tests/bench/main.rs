@@ -13,7 +13,6 @@ mod generated {
 mod plain;
 mod program;
 mod work;
-mod world;
 
 // A slice is passed as a pointer and a length.
 unsafe extern "C" {
@@ -30,8 +29,7 @@ const HALF_A_SECOND: Duration = Duration::from_millis(500);
 const LINES: u64 = 20_000;
 const DUMPS: usize = 1_000;
 const LONGEST: usize = 16383;
-/// Work of this many parts is done once.
-const LONG: usize = 100_000;
+const RUNS: u32 = 100;
 /// Positions, and how many lines of five legal moves begin there (chessprogramming.org, "Perft
 /// Results").
 const POSITIONS: [(&str, u64); 5] = [
@@ -68,11 +66,6 @@ fn least(runs: u32, work: impl Fn() -> u64) -> (f64, u64) {
     best
 }
 
-/// The same, the least of 100 runs.
-fn timed(work: impl Fn() -> u64) -> (f64, u64) {
-    least(100, work)
-}
-
 /// Prints a row, without the generated code if there is none for this work.
 fn compare(
     name: &str,
@@ -81,14 +74,13 @@ fn compare(
     plain: impl Fn() -> u64,
     made: Option<&dyn Fn() -> u64>,
 ) {
-    let runs = if parts < LONG { 100 } else { 1 };
-    let ((proved, answer), (plain, same)) = (least(runs, proved), least(runs, plain));
+    let ((proved, answer), (plain, same)) = (least(RUNS, proved), least(RUNS, plain));
     assert_eq!(answer, same, "{name}: the answers differ");
     let each = |time: f64| time * 1e3 / parts as f64;
     print!("{name}: {:.1} ns each, plain Rust {:.1} ns, ", each(proved), each(plain));
     println!("{:.2} times", proved / plain);
     if let Some(made) = made {
-        let (made, same) = least(runs, made);
+        let (made, same) = least(RUNS, made);
         assert_eq!(answer, same, "{name}: the generated crate's answer differs");
         println!("  generated {:.1} ns, {:.2} times", each(made), proved / made);
     }
@@ -218,21 +210,15 @@ fn compare_boards() {
     );
 }
 
-/// Lines of chess moves.
-fn compare_lines() {
+/// Lines of chess moves, which have published numbers in place of plain Rust.
+fn time_lines() {
     for (fen, count) in POSITIONS {
-        let proved = || {
-            let found = unsafe { dgt_bench_lines(fen.as_ptr(), fen.len(), 5) };
-            assert_eq!(found, count, "{fen}");
-            found
-        };
-        compare(
-            &format!("State::goals and play, {count} lines of five moves from {fen}"),
-            count as usize,
-            proved,
-            || work::lines(black_box(fen.as_bytes()), 5),
-            Some(&|| generated::lines(black_box(fen.as_bytes()), 5)),
-        );
+        let (proved, found) = least(1, || unsafe { dgt_bench_lines(fen.as_ptr(), fen.len(), 5) });
+        let (made, same) = least(1, || generated::lines(black_box(fen.as_bytes()), 5));
+        assert_eq!((found, same), (count, count), "{fen}");
+        let each = |time: f64| time * 1e3 / count as f64;
+        print!("State::goals and play, {count} lines of five moves from {fen}: ");
+        println!("{:.1} ns each, generated {:.1} ns", each(proved), each(made));
     }
 }
 
@@ -242,7 +228,6 @@ fn main() -> io::Result<()> {
     }
     compare_messages();
     compare_boards();
-    compare_lines();
-    world::compare();
+    time_lines();
     Ok(())
 }

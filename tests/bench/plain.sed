@@ -4,7 +4,6 @@
 /^#!\[tactic/d
 /^use dgt_text/d
 /^use std/d
-/^mod world/d
 /^ *ghost /d
 /^#\[derive(Drop)\]/d
 /^#\[unsafe(no_mangle)\]/d

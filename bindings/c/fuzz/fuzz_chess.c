@@ -5,21 +5,27 @@
 
 static dgt_chess_state state; /* mostly one of a game */
 
-static const dgt_chess_state *given(void) {
+static dgt_chess_state *given(void) {
     return memcpy(guarded(IN, sizeof state), &state, sizeof state);
 }
 
 /* No call makes anything of a struct that isn't a state of a game. */
 static void check_refused(uint8_t why) {
-    const dgt_chess_state *said = given();
+    dgt_chess_state *said = given(), start;
     dgt_chess_move none = {52, 36, 0, 0}, *move = guarded(LOOK, sizeof *move);
     uint64_t *goals = guarded(BODY, 64 * sizeof *goals);
     char *text = guarded(OUT, DGT_CHESS_FEN_ROOM);
+    dgt_chess_start(&start);
     CHECK(why <= DGT_CHESS_BAD_MEMBER && !dgt_chess_goals(said, goals));
-    CHECK(!dgt_chess_is_legal(said, &none) && !dgt_chess_move_to(said, state.pieces, move));
+    CHECK(!dgt_chess_is_legal(said, &none) && !dgt_chess_move_to(said, start.pieces, move));
+    CHECK(!dgt_chess_play(said, &none) && !dgt_chess_san(said, &none, text));
     CHECK(!dgt_chess_can_move(said) && !dgt_chess_is_check(said) && !dgt_chess_is_dead(said));
-    CHECK(!dgt_chess_fen(said, text) && !dgt_chess_is_repeated(said, said));
+    CHECK(!dgt_chess_is_mate(said) && !dgt_chess_is_stalemate(said));
+    CHECK(!dgt_chess_is_fifty_moves(said) && !dgt_chess_is_seventy_five_moves(said));
+    CHECK(!dgt_chess_is_repeated(said, &start) && !dgt_chess_is_repeated(&start, said));
+    CHECK(!dgt_chess_fen(said, text));
     CHECK(dgt_chess_parse_san(said, "e4", 2, move) == why);
+    CHECK(dgt_chess_parse_san_leniently(said, "e4", 2, move) == why);
     check_kept(goals, 0, 64 * sizeof *goals);
     check_kept(text, 0, DGT_CHESS_FEN_ROOM);
     check_kept(move, 0, sizeof *move);
@@ -61,11 +67,22 @@ static void check_move(const dgt_chess_state *before, dgt_chess_move made) {
     CHECK_SAME(found, &made);
 }
 
-/* Checks all moves of the state, and makes one that the input chooses. */
+/* No call makes anything of a move that isn't legal. */
+static void check_illegal(const dgt_chess_state *before, dgt_chess_move made) {
+    dgt_chess_state *after = guarded(HANDLE, sizeof *after);
+    char *text = guarded(OUT, DGT_CHESS_SAN_ROOM);
+    *after = *before;
+    CHECK(!dgt_chess_is_legal(before, &made) && !dgt_chess_play(after, &made));
+    CHECK_SAME(after, before);
+    CHECK(!dgt_chess_san(before, &made, text));
+    check_kept(text, 0, DGT_CHESS_SAN_ROOM);
+}
+
+/* Checks all moves of the state, and others, and makes one that the input chooses. */
 static void play(void) {
     const dgt_chess_state *before = given();
     uint64_t goals[64];
-    dgt_chess_move chosen = {0};
+    dgt_chess_move chosen = {0}, other = {0};
     uint8_t choice = input_byte();
     size_t count = 0;
     CHECK(dgt_chess_goals(before, goals));
@@ -78,11 +95,17 @@ static void play(void) {
             made.promotion = man;
             bool is_man = promotes ? man != 1 && man != 5 : is_goal;
             CHECK(dgt_chess_is_legal(before, &made) == is_man);
-            if (!is_man) continue;
-            check_move(before, made);
-            if (count++ == 0 || count <= choice) chosen = made;
+            if (is_man) check_move(before, made);
+            else if (made.from <= choice / 4) other = made;
+            if (is_man && (count++ == 0 || count <= choice)) chosen = made;
         }
     }
+    check_illegal(before, other);
+    other = chosen, other.promotion = chosen.promotion > 0 ? 7 : 1 + choice % 7;
+    check_illegal(before, other);
+    dgt_chess_move *none = guarded(LOOK, sizeof *none);
+    CHECK(!dgt_chess_move_to(before, before->pieces, none));
+    check_kept(none, 0, sizeof *none);
     bool is_check = dgt_chess_is_check(before);
     CHECK(dgt_chess_can_move(before) == (count > 0));
     CHECK(dgt_chess_is_mate(before) == (is_check && count == 0));
@@ -116,7 +139,7 @@ static void read_fen(void) {
 
 /* Reads a text, mostly of the letters of moves. */
 static void read_san(void) {
-    static const char letters[] = "abcdefgh12345678NBRQKOx=+#-0";
+    static const char letters[] = "abcdefgh12345678NBRQKOx=+#-0\xff";
     dgt_chess_move *strict = guarded(LOOK, sizeof *strict);
     dgt_chess_move *lenient = guarded(BODY, sizeof *lenient);
     size_t n = input_byte() % 10;

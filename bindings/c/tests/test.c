@@ -1,6 +1,6 @@
 /* Tests dgt.h with little stack, and with memory of exactly the stated size, which is filled with
- * rubbish before. A host and a board talk. The rest are calls without bytes or room, the functions
- * of the header itself, chess and games: the harnesses of ../fuzz compare other calls with models.
+ * rubbish before: calls without bytes or room, the functions of the header itself, texts of events
+ * and games. The harnesses of ../fuzz try the other calls, and compare most of them with models.
  * Exits with 1 and prints the first thing that is not as dgt.h says, or 0. */
 #include "dgt.h"
 
@@ -31,86 +31,6 @@ static uint8_t *copy(const void *bytes, size_t n) {
     uint8_t *copied = room(n);
     if (n > 0) memcpy(copied, bytes, n);
     return copied;
-}
-
-static dgt_event heard;
-
-/* Has a host hear all that a board has to send. */
-static void pass_on(dgt_board *board, dgt_host *host) {
-    uint8_t *line = room(DGT_MAX_SENT);
-    for (;;) {
-        bool owes = dgt_board_owes(board);
-        dgt_polled polled = dgt_board_poll(board, line, DGT_MAX_SENT);
-        CHECK(owes == (polled.status == DGT_WROTE));
-        if (!owes) break;
-        uint8_t *given = copy(line, polled.bytes);
-        CHECK(dgt_host_hear(host, given, polled.bytes, &heard, NULL, 0) == polled.bytes);
-        CHECK(heard.place == polled.bytes);
-        free(given);
-    }
-    free(line);
-}
-
-/* What a host sends is taken by a board, command by command. */
-static void bring(dgt_board *board, const uint8_t *bytes, size_t n) {
-    uint8_t *given = copy(bytes, n), *word = room(DGT_MAX_WORD);
-    dgt_command command;
-    for (size_t at = 0; at < n;) {
-        dgt_taken taken = dgt_board_take(board, given + at, n - at, &command, word, DGT_MAX_WORD);
-        CHECK(!taken.busy && taken.used > 0 && command.kind == DGT_COMMAND);
-        CHECK(command.word_len == taken.used && !memcmp(word, given + at, taken.used));
-        at += taken.used;
-    }
-    free(given), free(word);
-}
-
-static void host_and_board(void) {
-    dgt_host *host = room(dgt_host_size());
-    dgt_board *board = room(dgt_board_size());
-    CHECK(dgt_host_init(host) && dgt_board_init(board));
-    uint8_t pieces[64], out[DGT_MAX_WORD];
-    char *text = room(DGT_PLACEMENT_ROOM);
-    dgt_clock clock;
-    dgt_sent sent = dgt_host_follow(host, out, 2);
-    CHECK(sent.status == DGT_DONE && sent.bytes == 2 && !memcmp(out, "\x44\x42", 2));
-    bring(board, out, 2);
-    CHECK(dgt_board_mode(board) == DGT_MODE_UPDATE_BOARD);
-    CHECK(dgt_board_change(board, 52, 0) && dgt_board_change(board, 36, 1));
-    dgt_polled polled = dgt_board_poll(board, out, 66);
-    CHECK(polled.status == DGT_NO_ROOM && polled.bytes == 67);
-    pass_on(board, host);
-    CHECK(dgt_host_placement(host, text));
-    CHECK(!strcmp(text, "rnbqkbnr/pppppppp/8/8/4P3/8/PPPP1PPP/RNBQKBNR"));
-    CHECK(dgt_host_picture(host, pieces) && pieces[36] == 1 && pieces[52] == 0 && pieces[0] == 8);
-    dgt_board_position(board, pieces);
-    CHECK(dgt_placement(pieces, text) && !strncmp(text, "rnbqkbnr/pppppppp/8/8/4P3/8", 27));
-
-    clock = (dgt_clock){DGT_CLOCK_TIMES, 9, {0}, {1, 2, 3, 4}, {5, 6, 7, 0}};
-    CHECK(dgt_board_hand_clock(board, &clock));
-    sent = dgt_host_send(host, DGT_SEND_CLOCK, out, 1);
-    CHECK(sent.status == DGT_DONE);
-    bring(board, out, 1);
-    pass_on(board, host);
-    CHECK(heard.kind == DGT_EVENT_TIMES && heard.clock.first.flags == 4 && heard.clock.status == 9);
-    dgt_host_clock(host, &clock);
-    CHECK(!memcmp(&clock, &heard.clock, sizeof clock) && clock.second.seconds == 7);
-    dgt_board_clock(board, &clock);
-    CHECK(!memcmp(&clock, &heard.clock, sizeof clock));
-
-    sent = dgt_host_send_clock(host, DGT_ID_VERSION, out, 0, out + 1, 5);
-    CHECK(sent.status == DGT_DONE && sent.bytes == 5);
-    bring(board, out + 1, 5);
-    pass_on(board, host);
-    CHECK(heard.kind == DGT_EVENT_ACK && !memcmp(heard.ack, "\x10\x09\x14\x00", 4));
-    uint8_t leds[DGT_MAX_LEDS] = {1};
-    sent = dgt_host_send_leds(host, leds, DGT_MAX_LEDS, out, sizeof out);
-    CHECK(sent.status == DGT_DONE && sent.bytes == DGT_MAX_WORD && out[2] == 1);
-    bring(board, out, sent.bytes);
-    for (int i = 0; i < DGT_MAX_OWED; i++) bring(board, BYTES(DGT_SEND_SERIAL));
-    dgt_command command;
-    dgt_taken taken = dgt_board_take(board, BYTES(DGT_SEND_SERIAL), &command, out, 0);
-    CHECK(taken.busy && taken.used == 0 && command.kind == DGT_NO_WORD);
-    free(host), free(board), free(text);
 }
 
 /* A board answers more requests than it can owe, and first what was pending. */
@@ -259,6 +179,9 @@ static void no_bytes_of_hosts(void) {
     CHECK(all.used == 0 && all.count == 0);
     CHECK(dgt_host_follow(host, NULL, 0).status == DGT_NO_ROOM);
     CHECK(dgt_host_restart(host, NULL, 0).status == DGT_NO_ROOM);
+    const uint8_t dump[67] = {0x86, 0, 67};
+    char text[DGT_PLACEMENT_ROOM];
+    CHECK(dgt_host_hear(host, dump, 67, &event, NULL, 0) == 67 && dgt_host_placement(host, text));
 
     CHECK(dgt_decoder_feed(decoder, NULL, 0, &event, NULL, 0) == 0 && event.kind == 0);
     CHECK(dgt_decoder_feed(decoder, BYTES(0x92, 0, 4, 'D'), &event, NULL, 0) == 4);
@@ -298,8 +221,9 @@ static void no_bytes_of_followers(void) {
     dgt_follower *follower = room(dgt_follower_size());
     CHECK(!dgt_follower_init(follower, DGT_LEAST_PERIOD - 1, 1));
     CHECK(dgt_follower_init(follower, 1000, 1));
-    CHECK(dgt_follower_hear(follower, 1, NULL, 0, &heard, NULL, 0) == 0);
-    CHECK(heard.kind == DGT_EVENT_NONE && heard.place == 0);
+    dgt_event event;
+    CHECK(dgt_follower_hear(follower, 1, NULL, 0, &event, NULL, 0) == 0);
+    CHECK(event.kind == DGT_EVENT_NONE && event.place == 0);
     dgt_follower_hear_all(follower, 1, NULL, 0);
     dgt_sent sent = dgt_follower_ask(follower, 1, NULL, 0);
     CHECK(sent.status == DGT_NO_ROOM && sent.bytes == 258);
@@ -331,7 +255,7 @@ static void no_bytes_of_boards(void) {
     free(reader), free(board);
 }
 
-/* ---- The rules of chess. tests/libraries/chess_rules contains rows. */
+/* ---- The rules of chess. ../fuzz and tests/libraries/chess_rules try them. */
 
 /* Bytes that make another struct of the initial position, and why no game reaches that. */
 static const struct { size_t at; uint8_t byte, status; } STRUCTS[] = {
@@ -345,92 +269,42 @@ static const struct { size_t at; uint8_t byte, status; } STRUCTS[] = {
     {offsetof(dgt_chess_state, reserved), 1, DGT_CHESS_BAD_MEMBER},
 };
 
-static dgt_chess_fen_read read_fen(const char *text, dgt_chess_state *state) {
-    size_t n = strlen(text);
-    char *given = (char *)copy(text, n);
-    dgt_chess_fen_read read = dgt_chess_parse_fen(given, n, state);
-    free(given);
-    return read;
-}
-
-/* A refused text leaves what a call would write. */
-static void chess_texts(void) {
-    dgt_chess_state *state = room(sizeof *state), *before = room(sizeof *before);
-    dgt_chess_move *move = room(sizeof *move);
-    dgt_chess_fen_read read = read_fen("4k3/8/8/8/8/8/8/4K3 w - e9 0 1", state);
-    CHECK(read.status == DGT_CHESS_BAD_TEXT && read.field == 3 && read.at == 25);
-    CHECK(read_fen("\xff", state).status == DGT_CHESS_BAD_TEXT);
-    CHECK(dgt_chess_parse_fen(NULL, 0, state).status == DGT_CHESS_BAD_TEXT);
-    CHECK(!memcmp(state, before, sizeof *state));
-
-    CHECK(read_fen("R6R/8/8/8/8/8/1k6/4K3 w - - 0 1", state).status == DGT_CHESS_DONE);
-    CHECK(dgt_chess_parse_san(state, NULL, 0, move) == DGT_CHESS_BAD_TEXT);
-    CHECK(dgt_chess_parse_san(state, "Rd8\xff", 4, move) == DGT_CHESS_BAD_TEXT);
-    CHECK(dgt_chess_parse_san_leniently(state, "Rd8", 3, move) == DGT_CHESS_AMBIGUOUS);
-    CHECK(move->from == 0xa5 && move->reserved == 0xa5);
-    CHECK(dgt_chess_parse_san_leniently(state, "Ra8d8", 5, move) == DGT_CHESS_DONE);
-    CHECK(move->from == 0 && move->to == 3 && move->reserved == 0);
-    free(state), free(before), free(move);
-}
-
-/* No call makes anything of a struct that isn't a state of a game. */
 static void no_states(void) {
-    dgt_chess_state *state = room(sizeof *state), start;
-    dgt_chess_move *move = room(sizeof *move), made = {52, 36, 0, 0};
-    uint64_t *goals = room(64 * sizeof *goals);
-    char *text = room(DGT_CHESS_FEN_ROOM);
     dgt_recogniser *recogniser = room(sizeof *recogniser);
+    dgt_chess_state known;
     CHECK(dgt_recogniser_init(recogniser));
-    dgt_chess_start(&start);
     for (size_t each = 0; each < sizeof STRUCTS / sizeof *STRUCTS; each++) {
-        uint8_t bytes[sizeof *state], status = STRUCTS[each].status;
-        memcpy(bytes, &start, sizeof bytes);
-        bytes[STRUCTS[each].at] = STRUCTS[each].byte;
-        memcpy(state, bytes, sizeof bytes);
-        CHECK(dgt_chess_check(state) == status);
-        CHECK(!dgt_chess_is_legal(state, &made) && !dgt_chess_play(state, &made));
-        CHECK(!dgt_chess_goals(state, goals) && !dgt_chess_move_to(state, start.pieces, move));
-        CHECK(!dgt_chess_is_check(state) && !dgt_chess_can_move(state));
-        CHECK(!dgt_chess_is_mate(state) && !dgt_chess_is_stalemate(state));
-        CHECK(!dgt_chess_is_dead(state) && !dgt_chess_is_fifty_moves(state));
-        CHECK(!dgt_chess_is_seventy_five_moves(state));
-        CHECK(!dgt_chess_is_repeated(state, &start) && !dgt_chess_is_repeated(&start, state));
-        CHECK(!dgt_chess_fen(state, text) && !dgt_chess_san(state, &made, text));
-        CHECK(dgt_chess_parse_san(state, "e4", 2, move) == status);
-        CHECK(dgt_chess_parse_san_leniently(state, "e4", 2, move) == status);
-        CHECK(dgt_recogniser_go_on(recogniser, state, false) == status);
-        CHECK(!dgt_recogniser_state(recogniser, &start));
-        CHECK(!memcmp(state, bytes, sizeof bytes) && move->from == 0xa5 && text[0] == '\xa5');
-        CHECK(goals[0] == UINT64_C(0xa5a5a5a5a5a5a5a5));
+        dgt_chess_state *state = room(sizeof *state);
+        dgt_chess_start(state);
+        CHECK(dgt_chess_check(state) == DGT_CHESS_DONE);
+        ((uint8_t *)state)[STRUCTS[each].at] = STRUCTS[each].byte;
+        CHECK(dgt_chess_check(state) == STRUCTS[each].status);
+        CHECK(dgt_recogniser_go_on(recogniser, state, false) == STRUCTS[each].status);
+        CHECK(!dgt_recogniser_state(recogniser, &known));
+        free(state);
     }
-    free(state), free(move), free(goals), free(text), free(recogniser);
+    free(recogniser);
 }
 
+/* Of each kind of calls one, for its stack, and texts without bytes. */
 static void chess(void) {
-    dgt_chess_state *state = room(sizeof *state), *after = room(sizeof *after);
-    dgt_chess_move *move = room(sizeof *move);
-    char *fen = room(DGT_CHESS_FEN_ROOM), *san = room(DGT_CHESS_SAN_ROOM);
-    dgt_chess_start(state);
-    CHECK(dgt_chess_check(state) == DGT_CHESS_DONE && dgt_chess_can_move(state));
-    CHECK(dgt_chess_fen(state, fen));
+    dgt_chess_state state, after;
+    dgt_chess_move move;
+    uint64_t goals[64];
+    char fen[DGT_CHESS_FEN_ROOM], san[DGT_CHESS_SAN_ROOM];
+    CHECK(dgt_chess_parse_fen(NULL, 0, &state).status == DGT_CHESS_BAD_TEXT);
+    dgt_chess_start(&state);
+    CHECK(dgt_chess_fen(&state, fen));
     CHECK(!strcmp(fen, "rnbqkbnr/pppppppp/8/8/8/8/PPPPPPPP/RNBQKBNR w KQkq - 0 1"));
-    CHECK(read_fen(fen, after).status == DGT_CHESS_DONE && !memcmp(state, after, sizeof *state));
-
-    CHECK(dgt_chess_parse_san(state, "e4", 2, move) == DGT_CHESS_DONE);
-    CHECK(move->from == 52 && move->to == 36 && move->promotion == 0 && move->reserved == 0);
-    CHECK(dgt_chess_san(state, move, san) && !strcmp(san, "e4"));
-    CHECK(dgt_chess_play(after, move) && after->passed == 44 && after->turn == DGT_CHESS_BLACK);
-    CHECK(!dgt_chess_play(after, move) && !dgt_chess_is_repeated(state, after));
-    memset(move, 0xa5, sizeof *move);
-    CHECK(!dgt_chess_move_to(state, state->pieces, move) && move->to == 0xa5);
-    CHECK(dgt_chess_move_to(state, after->pieces, move) && move->from == 52 && move->to == 36);
-    CHECK(dgt_chess_fen(after, fen)); /* no pawn captures on e3 */
-    CHECK(!strcmp(fen, "rnbqkbnr/pppppppp/8/8/4P3/8/PPPP1PPP/RNBQKBNR b KQkq - 0 1"));
-    for (uint8_t wrong = 1; wrong < 8; wrong++) { /* no pawn becomes anything on e4 */
-        move->promotion = wrong;
-        CHECK(!dgt_chess_is_legal(state, move) && !dgt_chess_san(state, move, san));
-    }
-    free(state), free(after), free(move), free(fen), free(san);
+    CHECK(dgt_chess_parse_san(&state, NULL, 0, &move) == DGT_CHESS_BAD_TEXT);
+    CHECK(dgt_chess_parse_san_leniently(&state, NULL, 0, &move) == DGT_CHESS_BAD_TEXT);
+    CHECK(dgt_chess_goals(&state, goals) && !dgt_chess_is_mate(&state));
+    CHECK(dgt_chess_parse_san_leniently(&state, "e2e4", 4, &move) == DGT_CHESS_DONE);
+    CHECK(dgt_chess_san(&state, &move, san) && !strcmp(san, "e4"));
+    after = state;
+    CHECK(dgt_chess_play(&after, &move) && dgt_chess_move_to(&state, after.pieces, &move));
+    CHECK(!dgt_chess_is_repeated(&after, &state) && dgt_chess_fen(&after, fen));
+    CHECK(dgt_chess_parse_fen(fen, strlen(fen), &state).status == DGT_CHESS_DONE);
 }
 
 /* ---- A recogniser. */
@@ -515,14 +389,12 @@ static void all_calls(void) {
     CHECK(sizeof(dgt_board) == dgt_board_size() && sizeof(dgt_follower) == dgt_follower_size());
     CHECK(sizeof(dgt_command_decoder) == dgt_command_decoder_size());
     CHECK(sizeof(dgt_recogniser) == dgt_recogniser_size());
-    host_and_board();
     answers();
     texts();
     event_texts();
     lighting();
-    chess();
-    chess_texts();
     no_states();
+    chess();
     nothing_seen();
     games();
     no_bytes_of_hosts();

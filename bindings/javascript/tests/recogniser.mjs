@@ -13,27 +13,6 @@ const dgt = await load(readFileSync(process.argv[2]));
 const START = State.start(dgt);
 const shown = event => event.state ? { ...event, state: event.state.fen } : event;
 
-// Moves from the initial position, the rest of each in milliseconds, and the events.
-const GAME_ROWS = [
-  ["e2e4 e7e5", 2000, [{ type: "begun", state: START.fen, isTurned: false },
-                       { type: "made", move: "e2e4" }, { type: "made", move: "e7e5" }]],
-];
-for (const [moves, rest, known] of GAME_ROWS) {
-  const recogniser = new Recogniser(dgt), events = [];
-  let state = START, now = 0;
-  events.push(...recogniser.see(now, state.position));
-  for (const move of moves.split(" ")) {
-    state = state.play(move);
-    now += rest;
-    events.push(...recogniser.see(now, state.position));
-  }
-  events.push(...recogniser.due(now + rest));
-  assert.deepEqual(events.map(shown), known, moves);
-  assert.equal(recogniser.state.fen, state.fen);
-  recogniser.goOn(state, true);
-  assert.deepEqual([recogniser.due(now + rest), recogniser.state.fen], [[], state.fen]);
-}
-
 // Placements, null while the board is away, each shown for 12 s, and all events.
 const INITIAL = "rnbqkbnr/pppppppp/8/8/8/8/PPPPPPPP/RNBQKBNR", LIFTED = INITIAL.replace(/k/gi, "1");
 const E4 = "rnbqkbnr/pppppppp/8/8/4P3/8/PPPP1PPP/RNBQKBNR";
@@ -57,16 +36,19 @@ const SHOWN = [
   kings("3k4/4K3"), ended("1-0"), kings("4k3/3K4"), ended("0-1"), kings("4k3/4K3"),
   ended("1/2-1/2"),
 ];
+// What each game has come to.
+const STATES = [E4, E4, OPEN, INITIAL, "k1Q5/8/1K6/8/8/8/PP6/8", INITIAL, INITIAL, INITIAL];
 for (let n = 0; n < SHOWN.length; n += 2) {
   const recogniser = new Recogniser(dgt), events = [];
-  for (const [at, placement] of SHOWN[n].entries()) {
-    const position = placement && dgt.parsePlacement(placement);
-    events.push(...recogniser.see(12_000 * at, position), ...recogniser.due(12_000 * at + 11_999));
+  for (const [at, placement] of SHOWN[n].entries()) { // what was due comes first
+    events.push(...recogniser.see(12_000 * at, placement && dgt.parsePlacement(placement)));
   }
+  events.push(...recogniser.due(12_000 * SHOWN[n].length - 1));
   const known = events.map(event => event.type === "gap" ?
     { ...event, state: dgt.placement(event.state.position) } : shown(event));
   assert.deepEqual(known, SHOWN[n + 1], `${SHOWN[n]}`);
   const { state } = recogniser, now = 12_000 * SHOWN[n].length;
+  assert.equal(dgt.placement(state.position), STATES[n / 2]);
   recogniser.goOn(state, true);
   assert.deepEqual([recogniser.due(now), recogniser.state.fen], [[], state.fen]);
 }

@@ -1,6 +1,8 @@
 //! Values are converted, compared and hashed, and types have defaults.
 
 use dgt::chess::{BadFen, FenField, Impossible, State};
+use dgt::game::Recogniser;
+use dgt::names::Flags;
 use dgt::values::Kept;
 use dgt::*;
 use std::collections::{BTreeSet, HashSet};
@@ -54,6 +56,17 @@ fn positions_are_placements() {
 fn bytes_are_numbers() {
     assert_eq!(SevenBit::try_from(127).map(u8::from), Ok(127));
     assert!(SevenBit::try_from(1).unwrap() < SevenBit::try_from(2).unwrap());
+    let flags = Flags { blocked: false, per_move: true, fallen: true };
+    assert_eq!((Flags::of(6), Flags::of(1).blocked), (flags, true));
+}
+
+#[test]
+fn listeners_are_types_too() {
+    struct Nobody;
+    impl Listener for Nobody {
+        fn hear(&mut self, _: usize, _: &Event<'_>) {}
+    }
+    let _: Followed = Follower::default().hear_with(0, b"\x42", &mut Nobody);
 }
 
 /// The default follower sends a request every ten seconds, and starts over after six heartbeats.
@@ -73,6 +86,6 @@ fn types_have_defaults() {
     assert_eq!(answer(0x45), b"\x91\x00\x0800001");
     assert_eq!(answer(0x41), b"\x8d\x00\x0a\0\0\0\0\0\0\0");
     assert_eq!((Decoder::default().rest(), CommandDecoder::default().partial()), (0, 0));
-    assert_eq!(Host::default().picture(), None);
+    assert_eq!((Host::default().picture(), Recogniser::default().clone().state()), (None, None));
     assert_eq!(format!("{:?}", Kept::<2>::default()), "Kept([])");
 }
