@@ -29,7 +29,8 @@ const HALF_A_SECOND: Duration = Duration::from_millis(500);
 const LINES: u64 = 20_000;
 const DUMPS: usize = 1_000;
 const LONGEST: usize = 16383;
-const RUNS: u32 = 100;
+/// Work of this many parts is done once.
+const LONG: usize = 100_000;
 /// Positions, and how many lines of five legal moves begin there (chessprogramming.org, "Perft
 /// Results").
 const POSITIONS: [(&str, u64); 5] = [
@@ -74,13 +75,14 @@ fn compare(
     plain: impl Fn() -> u64,
     made: Option<&dyn Fn() -> u64>,
 ) {
-    let ((proved, answer), (plain, same)) = (least(RUNS, proved), least(RUNS, plain));
+    let runs = if parts < LONG { 100 } else { 1 };
+    let ((proved, answer), (plain, same)) = (least(runs, proved), least(runs, plain));
     assert_eq!(answer, same, "{name}: the answers differ");
     let each = |time: f64| time * 1e3 / parts as f64;
     print!("{name}: {:.1} ns each, plain Rust {:.1} ns, ", each(proved), each(plain));
     println!("{:.2} times", proved / plain);
     if let Some(made) = made {
-        let (made, same) = least(RUNS, made);
+        let (made, same) = least(runs, made);
         assert_eq!(answer, same, "{name}: the generated crate's answer differs");
         println!("  generated {:.1} ns, {:.2} times", each(made), proved / made);
     }
@@ -210,15 +212,21 @@ fn compare_boards() {
     );
 }
 
-/// Lines of chess moves, which have published numbers in place of plain Rust.
-fn time_lines() {
+/// Lines of chess moves.
+fn compare_lines() {
     for (fen, count) in POSITIONS {
-        let (proved, found) = least(1, || unsafe { dgt_bench_lines(fen.as_ptr(), fen.len(), 5) });
-        let (made, same) = least(1, || generated::lines(black_box(fen.as_bytes()), 5));
-        assert_eq!((found, same), (count, count), "{fen}");
-        let each = |time: f64| time * 1e3 / count as f64;
-        print!("State::goals and play, {count} lines of five moves from {fen}: ");
-        println!("{:.1} ns each, generated {:.1} ns", each(proved), each(made));
+        let proved = || {
+            let found = unsafe { dgt_bench_lines(fen.as_ptr(), fen.len(), 5) };
+            assert_eq!(found, count, "{fen}");
+            found
+        };
+        compare(
+            &format!("State::goals and play, {count} lines of five moves from {fen}"),
+            count as usize,
+            proved,
+            || work::lines(black_box(fen.as_bytes()), 5),
+            Some(&|| generated::lines(black_box(fen.as_bytes()), 5)),
+        );
     }
 }
 
@@ -228,6 +236,6 @@ fn main() -> io::Result<()> {
     }
     compare_messages();
     compare_boards();
-    time_lines();
+    compare_lines();
     Ok(())
 }

@@ -1,5 +1,6 @@
 //! The work that main.rs times in plain Rust, like the functions of library.rt.in with these names.
 use super::plain::board::{Board, Command, Identity, Polled, Word};
+use super::plain::chess::State;
 use super::plain::decoder::{Decoder, Event};
 use super::plain::host::Host;
 use super::plain::lines::{Engine, Monitor};
@@ -136,4 +137,10 @@ pub fn poll(squares: &[u8]) -> u64 {
         }
     }
     sum
+}
+
+/// The number of lines of this many legal moves from the state of a text.
+pub fn lines(fen: &[u8], length: u8) -> u64 {
+    let text = std::str::from_utf8(fen).ok();
+    text.and_then(State::parse).map_or(0, |state| state.count_lines(length))
 }

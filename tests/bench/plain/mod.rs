@@ -7,8 +7,10 @@
 //!
 //! The differences: a decoder here is a `match` for each byte, and a placement is written from the
 //! 64 pieces each time. A board finds the next square by a scan and doesn't read the layout of a
-//! clock message's payload. Nothing is proved.
+//! clock message's payload. Chess lists a position's moves on the heap, makes each, and looks at
+//! the king. Nothing is proved.
 pub mod board;
+pub mod chess;
 pub mod decoder;
 pub mod host;
 pub mod lines;
