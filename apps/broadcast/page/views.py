@@ -4,7 +4,7 @@ import json
 from typing import Any
 
 import dgt
-from dgt.clock_side import _seconds
+from dgt.clock_side import in_seconds
 
 SHOWN_MOVES = 12
 Summary = dict[str, Any]
@@ -39,7 +39,7 @@ def written(game: dgt.PgnGame) -> bytes:
     and the player's remaining seconds."""
     moves = list(game.moves)  # the thread of the games may add some
     first = moves[0].before if moves else game.state
-    clocks = [each.clock and _seconds(each.clock) for each in moves]
+    clocks = [each.clock and in_seconds(each.clock) for each in moves]
     return json.dumps({
         "number": first.number, "is_white_first": first.white, "result": game.result,
         "moves": [each.san for each in moves], "clocks": clocks,

@@ -11,7 +11,7 @@ from typing import Any, Protocol
 from . import _mqtt
 from ._turn import to_put
 from ._watched import Watched
-from .clock_side import _seconds
+from .clock_side import in_seconds
 from .following import BoardView
 from .pgn import san
 from .recogniser import Back, Begun, Ended, Found, GameEvent, Gap, Lost, Made, Unseen
@@ -283,7 +283,7 @@ class Board:
         clock = self.view.clock
         if not isinstance(clock, Times):
             return None
-        return {"white": _seconds(clock.first), "black": _seconds(clock.second),
+        return {"white": in_seconds(clock.first), "black": in_seconds(clock.second),
                 "run": clock.white_turn if clock.running else None,
                 "time": round(1000 * self._clock_at)}
 

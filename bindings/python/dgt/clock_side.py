@@ -11,7 +11,8 @@ _MOST_SHOWN = 200
 """How many positions are remembered."""
 
 
-def _seconds(time: Time) -> int:
+def in_seconds(time: Time) -> int:
+    """The time of one side of a clock in seconds."""
     return 3600 * time.hours + 60 * time.minutes + time.seconds
 
 
@@ -50,8 +51,8 @@ class WhiteClock:
         if now.black_turn != before.black_turn:  # pressed: until then the mover's side counted
             self._counted.pop(letters, None)
             return
-        counts = [_seconds(before.first) - _seconds(now.first),
-                  _seconds(before.second) - _seconds(now.second)]
+        counts = [in_seconds(before.first) - in_seconds(now.first),
+                  in_seconds(before.second) - in_seconds(now.second)]
         if min(counts) == 0 < max(counts) < _MOST_COUNTED:
             self._counted[letters] = counts.index(max(counts))
             if len(self._counted) > _MOST_SHOWN:

@@ -1,8 +1,7 @@
 -- A number belongs to one known id, and a byte is the code of one command of one byte.
-use Rattle.std.proofs.{Common.{◌≡◌, ◌≢◌, ℕ, Bool, true, false, cond, refl, sym, List, [], ◌∷◌, Some, None, arith, rules}, lemmas.{Bool.{and_parts, eqb-true}, Grind.{common_steps}}}
-use Rattle.{std.specs.{List.{list_all}, Prelude.{◌==◌, ◌↔◌, find}}, dgt_command.specs.{Content.{command_content, ClockMessage, Leds, Read}, Encoding.{bare_command, command_code}, Ids.{id_number}}}
+use Rattle.std.proofs.{Common.{◌≡◌, ◌≢◌, ℕ, Bool, true, false, cond, refl, sym, List, [], ◌∷◌, Some, None, arith, rules}, lemmas.{Bool.{and_parts, eqb-true}}}
+use Rattle.{std.specs.{List.{list_all}, Prelude.{◌==◌, ◌↔◌, find}}, dgt_command.specs.{Content.{command_content, Read}, Encoding.{bare_command}, Ids.{id_number}}}
 use Rattle.dgt_command.specs.{Ids.{id_with, known_ids}, Words.{BeginsNoCommand, HasForm}, declared.{command.Command.{Command}, ids.KnownId.{KnownId}}}
-use Rattle.dgt_command.specs.declared.command.Command.TheVariants as command
 
 -- the result of a search passes its test, and each test that all members pass
 found_passes : {X : Type 0} (listed test : X → Bool) (xs : List X) (x : X)
@@ -35,21 +34,10 @@ pub one_id : (number : ℕ) (known : KnownId)
     → (id_with number ≡ Some known) ↔ (number ≡ id_number known)
 one_id number known = (found_id number known, λ e. rw e (id_found known))
 
--- whether a command is one byte
-abbrev is_bare : Command → Bool
-is_bare (command.ClockMessage message) = false
-is_bare (command.Leds leds) = false
-is_bare _ = true
-
--- such a command is encoded by its code
-encoded_by_code : (each : Command) → is_bare each ≡ true
-    → HasForm (Read (command_content each)) (command_code (command_content each) ∷ [])
-encoded_by_code each h = search rules
-
 -- the command that is found is encoded by the byte
 pub bare_form : (byte : ℕ) (each : Command) → bare_command byte ≡ Some each
     → HasForm (Read (command_content each)) (byte ∷ [])
-bare_form byte each e = grind (arith, common_steps, found_passes, eqb-true, encoded_by_code)
+bare_form byte each e = grind arith
 
 -- a byte that is no command of one byte begins no command but the longer ones
 pub no_command : (byte : ℕ) → bare_command byte ≡ None → byte ≢ 0x2b → byte ≢ 0x60

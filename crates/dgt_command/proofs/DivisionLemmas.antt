@@ -1,10 +1,10 @@
 -- Zeros complete each partial frame, and each list of bytes divides into frames in one way.
 use Rattle.std.proofs.Common.{◌≡◌, ℕ, suc, zero, ◌+◌, ◌-◌, ◌<◌, ◌≤◌, List, [], ◌∷◌, ◌++◌, length, refl, sym, ap, subst, ◌∙◌, inl, inr, arith, append_assoc, length-append, replicate, map, rules}
 use Rattle.std.proofs.lemmas.{Bool.{cases_eq, cases_lt, le-ltb, lt-ltb, ne_eqb, eq-eqb}, List.{append-nil, length-replicate, replicate_more, replicate-append-replicate, get_or-replicate, get_or_past}}
-use Rattle.{std.specs.{List.{flat_map, AllByRecursion}, Prelude.{Bool, false, slice_index, if◌then◌else◌}}, dgt_command.specs.Content.{CommandContent, ClockMessage, Leds, EventContent, Read, BadSize}}
+use Rattle.{std.specs.{List.{flat_map, AllByRecursion}, Prelude.{Bool, false, slice_index, if◌then◌else◌}}, dgt_command.specs.Content.{CommandContent, ClockContent, ClockMessage, Leds, EventContent, Read, BadSize}}
 use Rattle.dgt_command.specs.{Content.{BadStart, Stray}, Encoding.{AreBytes, command_encoding, EncodesCommand}, Laws.{EachDividesOnce, EachHasItsWords, NoWordBeginsAPart, NoWordBeginsAnother}}
 use Rattle.dgt_command.specs.{Laws.{CommandsAreReadBack, ZerosSettleTheReader, DivisionsAppend, PrefixesDivideFirst}, Lengths.{word_length}, Words.{BeginsNoCommand, HasForm, IsWord, IsPartial}}
-use Rattle.dgt_command.{specs.Words.{Divides, Word, AreWords, word_bytes, IsNoise, IsNoiseList}, proofs.{CodeLemmas.{no_command}, WordLemmas.{body_length, form_length, same_word, begins, clock_word}}}
+use Rattle.dgt_command.{specs.Words.{Divides, Word, AreWords, word_bytes, IsNoise, IsNoiseList}, proofs.{CodeLemmas.{no_command}, WordLemmas.{body_length, same_word, begins, clock_word}}}
 
 -- this many zeros
 abbrev pub zeros : ℕ → List ℕ
@@ -33,7 +33,7 @@ bytes_right (x ∷ xs) ys h i = bytes_right xs ys (λ j. h (suc j)) i
 
 -- zeros are bytes
 pub bytes_zeros : (n : ℕ) → AreBytes (zeros n)
-bytes_zeros n i = search (rules, cases_lt, get_or-replicate, get_or_past, length_zeros)
+bytes_zeros n i = search (rules, get_or-replicate, get_or_past, length_zeros)
 
 -- zeros complete the frame
 pub record Completed (r : List ℕ) : Type 0 where
@@ -43,58 +43,40 @@ pub record Completed (r : List ℕ) : Type 0 where
   pub noise : IsNoise event
   pub form : HasForm event (r ++ 0 ∷ zeros count)
 
+-- zeros complete the frame of this event
+completes : {r : List ℕ} (event : EventContent) (count : ℕ) → HasForm event (r ++ 0 ∷ zeros count)
+    → count < 255 → IsNoise event → Completed r
+completes event count form few noise =
+    record { event = event; count = count; few = few; noise = noise; form = form }
+
 -- zero doesn't begin a command
 zero_begins_none : BeginsNoCommand 0
 zero_begins_none = no_command 0 refl (λ e. omega arith) (λ e. omega arith)
 
--- one zero more at the front is one more at the end
-zeros_push : (n : ℕ) → 0 ∷ zeros n ≡ zeros n ++ 0 ∷ []
-zeros_push n = search (rules, replicate-append-replicate, replicate_more)
+-- a clock message whose payload ends with this many zeros
+payload_zeros : (size id : ℕ) (p : List ℕ) (n : ℕ) → length p + n + 3 ≡ size
+    → (c : ClockContent)
+    × HasForm (Read (ClockMessage c)) (0x2b ∷ size ∷ 3 ∷ id ∷ (p ++ 0 ∷ zeros n))
+payload_zeros size id p n long =
+    let found =
+    clock_word id (p ++ zeros n) size (omega (arith, length-append p (zeros n), length_zeros n)) in
+    (found.0, search (rules, append_assoc, replicate_more))
 
 -- zeros complete a clock message with the right size and third byte
 body_zeros : (size : ℕ) (rest : List ℕ) → 3 ≤ size → size < 256 → length rest + 3 < size + 2
     → Completed (0x2b ∷ size ∷ 3 ∷ rest)
 body_zeros size [] large byte short =
-    let found = clock_word 0 (zeros (size - 3)) size (omega (arith, length_zeros (size - 3))) in
-    let shifted : 0 ∷ (zeros (size - 3) ++ 0 ∷ []) ≡ 0 ∷ zeros (size - 2) =
-    ap (λ (zs : List ℕ). 0 ∷ zs)
-    (replicate_more {X = ℕ} (size - 3) 0 ∙ ap (λ (k : ℕ). zeros k) (omega arith)) in
-    record {
-      event = Read (ClockMessage found.0);
-      count = size - 2;
-      few = omega arith;
-      noise = tt;
-      form = subst (λ (zs : List ℕ). HasForm (Read (ClockMessage found.0)) (0x2b ∷ size ∷ 3 ∷ zs))
-          shifted found.1;
-    }
+    let found = payload_zeros size 0 [] (size - 3) (omega arith) in
+    completes (Read (ClockMessage found.0)) (suc (size - 3)) found.1 (omega arith) tt
 body_zeros size (id ∷ p) large byte short =
     let n : ℕ = size - 3 - length p in
-    let found =
-    clock_word id (p ++ zeros n) size (omega (arith, length-append p (zeros n), length_zeros n)) in
-    let shifted : (p ++ zeros n) ++ 0 ∷ [] ≡ p ++ 0 ∷ zeros n =
-    append_assoc p (zeros n) (0 ∷ []) ∙ ap (λ (zs : List ℕ). p ++ zs) (sym (zeros_push n)) in
-    record {
-      event = Read (ClockMessage found.0);
-      count = n;
-      few = omega arith;
-      noise = tt;
-      form =
-          subst (λ (zs : List ℕ). HasForm (Read (ClockMessage found.0)) (0x2b ∷ size ∷ 3 ∷ id ∷ zs))
-          shifted found.1;
-    }
+    let found = payload_zeros size id p n (omega arith) in
+    completes (Read (ClockMessage found.0)) n found.1 (omega arith) tt
 
 -- zeros complete the beginning of a clock message
 clock_zeros : (rest : List ℕ) → slice_index rest 0 < 256
     → length rest + 1 < word_length (0x2b ∷ rest) → Completed (0x2b ∷ rest)
-clock_zeros [] byte h =
-    record {
-      event = BadSize;
-      count = 0;
-      few = omega arith;
-      noise = tt;
-      form =
-          (0, omega arith, refl);
-    }
+clock_zeros [] byte h = completes BadSize 0 (0, omega arith, refl) (omega arith) tt
 clock_zeros (size ∷ rest) byte h = elim (cases_lt size 3) [
   | inl small ↦ absurd
       (let k : length (size ∷ rest) + 1 < 2 = rw (lt-ltb size 3 small) at h in omega (arith, k))
@@ -104,16 +86,9 @@ clock_zeros (size ∷ rest) byte h = elim (cases_lt size 3) [
 ]
   where
     size_zeros : (size : ℕ) (rest : List ℕ) → 3 ≤ size → size < 256
-        → length (size ∷ rest) + 1 < body_length size rest
-        → Completed (0x2b ∷ size ∷ rest)
+        → length (size ∷ rest) + 1 < body_length size rest → Completed (0x2b ∷ size ∷ rest)
     size_zeros size [] large byte h =
-        record {
-          event = BadStart;
-          count = 0;
-          few = omega arith;
-          noise = tt;
-          form = (size, 0, large, (λ e. omega arith), refl);
-        }
+        completes BadStart 0 (size, 0, large, (λ e. omega arith), refl) (omega arith) tt
     size_zeros size (third ∷ rest) large byte h = elim (cases_eq third 3) [
       | inl is ↦ subst (λ (x : ℕ). Completed (0x2b ∷ size ∷ x ∷ rest)) (sym is)
           (body_zeros size rest large byte
@@ -127,44 +102,29 @@ clock_zeros (size ∷ rest) byte h = elim (cases_lt size 3) [
 -- zeros complete an LED frame
 led_zeros : (rest : List ℕ) → slice_index rest 0 < 256 → length rest + 1 < word_length (0x60 ∷ rest)
     → Completed (0x60 ∷ rest)
-led_zeros [] byte h =
-    record { event = Read (Leds []); count = 0; few = omega arith; noise = tt; form = refl }
+led_zeros [] byte h = completes (Read (Leds [])) 0 refl (omega arith) tt
 led_zeros (size ∷ rest) byte h =
     let n : ℕ = size - 1 - length rest in
     let long : length (rest ++ 0 ∷ zeros n) ≡ size =
     omega (arith, length-append rest (0 ∷ zeros n), length_zeros n) in
-    record {
-      event = Read (Leds (rest ++ 0 ∷ zeros n));
-      count = n;
-      few = omega arith;
-      noise = tt;
-      form = ap (λ (k : ℕ). 0x60 ∷ k ∷ (rest ++ 0 ∷ zeros n)) (sym long);
-    }
+    completes (Read (Leds (rest ++ 0 ∷ zeros n))) n
+    (ap (λ (k : ℕ). 0x60 ∷ k ∷ (rest ++ 0 ∷ zeros n)) (sym long)) (omega arith) tt
 
 -- bytes shorter than their frame become one by zeros
 pub completed : (r : List ℕ) → AreBytes r → length r < word_length r → Completed r
-completed [] bytes h =
-    record {
-      event = Stray 0;
-      count = 0;
-      few = omega arith;
-      noise = tt;
-      form =
-          (zero_begins_none, refl);
-    }
-completed (b ∷ rest) bytes h =
-    elim (cases_eq b 0x2b) [
-      | inl is ↦ subst (λ (x : ℕ). Completed (x ∷ rest)) (sym is)
-          (clock_zeros rest (bytes 1)
-          (let k : length (b ∷ rest) < word_length (0x2b ∷ rest) = rw (eq-eqb b 0x2b is) at h in
-          omega (arith, k)))
-      | inr other ↦ elim (cases_eq b 0x60) [
-        | inl is ↦ subst (λ (x : ℕ). Completed (x ∷ rest)) (sym is)
-            (led_zeros rest (bytes 1)
-            (search (rules, ne_eqb, eq-eqb)))
-        | inr neither ↦ search (rules, ne_eqb)
-      ]
-    ]
+completed [] bytes h = completes (Stray 0) 0 (zero_begins_none, refl) (omega arith) tt
+completed (b ∷ rest) bytes h = elim (cases_eq b 0x2b) [
+  | inl is ↦ subst (λ (x : ℕ). Completed (x ∷ rest)) (sym is)
+      (clock_zeros rest (bytes 1)
+      (let k : length (b ∷ rest) < word_length (0x2b ∷ rest) = rw (eq-eqb b 0x2b is) at h in
+      omega (arith, k)))
+  | inr other ↦ elim (cases_eq b 0x60) [
+    | inl is ↦ subst (λ (x : ℕ). Completed (x ∷ rest)) (sym is)
+        (led_zeros rest (bytes 1)
+        (search rules))
+    | inr neither ↦ search rules
+  ]
+]
 
 -- a proper prefix of a frame is shorter than its frame, and conversely
 pub IsPartial-from_short : (r : List ℕ) → AreBytes r → length r < word_length r → IsPartial r
@@ -178,7 +138,7 @@ pub not_both : (r : List ℕ) (e : EventContent) (w x : List ℕ) → IsPartial 
 not_both r e w x partial form is =
     let whole : List ℕ = r ++ partial.next ∷ partial.more in
     let prefix : w ++ (x ++ partial.next ∷ partial.more) ≡ whole ++ [] =
-    search (rules, append_assoc, append-nil) in
+    search (rules, append_assoc) in
     let same = same_word e partial.event w whole (x ++ partial.next ∷ partial.more) [] form
     partial.word.form prefix in
     omega (
@@ -218,45 +178,33 @@ nothing_is_partial = IsPartial-from_short [] (λ i. omega arith) (omega arith)
 
 -- a frame has at least one byte
 pub some_word : (e : EventContent) (w : List ℕ) → HasForm e w → 0 < length w
-some_word e w h = search (rules, form_length)
+some_word e w h = search rules
 
 -- bytes up to some length divide
 divide : (n : ℕ) (s : List ℕ) → length s ≤ n → AreBytes s
     → (events : List EventContent) × (rest : List ℕ) × Divides s events rest
-divide zero s short bytes = (
-  [],
-  s,
-  (
-    refl,
-    IsPartial-from_short s bytes (search (rules, cases_lt, begins, some_word, length-append)),
-  ),
-)
-divide (suc n) s short bytes =
-    elim (cases_lt (length s) (word_length s)) [
-      | inl h ↦ ([], s, (refl, IsPartial-from_short s bytes h))
-      | inr h ↦
-          let found = begins s h in
-          let both : AreBytes (found.word ++ found.after) = subst AreBytes found.is bytes in
-          let less : length found.after ≤ n =
-          search (rules, some_word, length-append) in
-          let more = divide n found.after less (bytes_right found.word found.after both) in (
-            found.event ∷ more.0,
-            more.1,
-            (search (rules, bytes_left)),
-          )
-    ]
+divide zero [] short bytes = ([], [], (refl, nothing_is_partial))
+divide zero (b ∷ s) short bytes = absurd (omega arith)
+divide (suc n) s short bytes = elim (cases_lt (length s) (word_length s)) [
+  | inl h ↦ ([], s, (refl, IsPartial-from_short s bytes h))
+  | inr h ↦
+      let found = begins s h in
+      let both : AreBytes (found.word ++ found.after) = subst AreBytes found.is bytes in
+      let less : length found.after ≤ n = search (rules, length-append) in
+      let more = divide n found.after less (bytes_right found.word found.after both) in
+      (found.event ∷ more.0, more.1, search (rules, bytes_left))
+]
 
 -- the frames of a division
 divided_words : (s : List ℕ) (events : List EventContent) (rest : List ℕ) → Divides s events rest
     → (words : List Word) × AreWords s words rest
     × (map (λ (word : Word). word.event) words ≡ events)
 divided_words s [] rest h = ([], record { each = tt; whole = h.0; partial = h.1 }, refl)
-divided_words s (event ∷ events) rest h =
-    let more = divided_words h.1 events rest h.4 in (
-      record { event = event; bytes = h.0 } ∷ more.0,
-      search (rules, append_assoc),
-      ap (λ (es : List EventContent). event ∷ es) more.2,
-    )
+divided_words s (event ∷ events) rest h = let more = divided_words h.1 events rest h.4 in (
+  record { event = event; bytes = h.0 } ∷ more.0,
+  search (rules, append_assoc),
+  ap (λ (es : List EventContent). event ∷ es) more.2,
+)
 
 -- consecutive frames, and a part of one after them, are no others
 words_once : (xs ys : List Word) (r q : List ℕ)
@@ -272,7 +220,7 @@ words_once (x ∷ xs) [] r q h k o p e =
     (sym e ∙ append_assoc x.bytes (word_bytes xs) r))
 words_once (x ∷ xs) (y ∷ ys) r q h k o p e =
     let both : x.bytes ++ (word_bytes xs ++ r) ≡ y.bytes ++ (word_bytes ys ++ q) =
-    sym (append_assoc x.bytes (word_bytes xs) r) ∙ e ∙ append_assoc y.bytes (word_bytes ys) q in
+    cc (append_assoc x.bytes (word_bytes xs) r, append_assoc y.bytes (word_bytes ys) q) in
     let same = same_word x.event y.event x.bytes y.bytes (word_bytes xs ++ r) (word_bytes ys ++ q)
     h.0.form k.0.form both in
     search (rules, words_once xs ys r q h.1 k.1 o p same.after)
@@ -319,31 +267,20 @@ read_back (c ∷ cs) h = search (rules, read_back cs h.1)
 -- bytes that follow others are divided from their rest on
 pub Divides-append : DivisionsAppend
 Divides-append s t [] fs r q h k = subst (λ (z : List ℕ). Divides (z ++ t) fs q) (sym h.0) k
-Divides-append s t (e ∷ es) fs r q h k = (
-  h.0,
-  h.1 ++ t,
-  h.2,
-  ap (λ (z : List ℕ). z ++ t) h.3 ∙ append_assoc h.0 h.1 t,
-  Divides-append h.1 t es fs r q h.4 k,
-)
+Divides-append s t (e ∷ es) fs r q h k =
+    (h.0, h.1 ++ t, h.2, cc (append_assoc h.0 h.1 t), Divides-append h.1 t es fs r q h.4 k)
 
 -- the events of a prefix of bytes are the first of theirs, and its rest is continued
 pub divides_prefix : PrefixesDivideFirst
 divides_prefix s t [] fs r q h k = (fs, refl, subst (λ (z : List ℕ). Divides (z ++ t) fs q) h.0 k)
 divides_prefix s t (e ∷ es) [] r q h k =
-    absurd (not_both q e h.0 (h.1 ++ t) k.1 h.2.form
-    (sym k.0 ∙ ap (λ (z : List ℕ). z ++ t) h.3 ∙ append_assoc h.0 h.1 t))
+    absurd (not_both q e h.0 (h.1 ++ t) k.1 h.2.form (cc (append_assoc h.0 h.1 t)))
 divides_prefix s t (e ∷ es) (f ∷ fs) r q h k =
-    let prefix : s ++ t ≡ h.0 ++ (h.1 ++ t) =
-    ap (λ (z : List ℕ). z ++ t) h.3 ∙ append_assoc h.0 h.1 t in
-    let same = same_word e f h.0 k.0 (h.1 ++ t) k.1 h.2.form k.2.form (sym prefix ∙ k.3) in
+    let same = same_word e f h.0 k.0 (h.1 ++ t) k.1 h.2.form k.2.form
+    (cc (append_assoc h.0 h.1 t)) in
     let on = divides_prefix h.1 t es fs r q h.4
-    (subst (λ (z : List ℕ). Divides z fs q) (sym same.after) k.4) in (
-      on.0,
-      ap (λ (x : EventContent). x ∷ fs) (sym same.event)
-          ∙ ap (λ (xs : List EventContent). e ∷ xs) on.1,
-      on.2,
-    )
+    (subst (λ (z : List ℕ). Divides z fs q) (sym same.after) k.4) in
+    (on.0, cc, on.2)
 
 -- the same after frames
 pub commands_are_read_back : CommandsAreReadBack
@@ -354,17 +291,10 @@ commands_are_read_back bytes es cs h all =
 zeros_stray : (n : ℕ) → (es : List EventContent) × IsNoiseList es × Divides (zeros n) es []
 zeros_stray zero = ([], tt, (refl, nothing_is_partial))
 zeros_stray (suc n) =
-    let more = zeros_stray n in (
-      Stray 0 ∷ more.0,
-      (tt, more.1),
-      (
-        0 ∷ [],
-        zeros n,
-        record { form = (zero_begins_none, refl); are_bytes = bytes_zeros 1 },
-        refl,
-        more.2,
-      ),
-    )
+    let word : IsWord (Stray 0) (0 ∷ []) =
+    record { form = (zero_begins_none, refl); are_bytes = bytes_zeros 1 } in
+    let more = zeros_stray n in
+    (Stray 0 ∷ more.0, (tt, more.1), (0 ∷ [], zeros n, word, refl, more.2))
 
 -- a part of a frame and 255 zeros are noise
 pub zeros_settle_the_reader : ZerosSettleTheReader

@@ -1,5 +1,5 @@
 -- The derived `==` of clock messages.
-use Rattle.std.proofs.{Common.{◌≡◌, ℕ, nat_eq, refl, ap, sym, ◌∙◌, List, [], ◌∷◌, length, true, false, rules}, lemmas.{Bool.Decides.{Decides-and, Decides-eqb}, Slice.Eq.{slice_eq-Decides}}}
+use Rattle.std.proofs.{Common.{◌≡◌, ℕ, nat_eq, refl, ap, sym, ◌∙◌, List, [], ◌∷◌, length, true, false, rules}, lemmas.{Bool.Decides.{Decides-eqb}, Slice.Eq.{slice_eq-Decides}}}
 use Rattle.{std.specs.Prelude.{◌↔◌, IsTrue, slice_index}, dgt_command.specs.{Content.{ClockContent, clock_content}, Equality.{HasArrays}, Ids.{has_own_case}, declared.clock.RawClock.{RawClock}}}
 use Rattle.{dgt_command.proofs.ListLemmas.{members}, dgt_values.specs.Equality.{EqualIsSameReadOf}}
 use lib.Pointwise.{pointwise}
@@ -10,18 +10,10 @@ use Rattle.dgt_command.specs.contracts.clock.ClockCommandPartialEq.TheImpl as de
 pub equal_bytes : (xs ys : List ℕ) → IsTrue (pointwise nat_eq xs ys) ↔ (xs ≡ ys)
 equal_bytes xs ys = slice_eq-Decides Decides-eqb xs ys _ refl
 
--- no test that is false is true
-pub never : IsTrue false → ⊥
-never t = cc
-
 -- values of different numbers are neither equal nor the same
 pub differ : {T : Type 0} → (number : T → ℕ) (a b : T) → nat_eq (number a) (number b) ≡ false
     → IsTrue false ↔ (a ≡ b)
-differ number a b apart = search (rules, never)
-
--- the id of a clock message, and its payload
-abbrev id_of : ClockContent → ℕ
-id_of said = said.id
+differ number a b apart = search rules
 
 -- one of the bytes of the payload
 abbrev byte_of : ℕ → ClockContent → ℕ
@@ -89,27 +81,16 @@ raw_apart raw said own e = cc
 -- two clock messages are equal exactly if they mean the same
 pub equal_clocks : EqualIsSameReadOf HasArrays clock_content (derived_clock.eq-value).it
 equal_clocks (clock.Display places dots beep) (clock.Display others more long) h k =
-    let bytes = Decides-and _ _ (Decides-eqb dots more) (Decides-eqb beep long) in
-    let equal = Decides-and _ _ (equal_bytes places others) bytes in
     let same = same_display places others dots more beep long h k in
-    (λ t. same.0 (equal.0 t), λ e. equal.1 (same.1 e))
-equal_clocks (clock.Icons a) (clock.Icons b) h k = search (rules, equal_bytes)
-equal_clocks clock.End clock.End h k = (λ _. refl, λ _. refl)
-equal_clocks clock.Button clock.Button h k = (λ _. refl, λ _. refl)
-equal_clocks clock.Version clock.Version h k = (λ _. refl, λ _. refl)
+    search (rules, same, equal_bytes)
 equal_clocks (clock.SetAndRun left right control) (clock.SetAndRun other another byte) h k =
-    let later = Decides-and _ _ (equal_bytes right another) (Decides-eqb control byte) in
-    let equal = Decides-and _ _ (equal_bytes left other) later in
     let same = same_setting left other right another control byte h.0 k.0 h.1 k.1 in
-    (λ t. same.0 (equal.0 t), λ e. equal.1 (same.1 e))
-equal_clocks (clock.Beep a) (clock.Beep b) h k = search rules
+    search (rules, same, equal_bytes)
 equal_clocks (clock.Text letters beep) (clock.Text others long) h k =
-    let equal = Decides-and _ _ (equal_bytes letters others) (Decides-eqb beep long) in
     let same = same_text letters others beep long h k in
-    (λ t. same.0 (equal.0 t), λ e. equal.1 (same.1 e))
-equal_clocks (clock.Raw a) (clock.Raw b) h k = search (rules, equal_bytes)
-equal_clocks (clock.Raw a) b h k =
-    (λ t. absurd (never t), λ e. absurd (raw_apart a (clock_content b) refl e))
+    search (rules, same, equal_bytes)
+equal_clocks (clock.Raw a) (clock.Raw b) h k = search rules
+equal_clocks (clock.Raw a) b h k = (λ t. cc, λ e. absurd (raw_apart a (clock_content b) refl e))
 equal_clocks a (clock.Raw b) h k =
-    (λ t. absurd (never t), λ e. absurd (raw_apart b (clock_content a) refl (sym e)))
-equal_clocks a b h k = differ id_of (clock_content a) (clock_content b) refl
+    (λ t. cc, λ e. absurd (raw_apart b (clock_content a) refl (sym e)))
+equal_clocks a b h k = search rules

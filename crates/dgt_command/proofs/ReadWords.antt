@@ -1,5 +1,5 @@
 -- An encoding reports its command.
-use Rattle.{std.proofs.{Common.{◌≡◌, ℕ, ◌-◌, List, [], ◌∷◌, take, ap, ◌∙◌, length-append, rules}, lemmas.List.{take_at}}, dgt_command.specs.{Content.{CommandContent, Read}, Encoding.{command_in}}}
+use Rattle.{std.proofs.{Common.{◌≡◌, ℕ, List, ap, ◌∙◌, length-append, rules}, lemmas.List.{take_at}}, dgt_command.specs.{Content.{CommandContent, Read}, Encoding.{command_in}}}
 use Rattle.dgt_command.specs.{Encoding.{command_encoding, EncodesCommand}, Laws.{EncodingsGiveCommands}, Words.{IsWord}}
 
 -- the one encoding of a command reports it

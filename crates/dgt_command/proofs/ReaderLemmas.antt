@@ -1,6 +1,6 @@
 -- Reading byte by byte.
 use Rattle.std.proofs.{Common.{◌≡◌, ℕ, ◌-◌, ◌<◌, ◌≤◌, List, [], ◌∷◌, ◌++◌, length, take, drop, sym, ap, subst, ◌∙◌, inl, inr, arith, rules}, lemmas.{Bool.{cases_lt}, List.{append-nil, take_at}}}
-use Rattle.{std.{proofs.lemmas.{List.{take_all, take-append-drop, take-take}, Bool.Decides.{nat_tests}}, specs.Prelude.{Bool, true, false}}, dgt_command.specs.Encoding.{AreBytes}}
+use Rattle.{std.{proofs.lemmas.{List.{take_all, take-append-drop, take-take}}, specs.Prelude.{Bool, true, false}}, dgt_command.specs.Encoding.{AreBytes}}
 use Rattle.dgt_command.{specs.{Laws.{WordsAreShort}, Lengths.{IsWholeWord, word_length}, Words.{IsPartial}}, proofs.DivisionLemmas.{some_word, not_both, short_from_IsPartial, IsPartial-from_short}}
 use Rattle.dgt_command.proofs.{DivisionLemmas.{bytes_left}, WordLemmas.{form_length, begins}}
 
@@ -36,17 +36,16 @@ whole_last s n partial long whole = elim (cases_lt (length s - 1) n) [
 
 -- no frame has more than 257 bytes
 pub word_limit : (s : List ℕ) → AreBytes s → word_length s ≤ 257
-word_limit s bytes = search (rules, nat_tests)
+word_limit s bytes = search rules
 
 -- a part of a frame has at most 256 bytes
 pub partial_limit : (r : List ℕ) → IsPartial r → length r < 257
-partial_limit r partial =
-    omega (
-      arith,
-      short_from_IsPartial r partial,
-      word_limit r
-          (bytes_left r (partial.next ∷ partial.more) partial.word.are_bytes),
-    )
+partial_limit r partial = omega (
+  arith,
+  short_from_IsPartial r partial,
+  word_limit r
+      (bytes_left r (partial.next ∷ partial.more) partial.word.are_bytes),
+)
 
 -- a frame has 1 to 257 bytes
 pub words_are_short : WordsAreShort

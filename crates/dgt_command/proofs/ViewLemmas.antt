@@ -1,12 +1,6 @@
 -- The bytes of a whole command, one by one.
-use Rattle.std.proofs.Common.{◌≡◌, ℕ, suc, ◌+◌, ◌-◌, ◌<◌, ◌≤◌, List, [], ◌∷◌, ◌++◌, length, get_or, take, drop, refl, sym, ap, subst, ◌⊎◌, inl, inr, arith, length-append}
-use Rattle.{std.proofs.lemmas.Grind.{common_steps}, dgt_command.{specs.{Content.{ClockContent, CommandContent, ClockMessage, Leds}, Encoding.{command_encoding}}, proofs.WordLemmas.{final_of, prefix}}}
-use Rattle.dgt_command.proofs.WordLemmas.{last_of}
-
--- a list of at least one, by its last
-by_last : (xs : List ℕ) → 0 < length xs
-    → xs ≡ take (length xs - 1) xs ++ get_or xs (length xs - 1) 0 ∷ []
-by_last xs h = grind (arith, common_steps, final_of, prefix, last_of)
+use Rattle.std.proofs.{Common.{◌≡◌, ℕ, suc, ◌+◌, ◌-◌, ◌≤◌, List, [], ◌∷◌, ◌++◌, length, get_or, take, drop, refl, sym, ap, subst, ◌⊎◌, inl, inr, arith, length-append}, lemmas.Grind.{common_steps}}
+use Rattle.dgt_command.{specs.{Content.{ClockContent, CommandContent, ClockMessage, Leds}, Encoding.{command_encoding}}, proofs.WordLemmas.{prefix, last_of}}
 
 -- bytes that are framed as a clock message encode it
 pub clock_view : (bytes : List ℕ) (message : ClockContent) → 5 ≤ length bytes
@@ -14,8 +8,7 @@ pub clock_view : (bytes : List ℕ) (message : ClockContent) → 5 ≤ length by
     → message.id ≡ get_or bytes 3 0 → message.payload ≡ take (length bytes - 1 - 4) (drop 4 bytes)
     → length (take (length bytes - 1 - 4) (drop 4 bytes)) + 3 ≡ get_or bytes 1 0
     → bytes ≡ command_encoding (ClockMessage message)
-clock_view bytes message long first third last id carried size =
-    grind (arith, common_steps, by_last)
+clock_view bytes message long first third last id carried size = grind (arith, common_steps)
 
 -- what the bytes of a clock message look like
 pub record IsClockForm (bytes : List ℕ) : Type 0 where

@@ -1,10 +1,8 @@
 -- For a code and a body, at most one message fits or one fault does, and never both.
-use Rattle.std.proofs.{Common.{◌≡◌, ℕ, ◌<◌, Bool, cond, sym, ap, ◌∙◌, ◌⊎◌, List, [], ◌∷◌, length, map, arith, length-append, rules}, lemmas.List.{length-map, get_or-map}}
+use Rattle.{std.proofs.{Common.{◌≡◌, ℕ, ◌<◌, sym, ap, ◌∙◌, List, [], ◌∷◌, length, map, arith, length-append, rules}, lemmas.List.{length-map, get_or-map}}, dgt_message.specs.Content.{Content}}
+use Rattle.dgt_message.specs.{Content.{IsMessage, Content.{dump, field, times}}, Encoding.{BodyEncodes, Fits, times_bytes}, Layout.{Layout, column_of}, Reading.{Allows, IsFaultOf}}
+use Rattle.dgt_message.{specs.declared.viewing.BodyFault.{BodyFault}, proofs.{Codes.{piece_code-below}, MessageIn.{laid_out, said_layout, message_in-fits}, Sizes.{AllowsBefore}}}
 use Rattle.{std.specs.Prelude.{slice_index}, dgt_values.specs.{Board.{piece_code}, declared.pieces.Piece.{Piece, TheVariants.{Empty}}}, dgt_message.specs.Clock.{Times as BothTimes, AreTimes}}
-use Rattle.dgt_message.specs.{Code.{HasSize}, Content.{Content, IsMessage}, Encoding.{BodyEncodes, Fits, times_bytes}, Layout.{Layout, column_at, column_of, layout_of}, Reading.{Allows, IsFaultOf}}
-use Rattle.dgt_message.specs.{Reading.{IsFirstBad, fault_of}, Content.Content.{dump, field, times}, Layout.Column.{hours, sixty, anything}, declared.viewing.BodyFault.{BodyFault}}
-use Rattle.dgt_message.{specs.declared.viewing.BodyFault.TheVariants.{WrongSize, BadReading}, proofs.{Codes.{piece_code-below}, MessageIn.{laid_out, said_layout, message_in-fits}}}
-use Rattle.dgt_message.proofs.Sizes.{AllowsBefore}
 
 -- both are the message in the body
 pub one_message : (code : ℕ) (body : List ℕ) (first second : Content) → Fits first code body
@@ -12,23 +10,10 @@ pub one_message : (code : ℕ) (body : List ℕ) (first second : Content) → Fi
 one_message code body first second h k =
     sym (message_in-fits first code body h) ∙ message_in-fits second code body k
 
--- the fault of a byte of times is a bad reading
-pub times_fault : (a b : Bool) (at : ℕ)
-    → fault_of (cond a anything (cond b hours sixty)) at ≡ BadReading at
-times_fault a b at = search rules
-
--- a fault is a wrong size or the first bad place
-abbrev Arises : ℕ → List ℕ → BodyFault → Type 0
-Arises code body why = ((HasSize code body → ⊥) × (why ≡ WrongSize))
-    ⊎ ((at : ℕ) × IsFirstBad code body at × (why ≡ fault_of (column_at code body at) at))
-
-arises : (code : ℕ) (body : List ℕ) (why : BodyFault) → IsFaultOf code body why
-    → Arises code body why
-arises code body why h = search (rules, times_fault)
-
+-- a body has at most one fault
 pub one_fault : (code : ℕ) (body : List ℕ) (f g : BodyFault) → IsFaultOf code body f
     → IsFaultOf code body g → f ≡ g
-one_fault code body f g h k = search (rules, arises)
+one_fault code body f g h k = search rules
 
 -- each byte of encoded times is valid in its place
 times_allowed : (t : BothTimes) → AreTimes t → (at : ℕ) → at < 7
@@ -45,7 +30,7 @@ codes_allowed pieces at l =
 -- the two bytes of a field update are valid in their places
 field_allowed : (s : ℕ) (p : Piece) (at : ℕ) → s < 64 → at < 2
     → Allows (column_of Layout.field at) (slice_index (s ∷ piece_code p ∷ []) at)
-field_allowed s p at h l = search (rules, piece_code-below)
+field_allowed s p at h l = search rules
 
 -- each byte of a body with a meaning is valid in its place
 said_allowed : (said : Content) (body : List ℕ) → IsMessage said → BodyEncodes said body
@@ -57,13 +42,8 @@ said_allowed (times readings) body h s at l =
     rw s (times_allowed readings h at (omega (arith, ap length s)))
 said_allowed _ body h s at l = tt
 
--- therefore it has no fault
-faultless : (code : ℕ) (body : List ℕ) (why : BodyFault) → HasSize code body
-    → AllowsBefore (layout_of code body) body (length body) → Arises code body why → ⊥
-faultless code body why size allowed h5 = search rules
-
--- if a message fits, the size is right and each byte is valid in its place
+-- if a message fits, the size is right and each byte is valid in its place: there is no fault
 pub not_both : (code : ℕ) (body : List ℕ) (said : Content) (fault : BodyFault) → Fits said code body
     → IsFaultOf code body fault → ⊥
 not_both code body said fault h k =
-    search (rules, laid_out, said_allowed, faultless, arises, length-map, length-append)
+    search (rules, laid_out, said_allowed, length-map, length-append)

@@ -13,11 +13,10 @@ FitsAs code layout body = Fits (said_in layout (known_number code) body) (known_
 codes_back : (body : List ℕ) → AllowsBefore Layout.dump body (length body)
     → body ≡ map piece_code (map piece_with_code body)
 codes_back [] h = refl
-codes_back (b ∷ body) h =
-    rw (
-      piece_code-piece_with_code b (h 0 (omega arith)),
-      ← codes_back body (λ k l. h (suc k) (omega arith)),
-    ) refl
+codes_back (b ∷ body) h = rw (
+  piece_code-piece_with_code b (h 0 (omega arith)),
+  ← codes_back body (λ k l. h (suc k) (omega arith)),
+) refl
 
 -- 64 codes are a dump
 dump_fits : (body : List ℕ) → length body + 3 ≡ 67 → AllowsBefore Layout.dump body (length body)
@@ -27,17 +26,12 @@ dump_fits body size h = search (rules, length-map, codes_back)
 -- a square and a code are a field update
 field_fits : (body : List ℕ) → length body + 3 ≡ 5 → AllowsBefore Layout.field body (length body)
     → FitsAs KnownCode.Field Layout.field body
-field_fits body size h = grind (arith, common_steps, piece_code-piece_with_code)
+field_fits body size h = grind (arith, common_steps)
 
 -- three valid bytes are a time
 time_is : (h m s : ℕ) → h < 128 → Allows hours h → Allows sixty m → Allows sixty s
     → IsTime (time_in h m s)
 time_is h m s small a b c = (a, omega (arith, b.0, b.1), omega (arith, c.0, c.1), omega arith)
-
--- seven bytes are the same one by one
-same_seven : (a b c d e f g a' b' c' d' e' f' : ℕ) → a' ≡ a → b' ≡ b → c' ≡ c → d' ≡ d → e' ≡ e
-    → f' ≡ f → a ∷ b ∷ c ∷ d ∷ e ∷ f ∷ g ∷ [] ≡ a' ∷ b' ∷ c' ∷ d' ∷ e' ∷ f' ∷ g ∷ []
-same_seven a b c d e f g a' b' c' d' e' f' p q r s t u = cc
 
 -- seven valid bytes, without a mark and with a clock, are times
 times_fits : (body : List ℕ) → length body + 3 ≡ 10 → All (λ byte. byte < 128) body
@@ -56,9 +50,8 @@ times_fits (a ∷ b ∷ c ∷ d ∷ e ∷ f ∷ g ∷ []) size seven shown h =
         λ no. absurd (let k : true ≡ false = sym no ∙ shown in cc),
       );
       code_is = refl;
-      encoded = search (rules, same_seven);
+      encoded = grind arith;
     }
-times_fits (a ∷ b ∷ c ∷ d ∷ e ∷ f ∷ g ∷ i ∷ body) size seven shown h = absurd (omega arith)
 times_fits _ size seven shown h = absurd (omega arith)
 
 -- seven bytes with a mark are an acknowledgement
@@ -86,8 +79,6 @@ pub body_fits : (known : Option KnownCode) (code : ℕ) (body : List ℕ) → co
     → Fits (said_in (known_layout known body) code body) code body
 body_fits (Some KnownCode.Dump) code body small carried e size h =
     rw (found_number code KnownCode.Dump e) (dump_fits body size h)
-body_fits (Some KnownCode.Clock) code body small carried e size h =
-    search (rules, found_number, clock_fits)
-body_fits (Some KnownCode.Field) code body small carried e size h =
-    search (rules, found_number, field_fits)
+body_fits (Some KnownCode.Clock) code body small carried e size h = search (rules, clock_fits)
+body_fits (Some KnownCode.Field) code body small carried e size h = search (rules, field_fits)
 body_fits _ code body small carried e size h = search rules

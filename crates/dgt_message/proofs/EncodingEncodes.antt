@@ -1,31 +1,21 @@
 -- The output of `encode` for a message encodes it.
-use Rattle.std.proofs.{Common.{◌≡◌, ℕ, ◌<◌, ◌≤◌, ◌+◌, ◌*◌, ◌%◌, true, List, [], ◌∷◌, length, map, get_or, arith, eq-eqb, length-append, rules}, lemmas.List.{length-map, Elements.{All-from_recursion}}}
-use Rattle.{std.{proofs.lemmas.List.Elements.{All-map, All-push}, specs.{Int.{bit_at}, List.{AllByRecursion}, Prelude.{◌↔◌, All}}}, dgt_values.specs.{Board.{piece_code}, Bytes.{AreSevenBit}}}
-use Rattle.{dgt_values.specs.declared.pieces.Piece.{Piece}, dgt_message.specs.{Clock.{Answer, Times as BothTimes, AreTimes, is_mark, IsAck}, Content.{Content, code_of, IsCarried, IsMessage}}}
-use Rattle.dgt_message.specs.{Encoding.{ack_in, mark_with, ack_encoding, BodyEncodes, Fits, HasHeader, Encodes, times_bytes, message_bytes, encoding, body_encoding}, Content.Content.{dump, field}}
-use Rattle.dgt_message.{specs.Content.Content.{times, no_clock, ack, carried}, proofs.Codes.{piece_code-below}}
-
--- bytes that are listed
-listed : (bytes : List ℕ) → AllByRecursion (λ byte. byte < 128) bytes → AreSevenBit bytes
-listed = All-from_recursion (λ byte. byte < 128)
-
--- a code and a body after their header
-pub whole_header : (code : ℕ) (body : List ℕ) → code < 128 → length body ≤ 16380 → AreSevenBit body
-    → HasHeader code (message_bytes code body)
-whole_header code body small fits seven_bit = search rules
+use Rattle.std.proofs.{Common.{◌≡◌, ℕ, ◌<◌, ◌+◌, ◌*◌, ◌%◌, true, List, [], ◌∷◌, length, map, get_or, arith, eq-eqb, length-append, rules}, lemmas.List.{length-map}}
+use Rattle.{std.{proofs.lemmas.List.Elements.{All-map, All-push}, specs.{Int.{bit_at}, Prelude.{◌↔◌, All}}}, dgt_values.specs.{Board.{piece_code}, Bytes.{AreSevenBit}}}
+use Rattle.{dgt_values.specs.declared.pieces.Piece.{Piece}, dgt_message.specs.{Clock.{Answer, Times as BothTimes, AreTimes, is_mark, IsAck}, Content.{Content, IsCarried, IsMessage}}}
+use Rattle.dgt_message.specs.{Encoding.{ack_in, mark_with, ack_encoding, BodyEncodes, Fits, Encodes, times_bytes, message_bytes, encoding, body_encoding}, Content.Content.{dump, field}}
+use Rattle.dgt_message.{specs.Content.Content.{times, no_clock, ack, carried}}
 
 -- codes of pieces are seven-bit
 codes_small : (pieces : List Piece) → AreSevenBit (map piece_code pieces)
-codes_small pieces =
-    All-map (λ byte. byte < 128) piece_code pieces (search (rules, piece_code-below))
+codes_small pieces = All-map (λ byte. byte < 128) piece_code pieces (search rules)
 
 -- the bytes of times are seven-bit
 times_small : (t : BothTimes) → AreTimes t → AreSevenBit (times_bytes t)
-times_small t h = search (rules, listed)
+times_small t h = search rules
 
 -- the encoded bytes of an acknowledgement are seven-bit
 ack_small : (answer : Answer) → IsAck answer → AreSevenBit (ack_encoding answer)
-ack_small answer h = search (rules, listed)
+ack_small answer h = search rules
 
 -- D4 of the mark restores the top bit of the first byte
 first_bit : (a b : ℕ) → a < 256 → a ≡ a % 128 + 128 * bit_at (mark_with a b) 4
@@ -39,20 +29,17 @@ second_bit a b h k = omega arith
 marked : (a b : ℕ) → is_mark (mark_with a b) ≡ true
 marked a b = eq-eqb _ _ (omega arith)
 
--- four bytes are the same one by one
-four : (a b c d w x y z : ℕ) → a ≡ w → b ≡ x → c ≡ y → d ≡ z
-    → a ∷ b ∷ c ∷ d ∷ [] ≡ w ∷ x ∷ y ∷ z ∷ []
-four a b c d w x y z p q r s = cc
-
 -- the four bytes are restored from the encoded bytes
 acks_same : (xs : List ℕ) (status : ℕ) → length xs ≡ 4 → All (λ byte. byte < 256) xs
     → xs ≡ ack_in (ack_encoding (record { ack = xs; status = status }))
 acks_same (a ∷ b ∷ c ∷ d ∷ []) status h k =
     let at : (i : ℕ) → i < 4 → get_or (a ∷ b ∷ c ∷ d ∷ []) i 0 < 256 = λ i less. k i 0 less in
-    four a b c d _ _ _ _ (first_bit a b (at 0 (omega arith)))
-    (second_bit a b (at 0 (omega arith)) (at 1 (omega arith)))
-    (first_bit c d (at 2 (omega arith))) (second_bit c d (at 2 (omega arith)) (at 3 (omega arith)))
-acks_same (a ∷ b ∷ c ∷ d ∷ e ∷ xs) status h k = absurd (omega arith)
+    cc (
+      first_bit a b (at 0 (omega arith)),
+      second_bit a b (at 0 (omega arith)) (at 1 (omega arith)),
+      first_bit c d (at 2 (omega arith)),
+      second_bit c d (at 2 (omega arith)) (at 3 (omega arith)),
+    )
 acks_same _ status h k = absurd (omega arith)
 
 -- the output of `encode` for an acknowledgement encodes it
@@ -60,14 +47,10 @@ pub ack_encoding_encodes : (answer : Answer) → IsAck answer
     → BodyEncodes (ack answer) (ack_encoding answer)
 ack_encoding_encodes answer h = search (rules, marked, acks_same)
 
--- a code has seven bits
-pub small_code : (said : Content) → IsMessage said → code_of said < 128
-small_code said h = search rules
-
 -- an encoded body is seven-bit
 small_body : (said : Content) → IsMessage said → AreSevenBit (body_encoding said)
 small_body (dump pieces) h = codes_small pieces
-small_body (field square piece) h = search (rules, listed, piece_code-below)
+small_body (field square piece) h = search rules
 small_body (times readings) h = times_small readings h
 small_body (no_clock absence) h = All-push (λ byte. byte < 128) absence.raw absence.status h.1 h.3
 small_body (ack answer) h = ack_small answer h
@@ -79,10 +62,9 @@ encoded said h = search (rules, ack_encoding_encodes)
 
 -- the output of `encode` for a message encodes it
 pub encoding_encodes : (said : Content) → IsMessage said → Encodes said (encoding said)
-encoding_encodes said h =
-    search (rules, whole_header, small_code, small_body, encoded, length-map, length-append)
+encoding_encodes said h = search (rules, small_body, encoded, length-map, length-append)
 
 -- a message that fits is encoded by its whole, and conversely
 pub fits_if_encoded : (code : ℕ) (body : List ℕ) (said : Content) → code < 128 → IsCarried body
     → Fits said code body ↔ Encodes said (message_bytes code body)
-fits_if_encoded code body said small fits = search (rules, whole_header, encoded)
+fits_if_encoded code body said small fits = search rules

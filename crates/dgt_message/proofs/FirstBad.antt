@@ -1,8 +1,7 @@
 -- The first byte that isn't valid in its place, as it is computed, and its fault.
-use Rattle.std.proofs.{Common.{◌≡◌, ℕ, zero, suc, ◌<◌, Bool, true, false, cond, refl, List, length, arith, Option, Some, None, below_more, rules}, lemmas.Bool.{and_cases, and_parts, eqb-false}}
-use Rattle.std.{proofs.lemmas.Bool.{eqb-true, leb-true, leb-false, ltb-true, ltb-false}, specs.{Option.{option_map_or, option_or}, Prelude.{◌==◌, IfSome, MatchOption, slice_index}}}
-use Rattle.dgt_message.specs.{Code.{HasSize}, Layout.{Column, column_at, layout_of}, Reading.{Allows, IsFaultOf, IsFirstBad, fault_of, first_bad_place, first_failure, is_allowed}}
-use Rattle.dgt_message.proofs.{AtMostOne.{times_fault}, Sizes.{AllowsBefore}}
+use Rattle.std.{proofs.Common.{◌≡◌, ℕ, zero, suc, ◌<◌, Bool, true, false, cond, refl, List, length, arith, Option, Some, None, below_more, rules}, specs.Option.{option_map_or, option_or}}
+use Rattle.{std.specs.Prelude.{◌==◌, IfSome, MatchOption, slice_index}, dgt_message.specs.{Code.{HasSize}, Layout.{Column, column_at, layout_of}, Reading.{Allows, IsFaultOf, IsFirstBad, fault_of}}}
+use Rattle.dgt_message.{specs.Reading.{first_bad_place, first_failure, is_allowed}, proofs.Sizes.{AllowsBefore}}
 
 -- a search for the first number that fails a test
 data Search (test : ℕ → Bool) (n : ℕ) : Option ℕ → Type 0 where
@@ -23,11 +22,7 @@ searched test (suc n) = go (first_failure test n) (searched test n) (test n) ref
 
 -- a byte that passes the test of its column is valid
 allowed : (c : Column) (byte : ℕ) → is_allowed c byte ≡ true → Allows c byte
-allowed c byte h = search (rules, ltb-true, leb-true, and_parts)
-
--- a byte that fails it is not
-not_allowed : (c : Column) (byte : ℕ) → is_allowed c byte ≡ false → Allows c byte → ⊥
-not_allowed c byte h a = search (rules, ltb-false, leb-false, and_cases)
+allowed c byte h = search rules
 
 -- the search in a body of the right size finds the first bad place, and if it finds none there is
 -- none
@@ -38,7 +33,7 @@ search_finds : (code : ℕ) (body : List ℕ) → HasSize code body → (found :
     (IsFirstBad code body)
 search_finds code body size None (all h) =
     λ k l. allowed (column_at code body k) (slice_index body k) (h k l)
-search_finds code body size (Some at) (fails _ l f h) = search (rules, not_allowed, allowed)
+search_finds code body size (Some at) (fails _ l f h) = search rules
 
 pub first_bad_place-reports : (code : ℕ) (body : List ℕ) → HasSize code body
     → MatchOption (first_bad_place code body)
@@ -49,14 +44,9 @@ first_bad_place-reports code body size =
 -- the fault of the column at the first bad place is one of the body
 pub place_fault : (code : ℕ) (body : List ℕ) (at : ℕ) → IsFirstBad code body at
     → IsFaultOf code body (fault_of (column_at code body at) at)
-place_fault code body at h = search (rules, times_fault)
-
--- the test of the size accepts a right one
-pub right_size : (o : Option ℕ) (n : ℕ) → option_map_or (λ total. n == total) o true ≡ true
-    → IfSome o (λ total. n ≡ total)
-right_size o n h = search (rules, eqb-true)
+place_fault code body at h = search rules
 
 -- the test of the size refuses a wrong one
 pub wrong_size : (o : Option ℕ) (n : ℕ) → option_map_or (λ total. n == total) o true ≡ false
     → IfSome o (λ total. n ≡ total) → ⊥
-wrong_size o n h h3 = search (rules, eqb-false)
+wrong_size o n h h3 = search rules

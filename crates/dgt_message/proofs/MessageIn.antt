@@ -1,8 +1,7 @@
 -- The message of a code and a body, computed: any message that fits them is this one.
-use Rattle.std.proofs.{Common.{◌≡◌, ℕ, ◌<◌, ◌≤◌, ◌+◌, ◌-◌, ◌*◌, ◌/◌, ◌%◌, refl, ap, List, [], ◌∷◌, ◌++◌, length, map, take, drop, arith, rules}, lemmas.Bool.{ne_eqb, false_from_ne_true}}
-use Rattle.{std.{proofs.lemmas.Grind.{common_steps}, specs.Prelude.{slice_index}}, dgt_values.specs.{Board.{piece_code}, declared.pieces.Piece.{Piece}}, dgt_message.specs.Clock.{IsAbsence}}
-use Rattle.dgt_message.specs.{Clock.{absence_of}, Content.{Content, code_of, IsMessage}, Encoding.{BodyEncodes, Fits, Encodes, packed_decimal}, Layout.{Layout, clock_layout, layout_of}}
-use Rattle.dgt_message.specs.{Reading.{piece_with_code, said_in}, Content.Content.{dump, field, times, no_clock, ack, carried}}
+use Rattle.std.{proofs.{Common.{◌≡◌, ℕ, ◌<◌, ◌-◌, refl, ap, List, [], ◌∷◌, ◌++◌, length, map, take, drop, arith, rules}, lemmas.Grind.{common_steps}}, specs.Prelude.{slice_index}}
+use Rattle.{dgt_values.specs.{Board.{piece_code}, declared.pieces.Piece.{Piece}}, dgt_message.specs.{Clock.{IsAbsence, absence_of}, Content.{Content, code_of, IsMessage}, Encoding.{BodyEncodes}}}
+use Rattle.dgt_message.specs.{Encoding.{Fits, Encodes}, Layout.{Layout, clock_layout, layout_of}, Reading.{piece_with_code, said_in}, Content.Content.{dump, field, times, no_clock, ack, carried}}
 
 -- a piece is the one with its code
 pub piece_with_code-piece_code : (piece : Piece) → piece_with_code (piece_code piece) ≡ piece
@@ -19,14 +18,10 @@ map-piece_with_code [] = refl
 map-piece_with_code (piece ∷ pieces) =
     rw (piece_with_code-piece_code piece, map-piece_with_code pieces) refl
 
--- two packed digits are the number that they were packed from
-unpacked : (n : ℕ) → n ≤ 59 → 10 * (packed_decimal n / 16) + packed_decimal n % 16 ≡ n
-unpacked n a = omega arith
-
 -- the bytes of a board without a clock have that layout
 absence_laid_out : (raw : List ℕ) (status : ℕ) → IsAbsence (absence_of raw status)
     → clock_layout (raw ++ status ∷ []) ≡ Layout.no_clock
-absence_laid_out raw status h = grind (arith, common_steps, false_from_ne_true)
+absence_laid_out raw status h = grind (arith, common_steps)
 
 -- the layout of a message
 abbrev pub said_layout : Content → Layout
@@ -40,22 +35,21 @@ said_layout (carried own body) = Layout.carried
 -- a body with a meaning has the layout of this message
 pub laid_out : (said : Content) (body : List ℕ) → IsMessage said → BodyEncodes said body
     → layout_of (code_of said) body ≡ said_layout said
-laid_out said body h s = search (rules, absence_laid_out, false_from_ne_true, ne_eqb)
+laid_out said body h s = search (rules, absence_laid_out)
 
 -- six bytes and a status are restored
 absence_back : (raw : List ℕ) (status : ℕ) → length raw ≡ 6
     → absence_of (take 6 (raw ++ status ∷ [])) (slice_index (raw ++ status ∷ []) 6)
     ≡ absence_of raw status
 absence_back (a ∷ b ∷ c ∷ d ∷ e ∷ f ∷ []) status h = refl
-absence_back (a ∷ b ∷ c ∷ d ∷ e ∷ f ∷ g ∷ raw) status h = absurd (omega arith)
 absence_back _ status h = absurd (omega arith)
 
 -- a message is restored from its body by its layout
 said_back : (said : Content) (body : List ℕ) → IsMessage said → BodyEncodes said body
     → said_in (said_layout said) (code_of said) body ≡ said
 said_back (dump pieces) body h s = rw s (ap dump (map-piece_with_code pieces))
-said_back (field square piece) body h s = search (rules, piece_with_code-piece_code)
-said_back (times readings) body h s = search (rules, unpacked)
+said_back (field square piece) body h s = search rules
+said_back (times readings) body h s = search rules
 said_back (no_clock absence) body h s = search (rules, absence_back)
 said_back (ack answer) body h s = rw (← s.2, ← s.3) refl
 said_back (carried own bytes) body h s = ap (carried own) s

@@ -1,7 +1,6 @@
 -- Bodies that are carried unread.
-use Rattle.std.proofs.Common.{◌≡◌, ◌≢◌, ℕ, zero, suc, true, refl, List, length, Option, None, Ok, rules}
-use Rattle.dgt_message.specs.{Code.{known_total, known_with}, Content.{carried}, Layout.{Layout, known_layout}, Reading.{first_failure, reading}}
-use Rattle.dgt_message.{specs.declared.known.KnownCode.{KnownCode}, proofs.CodeLemmas.{found_number}}
+use Rattle.{std.proofs.Common.{◌≡◌, ◌≢◌, ℕ, zero, suc, true, refl, List, length, Option, None, Ok, rules}, dgt_message.specs.{Code.{known_total, known_with}, Content.{carried}, Layout.{Layout}}}
+use Rattle.dgt_message.specs.{Layout.{known_layout}, Reading.{first_failure, reading}, declared.known.KnownCode.{KnownCode}}
 
 -- each byte of a body that is carried is valid
 none_bad : (count : ℕ) → first_failure (λ place. true) count ≡ None
@@ -14,7 +13,7 @@ module _ (code : ℕ) (body : List ℕ) (dump : code ≢ 0x06) (clock : code ≢
   -- fixes no length and no bytes
   is_free : (found : Option KnownCode) → known_with code ≡ found
       → (known_total found ≡ None) × (known_layout found body ≡ Layout.carried)
-  is_free found e = search (rules, found_number)
+  is_free found e = search rules
 
   -- therefore its bodies are carried
   pub other_body : reading code body ≡ Ok (carried code body)

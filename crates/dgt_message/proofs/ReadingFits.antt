@@ -1,9 +1,9 @@
 -- The reading of a code and a body is the message that fits them, or the fault of the body.
-use Rattle.std.proofs.{Common.{◌≡◌, ℕ, ◌<◌, ◌-◌, ◌⊎◌, inl, inr, refl, List, [], ◌∷◌, length, drop, Option, Some, None, Result, Ok, Err, rules}, lemmas.List.{length-drop}}
+use Rattle.std.proofs.{Common.{◌≡◌, ℕ, ◌<◌, ◌-◌, ◌⊎◌, inl, inr, refl, List, [], ◌∷◌, length, drop, Option, Some, None, Result, Ok, Err, rules}}
 use Rattle.std.{proofs.lemmas.List.Elements.{All-drop}, specs.{Option.{option_map_or}, Prelude.{◌↔◌, All, MatchOption, MatchResult, slice_index}, Result.{result_map_both}}}
 use Rattle.dgt_message.specs.{Code.{HasSize, known_with}, Content.{Content, content, IsCarried}, Encoding.{Fits, Encodes}, Layout.{column_at, layout_of}, Reading.{IsFaultOf, IsFirstBad, Views}}
-use Rattle.dgt_message.{specs.{Reading.{fault_of, reading, said_in}, declared.{message.Message.{Message}, viewing.BodyFault.{BodyFault}}}, proofs.AtMostOne.{one_message, one_fault}}
-use Rattle.dgt_message.proofs.{AtMostOne.{not_both}, BodyFits.{body_fits}, EncodingEncodes.{small_code}, FirstBad.{first_bad_place-reports, place_fault, right_size, wrong_size}, Sizes.{AllowsBefore}}
+use Rattle.dgt_message.{specs.{Reading.{fault_of, reading, said_in}, declared.{message.Message.{Message}, viewing.BodyFault.{BodyFault}}}, proofs.AtMostOne.{one_message}}
+use Rattle.dgt_message.proofs.{AtMostOne.{not_both}, BodyFits.{body_fits}, FirstBad.{first_bad_place-reports, place_fault}, Sizes.{AllowsBefore}}
 
 -- the result is true of the code and the body
 abbrev Says : ℕ → List ℕ → Result Content BodyFault → Type 0
@@ -28,8 +28,7 @@ by_place code body small carried size (Some at) h = place_fault code body at h
 reading_says : (code : ℕ) (body : List ℕ) → code < 128 → IsCarried body
     → Says code body (reading code body)
 unfolding reading
-reading_says code body small carried =
-    search (rules, right_size, by_place, first_bad_place-reports, wrong_size)
+reading_says code body small carried = search (rules, by_place, first_bad_place-reports)
 
 -- a message that fits is the reading
 said_is : (code : ℕ) (body : List ℕ) (r : Result Content BodyFault) (said : Content)
@@ -39,7 +38,7 @@ said_is code body r said h fits = search (rules, one_message, not_both)
 -- the fault of a body is the reading
 fault_is : (code : ℕ) (body : List ℕ) (r : Result Content BodyFault) (why : BodyFault)
     → Says code body r → IsFaultOf code body why → r ≡ Err why
-fault_is code body r why h bad = search (rules, not_both, one_fault)
+fault_is code body r why h bad = search (rules, not_both)
 
 -- the reading is a message exactly if it fits
 pub reading-Ok : (code : ℕ) (body : List ℕ) (said : Content) → code < 128 → IsCarried body
@@ -94,4 +93,4 @@ third_on (a ∷ bytes) h = All-drop (λ byte. byte < 128) 2 bytes h
 -- a message is the reading of its encodings
 pub encoded_is_read : (said : Content) (bytes : List ℕ) → Encodes said bytes
     → reading (slice_index bytes 0 - 128) (drop 3 bytes) ≡ Ok said
-encoded_is_read said bytes h = search (rules, length-drop, reading-Ok, small_code, third_on)
+encoded_is_read said bytes h = search (rules, reading-Ok, third_on)

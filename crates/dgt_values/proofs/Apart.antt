@@ -1,5 +1,5 @@
 -- Texts in which no two digits are adjacent.
-use Rattle.{std.{proofs.Common.{◌≡◌, ℕ, zero, suc, ◌+◌, arith, List, [], ◌∷◌, ◌++◌, get_or, rules}, specs.Char.{IsAsciiDigit}}, dgt_values.specs.Placement.{DigitsApart}}
+use Rattle.{std.{proofs.Common.{◌≡◌, ℕ, zero, suc, ◌+◌, arith, List, [], ◌∷◌, ◌++◌, rules}, specs.Char.{IsAsciiDigit}}, dgt_values.specs.Placement.{DigitsApart}}
 
 abbrev pub BeginsWithDigit : List ℕ → Type 0
 BeginsWithDigit [] = ⊥
@@ -10,18 +10,10 @@ abbrev pub Apart : List ℕ → Type 0
 Apart [] = Unit {0}
 Apart (byte ∷ bytes) = (IsAsciiDigit byte → BeginsWithDigit bytes → ⊥) × Apart bytes
 
--- if the first byte of a text is a digit, the text begins with one
-first_begins : (bytes : List ℕ) → IsAsciiDigit (get_or bytes 0 0) → BeginsWithDigit bytes
-first_begins bytes h = search rules
-
--- the first byte of a text that begins with a digit is one
-begins_first : (bytes : List ℕ) → BeginsWithDigit bytes → IsAsciiDigit (get_or bytes 0 0)
-begins_first bytes h = search rules
-
 -- both forms say the same
 pub apart_digits : (text : List ℕ) → Apart text → DigitsApart text
 apart_digits [] h k a b = omega (arith, a.0)
-apart_digits (byte ∷ bytes) h zero a b = h.0 a (first_begins bytes b)
+apart_digits (byte ∷ bytes) h zero a b = h.0 a (search rules)
 apart_digits (byte ∷ bytes) h (suc k) a b =
     let further : suc k + 1 ≡ suc (k + 1) = omega arith in
     apart_digits bytes h.1 k a (rw further at b)
@@ -30,7 +22,7 @@ apart_digits (byte ∷ bytes) h (suc k) a b =
 pub digits_apart : (text : List ℕ) → DigitsApart text → Apart text
 digits_apart [] h = tt
 digits_apart (byte ∷ bytes) h = (
-  λ a b. h 0 a (begins_first bytes b),
+  λ a b. h 0 a (search rules),
   digits_apart bytes
       (λ k a b. let further : suc k + 1 ≡ suc (k + 1) = omega arith in h (suc k) a (rw further b)),
 )

@@ -1,8 +1,8 @@
 -- Each text has an outcome.
 use Prim.Native.Char.{code as ascii}
-use Rattle.std.proofs.Common.{◌≡◌, ℕ, zero, suc, ◌+◌, ◌-◌, ◌<◌, ◌≤◌, ◌⊎◌, inl, inr, refl, sym, ap, ◌∙◌, arith, List, [], ◌∷◌, ◌++◌, length, take, replicate, get_or, append_assoc, length-append, rules}
-use Rattle.std.{proofs.{Math.Seq.{get_or-append_seam}, lemmas.{Bool.{cases_lt}, List.{append-nil, take_at}, Bool.Decides.{eqb_tells}}}, specs.Prelude.{◌≢◌, Result, Ok, Err}}
-use Rattle.dgt_values.specs.{Board.{piece_letter}, Placement.{MeansSquares, IsPlacement, IsFirstBadOffset, ParsesPlacement}, declared.{pieces.Piece.{Piece}, positions.Position.{Position}}}
+use Rattle.std.proofs.Common.{◌≡◌, ℕ, zero, suc, ◌+◌, ◌-◌, ◌<◌, ◌≤◌, ◌⊎◌, inl, inr, refl, sym, ap, ◌∙◌, arith, List, [], ◌∷◌, ◌++◌, length, replicate, append_assoc, length-append, rules}
+use Rattle.std.{proofs.{Math.Seq.{get_or-append_seam}, lemmas.{Bool.{cases_eq, cases_lt}, List.{append-nil, take_at}}}, specs.Prelude.{◌≢◌, Result, Ok, Err}}
+use Rattle.dgt_values.specs.{Board.{piece_letter}, Placement.{MeansSquares, IsFirstBadOffset, ParsesPlacement}, declared.{pieces.Piece.{Piece}, positions.Position.{Position}}}
 use Rattle.dgt_values.{specs.declared.{refusals.BadPlacement.{BadPlacement}, pieces.Piece.TheVariants.{Empty}}, proofs.{Finishing.{means_one, above_slash, Steps}, PieceCodes.{letter_piece}}}
 use Rattle.dgt_values.proofs.{PieceCodes.{letter_piece-letter}, Reading.{Leaves, leaves_start, leaves_more, leaves_none, first_bad, ends_short}, Written.{placement_long}}
 
@@ -10,22 +10,13 @@ use Rattle.dgt_values.proofs.{PieceCodes.{letter_piece-letter}, Reading.{Leaves,
 letter_or_not : (byte : ℕ)
     → ((piece : Piece) × (piece ≢ Empty) × (byte ≡ piece_letter piece))
     ⊎ ((piece : Piece) → piece ≢ Empty → byte ≡ piece_letter piece → ⊥)
-letter_or_not byte = elim (eqb_tells byte (ascii ".")) [
+letter_or_not byte = elim (cases_eq byte (ascii ".")) [
   | inl dot ↦ search (rules, letter_piece-letter, letter_piece)
-  | inr other ↦ elim (eqb_tells (piece_letter (letter_piece byte)) byte) [
-    | inl same ↦ inl (letter_piece byte, λ e. other.1 (sym same.1 ∙ ap piece_letter e), sym same.1)
-    | inr none ↦
-        inr
-        (λ piece full e.
-        none.1 (ap piece_letter (ap letter_piece e ∙ letter_piece-letter piece) ∙ sym e))
+  | inr other ↦ elim (cases_eq (piece_letter (letter_piece byte)) byte) [
+    | inl same ↦ inl (letter_piece byte, λ e. other (sym same ∙ ap piece_letter e), sym same)
+    | inr none ↦ inr (λ piece full e. none (cc (letter_piece-letter piece)))
   ]
 ]
-
--- a byte that isn't a letter or a digit from 1 to 8 means nothing
-means_none : (byte : ℕ) → ((piece : Piece) → piece ≢ Empty → byte ≡ piece_letter piece → ⊥)
-    → (byte ≤ ascii "0") ⊎ (ascii "9" ≤ byte) → (squares : List Piece) → MeansSquares byte squares
-    → ⊥
-means_none byte none out squares h4 = search rules
 
 -- a byte that isn't a letter is a digit from 1 to 8 or means nothing
 digit_or_not : (byte : ℕ) → ((piece : Piece) → piece ≢ Empty → byte ≡ piece_letter piece → ⊥)
@@ -34,12 +25,9 @@ digit_or_not : (byte : ℕ) → ((piece : Piece) → piece ≢ Empty → byte �
     ⊎ ((squares : List Piece) → MeansSquares byte squares → ⊥)
 digit_or_not byte none (inl low) (inl high) =
     let digit : byte ≡ ascii "0" + (byte - ascii "0") = omega arith in
-    inl (
-      replicate (byte - ascii "0") Empty,
-      inl (search rules),
-    )
-digit_or_not byte none (inr low) high = inr (means_none byte none (inl (omega arith)))
-digit_or_not byte none (inl low) (inr high) = inr (means_none byte none (inr high))
+    inl (replicate (byte - ascii "0") Empty, inl (search rules))
+digit_or_not byte none (inl low) (inr high) = inr (λ squares means. search rules)
+digit_or_not byte none (inr low) high = inr (λ squares means. search rules)
 
 -- a byte means squares or it doesn't
 means_or_not : (byte : ℕ)
@@ -78,14 +66,11 @@ with_squares : (byte n s : ℕ) (squares : List Piece) → s ≤ 8 → MeansSqua
     → (s < length squares) ⊎ (length squares ≤ s) → Step byte n s ⊎ IsStuck byte n s
 with_squares byte n s squares le stands (inl long) = inr (too_long byte n s squares stands long)
 with_squares byte n s squares le stands (inr fits) =
-    let fewer : s ≡ length squares + (s - length squares) = omega arith in
-    inl (record {
-      ranks = n;
-      left = s - length squares;
-      first = squares;
-      left_in = omega arith;
-      steps = inr (record { same_rank = refl; fewer = fewer; stands = stands });
-    })
+    let left : ℕ = s - length squares in
+    let fewer : s ≡ length squares + left = omega arith in
+    let step : Steps byte n s n left squares =
+    inr (record { same_rank = refl; fewer = fewer; stands = stands }) in
+    inl (record { ranks = n; left = left; first = squares; left_in = omega arith; steps = step })
 
 -- a byte that means nothing and isn't a slash in its place has no effect
 no_slash : (byte n s : ℕ) → ((squares : List Piece) → MeansSquares byte squares → ⊥)
@@ -97,49 +82,32 @@ no_slash byte n s none refused n' s' first (inr x) = none first x.stands
 -- a byte that means nothing is a step if it is a slash in its place
 with_slash : (byte n s : ℕ) → ((squares : List Piece) → MeansSquares byte squares → ⊥)
     → ((byte ≡ ascii "/") ⊎ (byte ≢ ascii "/")) → Step byte n s ⊎ IsStuck byte n s
+with_slash byte (suc n) zero none (inl slash) =
+    let step : Steps byte (suc n) 0 n 8 [] =
+    inl (record { slash = slash; full = refl; one_less = refl; eight = refl; none = refl }) in
+    inl (record { ranks = n; left = 8; first = []; left_in = omega arith; steps = step })
+with_slash byte n s none (inl slash) = inr (no_slash byte n s none (λ _ full less. omega arith))
 with_slash byte n s none (inr other) = inr (no_slash byte n s none (λ slash _ _. other slash))
-with_slash byte zero s none (inl slash) = inr (no_slash byte zero s none (λ _ _ less. omega arith))
-with_slash byte (suc n) (suc s) none (inl slash) =
-    inr (no_slash byte (suc n) (suc s) none (λ _ full _. omega arith))
-with_slash byte (suc n) zero none (inl slash) = inl (record {
-  ranks = n;
-  left = 8;
-  first = [];
-  left_in = omega arith;
-  steps = inl (record { slash = slash; full = refl; one_less = refl; eight = refl; none = refl });
-})
-
--- a byte is a slash or not
-slash_or_not : (byte : ℕ) → (byte ≡ ascii "/") ⊎ (byte ≢ ascii "/")
-slash_or_not byte =
-    elim (eqb_tells byte (ascii "/")) [ inl same ↦ inl same.1 | inr other ↦ inr other.1 ]
 
 -- a byte is a step or has no effect
 step_or_not : (byte n s : ℕ) → s ≤ 8 → Step byte n s ⊎ IsStuck byte n s
 step_or_not byte n s le = elim (means_or_not byte) [
   | inl known ↦ with_squares byte n s known.0 le known.1 (cases_lt s (length known.0))
-  | inr none ↦ with_slash byte n s none (slash_or_not byte)
+  | inr none ↦ with_slash byte n s none (cases_eq byte (ascii "/"))
 ]
 
 -- a text with its outcome
 abbrev Outcome : List ℕ → Type 0
 Outcome text = (r : Result Position BadPlacement) × ParsesPlacement text r
 
--- the outcome of an accepted text
-outcome_accepted : (text : List ℕ) (pieces : List Piece) → IsPlacement text pieces → Outcome text
-outcome_accepted text pieces p =
-    (Ok (record { pieces = pieces; all = placement_long text pieces p }), p)
-
 -- the outcome of a text that was read to its end
 outcome_at_end : (text : List ℕ) (n s : ℕ) (done : List Piece) → s ≤ 8 → Leaves text n s done
     → Outcome text
-outcome_at_end text zero zero done le h = outcome_accepted text done (leaves_none text done h)
-outcome_at_end text zero (suc s) done le h = (
-  Err (record { at = length text }),
-  ends_short text zero (suc s) done le h (λ _ full. omega arith),
-)
-outcome_at_end text (suc n) s done le h =
-    (Err (record { at = length text }), ends_short text (suc n) s done le h (λ none _. omega arith))
+outcome_at_end text zero zero done le h =
+    let accepted = leaves_none text done h in
+    (Ok (record { pieces = done; all = placement_long text done accepted }), accepted)
+outcome_at_end text n s done le h =
+    (Err (record { at = length text }), ends_short text n s done le h (λ none full. omega arith))
 
 -- a byte without effect is the first wrong one
 stuck_is_bad : (text rest : List ℕ) (byte n s : ℕ) (done : List Piece) → s ≤ 8
@@ -147,10 +115,8 @@ stuck_is_bad : (text rest : List ℕ) (byte n s : ℕ) (done : List Piece) → s
 stuck_is_bad text rest byte n s done le h stuck =
     let inside : length text < length (text ++ byte ∷ rest) =
     omega (arith, length-append text (byte ∷ rest)) in
-    let prefix : take (length text) (text ++ byte ∷ rest) ≡ text =
-    take_at text (byte ∷ rest) (length text) refl in
-    let here : get_or (text ++ byte ∷ rest) (length text) 0 ≡ byte =
-    get_or-append_seam text byte rest 0 in
+    let prefix = take_at text (byte ∷ rest) (length text) refl in
+    let here = get_or-append_seam text byte rest 0 in
     first_bad (text ++ byte ∷ rest) done (length text) n s inside le (rw prefix h) (rw here stuck)
 
 -- the rest of a text has an outcome

@@ -97,12 +97,6 @@ record Parts (text : List ℕ) (n s : ℕ) (pieces : List Piece) : Type 0 where
   others : AreRanks ranks rest
   whole : pieces ≡ squares ++ rest
 
--- one more byte of the first rank
-longer_rank : (byte : ℕ) (rank : List ℕ) (ranks : List (List ℕ))
-    → byte ∷ join_with_byte (ascii "/") (rank ∷ ranks)
-    ≡ join_with_byte (ascii "/") ((byte ∷ rank) ∷ ranks)
-longer_rank byte rank ranks = search rules
-
 -- a text that ends a placement can be divided
 parts : (text : List ℕ) (n s : ℕ) (pieces : List Piece) → Finishes text n s pieces
     → Parts text n s pieces
@@ -120,6 +114,7 @@ parts [] n s pieces h = record {
 }
 parts (byte ∷ bytes) n s pieces (n', s', first, rest, inl slash, h, is) =
     let after = parts bytes n' s' rest h in
+    let eight = after.so_long ∙ slash.eight in
     record {
       rank = [];
       ranks = after.rank ∷ after.ranks;
@@ -129,14 +124,7 @@ parts (byte ∷ bytes) n s pieces (n', s', first, rest, inl slash, h, is) =
       joined = rw (slash.slash, ← after.joined) refl;
       is_rank = refl;
       so_long = sym slash.full;
-      others = (
-        after.squares,
-        after.rest,
-        after.so_long ∙ slash.eight,
-        after.is_rank,
-        after.others,
-        after.whole,
-      );
+      others = (after.squares, after.rest, eight, after.is_rank, after.others, after.whole);
       whole = is ∙ ap (λ l. l ++ rest) slash.none;
     }
 parts (byte ∷ bytes) n s pieces (n', s', first, rest, inr more, h, is) =
@@ -147,13 +135,11 @@ parts (byte ∷ bytes) n s pieces (n', s', first, rest, inr more, h, is) =
       squares = first ++ after.squares;
       rest = after.rest;
       so_many = after.so_many ∙ more.same_rank;
-      joined = ap (λ l. byte ∷ l) after.joined ∙ longer_rank byte after.rank after.ranks;
+      joined = search rules;
       is_rank = (first, after.squares, more.stands, after.is_rank, refl);
-      so_long = length-append first after.squares ∙ ap (λ k. length first + k) after.so_long
-          ∙ sym more.fewer;
+      so_long = omega (arith, length-append first after.squares, after.so_long, more.fewer);
       others = after.others;
-      whole =
-          is ∙ ap (λ l. first ++ l) after.whole ∙ sym (append_assoc first after.squares after.rest);
+      whole = cc (append_assoc first after.squares after.rest);
     }
 
 -- eight ranks that are joined by slashes

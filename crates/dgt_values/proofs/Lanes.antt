@@ -40,9 +40,8 @@ copied_more old bytes new start most at room enough more low_clear high_clear h 
     let low = chunk at 64 bytes in
     let high = chunk (at + 64) 64 bytes in
     let some = put_chunk (start + at) new low in
-    let low_long : length low ≡ 64 = length-chunk at 64 bytes (omega (arith, enough, more)) in
-    let high_long : length high ≡ 64 =
-    length-chunk (at + 64) 64 bytes (omega (arith, enough, more)) in
+    let low_long = length-chunk at 64 bytes (omega (arith, enough, more)) in
+    let high_long = length-chunk (at + 64) 64 bytes (omega (arith, enough, more)) in
     let some_long : length some ≡ length new = length-put_chunk (start + at) new low in
     let first : take (start + at + 64) some ≡ take (start + at) new ++ low =
     take_more_put_chunk (start + at) new low (start + at + 64) (omega (arith, low_long))

@@ -40,23 +40,14 @@ not_before text first second a b lt =
 -- a text has at most one first wrong offset
 one_offset : (text : List ℕ) (first second : ℕ) → IsFirstBadOffset text first
     → IsFirstBadOffset text second → first ≡ second
-one_offset text first second a b = elim (cases_lt first second) [
-  | inl lt ↦ absurd (not_before text first second a b lt)
-  | inr le ↦ elim (cases_lt second first) [
-    | inl lt ↦ absurd (not_before text second first b a lt)
-    | inr ge ↦ omega arith
-  ]
-]
+one_offset text first second a b =
+    omega (arith, not_before text first second a b, not_before text second first b a)
 
 -- a position is its pieces
 pub same_position : (a b : Position) → pieces_of a ≡ pieces_of b → a ≡ b
 same_position a b same =
-    λ i.
-    record {
-      pieces = same i;
-      all =
-          is_prop→PathP (λ j. length (same j) ≡ 64) (λ j. ℕ_set _ _) a.all b.all i;
-    }
+    let all = is_prop→PathP (λ j. length (same j) ≡ 64) (λ j. ℕ_set _ _) a.all b.all in
+    λ i. record { pieces = same i; all = all i }
 
 -- a text has one outcome at most
 pub one_outcome : (text : List ℕ) (r s : Result Position BadPlacement) → ParsesPlacement text r

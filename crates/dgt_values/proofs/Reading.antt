@@ -41,68 +41,38 @@ leaves_more text n s done byte n' s' first h step = record {
 pub leaves_none : (text : List ℕ) (done : List Piece) → Leaves text 0 0 done → IsPlacement text done
 leaves_none text done h = rw (append-nil text, append-nil done) at (h.on [] [] (refl, refl, refl))
 
+-- a digit for this many squares of a rank, and the text after it
+empty_squares : (n s : ℕ) → 1 ≤ s → s ≤ 8
+    → (more : List ℕ) × (rest : List Piece) × Finishes more n 0 rest
+    → (more : List ℕ) × (rest : List Piece) × Finishes more n s rest
+empty_squares n s some few others =
+    let byte : ℕ = ascii "0" + s in
+    let squares : List Piece = replicate s Empty in
+    let stands : MeansSquares byte squares = inl (record {
+      count = s;
+      at_least_one = some;
+      at_most_eight = few;
+      digit = refl;
+      all_empty = refl;
+    }) in
+    let fewer : s ≡ length squares + 0 = omega (arith, length-replicate s Empty) in
+    let step : Steps byte n s n 0 squares =
+    inr (record { same_rank = refl; fewer = fewer; stands = stands }) in
+    (byte ∷ others.0, squares ++ others.1, (n, 0, squares, others.1, step, others.2, refl))
+
 -- a digit for each of the ranks that are left
 ranks_left : (n : ℕ) → (more : List ℕ) × (rest : List Piece) × Finishes more n 0 rest
 ranks_left zero = ([], [], (refl, refl, refl))
 ranks_left (suc n) =
-    let others = ranks_left n in
-    let empty : MeansSquares (ascii "8") (replicate 8 Empty) = inl (record {
-      count = 8;
-      at_least_one = omega arith;
-      at_most_eight = omega arith;
-      digit = refl;
-      all_empty = refl;
-    }) in (
-      ascii "/" ∷ ascii "8" ∷ others.0,
-      replicate 8 Empty ++ others.1,
-      (
-        n,
-        8,
-        [],
-        replicate 8 Empty ++ others.1,
-        inl (record { slash = refl; full = refl; one_less = refl; eight = refl; none = refl }),
-        (
-          n,
-          0,
-          replicate 8 Empty,
-          others.1,
-          inr (record { same_rank = refl; fewer = refl; stands = empty }),
-          others.2,
-          refl,
-        ),
-        refl,
-      ),
-    )
+    let rank = empty_squares n 8 (omega arith) (omega arith) (ranks_left n) in
+    let step : Steps (ascii "/") (suc n) 0 n 8 [] =
+    inl (record { slash = refl; full = refl; one_less = refl; eight = refl; none = refl }) in
+    (ascii "/" ∷ rank.0, rank.1, (n, 8, [], rank.1, step, rank.2, refl))
 
 -- a digit for the rest of this rank
 something_left : (n s : ℕ) → s ≤ 8 → (more : List ℕ) × (rest : List Piece) × Finishes more n s rest
 something_left n zero h = ranks_left n
-something_left n (suc s) h =
-    let others = ranks_left n in
-    let empty : MeansSquares (ascii "0" + suc s) (replicate (suc s) Empty) =
-    inl
-    (record {
-      count = suc s;
-      at_least_one = omega arith;
-      at_most_eight = h;
-      digit =
-          refl;
-      all_empty = refl;
-    }) in
-    let fewer : suc s ≡ length (replicate (suc s) Empty) + 0 =
-    omega (arith, length-replicate (suc s) Empty) in (
-      (ascii "0" + suc s) ∷ others.0,
-      replicate (suc s) Empty ++ others.1,
-      (
-        n,
-        0,
-        replicate (suc s) Empty,
-        others.1,
-        inr (record { same_rank = refl; fewer = fewer; stands = empty }),
-        others.2,
-        refl,
-      ),
-    )
+something_left n (suc s) h = empty_squares n (suc s) (omega arith) h (ranks_left n)
 
 -- a text that can be completed begins a placement
 pub leaves_begins : (text : List ℕ) (n s : ℕ) (done : List Piece) → Leaves text n s done → s ≤ 8

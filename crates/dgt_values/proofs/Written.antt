@@ -50,27 +50,18 @@ are_ranks : (n : ℕ) (pieces : List Piece) → length pieces ≡ 8 * n
 are_ranks zero pieces long = nil_from_length pieces long
 are_ranks (suc n) pieces long =
     let prefix : length (take 8 pieces) ≡ 8 = omega (arith, length-take 8 pieces) in
-    let back : length (drop 8 pieces) ≡ 8 * n = omega (arith, length-drop 8 pieces) in (
-      take 8 pieces,
-      drop 8 pieces,
-      prefix,
-      rank_after (take 8 pieces) 0 (omega arith),
-      are_ranks n (drop 8 pieces) back,
-      sym (take-append-drop 8 pieces),
-    )
+    let back : length (drop 8 pieces) ≡ 8 * n = omega (arith, length-drop 8 pieces) in
+    let rank = rank_after (take 8 pieces) 0 (omega arith) in
+    let others = are_ranks n (drop 8 pieces) back in
+    (take 8 pieces, drop 8 pieces, prefix, rank, others, sym (take-append-drop 8 pieces))
 
 -- the written text is accepted
 pub written_placement : (pieces : List Piece) → length pieces ≡ 64
     → IsPlacement (placement_text pieces) pieces
 unfolding placement_text
 written_placement pieces long =
-    record {
-      ranks = ranks_text 8 pieces;
-      eight = refl;
-      joined = refl;
-      each =
-          are_ranks 8 pieces long;
-    }
+    let each = are_ranks 8 pieces long in
+    record { ranks = ranks_text 8 pieces; eight = refl; joined = refl; each = each }
 
 -- ranks have eight squares each
 are_long : (ranks : List (List ℕ)) (pieces : List Piece) → AreRanks ranks pieces
@@ -160,29 +151,14 @@ apart_ranks : (rank : List ℕ) (ranks : List (List ℕ))
     → Apart rank × Apart (join_with_byte (ascii "/") ranks)
 apart_ranks rank ranks apart = search (rules, apart_before, apart_after)
 
--- the squares of the first rank
-first_eight : (squares rest pieces : List Piece) → length squares ≡ 8 → pieces ≡ squares ++ rest
-    → take 8 pieces ≡ squares
-first_eight squares rest pieces eight is = ap (take 8) is ∙ take_at squares rest 8 eight
-
--- the squares of the other ranks
-after_eight : (squares rest pieces : List Piece) → length squares ≡ 8 → pieces ≡ squares ++ rest
-    → drop 8 pieces ≡ rest
-after_eight squares rest pieces eight is = ap (drop 8) is ∙ drop_at squares rest 8 eight
-
 -- no other texts of the ranks keep their digits apart
 only_ranks : (ranks : List (List ℕ)) (pieces : List Piece) → AreRanks ranks pieces
     → Apart (join_with_byte (ascii "/") ranks) → ranks ≡ ranks_text (length ranks) pieces
 only_ranks [] pieces none apart = refl
 only_ranks (rank ∷ ranks) pieces (squares, rest, eight, h, more, is) apart =
     let each = apart_ranks rank ranks apart in
-    let one : rank ≡ rank_text_after 0 (take 8 pieces) =
-    only_rank rank squares h each.0
-    ∙ ap (rank_text_after 0) (sym (first_eight squares rest pieces eight is)) in
-    let others : ranks ≡ ranks_text (length ranks) (drop 8 pieces) =
-    only_ranks ranks rest more each.1
-    ∙ ap (ranks_text (length ranks)) (sym (after_eight squares rest pieces eight is)) in
-    ap (λ r. r ∷ ranks) one ∙ ap (λ rs. rank_text_after 0 (take 8 pieces) ∷ rs) others
+    rw (is, take_at squares rest 8 eight, drop_at squares rest 8 eight)
+    (cc (only_rank rank squares h each.0, only_ranks ranks rest more each.1))
 
 -- no other text of the position keeps its digits apart
 pub only_placement : (text : List ℕ) (pieces : List Piece) → IsPlacement text pieces → Apart text
@@ -226,14 +202,8 @@ few_in_rank : (bytes : List ℕ) (squares : List Piece) (empty : ℕ) → IsRank
     → digit_count (rank_text_after empty squares) ≤ digit_count (run_text empty) + digit_count bytes
 few_in_rank [] squares empty none = rw none (omega arith)
 few_in_rank (byte ∷ bytes) squares empty (first, rest, inl run, h, is) =
-    search (
-      rules,
-      run_after,
-      counts_one,
-      counts_digit,
-      few_in_run,
-      few_in_rank bytes rest (empty + run.count) h,
-    )
+    let others = few_in_rank bytes rest (empty + run.count) h in
+    search (rules, run_after, counts_one, counts_digit, few_in_run, others)
 few_in_rank (byte ∷ bytes) squares empty (first, rest, inr letter, h, is) =
     let whole : squares ≡ letter.piece ∷ rest = is ∙ ap (λ l. l ++ rest) letter.one_square in
     let after =
@@ -242,48 +212,33 @@ few_in_rank (byte ∷ bytes) squares empty (first, rest, inr letter, h, is) =
     let one = counts_other byte bytes (counts_above byte (omega (arith, letter.letter, above))) in
     let other = counts_other (piece_letter letter.piece) (rank_text_after 0 rest)
     (counts_above (piece_letter letter.piece) above) in
-    omega (
-      arith,
-      ap digit_count after,
-      counts_joined (run_text empty) (piece_letter letter.piece ∷ rank_text_after 0 rest),
-      few_in_rank bytes rest 0 h,
-      one,
-      other,
-    )
+    let joined =
+    counts_joined (run_text empty) (piece_letter letter.piece ∷ rank_text_after 0 rest) in
+    let others = few_in_rank bytes rest 0 h in
+    omega (arith, ap digit_count after, joined, others, one, other)
 
 -- as many texts, none with more digits than its partner
 abbrev NoMoreDigits : List (List ℕ) → List (List ℕ) → Type 0
 NoMoreDigits [] [] = Unit {0}
-NoMoreDigits [] (other ∷ others) = ⊥
-NoMoreDigits (rank ∷ ranks) [] = ⊥
 NoMoreDigits (rank ∷ ranks) (other ∷ others) =
     (digit_count rank ≤ digit_count other) × NoMoreDigits ranks others
-
--- a slash adds no digit
-slash_counts : (ranks : List ℕ) → digit_count (ascii "/" ∷ ranks) ≡ digit_count ranks
-slash_counts ranks = counts_other (ascii "/") ranks refl
+NoMoreDigits _ _ = ⊥
 
 -- joining texts with no more digits by slashes gives no more digits
 few_joined : (ranks others : List (List ℕ)) → NoMoreDigits ranks others
     → digit_count (join_with_byte (ascii "/") ranks)
     ≤ digit_count (join_with_byte (ascii "/") others)
-few_joined [] [] h = omega arith
-few_joined [] (other ∷ others) h = absurd h
-few_joined (rank ∷ ranks) [] h = absurd h
-few_joined (rank ∷ []) (other ∷ []) h = h.0
-few_joined (rank ∷ []) (other ∷ more ∷ others) h = absurd h.1
-few_joined (rank ∷ next ∷ ranks) (other ∷ []) h = absurd h.1
 few_joined (rank ∷ next ∷ ranks) (other ∷ more ∷ others) h =
-    search (rules, counts_joined, slash_counts, few_joined (next ∷ ranks) (more ∷ others) h.1)
+    search (rules, counts_joined, few_joined (next ∷ ranks) (more ∷ others) h.1)
+few_joined ranks others h = search rules
 
 -- written ranks have no more digits than others
 few_in_ranks : (ranks : List (List ℕ)) (pieces : List Piece) → AreRanks ranks pieces
     → NoMoreDigits (ranks_text (length ranks) pieces) ranks
 few_in_ranks [] pieces none = tt
-few_in_ranks (rank ∷ ranks) pieces (squares, rest, eight, h, more, is) = (
-  rw (first_eight squares rest pieces eight is) (omega (arith, few_in_rank rank squares 0 h)),
-  rw (after_eight squares rest pieces eight is) (few_in_ranks ranks rest more),
-)
+few_in_ranks (rank ∷ ranks) pieces (squares, rest, eight, h, more, is) =
+    rw (is, take_at squares rest 8 eight, drop_at squares rest 8 eight)
+    (omega (arith, few_in_rank rank squares 0 h), few_in_ranks ranks rest more)
 
 -- no text of the position has fewer digits
 pub fewest_digits : (text : List ℕ) (pieces : List Piece) → IsPlacement text pieces

@@ -1,11 +1,10 @@
-use Rattle.std.proofs.Common.{◌≡◌, refl, ℕ, ◌<◌, arith}
-use Rattle.{std.{proofs.lemmas.Grind.{common_steps}, specs.Prelude.{slice_index}}, dgt_values.specs.Segment.{IsShownBy}}
+use Rattle.{std.{proofs.Common.{◌≡◌, refl, ℕ, ◌<◌, arith}, specs.Prelude.{slice_index}}, dgt_values.specs.Segment.{IsShownBy}}
 use Rattle.dgt_command.proofs.laws.one_display.Goals as goal
 
 -- a character has one segment byte
 one_byte : (character byte other : ℕ) → IsShownBy character byte → IsShownBy character other
     → byte ≡ other
-one_byte character byte other = grind (arith, common_steps)
+one_byte character byte other = grind arith
 
 pub returns-clause-one : goal.returns-clause-one
 returns-clause-one c = λ text dots beep message other shown also.
